@@ -132,8 +132,8 @@ BOUNDS = {
     ),
     "one-ping": Bound(
         sizes=(1200, 4096, 16_383),
-        heap=37 * 16_383,
-        heap_why="36 bytes of each byte of room, for good: it is to fall below 1,000 in all",
+        heap=940,
+        heap_why="room for the six items of the connection itself, and for a packet's record",
         growth=0.2,
         growth_why="memory that isn't touched",
         count=2800,
@@ -177,6 +177,14 @@ BOUNDS = {
         growth=0.3,
         growth_why="the items above move",
         count=9000,
+    ),
+    "stops-beside-blocked": Bound(
+        sizes=(1000, 2000, 4000),
+        heap=1_480_000,
+        heap_why="the records and items of the streams, and what is live of each until its reset is acknowledged",
+        growth=0.1,
+        growth_why="a half of which all was told is looked at once, whatever is due below it",
+        count=298_000,
     ),
     "stop-again": Bound(
         sizes=(40, 80, 160),

@@ -114,6 +114,31 @@ pub fn stop_downwards<T: Target>(play: &mut Play<T>, streams: u64, step: u64) {
     play.make();
 }
 
+/// So many streams have nothing to send, and a lower one has to tell that it is blocked.
+pub fn one_blocked<T: Target>(play: &mut Play<T>, streams: u64) {
+    let blocked = play.end.open(Dir::Uni);
+    for _ in 0..streams {
+        let stream = play.end.open(Dir::Uni);
+        play.end.write(stream, &[b'x'; 10]);
+    }
+    play.drain();
+    play.ack_all();
+    play.end.write(blocked, &[b'x'; 11]);
+    play.make();
+}
+
+/// The next hundred of them are stopped, more than there is room to answer for: so the lower one doesn't come to tell.
+pub fn stop_hundred<T: Target>(play: &mut Play<T>, _streams: u64, step: u64) {
+    for index in 100 * step..100 * (step + 1) {
+        play.put(Frame::StopSending {
+            stream: own(Dir::Uni, index + 1),
+            code: 0,
+        });
+    }
+    play.deliver();
+    play.make_in(400);
+}
+
 /// So many times in one payload a stream is stopped with another code.
 pub fn stop_again<T: Target>(play: &mut Play<T>, frames: u64, step: u64) {
     for code in frames * step..frames * (step + 1) {

@@ -217,6 +217,15 @@ impl<T: Target + 'static> Attack<T> {
             step: p::stop_downwards,
         },
         Attack {
+            name: "stops-beside-blocked",
+            what: "of so many streams a hundred at a time are stopped, while a lower one is blocked and finds no room to tell",
+            sizes: [1000, 4000, 16_000],
+            setup: TIGHT,
+            ready: p::one_blocked,
+            steps: |streams| streams / 100,
+            step: p::stop_hundred,
+        },
+        Attack {
             name: "stop-again",
             what: "so many STOP_SENDING of one stream come in one payload, each with a new code",
             sizes: [40, 80, 160],

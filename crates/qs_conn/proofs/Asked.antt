@@ -1,5 +1,5 @@
 -- What an end is asked: the next outstanding packet.
-use Rattle.std.proofs.Common.{◌≡◌, ℕ, ◌+◌, ◌<◌, ◌≤◌, true, false, max, None, Some, sym, ◌∙◌, subst, arith, inl, inr}
+use Rattle.std.proofs.Common.{◌≡◌, ℕ, ◌<◌, ◌≤◌, true, false, max, None, Some, sym, ◌∙◌, arith, inl, inr}
 use Rattle.std.proofs.lemmas.Bool.{true≢false, cases_lt, false_from_ne_true}
 use Rattle.std.specs.FinMap as fmap
 use Rattle.qs_send.specs.Records.{IsGreatest}
@@ -20,14 +20,12 @@ next_found m from n before held =
       least = λ k ge there. elim (cases_lt k n) [ inl lt ↦ absurd (true≢false (sym there ∙ before.1 k ge lt)) | inr le ↦ le ];
     }
 
-pub next_step : (m : Records) (from n : ℕ) → (from ≤ n) × ((k : ℕ) → from ≤ k → k < n → fmap.contains_key m k ≡ false) → fmap.contains_key m n ≡ false → (from ≤ n + 1) × ((k : ℕ) → from ≤ k → k < n + 1 → fmap.contains_key m k ≡ false)
-next_step m from n before absent =
+-- nor is any of a window
+pub next_above : (m : Records) (from low end : ℕ) → low ≤ end → (from ≤ low) × ((k : ℕ) → from ≤ k → k < low → fmap.contains_key m k ≡ false) → ((k : ℕ) → low ≤ k → k < end → fmap.contains_key m k ≡ false) → (from ≤ end) × ((k : ℕ) → from ≤ k → k < end → fmap.contains_key m k ≡ false)
+next_above m from low end ordered before none =
     let le = before.0 in (
-      omega (arith, le),
-      λ k ge lt. elim (cases_lt k n) [
-        | inl less ↦ before.1 k ge less
-        | inr past ↦ (let same : k ≡ n = omega (arith, lt, past) in subst (λ j. fmap.contains_key m j ≡ false) (sym same) absent)
-      ],
+      omega (arith, le, ordered),
+      λ k ge lt. elim (cases_lt k low) [ inl less ↦ before.1 k ge less | inr past ↦ none k past lt ],
     )
 
 past_greatest : (m : Records) (end k : ℕ) → IsGreatest m end → end < k → fmap.contains_key m k ≡ false

@@ -1,5 +1,5 @@
 -- What holds of the tables of an end: each change of a part keeps it.
-use Rattle.std.proofs.Common.{◌≡◌, ℕ, ◌≤◌, ◌^◌, Bool, true, false, List, length, Option, None, Some, Result, Ok, Err, is_some, cond, refl, sym, ap, ◌∙◌, subst, arith}
+use Rattle.std.proofs.Common.{◌≡◌, ℕ, ◌+◌, ◌-◌, ◌≤◌, ◌^◌, Bool, true, false, List, length, Option, None, Some, Result, Ok, Err, is_some, cond, refl, sym, ap, ◌∙◌, subst, arith}
 use Rattle.std.specs.FinMap as fmap
 use Rattle.std.specs.Result.{OnOk, OnErr}
 use Rattle.std.proofs.lemmas.Bool.{true≢false}
@@ -25,9 +25,9 @@ use Rattle.qs_machine.specs.Sums.{or_none}
 use Rattle.qs_machine.proofs.Taken.{sum_open}
 use Rattle.qs_conn.specs.declared.by_dir.ByDir.{ByDir}
 use Rattle.qs_conn.specs.declared.middle.Core.{Core}
-use Rattle.qs_conn.specs.Middle.{IsCore, IsAtRest, IsKept, KeepsStreams, IsFilling, FillsOn, end_of}
+use Rattle.qs_conn.specs.Middle.{IsCore, IsAtRest, IsKept, KeepsStreams, IsFilling, FillsOn, HasMemory, end_of}
 use Rattle.qs_conn.specs.Ended.{AreAllCounted, CountsFit, half_of, is_over, recounted}
-use Rattle.qs_conn.specs.Filling.{end_by, PutsItem, HasSpare, LeavesRest}
+use Rattle.qs_conn.specs.Filling.{end_by, PutsItem, LeavesRest}
 use Rattle.qs_conn.specs.Marks.{IsIdle as IsIdleAt}
 use Rattle.qs_conn.specs.Runs.{held_out}
 use Rattle.qs_conn.specs.declared.slot.Slot.TheVariants as slots
@@ -42,6 +42,7 @@ use Rattle.qs_conn.proofs.Untolds.{recv_own, send_own, recv_noted, send_noted, r
 use Rattle.qs_conn.proofs.EachItem.{each_item}
 use Rattle.qs_conn.proofs.Rests.{rest_same, rest_on}
 use Rattle.qs_conn.proofs.Slots.{end_put}
+use Rattle.qs_conn.proofs.Stills.{memory_less, memory_marks}
 
 -- the limits and the receiving halves stay, and stay again
 pub streams_same : (a : Core) → KeepsStreams a a
@@ -225,6 +226,10 @@ module _ (c : Core) (h : IsAtRest c) where
         idle = idle;
       }
 
+-- marks alone moved
+pub rest_unmarked : (a b : Core) (ins outs : Tables Bool) → IsCore b → b ≡ record a { untold_recvs = ins; untold_sends = outs } → IsIdle a.outbox → IsAtRest b
+rest_unmarked a b ins outs core is idle = record { core = core; idle = subst (λ (x : Core). IsIdle x.outbox) (sym is) idle }
+
 -- A packet is filled
 
 module _ (c : Core) (h : IsCore c) where
@@ -289,16 +294,49 @@ module _ (c : Core) (h : IsCore c) where
         told_out = told_unmarked SendTells c.outbox.sends c.outbox.outstanding c.outbox.acked c.untold_sends h.told_out marks n are (out_idle c.limits c.recvs c.outbox there n (reset there) (blocked there));
       }
 
-pub fills_same : (c : Core) (out : List ℕ) (len : ℕ) → IsFilling c out len → FillsOn c out len c out len
-fills_same c out len h = record { filling = h; streams = streams_same c; ended = refl; rest = rest_same len out; room = refl }
+pub fills_same : (c : Core) (out : List ℕ) (len own : ℕ) → IsFilling c out len → FillsOn c out len c out len own
+fills_same c out len own h =
+    record { filling = h; memory = λ left. memory_less c (length out) len left (left - own) (omega arith); streams = streams_same c; ended = refl; rest = rest_same len out; room = refl }
 
 -- the packets and the marks alone moved
-pub fills_outbox : (c : Core) (o : Outgoing) (marks : Tables Bool) (xs ys : List ℕ) (i j : ℕ) → IsCore (record c { outbox = o; untold_sends = marks }) → j ≤ length ys → HasSpare (length ys) j o.spare → LeavesRest i xs j ys → length ys ≡ length xs → FillsOn c xs i (record c { outbox = o; untold_sends = marks }) ys j
-fills_outbox c o marks xs ys i j core within spare rest room = record { filling = record { core = core; within = within; spare = spare }; streams = record { limits = refl; recvs = refl }; ended = refl; rest = rest; room = room }
+pub fills_outbox : (c : Core) (o : Outgoing) (marks : Tables Bool) (xs ys : List ℕ) (i j own : ℕ) → IsCore (record c { outbox = o; untold_sends = marks }) → j ≤ length ys
+    → ((left : ℕ) → HasMemory c (length xs) i left → HasMemory (record c { outbox = o; untold_sends = marks }) (length ys) j (left - own)) → LeavesRest i xs j ys → length ys ≡ length xs → FillsOn c xs i (record c { outbox = o; untold_sends = marks }) ys j own
+fills_outbox c o marks xs ys i j own core within memory rest room = record { filling = record { core = core; within = within }; memory = memory; streams = record { limits = refl; recvs = refl }; ended = refl; rest = rest; room = room }
 
-pub fills_on : (a b c : Core) (xs ys zs : List ℕ) (i j k : ℕ) → FillsOn a xs i b ys j → FillsOn b ys j c zs k → FillsOn a xs i c zs k
-fills_on a b c xs ys zs i j k f g =
-    record { filling = g.filling; streams = streams_on a b c f.streams g.streams; ended = g.ended ∙ f.ended; rest = rest_on i j k xs ys zs f.rest g.rest; room = g.room ∙ f.room }
+pub fills_on : (a b c : Core) (xs ys zs : List ℕ) (i j k own more : ℕ) → FillsOn a xs i b ys j own → FillsOn b ys j c zs k more → FillsOn a xs i c zs k (own + more)
+fills_on a b c xs ys zs i j k own more f g =
+    record {
+      filling = g.filling;
+      memory = λ left h. memory_less c (length zs) k (left - own - more) (left - (own + more)) (omega arith) (g.memory (left - own) (f.memory left h));
+      streams = streams_on a b c f.streams g.streams;
+      ended = g.ended ∙ f.ended;
+      rest = rest_on i j k xs ys zs f.rest g.rest;
+      room = g.room ∙ f.room;
+    }
+
+-- marks alone moved
+pub fills_marks : (a b : Core) (ins outs : Tables Bool) (out : List ℕ) (len : ℕ) → IsFilling a out len → IsCore b → b ≡ record a { untold_recvs = ins; untold_sends = outs } → FillsOn a out len b out len 0
+fills_marks a b ins outs out len h core is =
+    record {
+      filling = record { core = core; within = h.within };
+      memory = λ left m. subst (λ (x : Core). HasMemory x (length out) len (left - 0)) (sym is) (memory_marks a ins outs (length out) len (left - 0) (memory_less a (length out) len left (left - 0) (omega arith) m));
+      streams = record { limits = ap (λ (x : Core). x.limits) is; recvs = ap (λ (x : Core). x.recvs) is };
+      ended = ap (λ (x : Core). x.ended) is;
+      rest = rest_same len out;
+      room = refl;
+    }
+
+-- no more are taken than may be
+pub fills_within : (a b : Core) (xs ys : List ℕ) (i j own most : ℕ) → own ≤ most → FillsOn a xs i b ys j own → FillsOn a xs i b ys j most
+fills_within a b xs ys i j own most le f =
+    record {
+      filling = f.filling;
+      memory = λ left h. memory_less b (length ys) j (left - own) (left - most) (omega (arith, le)) (f.memory left h);
+      streams = f.streams;
+      ended = f.ended;
+      rest = f.rest;
+      room = f.room;
+    }
 
 -- What holds of an end between calls
 

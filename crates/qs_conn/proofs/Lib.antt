@@ -46,6 +46,7 @@ pub mod Unmoved
 pub mod Slots
 pub mod Sendables
 pub mod Stages
+pub mod Stills
 pub mod Telling
 pub mod Texts
 pub mod ToldEnds

@@ -160,6 +160,10 @@ all_items =
 abbrev pub HasSpare : ℕ → ℕ → ℕ → Type 0
 HasSpare room len spare = room ≤ len + 2 * spare + 1
 
+-- there is memory for a piece of two bytes or more, if there is room for one
+abbrev pub HasOneSpare : ℕ → ℕ → ℕ → Type 0
+HasOneSpare room len spare = len + 2 ≤ room → 0 < spare
+
 -- there are no fewer bytes than there were, and behind them the slice is as it was
 abbrev pub LeavesRest : (len : ℕ) → (before : List ℕ) → (end : ℕ) → (after : List ℕ) → Type 0
 LeavesRest len before end after = (len ≤ end) × (drop end after ≡ drop end before)

@@ -1,18 +1,23 @@
 -- Of private contracts.
 -- What holds of the tables of an end, and of an end between calls.
-use Rattle.std.specs.Prelude.{◌≡◌, ℕ, ◌<◌, ◌≤◌, Bool, true, List, length, Option}
+use Rattle.std.specs.Prelude.{◌≡◌, ℕ, ◌+◌, ◌-◌, ◌*◌, ◌<◌, ◌≤◌, ◌⊎◌, Bool, true, List, length, Option}
 use Rattle.std.specs.FinSet as set
 use Rattle.qs_ranges.specs.Numbers.{NumberSet, run_starts}
 use Rattle.qs_calls.specs.declared.settings.PeerLimits.{PeerLimits}
 use Rattle.qs_calls.specs.declared.closing.Closed.{Closed}
 use Rattle.qs_calls.specs.Settings.{are_spellable}
+use Rattle.qs_machine.specs.Due.{StreamGoes}
 use Rattle.qs_machine.specs.Ends.{End}
 use Rattle.qs_machine.specs.Outgoing.{IsIdle, sent_sum}
 use Rattle.qs_machine.specs.Standing.{KeepsCredit}
 use Rattle.qs_conn.specs.declared.middle.Core.{Core}
 use Rattle.qs_conn.specs.Ended.{CountsFit}
-use Rattle.qs_conn.specs.Filling.{LimitsFit, end_by, HasSpare, LeavesRest}
+use Rattle.qs_conn.specs.declared.slot.Kind.{Kind}
+use Rattle.qs_conn.specs.declared.slot.Slot.{Slot}
+use Rattle.qs_conn.specs.declared.slot.Slot.TheVariants as slots
+use Rattle.qs_conn.specs.Filling.{LimitsFit, end_by, slot_at, HasSpare, LeavesRest}
 use Rattle.qs_conn.specs.Layers.{ClosingFits}
+use Rattle.qs_conn.specs.Marks.{IsIdle as IsIdleAt}
 use Rattle.qs_conn.specs.Settled.{AreNextWhere}
 use Rattle.qs_conn.specs.Untold.{AreTold, TellsAt, SendTells}
 
@@ -52,15 +57,41 @@ pub record IsKept (c : Core) (peer : PeerLimits) (done : NumberSet) (is_settled 
 abbrev pub end_of : Core → End → End
 end_of c e = end_by c.limits c.recvs c.outbox e
 
--- so many bytes of a packet stand at the slice's front, and there is memory for the pieces that may come
+-- nothing of a stream is due: no item, and no byte and no end that may go
+pub record IsStill (c : Core) : Type 0 where
+  pub no_item : (e : End) (kind : Kind) (n : ℕ) → IsIdleAt (end_of c e) (slot_at kind n)
+  pub no_stream : (e : End) (n : ℕ) → StreamGoes (end_of c e) n → ⊥
+
+-- A packet of that many bytes holds at most so many pieces: one for each two bytes, or, where nothing of a stream is due, the six items
+-- of the connection itself.
+abbrev pub HoldsAtMost : Core → (room count : ℕ) → Type 0
+HoldsAtMost c room count = (room ≤ 2 * count + 1) ⊎ ((6 ≤ count) × IsStill c)
+
+-- there is memory for the pieces that may come, of which so many at most are items of the connection itself
+abbrev pub HasMemory : Core → (room len left : ℕ) → Type 0
+HasMemory c room len left = HasSpare room len c.outbox.spare ⊎ ((left ≤ c.outbox.spare) × IsStill c)
+
+-- how many pieces the item of a slot may take where nothing of a stream is due
+abbrev pub own_items : Slot → ℕ
+own_items slots.MaxData = 1
+own_items (slots.MaxStreamData n) = 0
+own_items (slots.MaxStreams d) = 1
+own_items (slots.ResetStream n) = 0
+own_items (slots.StopSending n) = 0
+own_items slots.DataBlocked = 1
+own_items (slots.StreamDataBlocked n) = 0
+own_items (slots.StreamsBlocked d) = 1
+
+-- so many bytes of a packet stand at the slice's front
 pub record IsFilling (c : Core) (out : List ℕ) (len : ℕ) : Type 0 where
   pub core : IsCore c
   pub within : len ≤ length out
-  pub spare : HasSpare (length out) len c.outbox.spare
 
--- the packet goes on behind the bytes that are there, and behind it the slice stays as it was
-pub record FillsOn (old : Core) (before : List ℕ) (len : ℕ) (new : Core) (after : List ℕ) (end : ℕ) : Type 0 where
+-- the packet goes on behind the bytes that are there, with so many items of the connection itself at most where nothing else is due, and
+-- behind it the slice stays as it was
+pub record FillsOn (old : Core) (before : List ℕ) (len : ℕ) (new : Core) (after : List ℕ) (end own : ℕ) : Type 0 where
   pub filling : IsFilling new after end
+  pub memory : (left : ℕ) → HasMemory old (length before) len left → HasMemory new (length after) end (left - own)
   pub streams : KeepsStreams old new
   pub ended : new.ended ≡ old.ended
   pub rest : LeavesRest len before end after

@@ -16,7 +16,7 @@ ghost use Rattle.qs_machine.specs.Ends.{End};
 ghost use Rattle.qs_machine.specs.Due.{IsCovered};
 ghost use Rattle.qs_machine.specs.Outgoing.{IsCarried, MayTell, sent_sum, on_lane, chunk_put};
 ghost use Rattle.qs_machine.specs.Sums.{or_none};
-ghost use Rattle.qs_conn.specs.Filling.{frame_of_item, end_by, HasSpare, LeavesRest, PutsItem, no_slot, InPacket, Begun, IsAckLeft, IsAckText, IsPassed, MayGo, stream_frame};
+ghost use Rattle.qs_conn.specs.Filling.{frame_of_item, end_by, HasSpare, HasOneSpare, LeavesRest, PutsItem, no_slot, InPacket, Begun, IsAckLeft, IsAckText, IsPassed, MayGo, stream_frame};
 
 use crate::outbox::Outbox;
 use qs_calls::Fill;
@@ -115,13 +115,13 @@ fn frame_of(item: &Item) -> Frame<'static>
 #[tactic(auto, using(crate::proofs::Putting::item_some))]
 pub(crate) fn put_item(outbox: &mut Outbox, item: &Item, out: &mut [u8], packet: Packet) -> Packet
     requires within { packet.len ≤ length out.old }
-    requires spare { HasSpare (length out.old) packet.len outbox.old.spare }
+    requires spare { HasOneSpare (length out.old) packet.len outbox.old.spare }
     requires may { MayTell outbox.old.sends item.now }
     requires new { IsCarried outbox.old.outstanding (pieces.Told item.now) → ⊥ }
     requires fits { Fits (frame_of_item item.now) }
     ensures puts { PutsItem item.now out.old packet.len outbox.old out.new result.len outbox.new result.is_full }
     ensures within { result.len ≤ length out.new }
-    ensures spare { HasSpare (length out.new) result.len outbox.new.spare }
+    ensures spare { HasSpare (length out.old) packet.len outbox.old.spare → HasSpare (length out.new) result.len outbox.new.spare }
     ensures rest { LeavesRest packet.len out.old result.len out.new }
     ensures room { length out.new ≡ length out.old }
 {
@@ -161,7 +161,7 @@ pub(crate) fn put_chunk(
     len: usize,
 ) -> usize
     requires within { len ≤ length out.old }
-    requires spare { HasSpare (length out.old) len outbox.old.spare }
+    requires spare { HasOneSpare (length out.old) len outbox.old.spare }
     requires open { is_some (lookup outbox.old.sends stream) ≡ true }
     requires may { MayGo outbox.old stream chunk (length out.old - len) }
     requires small { sent_sum (on_lane stream (λ l. sent_lane l chunk) outbox.old).sends ≤ MAX_VARINT }
@@ -170,7 +170,7 @@ pub(crate) fn put_chunk(
     ensures count { length (bytes_of (or_none (lookup outbox.old.sends stream)) chunk) ≡ chunk.len }
     ensures end { result ≡ len + frame_len stream chunk.offset chunk.len }
     ensures within { result ≤ length out.new }
-    ensures spare { HasSpare (length out.new) result outbox.new.spare }
+    ensures spare { HasSpare (length out.old) len outbox.old.spare → HasSpare (length out.new) result outbox.new.spare }
     ensures rest { LeavesRest len out.old result out.new }
     ensures room { length out.new ≡ length out.old }
 {

@@ -178,8 +178,8 @@ impl Untold {
         StreamId::new(least(bidi, uni)?)
     }
 
-    // Whether any stream may be marked.
-    fn may_have(&self) -> bool
+    /// Whether any stream may be marked.
+    pub(crate) fn may_have(&self) -> bool
         ensures { result ≡ false → (n : ℕ) (b : Bool) → lookup self.now n ≡ Some b → b ≡ false }
     {
         if self.types[0].may_have() {

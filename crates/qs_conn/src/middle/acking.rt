@@ -13,6 +13,7 @@ ghost use Rattle.qs_conn.specs.Runs.{AcksAhead, AcksNamed, AcksOnly, AcksPacket,
 use super::Core;
 use crate::newly_told::{Silent, Told};
 use crate::outbox::KeptPacket;
+use crate::slot::Kind;
 use crate::untold::look_again;
 use qs_ranges::NoMemory;
 use qs_send::{AckPass, Item, Piece};
@@ -141,6 +142,11 @@ impl Core {
         self.outbox.ack_kept(packet, piece)?;
         let is = self.is_over(stream);
         self.ended.recount(stream, was, is);
+        if let Piece::Data { .. } = piece {
+            return Ok(());
+        }
+        // Of a reset that the peer has nothing is left to tell.
+        self.unmark_told(Kind::ResetStream, stream);
         Ok(())
     }
 }

@@ -8,7 +8,7 @@ ghost use Rattle.qs_machine.specs.Due.{StreamGoes};
 ghost use Rattle.qs_machine.specs.Ends.{End};
 ghost use Rattle.qs_machine.specs.Filling.{IsAsked};
 ghost use Rattle.qs_conn.specs.declared.filling.Wish.{Wish};
-ghost use Rattle.qs_conn.specs.Middle.{IsCore, IsFilling, FillsOn, end_of};
+ghost use Rattle.qs_conn.specs.Middle.{IsCore, IsFilling, FillsOn, HasMemory, HoldsAtMost, IsStill, own_items, end_of};
 ghost use Rattle.qs_conn.specs.Filling.{slot_at, Passed, HasPassedTo, HasPassedKinds, kind_place, no_slot, and_slot, and_kind, all_items, Stage, Flow, Packed, IsAckLeft, InPacket, turn_at, start_of, way_end, IsOnWay};
 ghost use Rattle.qs_conn.specs.Marks.{IsBefore, IsIdle};
 
@@ -21,11 +21,15 @@ use crate::slot::{Kind, Slot};
 use qs_ranges::RangeSet;
 use qs_wire::{Dir, StreamId};
 
+// So many items are the connection's own: two limits and two counts of streams for the peer, and what this end lacks of its own three.
+const OWN_ITEMS: usize = 6;
+
 impl Core {
     /// Fills a packet from its first byte on with what is asked for, and answers how many bytes it has: the ACK, control items, and the
     /// bytes of streams (RFC 9000, sections 4, 13.2 and 13.3).
     pub(crate) fn fill(&mut self, done: &RangeSet, wish: &Wish, out: &mut [u8]) -> usize
         requires filling { IsFilling self.old out.old 0 }
+        requires memory { HasMemory self.old (length out.old) 0 6 }
         requires delay { wish.now.delay < 2 ^ 62 }
         requires acks { wish.now.ack_due ≡ true → 0 < set.len (run_starts done.now) }
         requires few { set.len (run_starts done.now) ≤ 32 }
@@ -33,7 +37,7 @@ impl Core {
         requires together { wish.now.ack_due ≡ true → wish.now.want.items ≡ true }
         ensures packed { (old : End) (left : Bool) → end_of self.old old ≡ old → old.done ≡ done.now → IsAckLeft wish.now.ack_due old.ack_due left → ((x : Piece) → InPacket old x → ⊥)
             → Packed wish.now.want.first wish.now (length out.old) old (take result out.new) (end_of self.new (record old { ack_due = left })) }
-        ensures filled { FillsOn self.old out.old 0 self.new out.new result }
+        ensures filled { FillsOn self.old out.old 0 self.new out.new result 6 }
     {
         let len = put_ack_if(done, wish, out);
         let start = Packet {
@@ -42,19 +46,42 @@ impl Core {
         };
         let packet = self.put_items(wish, out, start);
         let packet = self.put_streams(wish, out, packet);
-        self.unmark_told();
         packet.len
+    }
+
+    /// How many pieces a packet of that many bytes holds at most: each takes two or more, and where nothing of a stream is due there are
+    /// the connection's own items alone.
+    pub(crate) fn most_pieces(&self, room: usize) -> usize
+        requires { IsCore self.now }
+        ensures { HoldsAtMost self.now room result }
+    {
+        if self.is_still() { OWN_ITEMS } else { room / 2 }
+    }
+
+    // Whether nothing of a stream is due. It looks at how many marks there are, and at no half.
+    fn is_still(&self) -> bool
+        requires { IsCore self.now }
+        ensures { result ≡ true → IsStill self.now }
+    {
+        if self.outbox.may_have(Task::Bytes) {
+            return false;
+        }
+        if self.untold_sends.may_have() {
+            return false;
+        }
+        !self.untold_recvs.may_have()
     }
 
     // Puts the control items into the packet that are due, if they are asked for.
     #[tactic(auto, using(crate::proofs::Cores::fills_same))]
     fn put_items(&mut self, wish: &Wish, out: &mut [u8], packet: Packet) -> Packet
-        requires { IsFilling self.old out.old packet.len }
+        requires filling { IsFilling self.old out.old packet.len }
+        requires memory { HasMemory self.old (length out.old) packet.len 6 }
         ensures stage { (room : ℕ) (old e : End) → wish.now.want.items ≡ true → room ≡ length out.old
             → Stage wish.now room old (take packet.len out.old) (end_of self.old e) packet.is_full no_slot
             → Stage wish.now room old (take result.len out.new) (end_of self.new e) result.is_full all_items }
         ensures passed { wish.now.want.items ≡ false → (self.new ≡ self.old) × (out.new ≡ out.old) × (result ≡ packet) }
-        ensures filled { FillsOn self.old out.old packet.len self.new out.new result.len }
+        ensures filled { FillsOn self.old out.old packet.len self.new out.new result.len 6 }
     {
         if !wish.want.items {
             return packet;
@@ -74,11 +101,12 @@ impl Core {
     // Puts the items of a kind into the packet that are due, lower stream numbers first.
     #[tactic(auto, using(crate::proofs::Cores::fills_same))]
     fn put_kind(&mut self, kind: Kind, out: &mut [u8], packet: Packet) -> Packet
-        requires { IsFilling self.old out.old packet.len }
+        requires filling { IsFilling self.old out.old packet.len }
+        requires memory { HasMemory self.old (length out.old) packet.len 0 }
         ensures stage { (wish : Wish) (room : ℕ) (old e : End) (passed : Passed) → room ≡ length out.old → HasPassedKinds passed (kind_place kind)
             → Stage wish room old (take packet.len out.old) (end_of self.old e) packet.is_full passed
             → Stage wish room old (take result.len out.new) (end_of self.new e) result.is_full (and_kind passed kind) }
-        ensures filled { FillsOn self.old out.old packet.len self.new out.new result.len }
+        ensures filled { FillsOn self.old out.old packet.len self.new out.new result.len 0 }
     {
         if packet.is_full {
             return packet;
@@ -90,6 +118,7 @@ impl Core {
             if packet.is_full {
                 return packet;
             }
+            self.unmark_told(kind, stream);
             from = stream.value() + 1;
         }
         packet
@@ -112,11 +141,12 @@ impl Core {
     #[tactic(auto, using(crate::proofs::Cores::fills_same))]
     #[inline(always)]
     fn put_own_slot(&mut self, slot: Slot, out: &mut [u8], packet: Packet) -> Packet
-        requires { IsFilling self.old out.old packet.len }
+        requires filling { IsFilling self.old out.old packet.len }
+        requires memory { HasMemory self.old (length out.old) packet.len 1 }
         ensures stage { (wish : Wish) (room : ℕ) (old e : End) (passed : Passed) → room ≡ length out.old → HasPassedTo passed slot
             → Stage wish room old (take packet.len out.old) (end_of self.old e) packet.is_full passed
             → Stage wish room old (take result.len out.new) (end_of self.new e) result.is_full (and_slot passed slot) }
-        ensures filled { FillsOn self.old out.old packet.len self.new out.new result.len }
+        ensures filled { FillsOn self.old out.old packet.len self.new out.new result.len 1 }
     {
         if self.limits.has_told(&self.outbox, &slot) {
             return packet;
@@ -127,11 +157,12 @@ impl Core {
     // Puts the item of a slot into the packet, if it is due.
     #[tactic(auto, using(crate::proofs::Cores::fills_same))]
     fn put_slot(&mut self, slot: Slot, out: &mut [u8], packet: Packet) -> Packet
-        requires { IsFilling self.old out.old packet.len }
+        requires filling { IsFilling self.old out.old packet.len }
+        requires memory { HasMemory self.old (length out.old) packet.len (own_items slot) }
         ensures stage { (wish : Wish) (room : ℕ) (old e : End) (passed : Passed) → room ≡ length out.old → HasPassedTo passed slot
             → Stage wish room old (take packet.len out.old) (end_of self.old e) packet.is_full passed
             → Stage wish room old (take result.len out.new) (end_of self.new e) result.is_full (and_slot passed slot) }
-        ensures filled { FillsOn self.old out.old packet.len self.new out.new result.len }
+        ensures filled { FillsOn self.old out.old packet.len self.new out.new result.len (own_items slot) }
     {
         if packet.is_full {
             return packet;
@@ -150,10 +181,11 @@ impl Core {
     #[tactic(auto, using(crate::proofs::Cores::fills_same))]
     fn put_streams(&mut self, wish: &Wish, out: &mut [u8], packet: Packet) -> Packet
         requires filling { IsFilling self.old out.old packet.len }
+        requires memory { HasMemory self.old (length out.old) packet.len 0 }
         ensures packed { (room : ℕ) (old e : End) → room ≡ length out.old
             → Flow wish.now room old (take packet.len out.old) (end_of self.old e) packet.is_full (turn_at false wish.now.want.first wish.now.want.first)
             → Packed wish.now.want.first wish.now room old (take result.len out.new) (end_of self.new e) }
-        ensures filled { FillsOn self.old out.old packet.len self.new out.new result.len }
+        ensures filled { FillsOn self.old out.old packet.len self.new out.new result.len 0 }
     {
         if !wish.want.streams {
             return packet;
@@ -171,11 +203,12 @@ impl Core {
     // Puts the bytes of the streams of a way into the packet, lower numbers first, as far as the limits and the room allow.
     #[tactic(auto, using(crate::proofs::Cores::fills_same))]
     fn put_way(&mut self, first: StreamId, around: bool, out: &mut [u8], packet: Packet) -> Packet
-        requires { IsFilling self.old out.old packet.len }
+        requires filling { IsFilling self.old out.old packet.len }
+        requires memory { HasMemory self.old (length out.old) packet.len 0 }
         ensures flow { (wish : Wish) (room : ℕ) (old e : End) → ((n : ℕ) → IsAsked wish.want n) → room ≡ length out.old
             → Flow wish room old (take packet.len out.old) (end_of self.old e) packet.is_full (turn_at around first (start_of around first))
             → Flow wish room old (take result.len out.new) (end_of self.new e) result.is_full (way_end around first) }
-        ensures filled { FillsOn self.old out.old packet.len self.new out.new result.len }
+        ensures filled { FillsOn self.old out.old packet.len self.new out.new result.len 0 }
     {
         if packet.is_full {
             return packet;
@@ -213,11 +246,12 @@ impl Core {
     // Puts chunks of a stream into the packet, if it is one that can send.
     #[tactic(auto, using(crate::proofs::Cores::fills_same))]
     fn put_open(&mut self, stream: StreamId, out: &mut [u8], packet: Packet) -> Packet
-        requires { IsFilling self.old out.old packet.len }
+        requires filling { IsFilling self.old out.old packet.len }
+        requires memory { HasMemory self.old (length out.old) packet.len 0 }
         ensures flow { (around : Bool) (first : ℕ) (wish : Wish) (room : ℕ) (old e : End) → IsAsked wish.want stream → room ≡ length out.old → IsOnWay around first stream
             → Flow wish room old (take packet.len out.old) (end_of self.old e) packet.is_full (turn_at around first stream)
             → Flow wish room old (take result.len out.new) (end_of self.new e) result.is_full (turn_at around first (stream + 1)) }
-        ensures filled { FillsOn self.old out.old packet.len self.new out.new result.len }
+        ensures filled { FillsOn self.old out.old packet.len self.new out.new result.len 0 }
     {
         if self.outbox.is_open(stream) {
             return self.put_chunks(stream, out, packet);
@@ -229,11 +263,12 @@ impl Core {
     #[tactic(auto, using(crate::proofs::Cores::fills_same))]
     fn put_chunks(&mut self, stream: StreamId, out: &mut [u8], packet: Packet) -> Packet
         requires filling { IsFilling self.old out.old packet.len }
+        requires memory { HasMemory self.old (length out.old) packet.len 0 }
         requires open { is_some (lookup self.old.outbox.sends stream) ≡ true }
         ensures flow { (around : Bool) (first : ℕ) (wish : Wish) (room : ℕ) (old e : End) → IsAsked wish.want stream → room ≡ length out.old → IsOnWay around first stream
             → Flow wish room old (take packet.len out.old) (end_of self.old e) packet.is_full (turn_at around first stream)
             → Flow wish room old (take result.len out.new) (end_of self.new e) result.is_full (turn_at around first (stream + 1)) }
-        ensures filled { FillsOn self.old out.old packet.len self.new out.new result.len }
+        ensures filled { FillsOn self.old out.old packet.len self.new out.new result.len 0 }
     {
         if packet.is_full {
             return packet;

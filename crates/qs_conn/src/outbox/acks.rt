@@ -1,5 +1,5 @@
 //! Packets are acknowledged and lost.
-ghost use Rattle.std.specs.Prelude.{◌≡◌, ◌<◌, ◌≤◌, ◌↔◌, length, is_some, true, Some, false, IfSome, OnOk, OnErr};
+ghost use Rattle.std.specs.Prelude.{◌≡◌, ◌<◌, ◌≤◌, ◌↔◌, ℕ, length, is_some, true, Some, false, IfSome, IfNone, OnOk, OnErr};
 ghost use Rattle.std.specs.FinMap as fmap;
 ghost use Rattle.qs_send.specs.declared.piece.Item.{Item};
 ghost use Rattle.qs_send.specs.declared.piece.Piece.TheVariants as pieces;
@@ -165,20 +165,44 @@ impl Outbox {
     }
 }
 
-// The least number from one on that is held.
-#[tactic(auto, using(crate::proofs::Asked::next_none, crate::proofs::Asked::next_start, crate::proofs::Asked::next_found, crate::proofs::Asked::next_step, crate::proofs::Asked::next_end))]
+// The least number from one on that is held: steps that double lead past those that aren't, and halves back to the least. Each look is
+// a search downwards, at one word for 4,096 numbers of which none is held.
+#[tactic(auto, using(crate::proofs::Asked::next_none, crate::proofs::Asked::next_start, crate::proofs::Asked::next_found, crate::proofs::Asked::next_above, crate::proofs::Asked::next_end))]
 fn next_held(records: &Records, from: u64) -> Option<u64>
     ensures { IsNextOutstanding records.now.pieces from result }
 {
-    let end = records.greatest()?;
-    let mut number = from.max(records.base());
-    while number <= end {
-        if records.is_held(number) {
-            return Some(number);
-        }
-        number += 1;
+    let mut top = records.greatest()?;
+    let mut low = from.max(records.base());
+    if top < low {
+        return None;
     }
-    None
+    let mut step = 1;
+    while low < top {
+        let end = low + step.min(top - low);
+        match last_held(records, low, end) {
+            Some(number) => {
+                top = number;
+                step = (number - low).div_ceil(2).max(1);
+            }
+            None => {
+                step = (end - low).saturating_mul(2);
+                low = end;
+            }
+        }
+    }
+    Some(top)
+}
+
+// The greatest number from `low` on and below `end` that is held.
+fn last_held(records: &Records, low: u64, end: u64) -> Option<u64>
+    ensures found { IfSome result (λ n. (low ≤ n) × (n < end) × (fmap.contains_key records.now.pieces n ≡ true)) }
+    ensures none { IfNone result ((k : ℕ) → low ≤ k → k < end → fmap.contains_key records.now.pieces k ≡ false) }
+{
+    let number = records.below(end)?;
+    if number < low {
+        return None;
+    }
+    Some(number)
 }
 
 // A chunk, or an item, is acknowledged; or nothing changes.

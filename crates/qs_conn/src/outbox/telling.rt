@@ -1,5 +1,5 @@
 //! What an end has to tell of its sending side.
-ghost use Rattle.std.specs.Prelude.{nat_lt, ◌-◌, ◌≡◌, ◌≤◌, ◌<◌, ◌^◌, ◌↔◌, ◌||◌, IsTrue, ℕ, length, IfSome, IfNone};
+ghost use Rattle.std.specs.Prelude.{nat_lt, ◌-◌, ◌≡◌, ◌≤◌, ◌<◌, ◌^◌, ◌↔◌, ◌||◌, IsTrue, ℕ, length, IfSome, IfNone, false};
 ghost use Rattle.qs_ranges.specs.Numbers.{MAX_VARINT};
 ghost use Rattle.qs_send.specs.declared.piece.Piece.TheVariants as pieces;
 ghost use Rattle.qs_machine.specs.Tables.{lookup};
@@ -183,6 +183,13 @@ impl Outbox {
         }
         let half = half_of(&self.types, stream);
         Some(half.unacked_from())
+    }
+
+    /// Whether any stream may have a task.
+    pub(crate) fn may_have(&self, task: Task) -> bool
+        ensures { result ≡ false → (n : ℕ) → IsQuietAt task self.now n }
+    {
+        may_have(&self.types, task)
     }
 
     /// The least number from one on of a stream that may have a task. The streams between have none of it.

@@ -109,8 +109,8 @@ impl Untold {
         StreamId::new(least(bidi, uni)?)
     }
 
-    // Whether any stream may be marked.
-    fn may_have(&self) -> bool {
+    /// Whether any stream may be marked.
+    pub(crate) fn may_have(&self) -> bool {
         if self.types[0].may_have() {
             return true;
         }

@@ -22,7 +22,8 @@ impl Endpoint {
         if number > MAX_VARINT {
             return Err(MakeFault::Exhausted);
         }
-        if let Err(_refused) = self.core.outbox.begin(out.len() / 2) {
+        let most = self.core.most_pieces(out.len());
+        if let Err(_refused) = self.core.outbox.begin(most) {
             return self.unfilled(want);
         }
         let wish = Wish {

@@ -53,7 +53,8 @@ impl Endpoint {
         if number > MAX_NUMBER {
             return Err(MakeFault::Exhausted);
         }
-        if let Err(_refused) = self.core.outbox.begin(out.len() / 2) {
+        let most = self.core.most_pieces(out.len());
+        if let Err(_refused) = self.core.outbox.begin(most) {
             return self.without_memory();
         }
         let want = Fill {

@@ -4,6 +4,7 @@
 use super::Core;
 use crate::proved::qs_conn::newly_told::{Silent, Told};
 use crate::proved::qs_conn::outbox::KeptPacket;
+use crate::proved::qs_conn::slot::Kind;
 use crate::proved::qs_conn::untold::look_again;
 use crate::proved::qs_ranges::NoMemory;
 use crate::proved::qs_send::{AckPass, Item, Piece};
@@ -87,6 +88,11 @@ impl Core {
         self.outbox.ack_kept(packet, piece)?;
         let is = self.is_over(stream);
         self.ended.recount(stream, was, is);
+        if let Piece::Data { .. } = piece {
+            return Ok(());
+        }
+        // Of a reset that the peer has nothing is left to tell.
+        self.unmark_told(Kind::ResetStream, stream);
         Ok(())
     }
 }

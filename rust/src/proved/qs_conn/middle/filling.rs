@@ -10,6 +10,9 @@ use crate::proved::qs_conn::slot::{Kind, Slot};
 use crate::proved::qs_ranges::RangeSet;
 use crate::proved::qs_wire::{Dir, StreamId};
 
+// So many items are the connection's own: two limits and two counts of streams for the peer, and what this end lacks of its own three.
+const OWN_ITEMS: usize = 6;
+
 impl Core {
     /// Fills a packet from its first byte on with what is asked for, and answers how many bytes it has: the ACK, control items, and the
     /// bytes of streams (RFC 9000, sections 4, 13.2 and 13.3).
@@ -21,8 +24,24 @@ impl Core {
         };
         let packet = self.put_items(wish, out, start);
         let packet = self.put_streams(wish, out, packet);
-        self.unmark_told();
         packet.len
+    }
+
+    /// How many pieces a packet of that many bytes holds at most: each takes two or more, and where nothing of a stream is due there are
+    /// the connection's own items alone.
+    pub(crate) fn most_pieces(&self, room: usize) -> usize {
+        if self.is_still() { OWN_ITEMS } else { room / 2 }
+    }
+
+    // Whether nothing of a stream is due. It looks at how many marks there are, and at no half.
+    fn is_still(&self) -> bool {
+        if self.outbox.may_have(Task::Bytes) {
+            return false;
+        }
+        if self.untold_sends.may_have() {
+            return false;
+        }
+        !self.untold_recvs.may_have()
     }
 
     // Puts the control items into the packet that are due, if they are asked for.
@@ -54,6 +73,7 @@ impl Core {
             if packet.is_full {
                 return packet;
             }
+            self.unmark_told(kind, stream);
             from = stream.value() + 1;
         }
         packet

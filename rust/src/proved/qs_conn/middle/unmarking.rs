@@ -3,42 +3,37 @@
 
 use super::Core;
 use crate::proved::qs_conn::filling::is_covered;
-use crate::proved::qs_conn::slot::Slot;
+use crate::proved::qs_conn::slot::{Kind, Slot};
+use crate::proved::qs_wire::StreamId;
 
 impl Core {
-    /// Takes the marks of the first halves away of which all was told, up to one of which something is due still. Lower streams go into a
-    /// packet first, so those before it were told; what goes on is looked at once for each mark.
-    pub(super) fn unmark_told(&mut self) {
-        self.unmark_recvs();
-        self.unmark_sends();
-    }
-
-    fn unmark_recvs(&mut self) {
-        let mut from = 0;
-        while let Some(stream) = self.untold_recvs.next(from) {
-            if !self.is_idle(Slot::StopSending(stream)) {
-                return;
-            }
-            if !self.is_idle(Slot::MaxStreamData(stream)) {
-                return;
-            }
-            self.untold_recvs.set(stream, false);
-            from = stream.value() + 1;
+    /// Takes the mark of a stream's half away, the one that has items of this kind, if all was told that it has to tell. Each look at a
+    /// marked half ends so or finds something due, so a half that is due keeps none that follow it marked.
+    pub(super) fn unmark_told(&mut self, kind: Kind, stream: StreamId) {
+        match kind {
+            Kind::ResetStream | Kind::StreamDataBlocked => self.unmark_send(stream),
+            Kind::StopSending | Kind::MaxStreamData => self.unmark_recv(stream),
         }
     }
 
-    fn unmark_sends(&mut self) {
-        let mut from = 0;
-        while let Some(stream) = self.untold_sends.next(from) {
-            if !self.is_idle(Slot::ResetStream(stream)) {
-                return;
-            }
-            if !self.is_idle(Slot::StreamDataBlocked(stream)) {
-                return;
-            }
-            self.untold_sends.set(stream, false);
-            from = stream.value() + 1;
+    fn unmark_recv(&mut self, stream: StreamId) {
+        if !self.is_idle(Slot::StopSending(stream)) {
+            return;
         }
+        if !self.is_idle(Slot::MaxStreamData(stream)) {
+            return;
+        }
+        self.untold_recvs.set(stream, false);
+    }
+
+    fn unmark_send(&mut self, stream: StreamId) {
+        if !self.is_idle(Slot::ResetStream(stream)) {
+            return;
+        }
+        if !self.is_idle(Slot::StreamDataBlocked(stream)) {
+            return;
+        }
+        self.untold_sends.set(stream, false);
     }
 
     // Whether what is current of a slot was told.

@@ -106,17 +106,38 @@ impl Outbox {
     }
 }
 
-// The least number from one on that is held.
+// The least number from one on that is held: steps that double lead past those that aren't, and halves back to the least. Each look is
+// a search downwards, at one word for 4,096 numbers of which none is held.
 fn next_held(records: &Records, from: u64) -> Option<u64> {
-    let end = records.greatest()?;
-    let mut number = from.max(records.base());
-    while number <= end {
-        if records.is_held(number) {
-            return Some(number);
-        }
-        number += 1;
+    let mut top = records.greatest()?;
+    let mut low = from.max(records.base());
+    if top < low {
+        return None;
     }
-    None
+    let mut step = 1;
+    while low < top {
+        let end = low + step.min(top - low);
+        match last_held(records, low, end) {
+            Some(number) => {
+                top = number;
+                step = (number - low).div_ceil(2).max(1);
+            }
+            None => {
+                step = (end - low).saturating_mul(2);
+                low = end;
+            }
+        }
+    }
+    Some(top)
+}
+
+// The greatest number from `low` on and below `end` that is held.
+fn last_held(records: &Records, low: u64, end: u64) -> Option<u64> {
+    let number = records.below(end)?;
+    if number < low {
+        return None;
+    }
+    Some(number)
 }
 
 // A chunk, or an item, is acknowledged; or nothing changes.

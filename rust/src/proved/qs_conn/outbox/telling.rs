@@ -143,6 +143,11 @@ impl Outbox {
         Some(half.unacked_from())
     }
 
+    /// Whether any stream may have a task.
+    pub(crate) fn may_have(&self, task: Task) -> bool {
+        may_have(&self.types, task)
+    }
+
     /// The least number from one on of a stream that may have a task. The streams between have none of it.
     pub(crate) fn next_marked(&self, task: Task, from: u64) -> Option<StreamId> {
         debug_assert!(from <= 1 << 62);

@@ -1,8 +1,8 @@
-use Rattle.std.proofs.Common.{◌≡◌, ℕ, ◌∙◌, arith, refl, sym, ap, subst, length, drop}
-use Rattle.qs_machine.specs.Outgoing.{Outgoing}
+use Rattle.std.proofs.Common.{◌≡◌, ℕ, ◌∙◌, arith, refl, sym, subst, length, drop}
 use Rattle.qs_conn.proofs.Cores.{core_outbox, kept_streams}
 use Rattle.qs_conn.proofs.MadePackets.{fill_exhausted, fill_none, fill_idle, fill_next, fill_some, fill_order}
 use Rattle.qs_conn.proofs.Rests.{behind_none, behind_kept}
+use Rattle.qs_conn.proofs.Stills.{memory_begun}
 use Rattle.qs_conn.proofs.endpoint.Endpoint.fill.Goals as goal
 
 pub returns-then-number-gt-MAX_VARINT-clause-step : goal.returns-then-number-gt-MAX_VARINT-clause-step
@@ -11,8 +11,10 @@ returns-then-number-gt-MAX_VARINT-clause-step c = fill_exhausted _ c.args.self.n
 pub fill-len-requires-clause-filling : goal.fill-len-requires-clause-filling
 fill-len-requires-clause-filling c =
     let core = c.self.inside.core in
-    let spare = ap (λ (o : Outgoing). o.spare) c.in_default.ensures.ok in
-    record { core = core_outbox core c.self.invariant.rest.core core.outbox.next _ c.begin.new.self c.in_default.ensures.ok; within = omega arith; spare = omega (arith, spare) }
+    record { core = core_outbox core c.self.invariant.rest.core core.outbox.next _ c.begin.new.self c.in_default.ensures.ok; within = omega arith }
+
+pub fill-len-requires-clause-memory : goal.fill-len-requires-clause-memory
+fill-len-requires-clause-memory c = memory_begun c.self.inside.core _ _ c.begin.new.self c.in_default.ensures.ok c.most_pieces-most.ensures
 
 pub invariant_of-self-then-len-eq0 : goal.invariant_of-self-then-len-eq0
 invariant_of-self-then-len-eq0 c =

@@ -1,18 +1,22 @@
-use Rattle.std.proofs.Common.{◌≡◌, ◌≤◌, ℕ, List, [], Bool, true, arith, sym, ap, subst, ◌∙◌, take, length, false, refl}
+use Rattle.std.proofs.Common.{◌≡◌, ◌≤◌, ◌-◌, [], Bool, true, arith, sym, ap, subst, ◌∙◌, take, length, false, refl}
 use Rattle.qs_machine.specs.Ends.{End}
 use Rattle.qs_machine.specs.Credit.{all_sent}
 use Rattle.qs_machine.specs.Outgoing.{sent_sum}
-use Rattle.qs_conn.specs.declared.middle.Core.{Core}
 use Rattle.qs_conn.specs.Middle.{FillsOn, end_of}
 use Rattle.qs_conn.specs.Filling.{no_slot, IsPassed, Begun, Flowing, Flow, turn_at}
 use Rattle.qs_conn.proofs.Cores.{streams_same, fills_on}
 use Rattle.qs_conn.proofs.Flows.{flow_first, flow_bare, unwished}
+use Rattle.qs_conn.proofs.Stills.{memory_less, memory_on}
 use Rattle.qs_conn.proofs.middle.Core.fill.Goals as goal
 
-pub put_items-packet-requires : goal.put_items-packet-requires
-put_items-packet-requires c =
-    let ack = c.put_ack_if-len.ensures in
-    record { core = c.requires.filling.core; within = ack.within; spare = omega (arith, c.requires.filling.spare, ack.room) }
+pub put_items-packet-requires-clause-filling : goal.put_items-packet-requires-clause-filling
+put_items-packet-requires-clause-filling c = record { core = c.requires.filling.core; within = c.put_ack_if-len.ensures.within }
+
+pub put_items-packet-requires-clause-memory : goal.put_items-packet-requires-clause-memory
+put_items-packet-requires-clause-memory c = memory_on _ _ 0 _ _ 6 c.put_ack_if-len.ensures.room (omega arith) c.requires.memory
+
+pub put_streams-packet-requires-clause-memory : goal.put_streams-packet-requires-clause-memory
+put_streams-packet-requires-clause-memory c = c.put_items-packet.ensures.filled.memory 6 (memory_on _ _ 0 _ _ 6 c.put_ack_if-len.ensures.room (omega arith) c.requires.memory)
 
 pub returns-clause-packed : goal.returns-clause-packed
 returns-clause-packed c = λ old left parts same goes fresh.
@@ -42,27 +46,20 @@ returns-clause-packed c = λ old left parts same goes fresh.
           rw (passed.0, passed.1, passed.2) begun)
     ] in
     let flow = go wish.want.items refl in
-    rw c.unmark_told.ensures.same (c.put_streams-packet.ensures.packed room old begins (sym (c.put_items-packet.ensures.filled.room ∙ c.put_ack_if-len.ensures.room)) flow)
+    c.put_streams-packet.ensures.packed room old begins (sym (c.put_items-packet.ensures.filled.room ∙ c.put_ack_if-len.ensures.room)) flow
 
 pub returns-clause-filled : goal.returns-clause-filled
 returns-clause-filled c =
     let ack = c.put_ack_if-len.ensures in
     let self = c.args.self.now in
-    let begun : FillsOn self c.args.out.now 0 self c.put_ack_if-len.new.out c.put_ack_if-len.result =
+    let begun : FillsOn self c.args.out.now 0 self c.put_ack_if-len.new.out c.put_ack_if-len.result 0 =
     record {
-      filling = record { core = c.requires.filling.core; within = ack.within; spare = omega (arith, c.requires.filling.spare, ack.room) };
+      filling = record { core = c.requires.filling.core; within = ack.within };
+      memory = λ left h. memory_less self _ _ left (left - 0) (omega arith) (memory_on self _ 0 _ _ left ack.room (omega arith) h);
       streams = streams_same self;
       ended = refl;
       rest = (omega arith, ack.rest);
       room = ack.room;
     } in
-    let items = fills_on _ _ _ _ _ _ _ _ _ begun c.put_items-packet.ensures.filled in
-    let all = fills_on _ _ _ _ _ _ _ _ _ items c.put_streams-packet.ensures.filled in
-    let same = c.unmark_told.ensures.same in
-    record {
-      filling = record { core = c.unmark_told.ensures.core; within = all.filling.within; spare = rw same all.filling.spare };
-      streams = record { limits = ap (λ (x : Core). x.limits) same ∙ all.streams.limits; recvs = ap (λ (x : Core). x.recvs) same ∙ all.streams.recvs };
-      ended = ap (λ (x : Core). x.ended) same ∙ all.ended;
-      rest = all.rest;
-      room = all.room;
-    }
+    let items = fills_on _ _ _ _ _ _ _ _ _ _ _ begun c.put_items-packet.ensures.filled in
+    fills_on _ _ _ _ _ _ _ _ _ _ _ items c.put_streams-packet.ensures.filled

@@ -4,6 +4,7 @@ use Rattle.qs_machine.specs.Outgoing.{sent_sum}
 use Rattle.qs_conn.specs.Filling.{end_by}
 use Rattle.qs_conn.proofs.Cores.{core_chunk, fills_same, fills_on, fills_outbox}
 use Rattle.qs_conn.proofs.Flows.{Chunking, flow_begins, may_go, sum_within, sum_small, chunking_put, still_open, flow_few, flow_ends}
+use Rattle.qs_conn.proofs.Stills.{chunk_spare, chunk_memory}
 use Rattle.qs_conn.proofs.middle.Core.put_chunks.Goals as goal
 
 pub loop-chunk-init : goal.loop-chunk-init
@@ -12,7 +13,7 @@ loop-chunk-init c =
       chunking = λ around first wish room old e asked at on f. flow_begins wish room old (take c.args.packet.len c.args.out.now) (end_by c.args.self.now.limits c.args.self.now.recvs c.args.self.now.outbox e) c.args.packet.is_full around first c.args.stream c.if-packet.false asked on f;
       is_open = c.requires.open;
       fresh = ap (λ k. c.args.self.now.limits.known_data - k) c.sent_sum.ensures.value;
-      filled = fills_same c.args.self.now c.args.out.now c.args.packet.len c.requires.filling;
+      filled = fills_same c.args.self.now c.args.out.now c.args.packet.len 0 c.requires.filling;
     }
 
 pub put_chunk-len-requires-clause-may : goal.put_chunk-len-requires-clause-may
@@ -48,7 +49,7 @@ loop-chunk-preserved c =
           (chunking_put around first self.limits self.recvs self.outbox e wish room old c.loop-chunk.out c.put_chunk-len.new.out c.loop-chunk.len c.put_chunk-len.result n c.in-Some.chunk left c.loop-chunk.fresh s h next c.in-Some.ensures.2.1 filled.filling.within (at ∙ sym filled.room) refl c.loop-chunk.invariant.fresh put.count put.text (c.loop-chunk.invariant.chunking around first wish room old e asked at on f));
       is_open = subst (λ x. is_some (lookup x.sends n) ≡ true) (sym put.outbox) (still_open self.outbox n s c.in-Some.chunk h);
       fresh = ap (λ k. known - k) c.sent_sum-in-Some.ensures.value;
-      filled = fills_on _ _ _ _ _ _ _ _ _ filled (fills_outbox self c.put_chunk-len.new.outbox c.look_blocked.new.self _ _ _ _ (core_chunk self filled.filling.core n c.in-Some.chunk _ _ _ put.outbox put.count credit c.look_blocked.ensures.more c.look_blocked.ensures.marked) put.within put.spare put.rest put.room);
+      filled = fills_on _ _ _ _ _ _ _ _ _ _ _ filled (fills_outbox self c.put_chunk-len.new.outbox c.look_blocked.new.self _ _ _ _ _ (core_chunk self filled.filling.core n c.in-Some.chunk _ _ _ put.outbox put.count credit c.look_blocked.ensures.more c.look_blocked.ensures.marked) put.within (λ own. chunk_memory self c.args.stream c.in-Some.ensures.0 c.in-Some.chunk left c.loop-chunk.fresh c.in-Some.ensures.1 c.in-Some.ensures.2.0 c.loop-chunk.invariant.fresh c.put_chunk-len.new.outbox c.look_blocked.new.self _ _ _ _ own put.spare) put.rest put.room);
     }
 
 pub returns-then-out-len-lt-LEAST_STREAM_FRAME-clause-flow : goal.returns-then-out-len-lt-LEAST_STREAM_FRAME-clause-flow
@@ -70,7 +71,7 @@ returns-then-out-len-lt-LEAST_STREAM_FRAME-clause-filled c =
     let put = c.put_chunk-len.ensures in
     let left = length c.loop-chunk.out - c.loop-chunk.len in
     let credit = sum_within self.outbox n c.in-Some.ensures.0 c.in-Some.chunk left c.loop-chunk.fresh self.limits.known_data c.in-Some.ensures.1 c.in-Some.ensures.2.0 c.loop-chunk.invariant.fresh filled.filling.core.credit in
-    fills_on _ _ _ _ _ _ _ _ _ filled (fills_outbox self c.put_chunk-len.new.outbox c.look_blocked.new.self _ _ _ _ (core_chunk self filled.filling.core n c.in-Some.chunk _ _ _ put.outbox put.count credit c.look_blocked.ensures.more c.look_blocked.ensures.marked) put.within put.spare put.rest put.room)
+    fills_on _ _ _ _ _ _ _ _ _ _ _ filled (fills_outbox self c.put_chunk-len.new.outbox c.look_blocked.new.self _ _ _ _ _ (core_chunk self filled.filling.core n c.in-Some.chunk _ _ _ put.outbox put.count credit c.look_blocked.ensures.more c.look_blocked.ensures.marked) put.within (λ own. chunk_memory self c.args.stream c.in-Some.ensures.0 c.in-Some.chunk left c.loop-chunk.fresh c.in-Some.ensures.1 c.in-Some.ensures.2.0 c.loop-chunk.invariant.fresh c.put_chunk-len.new.outbox c.look_blocked.new.self _ _ _ _ own put.spare) put.rest put.room)
 
 pub returns-clause-flow : goal.returns-clause-flow
 returns-clause-flow c = λ around first wish room old e asked at on f.
@@ -81,3 +82,8 @@ returns-clause-flow c = λ around first wish room old e asked at on f.
     let held = c.is_held_by_room-is_full.ensures in
     flow_ends around first self.limits self.recvs self.outbox e wish room old c.loop-chunk.out c.loop-chunk.len c.args.stream left c.loop-chunk.fresh none.0 held.0 c.is_held_by_room-is_full.result
     none.1 none.2 held.1 held.2 filled.filling.within (at ∙ sym filled.room) refl c.loop-chunk.invariant.fresh (c.loop-chunk.invariant.chunking around first wish room old e asked at on f)
+
+pub put_chunk-len-requires-clause-spare : goal.put_chunk-len-requires-clause-spare
+put_chunk-len-requires-clause-spare c =
+    chunk_spare c.loop-chunk.self c.args.stream c.in-Some.ensures.0 c.in-Some.chunk (length c.loop-chunk.out - c.loop-chunk.len) c.loop-chunk.fresh c.in-Some.ensures.1 c.in-Some.ensures.2.0 c.loop-chunk.invariant.fresh _ _ 0
+    (c.loop-chunk.invariant.filled.memory 0 c.requires.memory)

@@ -17,7 +17,7 @@ invariant-loop-chunk l =
           → Chunking wish room old (take l.len l.out) (end_of l.self e) around first l.fn.stream;
       is_open : is_some (lookup l.self.outbox.sends l.fn.stream) ≡ true;
       fresh : l.fresh ≡ l.self.limits.known_data - sent_sum l.self.outbox.sends;
-      filled : FillsOn l.fn.self l.fn.out l.fn.packet.len l.self l.out l.len;
+      filled : FillsOn l.fn.self l.fn.out l.fn.packet.len l.self l.out l.len 0;
     }
 
 abbrev pub decreases-loop-chunk : goal.decreases-loop-chunk

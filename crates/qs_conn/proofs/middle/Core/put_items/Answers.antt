@@ -1,4 +1,4 @@
-use Rattle.std.proofs.Common.{◌∙◌, sym, refl}
+use Rattle.std.proofs.Common.{◌∙◌, arith, sym, refl}
 use Rattle.std.proofs.lemmas.Bool.{true≢false}
 use Rattle.qs_wire.specs.declared.stream_id.Dir.TheVariants.{Bidi, Uni}
 use Rattle.qs_conn.specs.declared.slot.Slot.TheVariants as slots
@@ -6,6 +6,7 @@ use Rattle.qs_conn.specs.declared.slot.Kind.TheVariants as kinds
 use Rattle.qs_conn.specs.Filling.{Passed, no_slot, and_slot, and_kind, HasPassedKinds}
 use Rattle.qs_conn.proofs.Passing.{kinds_first, kinds_limit, kinds_counts, kinds_kind, kinds_blocked, passed_first, passed_second}
 use Rattle.qs_conn.proofs.Cores.{fills_on}
+use Rattle.qs_conn.proofs.Stills.{memory_less}
 use Rattle.qs_conn.proofs.middle.Core.put_items.Goals as goal
 
 pub returns-clause-stage : goal.returns-clause-stage
@@ -56,12 +57,97 @@ returns-clause-passed c = λ none. absurd (true≢false (sym c.if-not-wish.false
 
 pub returns-clause-filled : goal.returns-clause-filled
 returns-clause-filled c =
-    let f1 = fills_on _ _ _ _ _ _ _ _ _ c.put_own_slot-packet.ensures.filled c.put_own_slot-packet-2.ensures.filled in
-    let f2 = fills_on _ _ _ _ _ _ _ _ _ f1 c.put_own_slot-packet-3.ensures.filled in
-    let f3 = fills_on _ _ _ _ _ _ _ _ _ f2 c.put_kind-packet.ensures.filled in
-    let f4 = fills_on _ _ _ _ _ _ _ _ _ f3 c.put_kind-packet-2.ensures.filled in
-    let f5 = fills_on _ _ _ _ _ _ _ _ _ f4 c.put_kind-packet-3.ensures.filled in
-    let f6 = fills_on _ _ _ _ _ _ _ _ _ f5 c.put_own_slot-packet-4.ensures.filled in
-    let f7 = fills_on _ _ _ _ _ _ _ _ _ f6 c.put_kind-packet-4.ensures.filled in
-    let f8 = fills_on _ _ _ _ _ _ _ _ _ f7 c.put_own_slot-packet-5.ensures.filled in
-    fills_on _ _ _ _ _ _ _ _ _ f8 c.put_own_slot.ensures.filled
+    let f1 = fills_on _ _ _ _ _ _ _ _ _ _ _ c.put_own_slot-packet.ensures.filled c.put_own_slot-packet-2.ensures.filled in
+    let f2 = fills_on _ _ _ _ _ _ _ _ _ _ _ f1 c.put_own_slot-packet-3.ensures.filled in
+    let f3 = fills_on _ _ _ _ _ _ _ _ _ _ _ f2 c.put_kind-packet.ensures.filled in
+    let f4 = fills_on _ _ _ _ _ _ _ _ _ _ _ f3 c.put_kind-packet-2.ensures.filled in
+    let f5 = fills_on _ _ _ _ _ _ _ _ _ _ _ f4 c.put_kind-packet-3.ensures.filled in
+    let f6 = fills_on _ _ _ _ _ _ _ _ _ _ _ f5 c.put_own_slot-packet-4.ensures.filled in
+    let f7 = fills_on _ _ _ _ _ _ _ _ _ _ _ f6 c.put_kind-packet-4.ensures.filled in
+    let f8 = fills_on _ _ _ _ _ _ _ _ _ _ _ f7 c.put_own_slot-packet-5.ensures.filled in
+    fills_on _ _ _ _ _ _ _ _ _ _ _ f8 c.put_own_slot.ensures.filled
+
+pub put_own_slot-packet-requires-clause-memory : goal.put_own_slot-packet-requires-clause-memory
+put_own_slot-packet-requires-clause-memory c =
+    memory_less _ _ _ 6 1 (omega arith) c.requires.memory
+
+pub put_own_slot-packet-requires-2-clause-memory : goal.put_own_slot-packet-requires-2-clause-memory
+put_own_slot-packet-requires-2-clause-memory c =
+    let m1 = c.put_own_slot-packet.ensures.filled.memory 6 c.requires.memory in
+    memory_less _ _ _ 5 1 (omega arith) m1
+
+pub put_own_slot-packet-requires-3-clause-memory : goal.put_own_slot-packet-requires-3-clause-memory
+put_own_slot-packet-requires-3-clause-memory c =
+    let m1 = c.put_own_slot-packet.ensures.filled.memory 6 c.requires.memory in
+    let m2 = c.put_own_slot-packet-2.ensures.filled.memory 5 m1 in
+    memory_less _ _ _ 4 1 (omega arith) m2
+
+pub put_kind-packet-requires-clause-memory : goal.put_kind-packet-requires-clause-memory
+put_kind-packet-requires-clause-memory c =
+    let m1 = c.put_own_slot-packet.ensures.filled.memory 6 c.requires.memory in
+    let m2 = c.put_own_slot-packet-2.ensures.filled.memory 5 m1 in
+    let m3 = c.put_own_slot-packet-3.ensures.filled.memory 4 m2 in
+    memory_less _ _ _ 3 0 (omega arith) m3
+
+pub put_kind-packet-requires-2-clause-memory : goal.put_kind-packet-requires-2-clause-memory
+put_kind-packet-requires-2-clause-memory c =
+    let m1 = c.put_own_slot-packet.ensures.filled.memory 6 c.requires.memory in
+    let m2 = c.put_own_slot-packet-2.ensures.filled.memory 5 m1 in
+    let m3 = c.put_own_slot-packet-3.ensures.filled.memory 4 m2 in
+    let m4 = c.put_kind-packet.ensures.filled.memory 3 m3 in
+    memory_less _ _ _ 3 0 (omega arith) m4
+
+pub put_kind-packet-requires-3-clause-memory : goal.put_kind-packet-requires-3-clause-memory
+put_kind-packet-requires-3-clause-memory c =
+    let m1 = c.put_own_slot-packet.ensures.filled.memory 6 c.requires.memory in
+    let m2 = c.put_own_slot-packet-2.ensures.filled.memory 5 m1 in
+    let m3 = c.put_own_slot-packet-3.ensures.filled.memory 4 m2 in
+    let m4 = c.put_kind-packet.ensures.filled.memory 3 m3 in
+    let m5 = c.put_kind-packet-2.ensures.filled.memory 3 m4 in
+    memory_less _ _ _ 3 0 (omega arith) m5
+
+pub put_own_slot-packet-requires-4-clause-memory : goal.put_own_slot-packet-requires-4-clause-memory
+put_own_slot-packet-requires-4-clause-memory c =
+    let m1 = c.put_own_slot-packet.ensures.filled.memory 6 c.requires.memory in
+    let m2 = c.put_own_slot-packet-2.ensures.filled.memory 5 m1 in
+    let m3 = c.put_own_slot-packet-3.ensures.filled.memory 4 m2 in
+    let m4 = c.put_kind-packet.ensures.filled.memory 3 m3 in
+    let m5 = c.put_kind-packet-2.ensures.filled.memory 3 m4 in
+    let m6 = c.put_kind-packet-3.ensures.filled.memory 3 m5 in
+    memory_less _ _ _ 3 1 (omega arith) m6
+
+pub put_kind-packet-requires-4-clause-memory : goal.put_kind-packet-requires-4-clause-memory
+put_kind-packet-requires-4-clause-memory c =
+    let m1 = c.put_own_slot-packet.ensures.filled.memory 6 c.requires.memory in
+    let m2 = c.put_own_slot-packet-2.ensures.filled.memory 5 m1 in
+    let m3 = c.put_own_slot-packet-3.ensures.filled.memory 4 m2 in
+    let m4 = c.put_kind-packet.ensures.filled.memory 3 m3 in
+    let m5 = c.put_kind-packet-2.ensures.filled.memory 3 m4 in
+    let m6 = c.put_kind-packet-3.ensures.filled.memory 3 m5 in
+    let m7 = c.put_own_slot-packet-4.ensures.filled.memory 3 m6 in
+    memory_less _ _ _ 2 0 (omega arith) m7
+
+pub put_own_slot-packet-requires-5-clause-memory : goal.put_own_slot-packet-requires-5-clause-memory
+put_own_slot-packet-requires-5-clause-memory c =
+    let m1 = c.put_own_slot-packet.ensures.filled.memory 6 c.requires.memory in
+    let m2 = c.put_own_slot-packet-2.ensures.filled.memory 5 m1 in
+    let m3 = c.put_own_slot-packet-3.ensures.filled.memory 4 m2 in
+    let m4 = c.put_kind-packet.ensures.filled.memory 3 m3 in
+    let m5 = c.put_kind-packet-2.ensures.filled.memory 3 m4 in
+    let m6 = c.put_kind-packet-3.ensures.filled.memory 3 m5 in
+    let m7 = c.put_own_slot-packet-4.ensures.filled.memory 3 m6 in
+    let m8 = c.put_kind-packet-4.ensures.filled.memory 2 m7 in
+    memory_less _ _ _ 2 1 (omega arith) m8
+
+pub put_own_slot-requires-clause-memory : goal.put_own_slot-requires-clause-memory
+put_own_slot-requires-clause-memory c =
+    let m1 = c.put_own_slot-packet.ensures.filled.memory 6 c.requires.memory in
+    let m2 = c.put_own_slot-packet-2.ensures.filled.memory 5 m1 in
+    let m3 = c.put_own_slot-packet-3.ensures.filled.memory 4 m2 in
+    let m4 = c.put_kind-packet.ensures.filled.memory 3 m3 in
+    let m5 = c.put_kind-packet-2.ensures.filled.memory 3 m4 in
+    let m6 = c.put_kind-packet-3.ensures.filled.memory 3 m5 in
+    let m7 = c.put_own_slot-packet-4.ensures.filled.memory 3 m6 in
+    let m8 = c.put_kind-packet-4.ensures.filled.memory 2 m7 in
+    let m9 = c.put_own_slot-packet-5.ensures.filled.memory 2 m8 in
+    m9

@@ -12,7 +12,7 @@ invariant-loop-stream l =
       stage : (wish : Wish) (room : ℕ) (old e : End) (passed : Passed) → room ≡ length l.fn.out → HasPassedKinds passed (kind_place l.fn.kind)
           → Stage wish room old (take l.fn.packet.len l.fn.out) (end_of l.fn.self e) l.fn.packet.is_full passed
           → Stage wish room old (take l.packet.len l.out) (end_of l.self e) l.packet.is_full (and_below passed l.fn.kind l.from);
-      filled : FillsOn l.fn.self l.fn.out l.fn.packet.len l.self l.out l.packet.len;
+      filled : FillsOn l.fn.self l.fn.out l.fn.packet.len l.self l.out l.packet.len 0;
     }
 
 abbrev pub decreases-loop-stream : goal.decreases-loop-stream

@@ -37,4 +37,7 @@ returns-clause-packed c = λ room old e at start.
     flow_packed first wish room old (take c.put_way.result.len c.put_way.new.out) (end_of c.put_way.new.self e) c.put_way.result.is_full true first (λ n asked. had_all first n) two
 
 pub returns-clause-filled : goal.returns-clause-filled
-returns-clause-filled c = fills_on _ _ _ _ _ _ _ _ _ c.put_way-packet.ensures.filled c.put_way.ensures.filled
+returns-clause-filled c = fills_on _ _ _ _ _ _ _ _ _ _ _ c.put_way-packet.ensures.filled c.put_way.ensures.filled
+
+pub put_way-requires-clause-memory : goal.put_way-requires-clause-memory
+put_way-requires-clause-memory c = c.put_way-packet.ensures.filled.memory 0 c.requires.memory

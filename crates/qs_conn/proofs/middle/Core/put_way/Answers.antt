@@ -17,7 +17,7 @@ loop-stream-init c =
       small = c.way_start-from.ensures.small;
       begun = omega (arith, start);
       flow = λ wish room old e all at f. subst (λ n. Flow wish room old (take c.args.packet.len c.args.out.now) (end_of c.args.self.now e) c.args.packet.is_full (turn_at c.args.around c.args.first n)) (sym start) f;
-      filled = fills_same c.args.self.now c.args.out.now c.args.packet.len c.requires;
+      filled = fills_same c.args.self.now c.args.out.now c.args.packet.len 0 c.requires.filling;
     }
 
 pub loop-stream-preserved : goal.loop-stream-preserved
@@ -34,7 +34,7 @@ loop-stream-preserved c =
           (λ n. c.in-Some.ensures.none n e) before in
           let after = c.put_open-packet.ensures.flow around first wish room old e (all stream) (at ∙ sym c.loop-stream.invariant.filled.room) (c.is_on_way.ensures.0 c.if-not-is_on_way.false) here in
           subst (λ n. Flow wish room old (take c.put_open-packet.result.len c.put_open-packet.new.out) (end_of c.put_open-packet.new.self e) c.put_open-packet.result.is_full (turn_at around first (n + 1))) (sym c.value-from.ensures.same) after);
-      filled = fills_on _ _ _ _ _ _ _ _ _ c.loop-stream.invariant.filled c.put_open-packet.ensures.filled;
+      filled = fills_on _ _ _ _ _ _ _ _ _ _ _ c.loop-stream.invariant.filled c.put_open-packet.ensures.filled;
     }
 
 pub returns-then-not-is_on_way-clause-flow : goal.returns-then-not-is_on_way-clause-flow
@@ -61,4 +61,7 @@ returns-clause-flow c = λ wish room old e all at start.
     (c.loop-stream.invariant.flow wish room old e all at start)
 
 pub returns-then-packet-2-clause-filled : goal.returns-then-packet-2-clause-filled
-returns-then-packet-2-clause-filled c = fills_on _ _ _ _ _ _ _ _ _ c.loop-stream.invariant.filled c.put_open-packet.ensures.filled
+returns-then-packet-2-clause-filled c = fills_on _ _ _ _ _ _ _ _ _ _ _ c.loop-stream.invariant.filled c.put_open-packet.ensures.filled
+
+pub put_open-packet-requires-clause-memory : goal.put_open-packet-requires-clause-memory
+put_open-packet-requires-clause-memory c = c.loop-stream.invariant.filled.memory 0 c.requires.memory
