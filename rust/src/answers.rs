@@ -93,17 +93,56 @@ pub struct Made {
 
 /// The token of a packet: by it the end is told that the packet was acknowledged or lost
 /// ([`Endpoint::acked`](crate::Endpoint::acked), [`Endpoint::lost`](crate::Endpoint::lost)). It is the number under which
-/// the end keeps what the packet carries (RFC 9000, section 13.3).
+/// the end keeps what the packet carries (RFC 9000, section 13.3), or several that follow one another, beside the epoch of
+/// the end, which takes no token of another one.
 #[derive(Clone, Copy, Debug, PartialEq, Eq)]
 pub struct Token {
-    /// The number of [`Made`].
+    /// That of the end ([`Tuning::epoch`](crate::Tuning::epoch)).
+    pub epoch: u64,
+    /// The lowest of the numbers.
+    pub first: u64,
+    /// The highest of them. A packet that was filled at once has one: that of [`Made`].
     pub number: u64,
 }
 
 impl Token {
+    /// One token for what this one names and what was filled in next, so that a packet that is filled in parts has one.
+    /// `None` where the numbers of the next one don't follow, or another end gave it.
+    ///
+    /// ```
+    /// use gotsavena::{Dir, Endpoint, Fill, Role, Settings};
+    ///
+    /// let settings = Settings::default();
+    /// let mut client = Endpoint::new(Role::Client, settings, settings.limits())?;
+    /// let [low, high] = [client.open(Dir::Uni)?, client.open(Dir::Uni)?];
+    /// client.write(low, b"hello")?;
+    /// client.write(high, b"world")?;
+    /// let mut packet = [0; 1200];
+    /// let head = client.fill(&mut packet, &Fill::data().only(low))?.expect("bytes are due");
+    /// let tail = client.fill(&mut packet[head.len..], &Fill::data())?.expect("bytes are due");
+    /// let token = head.token.and(tail.token).expect("the next one");
+    /// client.lost(token)?;
+    /// client.acked(token)?;
+    /// assert!(client.fill(&mut packet, &Fill::all())?.is_none(), "all is acknowledged");
+    /// # Ok::<(), Box<dyn std::error::Error>>(())
+    /// ```
+    pub fn and(self, next: Token) -> Option<Token> {
+        self.inner().and(next.inner()).map(Token::of)
+    }
+
     pub(crate) fn inner(self) -> calls::Token {
         calls::Token {
+            epoch: self.epoch,
+            first: self.first,
             number: self.number,
+        }
+    }
+
+    pub(crate) fn of(token: calls::Token) -> Token {
+        Token {
+            epoch: token.epoch,
+            first: token.first,
+            number: token.number,
         }
     }
 }

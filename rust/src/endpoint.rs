@@ -438,42 +438,49 @@ impl Endpoint {
         }
     }
 
+    /// The token of a packet that [`make_packet`](Endpoint::make_packet) made, by the number of [`Made`], for a stack that
+    /// tells its packets by tokens.
+    pub fn token_of(&self, number: u64) -> Token {
+        Token::of(self.inner.token_of(number))
+    }
+
     /// The peer acknowledged the packet of a token: what an ACK of that packet alone does, in time or after it was declared
     /// lost (RFC 9000, section 13.3). A stack that owns its ACKs calls it in the place of handing ACK frames in, and only
-    /// where the peer acknowledged the packet. Of a packet that is done it changes nothing.
+    /// where the peer acknowledged the packet. Of a packet that is done it changes nothing. Of several tokens that were
+    /// joined ([`Token::and`]) it is an ACK of all of them; it takes a turn for each number.
     ///
     /// ```
-    /// use gotsavena::{Dir, Endpoint, Role, Settings, Token, TokenFault};
+    /// use gotsavena::{Dir, Endpoint, Role, Settings, TokenFault};
     ///
     /// let settings = Settings::default();
     /// let mut client = Endpoint::new(Role::Client, settings, settings.limits())?;
     /// let stream = client.open(Dir::Uni)?;
     /// client.write(stream, b"hello")?;
     /// let made = client.make_packet(&mut [0; 1200])?.expect("bytes are due");
-    /// let token = Token { number: made.number };
+    /// let token = client.token_of(made.number);
     /// client.lost(token)?;
     /// client.acked(token)?;
     /// assert!(client.make_packet(&mut [0; 1200])?.is_none(), "a late acknowledgement counts");
-    /// assert_eq!(client.acked(Token { number: 7 }), Err(TokenFault::NotGiven));
+    /// assert_eq!(client.acked(client.token_of(7)), Err(TokenFault::NotGiven));
     /// # Ok::<(), Box<dyn std::error::Error>>(())
     /// ```
     ///
     /// # Errors
     ///
-    /// `Closed`; `NotGiven` where no packet was made yet that has the token; and `NoMemory`: then some of what the packet
-    /// carried may be acknowledged already, and the call may be made again.
+    /// `Closed`; `NotGiven` where not all of its packets were made yet, or the token is of another epoch; and `NoMemory`:
+    /// then some of what they carried may be acknowledged already, and the call may be made again.
     pub fn acked(&mut self, token: Token) -> Result<(), TokenFault> {
         self.inner.acked(token.inner()).map_err(TokenFault::of)
     }
 
     /// The packet of a token is lost, as [`Endpoint::declare_lost`] tells it: what it carried and is still of use is due
     /// again, and an `acked` that comes late still counts (RFC 9000, section 13.3). Of a packet that is done it changes
-    /// nothing.
+    /// nothing. Of several tokens that were joined each is lost.
     ///
     /// # Errors
     ///
-    /// `Closed`; `NotGiven` where no packet was made yet that has the token; and `NoMemory`: then some first pieces of the
-    /// packet may be due again already, and the call may be made again.
+    /// `Closed`; `NotGiven` where not all of its packets were made yet, or the token is of another epoch; and `NoMemory`:
+    /// then some of what they carried may be due again already, and the call may be made again.
     pub fn lost(&mut self, token: Token) -> Result<(), TokenFault> {
         self.inner.lost(token.inner()).map_err(TokenFault::of)
     }

@@ -75,9 +75,7 @@ pub struct Filled {
 impl Filled {
     pub(crate) fn of(filled: calls::Filled) -> Filled {
         Filled {
-            token: Token {
-                number: filled.token.number,
-            },
+            token: Token::of(filled.token),
             len: filled.len,
             last_stream: filled.last_stream.map(StreamId::of),
             more: filled.more,

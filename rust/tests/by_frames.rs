@@ -14,7 +14,7 @@ mod support;
 
 use gotsavena::{
     Dir, Endpoint, Filled, Frame, LostFault, MIN_FILL, Made, Read, Received, Role, SendState,
-    Settings, StreamId, Taken, Token, TokenFault, UseFault, put,
+    Settings, StreamId, Taken, TokenFault, UseFault, put,
 };
 use std::collections::{BTreeMap, BTreeSet};
 use support::Random;
@@ -419,7 +419,8 @@ impl Run {
         let Some(Made { number, len, .. }) = made else {
             return false;
         };
-        let (tokens, text) = (vec![Token { number }], out[..len].to_vec());
+        let token = self.ends[side].end.token_of(number);
+        let (tokens, text) = (vec![token], out[..len].to_vec());
         self.send(side, Draft { tokens, text })
     }
 
@@ -643,7 +644,7 @@ impl Run {
 
     fn tell_unknown(&mut self, side: usize) {
         let number = self.ends[side].end.next_number() + self.random.below(5);
-        let (streams, token) = (self.streams(), Token { number });
+        let (streams, token) = (self.streams(), self.ends[side].end.token_of(number));
         self.ends[side].idle(&streams, |end| {
             assert_eq!(end.acked(token), Err(TokenFault::NotGiven));
             assert_eq!(end.lost(token), Err(TokenFault::NotGiven));

@@ -2,8 +2,8 @@
 //! proved; here calls succeed where memory is there, and a connection comes to its end so.
 
 use gotsavena::{
-    Dir, Endpoint, Frame, Read, Role, Settings, StreamId, TakeFault, Taken, Token, TokenFault,
-    frames,
+    Dir, Endpoint, Fill, Frame, Read, Role, Settings, StreamId, TakeFault, Taken, Token,
+    TokenFault, Tuning, frames,
 };
 
 fn ends() -> (Endpoint, Endpoint) {
@@ -15,10 +15,7 @@ fn ends() -> (Endpoint, Endpoint) {
 // The frames of the next packet of an end, as they are read in it, and its token.
 fn fill(end: &mut Endpoint, payload: &mut [u8]) -> Option<(usize, Token)> {
     let made = end.make_packet(payload).expect("open")?;
-    let token = Token {
-        number: made.number,
-    };
-    Some((made.len, token))
+    Some((made.len, end.token_of(made.number)))
 }
 
 // Hands each frame in, the last one first and each twice, which changes nothing the second time; an ACK is the stack's own affair.
@@ -211,6 +208,65 @@ fn values_that_no_text_has_close() {
     // An end that is closed says so again, and is told of no token.
     let again = server.take_frame(&Frame::Ping);
     assert_eq!(again, Err(TakeFault::Closing(closing)));
-    let token = Token { number: 0 };
+    let token = server.token_of(0);
     assert_eq!(server.acked(token), Err(TokenFault::Closed));
+}
+
+// A server refuses 0-RTT, and a fresh end takes the place of the one that sent it: the tokens of the two are told apart.
+#[test]
+fn a_fresh_end_takes_no_token_of_the_one_before() {
+    let settings = Settings::default();
+    let begun = |epoch| {
+        let tuning = Tuning::default().epoch(epoch);
+        let mut end = Endpoint::new_wide(Role::Client, settings, tuning, settings.limits())?;
+        let stream = end.open(Dir::Uni).expect("granted");
+        end.write(stream, b"hello").expect("room");
+        let filled = end.fill(&mut [0; 100], &Fill::all()).expect("open");
+        Ok::<_, gotsavena::SetupFault>((end, filled.expect("bytes are due").token))
+    };
+    let (_, early) = begun(7).expect("in range");
+    let (mut fresh, token) = begun(8).expect("in range");
+    assert_eq!((early.epoch, token.epoch), (7, 8));
+    assert_eq!(early.number, token.number);
+    for _ in 0..2 {
+        assert_eq!(fresh.acked(early), Err(TokenFault::NotGiven));
+        assert_eq!(fresh.lost(early), Err(TokenFault::NotGiven));
+    }
+    assert_eq!(fresh.next_outstanding(0), Some(token.number));
+    assert_eq!(fresh.lost(token), Ok(()));
+    assert_eq!(fresh.acked(token), Ok(()));
+}
+
+// A packet that is filled in parts has one token, and of its parts none is told twice.
+#[test]
+fn parts_of_a_packet_have_one_token() {
+    let (mut client, _) = ends();
+    let streams = [0; 3].map(|_| client.open(Dir::Uni).expect("granted"));
+    let mut tokens = Vec::new();
+    for stream in streams {
+        client.write(stream, b"hello").expect("room");
+        let filled = client.fill(&mut [0; 100], &Fill::data().only(stream));
+        tokens.push(filled.expect("open").expect("bytes are due").token);
+    }
+    let [one, two, three] = tokens[..] else {
+        panic!("each stream sends");
+    };
+    assert_eq!(one.and(three), None);
+    assert_eq!(two.and(one), None);
+    let token = one
+        .and(two)
+        .and_then(|both| both.and(three))
+        .expect("they follow");
+    assert_eq!((token.first, token.number), (one.number, three.number));
+    let next = Token {
+        number: three.number + 1,
+        ..token
+    };
+    assert_eq!(client.acked(next), Err(TokenFault::NotGiven));
+    assert_eq!(client.acked(two), Ok(()));
+    assert_eq!(client.lost(token), Ok(()));
+    assert_eq!(client.next_outstanding(0), None);
+    assert!(client.is_sendable(), "two of the three are due again");
+    assert_eq!(client.acked(token), Ok(()));
+    assert!(!client.is_sendable(), "a late acknowledgement counts");
 }

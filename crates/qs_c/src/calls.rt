@@ -14,7 +14,7 @@ ghost use Rattle.qs_machine.specs.Owner.{WriteStep, FinishStep, ResetStep, StopS
 ghost use Rattle.qs_machine.specs.Receiving.{ReceiveStep};
 ghost use Rattle.qs_machine.specs.Making.{MakeStep, MakeAckStep, ClaimStep, LoseStep, ClosePayload};
 ghost use Rattle.qs_machine.specs.Raising.{RaiseStep};
-ghost use Rattle.qs_machine.specs.Alone.{TokenAckedStep, TokenLostStep};
+ghost use Rattle.qs_machine.specs.Alone.{TokenAckedStep, TokenLostStep, token_of};
 ghost use Rattle.qs_machine.specs.Reports.{own_closing};
 ghost use Rattle.qs_conn.specs.Written.{made_text, KeepsRest};
 ghost use Rattle.qs_c.specs.Statuses.{Tested, Invalid, is_small, is_room, is_flag, dir_of, use_status, lost_status, make_status, raise_status, token_status, status_of, told, found, read_told, open_told, made_told, received_told};
@@ -26,7 +26,6 @@ use crate::answers::{
 };
 use crate::structs::{GvClosing, GvLimits, GvMade};
 use crate::thing::Thing;
-use qs_calls::Token;
 use qs_wire::{Dir, StreamId};
 
 const LIMIT: u64 = 1 << 62;
@@ -145,15 +144,17 @@ impl Thing {
     }
 
     pub(crate) fn acked(&mut self, token: u64) -> u32
-        ensures { (a : Result (Unit {0}) TokenFault) × (result ≡ status_of token_status a) × TokenAckedStep self.old (record { number = token }) a self.new }
+        ensures { (a : Result (Unit {0}) TokenFault) × (result ≡ status_of token_status a) × TokenAckedStep self.old (token_of self.old token) a self.new }
     {
-        of_token(self.end.acked(Token { number: token }))
+        let given = self.end.token_of(token);
+        of_token(self.end.acked(given))
     }
 
     pub(crate) fn lost(&mut self, token: u64) -> u32
-        ensures { (a : Result (Unit {0}) TokenFault) × (result ≡ status_of token_status a) × TokenLostStep self.old (record { number = token }) a self.new }
+        ensures { (a : Result (Unit {0}) TokenFault) × (result ≡ status_of token_status a) × TokenLostStep self.old (token_of self.old token) a self.new }
     {
-        of_token(self.end.lost(Token { number: token }))
+        let given = self.end.token_of(token);
+        of_token(self.end.lost(given))
     }
 
     pub(crate) fn claim_number(&mut self, number: &mut u64) -> u32

@@ -40,7 +40,7 @@ ghost use Rattle.qs_machine.specs.Owner.{WriteStep, FinishStep, ResetStep, StopS
 ghost use Rattle.qs_machine.specs.Receiving.{ReceiveStep};
 ghost use Rattle.qs_machine.specs.Making.{MakeStep, MakeAckStep, ClaimStep, LoseStep, ClosePayload};
 ghost use Rattle.qs_machine.specs.Raising.{RaiseStep};
-ghost use Rattle.qs_machine.specs.Alone.{TokenAckedStep, TokenLostStep};
+ghost use Rattle.qs_machine.specs.Alone.{TokenAckedStep, TokenLostStep, token_of};
 ghost use Rattle.qs_machine.specs.News.{IsLeast, IsReadable, IsWritable, IsSendable, IsEnded};
 ghost use Rattle.qs_machine.specs.Asking.{all_noted, GoesBesideAck, peer_closing, streams_left, open_left, is_blocked, credit_left, room, unsent, acked_below, stopped_with, IsNextOutstanding};
 ghost use Rattle.qs_machine.specs.Newly.{IsNewlyAcked};
@@ -262,7 +262,7 @@ pub extern "C" fn gvp_declare_lost(alloc: Global, end: &mut Handle, number: u64)
 
 #[unsafe(no_mangle)]
 pub extern "C" fn gvp_token_acked(alloc: Global, end: &mut Handle, token: u64) -> u32
-    ensures { Called end.old.cell.value end.new.cell.value true (result ≡ 1) (λ e f. (a : Result (Unit {0}) TokenFault) × (result ≡ status_of token_status a) × TokenAckedStep e (record { number = token }) a f) }
+    ensures { Called end.old.cell.value end.new.cell.value true (result ≡ 1) (λ e f. (a : Result (Unit {0}) TokenFault) × (result ≡ status_of token_status a) × TokenAckedStep e (token_of e token) a f) }
 {
     let Some(mut thing) = end.take(alloc) else {
         return INVALID;
@@ -274,7 +274,7 @@ pub extern "C" fn gvp_token_acked(alloc: Global, end: &mut Handle, token: u64) -
 
 #[unsafe(no_mangle)]
 pub extern "C" fn gvp_token_lost(alloc: Global, end: &mut Handle, token: u64) -> u32
-    ensures { Called end.old.cell.value end.new.cell.value true (result ≡ 1) (λ e f. (a : Result (Unit {0}) TokenFault) × (result ≡ status_of token_status a) × TokenLostStep e (record { number = token }) a f) }
+    ensures { Called end.old.cell.value end.new.cell.value true (result ≡ 1) (λ e f. (a : Result (Unit {0}) TokenFault) × (result ≡ status_of token_status a) × TokenLostStep e (token_of e token) a f) }
 {
     let Some(mut thing) = end.take(alloc) else {
         return INVALID;

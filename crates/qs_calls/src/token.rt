@@ -1,13 +1,39 @@
 //! Frames that come without their packet, and tokens of packets, for a stack that owns its packet numbers and its ACKs.
 
+ghost use Rattle.std.specs.Prelude.{◌≡◌};
+ghost use Rattle.qs_calls.specs.Tokens.{joined};
+
 use crate::Closing;
 use thiserror::Error;
 
 /// The token of a packet that was filled: by it the packet is told to be acknowledged or lost. It is the number under which the end keeps
-/// what it put in (RFC 9000, section 13.3), and no packet number of the stack's own.
+/// what it put in (RFC 9000, section 13.3), and no packet number of the stack's own. A packet that was filled in parts has several, which
+/// follow one another. Beside them stands the epoch of the end, so that an end which takes another one's place doesn't take its tokens for
+/// its own.
 #[derive(Clone, Copy, Debug, PartialEq, Eq, Drop)]
 pub struct Token {
+    pub epoch: u64,
+    /// The lowest of the numbers.
+    pub first: u64,
+    /// The highest of them.
     pub number: u64,
+}
+
+impl Token {
+    /// One token for what this one names and what was filled in next. `None` where its numbers don't follow this one's, or another end
+    /// gave it.
+    pub fn and(self, next: Token) -> Option<Token>
+        ensures { result ≡ joined self next }
+    {
+        if next.epoch == self.epoch && self.number.checked_add(1) == Some(next.first) {
+            return Some(Token {
+                epoch: self.epoch,
+                first: self.first,
+                number: next.number,
+            });
+        }
+        None
+    }
 }
 
 /// What came of a frame that was handed in, or of several.
@@ -38,7 +64,7 @@ pub enum TakeFault {
 /// Why a token was not told to be acknowledged or lost, or not in whole.
 #[derive(Clone, Copy, Debug, PartialEq, Eq, Drop, Error)]
 pub enum TokenFault {
-    /// No packet was made yet that has it.
+    /// Not all of its packets were made yet, or it is of another epoch.
     #[error("no packet has this token")]
     NotGiven,
     /// Some of what the packet carried may be told already. The call may be made again.

@@ -238,7 +238,7 @@ unfolding acks_out
 lost_packet k [] o = refl
 lost_packet k (p ∷ ps) o = lost_packet k ps (first_acked_out (acked_at false k p) o) ∙ lost_piece p (without_piece_out false k o)
 
-lost_stays : (m : Records) (ks : List ℕ) (o : Outgoing) → (acks_out (flat_map (pieces_of false m) ks) o).lost ≡ o.lost
+pub lost_stays : (m : Records) (ks : List ℕ) (o : Outgoing) → (acks_out (flat_map (pieces_of false m) ks) o).lost ≡ o.lost
 unfolding acks_out
 lost_stays m [] o = refl
 lost_stays m (k ∷ ks) o =

@@ -1,5 +1,5 @@
 -- Frames that are taken in without their packet, and packets that are told by their tokens.
-use Rattle.std.proofs.Common.{◌≡◌, ℕ, Bool, true, false, List, [], ◌∷◌, Option, None, Some, Result, Ok, Err, refl, sym, ap, ◌∙◌, subst, inl, inr}
+use Rattle.std.proofs.Common.{◌≡◌, ℕ, zero, suc, ◌+◌, ◌-◌, ◌<◌, ◌≤◌, arith, Bool, true, false, List, [], ◌∷◌, Option, None, Some, Result, Ok, Err, refl, sym, ap, ◌∙◌, subst, inl, inr}
 use Rattle.std.specs.Prelude.{MatchBool, option_map}
 use Rattle.std.proofs.lemmas.Option.{same_Some, none-some}
 use Rattle.qs_wire.specs.Layout.{FrameValue}
@@ -21,7 +21,7 @@ use Rattle.qs_machine.proofs.Changes.{frame_same, frame_differs}
 use Rattle.qs_machine.specs.FrameStep.{frame_taken}
 use Rattle.qs_machine.specs.Receiving.{RunsOut}
 use Rattle.qs_machine.specs.Making.{LoseStep}
-use Rattle.qs_machine.specs.Alone.{is_ours, only, of_both, after_one, closed_fault, token_refusal, lost_answer, TakesOne, TakesEach, TakeBy, TakeAllBy, OpenTake, TakeFrameStep, TakeFramesStep, TokenAckedStep, TokenLostStep}
+use Rattle.qs_machine.specs.Alone.{is_ours, only, of_both, after_one, closed_fault, token_refusal, lost_answer, LosesOne, LosesEach, TakesOne, TakesEach, TakeBy, TakeAllBy, OpenTake, TakeFrameStep, TakeFramesStep, TokenAckedStep, TokenLostStep}
 
 -- Tokens
 
@@ -31,15 +31,37 @@ acked_refused e t fault is = rw (← is) (refl, refl)
 pub lost_refused : (e : End) (t : Token) (fault : TokenFault) → Some fault ≡ token_refusal e t → TokenLostStep e t (Err fault) e
 lost_refused e t fault is = rw (← is) (refl, refl)
 
-pub acked_all : (old mid new : End) (t : Token) → None ≡ token_refusal old t → mid ≡ frame_taken (only t.number) old → new ≡ settle mid → TokenAckedStep old t (Ok tt) new
+pub acked_all : (old mid new : End) (t : Token) → None ≡ token_refusal old t → mid ≡ frame_taken (only t) old → new ≡ settle mid → TokenAckedStep old t (Ok tt) new
 acked_all old mid new t is took after = rw (← is) (inl (refl, after ∙ ap settle took))
 
-pub acked_some : (old mid new : End) (t : Token) → None ≡ token_refusal old t → RunsOut old (only t.number) mid → new ≡ settle mid → TokenAckedStep old t (Err tokens.NoMemory) new
+pub acked_some : (old mid new : End) (t : Token) → None ≡ token_refusal old t → RunsOut old (only t) mid → new ≡ settle mid → TokenAckedStep old t (Err tokens.NoMemory) new
 acked_some old mid new t is out after = rw (← is) (inr (refl, mid, out, after))
 
-pub lost_told : (old new : End) (t : Token) (declared : Result (Unit {0}) LostFault) (answer : Result (Unit {0}) TokenFault) → None ≡ token_refusal old t → LoseStep old t.number declared new → answer ≡ lost_answer declared
-    → TokenLostStep old t answer new
-lost_told old new t declared answer is lose told = rw (← is) (declared, lose, told)
+pub lost_told : (old new : End) (t : Token) (answer : Result (Unit {0}) TokenFault) → None ≡ token_refusal old t → LosesEach ((t.number + 1) - t.first) t.first old answer new → TokenLostStep old t answer new
+lost_told old new t answer is lose = rw (← is) lose
+
+pub one_lost : (k : ℕ) (old new : End) (declared : Result (Unit {0}) LostFault) (answer : Result (Unit {0}) TokenFault) → LoseStep old k declared new → answer ≡ lost_answer declared → LosesOne k old answer new
+one_lost k old new declared answer lose told = (declared, lose, told)
+
+-- so many numbers are left as lie between
+pub each_end : (first end : ℕ) (e : End) → end ≤ first → LosesEach (end - first) first e (Ok tt) e
+each_end first end e le = subst (λ n. LosesEach n first e (Ok tt) e) (none end first le) (refl, refl)
+  where
+    none : (a b : ℕ) → a ≤ b → zero ≡ a - b
+    none a b le = omega (arith, le)
+
+step_down : (first end k : ℕ) → first < end → k + 1 ≡ end → (suc (k - first) ≡ end - first) × (first + (k - first) ≡ k)
+step_down first end k lt is = (omega (arith, lt, is), omega (arith, lt, is))
+
+pub each_more : (first end k : ℕ) (e mid new : End) (answer : Result (Unit {0}) TokenFault) → first < end → k + 1 ≡ end → LosesOne k e (Ok tt) mid → LosesEach (k - first) first mid answer new → LosesEach (end - first) first e answer new
+each_more first end k e mid new answer lt is one rest =
+    let (count, at) = step_down first end k lt is in
+    subst (λ n. LosesEach n first e answer new) count (inl (mid, subst (λ i. LosesOne i e (Ok tt) mid) (sym at) one, rest))
+
+pub each_stop : (first end k : ℕ) (e new : End) (fault : TokenFault) (answer : Result (Unit {0}) TokenFault) → first < end → k + 1 ≡ end → LosesOne k e (Err fault) new → answer ≡ Err fault → LosesEach (end - first) first e answer new
+each_stop first end k e new fault answer lt is one same =
+    let (count, at) = step_down first end k lt is in
+    subst (λ n. LosesEach n first e answer new) count (inr (fault, subst (λ i. LosesOne i e (Err fault) new) (sym at) one, same))
 
 -- Frames
 

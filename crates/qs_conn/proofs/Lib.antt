@@ -38,7 +38,7 @@ pub mod Refusals
 pub mod Rests
 pub mod Runs
 pub mod AckRuns
-pub mod OneAcks
+pub mod RangeAcks
 pub mod Alones
 pub mod SendEdits
 pub mod Settling

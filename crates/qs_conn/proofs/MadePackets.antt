@@ -15,6 +15,7 @@ use Rattle.qs_ranges.specs.Numbers.{MAX_VARINT}
 use Rattle.qs_send.specs.declared.piece.Piece.{Piece}
 use Rattle.qs_calls.specs.declared.filling.Fill.{Fill}
 use Rattle.qs_calls.specs.declared.filling.Filled.{Filled}
+use Rattle.qs_calls.specs.declared.token.Token.{Token}
 use Rattle.qs_calls.specs.declared.making.MakeFault.TheVariants as making
 use Rattle.qs_conn.specs.declared.limits.Limits.{Limits}
 use Rattle.qs_conn.specs.declared.filling.Wish.{Wish}
@@ -24,6 +25,7 @@ use Rattle.qs_machine.specs.Seen.{Seen, Ack, Stream, Control, Close, Plain, seen
 use Rattle.qs_machine.specs.Due.{Among, Sendable}
 use Rattle.qs_machine.specs.Lawful.{Fills, frame_put, pieces_so_far}
 use Rattle.qs_machine.specs.Making.{IsText, NamesMost, IsMade, MakeAt, MakeStep, make_refusal}
+use Rattle.qs_machine.specs.Alone.{token_of}
 use Rattle.qs_machine.specs.Filling.{IsWanted, WantedGoes, HasWanted, IsFilled, FillAt, FillStep}
 use Rattle.qs_machine.specs.InOrder.{AreInOrder, NothingStarves, NoItemStarves}
 use Rattle.qs_machine.specs.Outgoing.{Outgoing}
@@ -233,20 +235,21 @@ module _ (v old : End) (same : v ≡ old) (c new_c : Core) (want : Fill) (room l
     fill_order filled token asked = subst (λ e. AreInOrder e [] (pieces_so_far new filled.token.number)) same (subst (λ k. AreInOrder v [] (pieces_so_far new k)) (sym token) (in_order v c new_c (only_of want) room len out v.ack_due idle parts refl fills new o number is after settled asked))
 
     -- something went in
-    pub fill_some : (last_one : Option ℕ) (more : Bool) → last_one ≡ last_stream_of None (frames_of (reading_of (take len out)).left) → (more ≡ true) ↔ WantedGoes want new → is_some v.closed ≡ false → v.next ≤ MAX_VARINT → 0 < len → len ≤ room → length out ≡ room
-        → FillStep old want room (Ok (Some (record { token = record { number = number }; len = len; last_stream = last_one; more = more }))) (take len out) new
-    fill_some last_one more read goes clear le some within count =
+    pub fill_some : (token : Token) (last_one : Option ℕ) (more : Bool) → token ≡ token_of old number → last_one ≡ last_stream_of None (frames_of (reading_of (take len out)).left) → (more ≡ true) ↔ WantedGoes want new → is_some v.closed ≡ false → v.next ≤ MAX_VARINT → 0 < len → len ≤ room → length out ≡ room
+        → FillStep old want room (Ok (Some (record { token = token; len = len; last_stream = last_one; more = more }))) (take len out) new
+    fill_some token last_one more gives read goes clear le some within count =
         let text = take len out in
         let inside : length text ≡ len = length-take-le len out (omega (arith, within, count)) in
         let there : text ≢ [] = λ none. omega (arith, some, inside, ap length none) in
         let mid : End = end_of new_c v in
         let wanted : AllByRecursion (IsWanted want) (seen_all full.frames) = all_wanted (only_of want) refl (seen_all full.frames) full.wished in
         let frames : seen_all full.frames ≢ [] = λ none. there (full.spells.canonical ∙ ap canonical_all (no_seen full.frames none)) in
-        let made = packed_made want.first (only_of want) room v text mid full number len true (sym (asks_all want (seen_all full.frames) frames wanted)) is (sym inside) there (length text) (omega (arith, inside)) (names_less v 0 room (length text) full.frames (omega (arith, inside, within)) full.acks) (λ left. absurd (omega (arith, left))) in
-        let filled : Filled = record { token = record { number = number }; len = len; last_stream = last_one; more = more } in
+        let made = packed_made want.first (only_of want) room v text mid full token.number len true (sym (asks_all want (seen_all full.frames) frames wanted)) (ap (λ (t : Token). t.number) gives ∙ is) (sym inside) there (length text) (omega (arith, inside)) (names_less v 0 room (length text) full.frames (omega (arith, inside, within)) full.acks) (λ left. absurd (omega (arith, left))) in
+        let filled : Filled = record { token = token; len = len; last_stream = last_one; more = more } in
         let all : IsFilled v want room filled text (settle (record mid { next = v.next + 1 })) =
         record {
           made = made;
+          token = gives ∙ ap (λ e. token_of e number) (sym same) ∙ ap (token_of v) is;
           fits = omega (arith, inside, within);
           wanted = wanted;
           whole = λ left. (let w = (full.whole left).wanted in record { items = w.items; streams = λ n asked goes. w.streams n asked (goes_same mid (v.next + 1) n goes) });

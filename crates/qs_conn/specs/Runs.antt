@@ -65,10 +65,6 @@ AcksNamed late ranges o result new = FallBelow PAST_NUMBERS ranges → AcksBy (n
 unfoldable pub AcksRanges : List (ℕ × ℕ) → Outgoing → Result (Unit {0}) NoMemory → Outgoing → Type 0
 AcksRanges ranges o result new = FallBelow PAST_NUMBERS ranges → AcksBy (named_out o ranges) o result new
 
--- The pieces of packet k are acknowledged, also those that were declared lost.
-unfoldable pub AcksOnly : ℕ → Outgoing → Result (Unit {0}) NoMemory → Outgoing → Type 0
-AcksOnly k o result new = AcksBy (pieces_of false o.outstanding k ++ pieces_of true o.lost.pieces k) o result new
-
 -- the ranges name a number that the pass has not come to
 abbrev pub is_ahead : Passing → ℕ → Bool
 is_ahead p k = nat_lt k p.below && (nat_le p.low k || is_named p.unread k)
@@ -80,3 +76,11 @@ ahead_pieces late m p = flat_map (pieces_of late m) (reverse (filter (is_ahead p
 -- The packets that a pass has ahead are acknowledged. The records m are those before other packets were.
 unfoldable pub AcksAhead : Bool → Passing → Outgoing → Result (Unit {0}) NoMemory → Outgoing → Type 0
 AcksAhead late p o result new = (m : Records) → Falls p → AreSameBelow p.below m (held_out late o) → AcksBy (ahead_pieces late m p) o result new
+
+-- A pass over the numbers from one on and below another
+abbrev pub from_below : ℕ → ℕ → Passing
+from_below first end = record { low = first; below = end; unread = []; turns = 0 }
+
+-- The packets that a pass has ahead are acknowledged, the outstanding ones and those that were declared lost.
+unfoldable pub AcksBoth : Passing → Outgoing → Result (Unit {0}) NoMemory → Outgoing → Type 0
+AcksBoth p o result new = AcksBy (ahead_pieces false o.outstanding p ++ ahead_pieces true o.lost.pieces p) o result new

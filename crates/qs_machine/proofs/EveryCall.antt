@@ -1,9 +1,10 @@
 -- One induction over all calls of an end: each is made of a few changes, and most end as the limits move.
-use Rattle.std.proofs.Common.{◌≡◌, ℕ, ◌+◌, ◌*◌, Bool, true, false, ◌||◌, List, [], ◌∷◌, ◌++◌, length, take, drop, append-nil, Option, Some, None, is_some, refl, sym, ap, ◌∙◌, subst, inl, inr}
-use Rattle.std.specs.Prelude.{⊤, nat_lt, nat_le, Result, Ok, Err, MatchBool}
+use Rattle.std.proofs.Common.{◌≡◌, ℕ, ◌+◌, ◌*◌, Bool, true, false, ◌||◌, ◌&&◌, List, [], ◌∷◌, ◌++◌, length, take, drop, append-nil, Option, Some, None, is_some, refl, sym, ap, ◌∙◌, subst, inl, inr, arith, zero, suc, ◌-◌}
+use Rattle.std.specs.Prelude.{⊤, not, nat_eq, nat_lt, nat_le, Result, Ok, Err, MatchBool}
 use Rattle.std.specs.FinSet as set
 use Rattle.std.specs.FinMap as fmap
 use Rattle.std.proofs.lemmas.Option.{none-some}
+use Rattle.std.proofs.lemmas.Bool.Decides.{nat_tests}
 use Rattle.std.proofs.lemmas.List.{take-append-drop}
 use Rattle.qs_wire.specs.Layout.{FrameValue, PlacedValue}
 use Rattle.qs_wire.specs.Reading.{reading_of}
@@ -33,6 +34,7 @@ use Rattle.qs_calls.specs.declared.token.Taken.TheVariants as taken
 use Rattle.qs_calls.specs.declared.token.TakeFault.{TakeFault}
 use Rattle.qs_calls.specs.declared.token.TakeFault.TheVariants as faults
 use Rattle.qs_calls.specs.declared.token.Token.{Token}
+use Rattle.qs_calls.specs.declared.token.TokenFault.{TokenFault}
 use Rattle.qs_calls.specs.declared.token.TokenFault.TheVariants as tokens
 use Rattle.qs_calls.specs.declared.uses.OpenFault.TheVariants as opening
 use Rattle.qs_calls.specs.declared.uses.UseFault.{UseFault}
@@ -49,7 +51,7 @@ use Rattle.qs_machine.specs.Owner.{OpenStep, AcceptStep, AcceptOfStep, ReadBy, C
 use Rattle.qs_machine.specs.Receiving.{ClosedReceive, AtEnd, RunsOut, Stops, GoesOn, Takes, ReceiveBy, TakesPayload, OpenReceive}
 use Rattle.qs_machine.specs.Making.{MakeAt, MakeAckAt, make_refusal, claim_refusal, LoseStep, lose_refusal, first_lost, losses}
 use Rattle.qs_machine.specs.Filling.{FillAt}
-use Rattle.qs_machine.specs.Alone.{is_ours, TakesOne, OpenTake, TakeBy, TakesEach, TakeAllBy, token_refusal, only, TokenAckedStep, TokenLostStep}
+use Rattle.qs_machine.specs.Alone.{is_ours, TakesOne, OpenTake, TakeBy, TakesEach, TakeAllBy, token_refusal, only, LosesEach, TokenAckedStep, TokenLostStep}
 use Rattle.qs_machine.specs.Raising.{limits_raised, raise_refusal}
 use Rattle.qs_machine.specs.EndStep.{Call, Answer, EndStep, Open, Accept, AcceptOf, Write, Finish, Reset, Stop, ReadUpTo, Consume, Receive, TakeFrame, TakeFrames, TokenAcked, TokenLost, Make, MakeAck, FillIn, Lose, Claim, RaiseLimits}
 use Rattle.qs_machine.proofs.Choices.{by_refusal, by_test, if_allowed}
@@ -140,14 +142,22 @@ no_fault_there e (Close code) goes = absurd goes
 no_fault_there e f goes = goes
 
 -- an ACK of a packet whose token was given is no fault
-given_is_no_fault : (e : End) (t : Token) → token_refusal e t ≡ None → verdict e (only t.number) ≡ None
+given_is_no_fault : (e : End) (t : Token) → token_refusal e t ≡ None → verdict e (only t) ≡ None
 unfolding verdict
-given_is_no_fault e t allowed = go (is_some e.closed) (nat_le e.next t.number) allowed
+given_is_no_fault e t allowed = (let made : nat_le e.next t.number ≡ false = go (is_some e.closed) (nat_eq t.epoch e.tuning.epoch) (nat_le t.first t.number) allowed in rw made refl)
   where
-    go : (closed later : Bool) → first_refusal (refuse_if closed tokens.Closed) (refuse_if later tokens.NotGiven) ≡ None → fault_if later PROTOCOL_VIOLATION ≡ None
-    go true later h = absurd (none-some _ (sym h))
-    go false true h = absurd (none-some _ (sym h))
-    go false false h = refl
+    later : nat_lt t.number e.next ≡ true → nat_le e.next t.number ≡ false
+    later lt = grind (arith, nat_tests, lt)
+
+    by : (made : Bool) → refuse_if (not made) tokens.NotGiven ≡ None → made ≡ true
+    by true h = refl
+    by false h = absurd (none-some _ (sym h))
+
+    go : (closed own ordered : Bool) → first_refusal (refuse_if closed tokens.Closed) (refuse_if (not (own && (ordered && nat_lt t.number e.next))) tokens.NotGiven) ≡ None → nat_le e.next t.number ≡ false
+    go true own ordered h = absurd (none-some _ (sym h))
+    go false false ordered h = absurd (none-some _ (sym h))
+    go false true false h = absurd (none-some _ (sym h))
+    go false true true h = later (by (nat_lt t.number e.next) h)
 
 -- what comes of a payload at an end that is open: it isn't taken and changes nothing, or it is taken
 pub by_open : (P : Type 0) (number : ℕ) (payload : List ℕ) (old : End) (result : Result Received Closing) (new : End) → OpenReceive number payload old result new
@@ -289,13 +299,18 @@ module _ (old : End) (call : Call) (Q P : End → Type 0) (c : Cases old call Q 
   loses k (p ∷ q ∷ ps) rest e is h =
       loses k (q ∷ ps) rest (first_lost k p e) (get_same-without_first e.outstanding k ∙ ap rest_of is) (c.loses k p e (k, p ∷ q ∷ ps ++ rest, is, inl refl) h)
 
-  lose_by : (k : ℕ) (answer : Answer (Lose k)) (new : End) → LoseStep old k answer new → P new
-  lose_by k answer new step =
-      by_refusal (P new) (lose_refusal old k) old answer new _ step (same new) (λ (ps, is, gone).
+  lose_by : (k : ℕ) (e : End) (answer : Answer (Lose k)) (new : End) → P e → LoseStep e k answer new → P new
+  lose_by k e answer new at step =
+      by_refusal (P new) (lose_refusal e k) e answer new _ step (λ is. subst P (sym is) at) (λ (ps, is, gone).
       elim gone [
-        | inl (done, after) ↦ subst P (sym after) (loses k ps [] old (is ∙ ap Some (sym (append-nil ps))) c.stays)
-        | inr (moved, few, none, after) ↦ subst P (sym after) (loses k (take moved ps) (drop moved ps) old (is ∙ ap Some (sym (take-append-drop moved ps))) c.stays)
+        | inl (done, after) ↦ subst P (sym after) (loses k ps [] e (is ∙ ap Some (sym (append-nil ps))) at)
+        | inr (moved, few, none, after) ↦ subst P (sym after) (loses k (take moved ps) (drop moved ps) e (is ∙ ap Some (sym (take-append-drop moved ps))) at)
       ])
+
+  lose_each : (count first : ℕ) (e : End) (answer : Result (Unit {0}) TokenFault) (new : End) → P e → LosesEach count first e answer new → P new
+  lose_each zero first e answer new at step = subst P (sym step.1) at
+  lose_each (suc n) first e answer new at (inl (mid, (declared, lost, is), later)) = lose_each n first mid answer new (lose_by (first + n) e declared mid at lost) later
+  lose_each (suc n) first e answer new at (inr (fault, (declared, lost, is), failed)) = lose_by (first + n) e declared new at lost
 
   -- Tokens
 
@@ -303,12 +318,12 @@ module _ (old : End) (call : Call) (Q P : End → Type 0) (c : Cases old call Q 
   acked_by t answer new step =
       if_allowed (P new) (token_refusal old t) old answer new _ step (same new) (λ allowed told.
       elim told [
-        | inl done ↦ edited (Took (only t.number)) new (given_is_no_fault old t allowed) done.1
-        | inr (none, mid, out, after) ↦ settled mid new after (runs_out (only t.number) old mid c.begins out)
+        | inl done ↦ edited (Took (only t)) new (given_is_no_fault old t allowed) done.1
+        | inr (none, mid, out, after) ↦ settled mid new after (runs_out (only t) old mid c.begins out)
       ])
 
   lost_by : (t : Token) (answer : Answer (TokenLost t)) (new : End) → TokenLostStep old t answer new → P new
-  lost_by t answer new step = by_refusal (P new) (token_refusal old t) old answer new _ step (same new) (λ (declared, lost, is). lose_by t.number declared new lost)
+  lost_by t answer new step = by_refusal (P new) (token_refusal old t) old answer new _ step (same new) (lose_each ((t.number + 1) - t.first) t.first old answer new c.stays)
 
   -- The owner's calls
 
@@ -379,7 +394,7 @@ each_call old (TokenLost t) Q P c answer new step = lost_by old (TokenLost t) Q 
 each_call old (Make first delay room) Q P c answer new step = make_by old (Make first delay room) Q P c (make_refusal old) first delay room answer.0 answer.1 new step
 each_call old (MakeAck delay room) Q P c answer new step = ack_by old (MakeAck delay room) Q P c (make_refusal old) delay room answer.0 answer.1 new step
 each_call old (FillIn want room) Q P c answer new step = fill_by old (FillIn want room) Q P c (make_refusal old) want room answer.0 answer.1 new step
-each_call old (Lose k) Q P c answer new step = lose_by old (Lose k) Q P c k answer new step
+each_call old (Lose k) Q P c answer new step = lose_by old (Lose k) Q P c k old answer new c.stays step
 each_call old Claim Q P c answer new step = claim_by old Claim Q P c answer new step
 each_call old (RaiseLimits p) Q P c answer new step = use_by old (RaiseLimits p) Q P c _ (raise_refusal old p) (Raised p) answer new tt step
 each_call old call Q P c answer new step = same old call Q P c new step.1

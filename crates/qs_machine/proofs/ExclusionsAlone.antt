@@ -1,9 +1,10 @@
 -- How a frame isn't taken alone, and what isn't told by tokens.
-use Rattle.std.proofs.Common.{◌≡◌, ℕ, ◌+◌, ◌<◌, ◌^◌, List, [], ◌∷◌, Bool, true, false, Option, Some, None, refl, sym, ap, ◌∙◌, subst, arith, inl, inr}
+use Rattle.std.proofs.Common.{◌≡◌, ℕ, ◌+◌, ◌<◌, ◌^◌, List, [], ◌∷◌, Bool, true, false, Option, Some, None, refl, sym, ap, ◌∙◌, subst, arith, inl, inr, nat_cmp}
 use Rattle.std.specs.Prelude.{max, Result, Ok, Err}
 use Rattle.std.specs.FinMap as fmap
 use Rattle.std.proofs.lemmas.Bool.{false≢true}
 use Rattle.std.proofs.lemmas.Option.{same_Some, none-some}
+use Rattle.std.specs.Cmp.{nat_cmp_total}
 use Rattle.qs_wire.specs.Layout.{FrameValue, max_data, ping}
 use Rattle.qs_wire.specs.Grammar.{Fits}
 use Rattle.qs_send.specs.Records.{IsCarried}
@@ -21,8 +22,9 @@ use Rattle.qs_machine.specs.Ends.{End}
 use Rattle.qs_machine.specs.Seen.{seen}
 use Rattle.qs_machine.specs.Verdicts.{verdict}
 use Rattle.qs_machine.specs.FrameStep.{frame_taken}
-use Rattle.qs_machine.specs.Making.{LoseStep}
-use Rattle.qs_machine.specs.Alone.{MayTake, TakesOne, TakesEach, HasFault, of_both, after_one, lost_answer}
+use Rattle.qs_machine.specs.Owner.{Certain}
+use Rattle.qs_machine.specs.Making.{LoseStep, lose_refusal}
+use Rattle.qs_machine.specs.Alone.{MayTake, TakesOne, TakesEach, HasFault, of_both, after_one, lost_answer, LosesEach}
 use Rattle.qs_machine.specs.SmallEnds.{chunk}
 use Rattle.qs_machine.specs.ExclusionsReceiving.{ten}
 use Rattle.qs_machine.specs.ExclusionsMaking.{two_flying}
@@ -216,18 +218,44 @@ lost_whole (Err losing.NotOutstanding) new lose is none = none-some _ (sym (ap t
 lost_whole (Err losing.NoMemory) new lose is none = not_made.losses.whole new lose none
 lost_whole (Err losing.Closed) new lose is none = false≢true (sym (ap is_memory is))
 
+-- a packet that isn't outstanding changes nothing
+none_there : (e : End) (k : ℕ) (declared : Result (Unit {0}) LostFault) (new : End) → fmap.get e.outstanding k ≡ None → LoseStep e k declared new → new ≡ e
+none_there e k declared new none step = go (lose_refusal e k) _ (λ (ps, is, gone). absurd (none-some ps (sym none ∙ is))) step
+  where
+    go : (o : Option LostFault) (E : Type 0) → (E → new ≡ e) → Certain o e declared new E → new ≡ e
+    go (Some fault) E by h = h.1
+    go None E by h = by h
+
+second_is_none : fmap.get two_flying.outstanding 1 ≡ None
+second_is_none = fmap.get-insert nat_cmp_total fmap.empty 0 _ 1 ∙ fmap.get-empty nat_cmp 1
+
+part_of_one : (e new : End) → e ≡ two_flying → LosesEach 1 0 e (Ok tt) new → IsCarried new.outstanding (Data 0 (chunk 0 3 false)) → ⊥
+part_of_one e new same (inl (mid, (declared, lose, is), (ok, after))) carried =
+    lost_part declared mid (subst (λ x. LoseStep x 0 declared mid) same lose) is (subst (λ (x : End). IsCarried x.outstanding (Data 0 (chunk 0 3 false))) after carried)
+part_of_one e new same (inr (fault, one, is)) carried = none-some _ (ap told_fault is)
+
 told : NoSuchToken
 told =
     record {
       next = λ new step. none-some _ (ap told_fault step.0);
       next_lost = λ new step. none-some _ (ap told_fault step.0);
+      not_all = λ new step. none-some _ (ap told_fault step.0);
+      not_all_lost = λ new step. none-some _ (ap told_fault step.0);
+      none = λ new step. none-some _ (ap told_fault step.0);
+      none_lost = λ new step. none-some _ (ap told_fault step.0);
+      foreign = λ new step. none-some _ (ap told_fault step.0);
+      foreign_lost = λ new step. none-some _ (ap told_fault step.0);
       last = λ new step. elim step [ inl done ↦ none-some _ (sym (ap told_fault done.0)) | inr out ↦ false≢true (ap is_memory out.0) ];
-      last_lost = λ new (declared, lose, is). not_given declared is;
+      last_lost = λ new step. elim step [ inl done ↦ none-some _ (sym (ap told_fault done.2.0)) | inr (fault, (declared, lose, is), same) ↦ not_given declared (same ∙ is) ];
       closed = λ new step. none-some _ (ap told_fault step.0);
       closed_lost = λ new step. none-some _ (ap told_fault step.0);
       not_closed = λ new step. elim step [ inl done ↦ none-some _ (sym (ap told_fault done.0)) | inr out ↦ false≢true (ap is_memory out.0) ];
-      in_part = λ new (declared, lose, is). lost_part declared new lose is;
-      whole = λ new (declared, lose, is). lost_whole declared new lose is;
+      in_part = λ new step. part_of_one two_flying new refl step;
+      in_part_of_two = λ new step. elim step [
+        | inl (mid, (declared, lose, is), later) ↦ part_of_one mid new (none_there two_flying 1 declared mid second_is_none lose) later
+        | inr (fault, one, is) ↦ λ carried. none-some _ (ap told_fault is)
+      ];
+      whole = λ new step. elim step [ inl done ↦ λ none. none-some _ (sym (ap told_fault done.2.0)) | inr (fault, (declared, lose, is), same) ↦ lost_whole declared new lose (same ∙ is) ];
     }
 
 pub not_alone : NotAlone

@@ -9,6 +9,7 @@ use Rattle.qs_send.specs.declared.piece.Item.TheVariants.{MaxData}
 use Rattle.qs_send.proofs.Carrying.{carried-empty}
 use Rattle.qs_calls.specs.declared.filling.Fill.{Fill}
 use Rattle.qs_calls.specs.declared.filling.Filled.{Filled}
+use Rattle.qs_calls.specs.declared.token.Token.{Token}
 use Rattle.qs_machine.specs.Tables.{lookup, total}
 use Rattle.qs_machine.specs.Ends.{End}
 use Rattle.qs_machine.specs.Credit.{settle}
@@ -63,6 +64,7 @@ answers : NoSuchFill
 answers =
     record {
       token = λ filled text new is one. (let e : 1 ≡ 0 = sym one ∙ is.made.number in omega arith);
+      epoch = λ filled text new is one. (let e : 1 ≡ 0 = sym one ∙ ap (λ (t : Token). t.epoch) is.token in omega arith);
       again = λ filled text new is zero. (let e : 1 ≡ 0 = sym (next_is filled text new is) ∙ zero in omega arith);
       len = λ last new is. (let e : 2 ≡ 1 = is.made.len in omega arith);
       no_room = λ filled new is. (let le : 1 ≤ 0 = is.fits in omega arith);

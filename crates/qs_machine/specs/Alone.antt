@@ -3,7 +3,7 @@
 -- (RFC 9000, sections 12.4, 13.1 and 13.3).
 --     TakeFrameStep, TakeFramesStep      one frame is handed in, or several of one packet
 --     TokenAckedStep, TokenLostStep      a packet is acknowledged, or is declared lost
-use Rattle.std.specs.Prelude.{◌≡◌, ℕ, Bool, true, false, List, [], ◌∷◌, ◌⊎◌, Option, None, Some, is_some, Result, Ok, Err, nat_le, MatchBool}
+use Rattle.std.specs.Prelude.{◌≡◌, ℕ, zero, suc, ◌+◌, ◌-◌, Bool, true, false, not, ◌&&◌, List, [], ◌∷◌, ◌⊎◌, Option, None, Some, is_some, Result, Ok, Err, nat_eq, nat_le, nat_lt, MatchBool}
 use Rattle.qs_wire.specs.Layout.{FrameValue, PlacedValue, number_of_type}
 use Rattle.qs_wire.specs.Grammar.{Fits, spelled}
 use Rattle.qs_calls.specs.declared.closing.Closed.{Closed}
@@ -117,21 +117,29 @@ TakeFramesStep old fs answer new = TakeAllBy old.closed fs old answer new
 
 -- Tokens (RFC 9000, section 13.3)
 
--- an ACK of that packet alone (RFC 9000, section 19.3)
-abbrev pub only : ℕ → Seen
-only k = Ack k ((k, k) ∷ [])
+-- the token of packet k of an end
+abbrev pub token_of : End → ℕ → Token
+token_of e k = record { epoch = e.tuning.epoch; first = k; number = k }
 
--- an end that is closed is told nothing, nor of a packet that it didn't make yet (RFC 9000, sections 10.2 and 13.1)
+-- the end made the packets of that token: they aren't of another epoch, nor to be made yet (RFC 9000, section 13.1)
+abbrev pub gave : End → Token → Bool
+gave e t = nat_eq t.epoch e.tuning.epoch && (nat_le t.first t.number && nat_lt t.number e.next)
+
+-- an ACK of those packets alone (RFC 9000, section 19.3)
+abbrev pub only : Token → Seen
+only t = Ack t.number ((t.first, t.number) ∷ [])
+
+-- an end that is closed is told nothing, nor of a packet that it didn't make (RFC 9000, sections 10.2 and 13.1)
 abbrev pub token_refusal : End → Token → Option TokenFault
-token_refusal e t = first_refusal (refuse_if (is_some e.closed) tokens.Closed) (refuse_if (nat_le e.next t.number) tokens.NotGiven)
+token_refusal e t = first_refusal (refuse_if (is_some e.closed) tokens.Closed) (refuse_if (not (gave e t)) tokens.NotGiven)
 
--- `acked`: what an ACK of that packet alone does, in time or late, and nothing where the packet is done. Where there is no memory some of
--- its first pieces are acknowledged (RFC 9000, sections 13.2.1 and 13.3).
+-- `acked`: what an ACK of those packets alone does, in time or late, and nothing of a packet that is done. Where there is no memory some
+-- of their first pieces are acknowledged (RFC 9000, sections 13.2.1 and 13.3).
 abbrev pub TokenAckedStep : End → Token → Result (Unit {0}) TokenFault → End → Type 0
 TokenAckedStep old t answer new =
     Certain (token_refusal old t) old answer new
-    (((answer ≡ Ok tt) × (new ≡ settle (frame_taken (only t.number) old)))
-    ⊎ ((answer ≡ Err tokens.NoMemory) × (mid : End) × RunsOut old (only t.number) mid × (new ≡ settle mid)))
+    (((answer ≡ Ok tt) × (new ≡ settle (frame_taken (only t) old)))
+    ⊎ ((answer ≡ Err tokens.NoMemory) × (mid : End) × RunsOut old (only t) mid × (new ≡ settle mid)))
 
 -- what `lost` answers where `declare_lost` answers so: of a packet that is done there is nothing to tell
 abbrev pub lost_answer : Result (Unit {0}) LostFault → Result (Unit {0}) TokenFault
@@ -140,8 +148,17 @@ lost_answer (Err losing.NotOutstanding) = Ok tt
 lost_answer (Err losing.NoMemory) = Err tokens.NoMemory
 lost_answer (Err losing.Closed) = Err tokens.Closed
 
--- `lost`: what `declare_lost` does (RFC 9000, section 13.3)
+-- one packet is lost, as `declare_lost` does it (RFC 9000, section 13.3)
+abbrev pub LosesOne : ℕ → End → Result (Unit {0}) TokenFault → End → Type 0
+LosesOne k e answer new = (declared : Result (Unit {0}) LostFault) × LoseStep e k declared new × (answer ≡ lost_answer declared)
+
+-- so many packets from that one on are lost, from the highest number down, up to one that finds no memory
+abbrev pub LosesEach : (count first : ℕ) → End → Result (Unit {0}) TokenFault → End → Type 0
+LosesEach zero first e answer new = (answer ≡ Ok tt) × (new ≡ e)
+LosesEach (suc n) first e answer new =
+    ((mid : End) × LosesOne (first + n) e (Ok tt) mid × LosesEach n first mid answer new)
+    ⊎ ((fault : TokenFault) × LosesOne (first + n) e (Err fault) new × (answer ≡ Err fault))
+
+-- `lost`: each of its packets is lost (RFC 9000, section 13.3)
 abbrev pub TokenLostStep : End → Token → Result (Unit {0}) TokenFault → End → Type 0
-TokenLostStep old t answer new =
-    Certain (token_refusal old t) old answer new
-    ((declared : Result (Unit {0}) LostFault) × LoseStep old t.number declared new × (answer ≡ lost_answer declared))
+TokenLostStep old t answer new = Certain (token_refusal old t) old answer new (LosesEach ((t.number + 1) - t.first) t.first old answer new)

@@ -14,7 +14,7 @@ use Rattle.qs_calls.specs.declared.token.TakeFault.{TakeFault}
 use Rattle.qs_calls.specs.declared.token.TakeFault.TheVariants as faults
 use Rattle.qs_calls.specs.declared.token.TokenFault.TheVariants as tokens
 use Rattle.qs_machine.specs.Ends.{End, closes}
-use Rattle.qs_machine.specs.Alone.{TakesOne, TakesEach, TakeFrameStep, TakeFramesStep, TokenAckedStep, TokenLostStep}
+use Rattle.qs_machine.specs.Alone.{TakesOne, TakesEach, TakeFrameStep, TakeFramesStep, TokenAckedStep, TokenLostStep, LosesEach}
 use Rattle.qs_machine.specs.Examples.{letters}
 use Rattle.qs_machine.specs.SmallEnds.{chunk, four_made}
 use Rattle.qs_machine.specs.ExclusionsReceiving.{ten}
@@ -107,7 +107,7 @@ pub record NoSuchFramesAnswer : Type 0 where
   pub closed : (new : End) → TakeFramesStep (closes (ByPeer 7) ten) (four_bytes ∷ []) (Ok Took) new → ⊥
 
 abbrev pub token : ℕ → Token
-token k = record { number = k }
+token k = record { epoch = 0; first = k; number = k }
 
 -- What isn't told of tokens (sections 10.2, 13.1 and 13.3)
 pub record NoSuchToken : Type 0 where
@@ -115,6 +115,15 @@ pub record NoSuchToken : Type 0 where
   pub next : (new : End) → TokenAckedStep four_made (token 4) (Ok tt) new → ⊥
   -- nor that it was lost
   pub next_lost : (new : End) → TokenLostStep four_made (token 4) (Ok tt) new → ⊥
+  -- that one was of another end, which had made as many
+  pub foreign : (new : End) → TokenAckedStep four_made (record (token 3) { epoch = 1 }) (Ok tt) new → ⊥
+  pub foreign_lost : (new : End) → TokenLostStep four_made (record (token 3) { epoch = 1 }) (Ok tt) new → ⊥
+  -- with a made one also the next, which wasn't made
+  pub not_all : (new : End) → TokenAckedStep four_made (record (token 3) { number = 4 }) (Ok tt) new → ⊥
+  pub not_all_lost : (new : End) → TokenLostStep four_made (record (token 3) { number = 4 }) (Ok tt) new → ⊥
+  -- none at all
+  pub none : (new : End) → TokenAckedStep four_made (record (token 3) { number = 2 }) (Ok tt) new → ⊥
+  pub none_lost : (new : End) → TokenLostStep four_made (record (token 3) { number = 2 }) (Ok tt) new → ⊥
   -- that the last one wasn't given
   pub last : (new : End) → TokenAckedStep four_made (token 3) (Err tokens.NotGiven) new → ⊥
   pub last_lost : (new : End) → TokenLostStep four_made (token 3) (Err tokens.NotGiven) new → ⊥
@@ -125,6 +134,8 @@ pub record NoSuchToken : Type 0 where
   pub not_closed : (new : End) → TokenAckedStep four_made (token 3) (Err tokens.Closed) new → ⊥
   -- a packet was lost, of which a piece is outstanding
   pub in_part : (new : End) → TokenLostStep two_flying (token 0) (Ok tt) new → IsCarried new.outstanding (Data 0 (chunk 0 3 false)) → ⊥
+  -- both of two were, and a piece is outstanding of the lower one
+  pub in_part_of_two : (new : End) → LosesEach 2 0 two_flying (Ok tt) new → IsCarried new.outstanding (Data 0 (chunk 0 3 false)) → ⊥
   -- want of memory moved all of it
   pub whole : (new : End) → TokenLostStep two_flying (token 0) (Err tokens.NoMemory) new → fmap.get new.outstanding 0 ≡ None → ⊥
 

@@ -27,7 +27,7 @@ bytes_alone = record everything { items = false }
 
 -- that went in under token 0
 abbrev pub filled_so : ℕ → Option ℕ → Filled
-filled_so len last = record { token = record { number = 0 }; len = len; last_stream = last; more = false }
+filled_so len last = record { token = record { epoch = 0; first = 0; number = 0 }; len = len; last_stream = last; more = false }
 
 -- these frames aren't what is filled in
 abbrev pub NotThese : End → Fill → List Seen → Type 0
@@ -59,6 +59,8 @@ pub record NothingWantedIsLeftOut : Type 0 where
 pub record NoSuchFill : Type 0 where
   -- with another token than the next number
   pub token : (filled : Filled) (text : List ℕ) (new : End) → FillStep writer everything 1200 (Ok (Some filled)) text new → filled.token.number ≡ 1 → ⊥
+  -- with one of another end
+  pub epoch : (filled : Filled) (text : List ℕ) (new : End) → FillStep writer everything 1200 (Ok (Some filled)) text new → filled.token.epoch ≡ 1 → ⊥
   -- with one that may be used again
   pub again : (filled : Filled) (text : List ℕ) (new : End) → FillStep writer everything 1200 (Ok (Some filled)) text new → new.next ≡ 0 → ⊥
   -- with another length than the text's

@@ -13,6 +13,7 @@ use Rattle.qs_machine.specs.Ends.{End}
 use Rattle.qs_machine.specs.Seen.{Seen, Ack, Stream, Control, Close, Plain, seen_all}
 use Rattle.qs_machine.specs.Due.{Among, IsDueItem, StreamGoes}
 use Rattle.qs_machine.specs.Making.{IsMade, make_refusal}
+use Rattle.qs_machine.specs.Alone.{token_of}
 
 -- bytes and the end of the stream are asked for (ours: RFC 9000, section 2.3, leaves the choice of streams to the owner)
 abbrev pub IsAsked : Fill → ℕ → Type 0
@@ -43,6 +44,7 @@ as_made filled = record { number = filled.token.number; len = filled.len; is_ack
 -- A packet was made that has no more room than its frames take, all of them of kinds that are asked for (RFC 9000, sections 12.4 and 13.3).
 pub record IsFilled (old : End) (want : Fill) (room : ℕ) (filled : Filled) (text : List ℕ) (new : End) : Type 0 where
   pub made : IsMade old want.first 0 (length text) (as_made filled) text new
+  pub token : filled.token ≡ token_of old old.next
   pub fits : length text ≤ room
   pub wanted : AllByRecursion (IsWanted want) (seen_all made.frames)
   -- where 25 bytes are left, all that could go in did: no single item needs more

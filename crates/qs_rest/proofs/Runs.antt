@@ -1,5 +1,5 @@
 -- In every run each end keeps what holds of it beside the invariant of qs_runs.
-use Rattle.std.proofs.Common.{◌≡◌, ℕ, ◌≤◌, Bool, true, false, ◌==◌, ◌&&◌, List, [], ◌∷◌, map, take, ◌⊎◌, option_map, Option, Some, None, Result, Ok, Err, slice_get, refl, sym, ap, ◌∙◌, subst, arith, inl, inr}
+use Rattle.std.proofs.Common.{◌≡◌, ℕ, ◌≤◌, Bool, true, false, ◌==◌, ◌&&◌, List, [], ◌∷◌, map, take, ◌⊎◌, option_map, Option, Some, None, Result, Ok, Err, slice_get, refl, sym, ap, ◌∙◌, subst, arith, inl, inr, zero, suc, ◌+◌, ◌-◌}
 use Rattle.std.specs.Prelude.{cond}
 use Rattle.std.proofs.lemmas.Bool.{eqb-true}
 use Rattle.std.specs.List.{AllByRecursion}
@@ -14,6 +14,7 @@ use Rattle.qs_calls.specs.declared.closing.Closed.TheVariants.{ByUs, ByPeer}
 use Rattle.qs_calls.specs.declared.closing.Received.{Received}
 use Rattle.qs_calls.specs.declared.closing.Received.TheVariants.{Duplicate, BelowFloor, PeerClosed}
 use Rattle.qs_calls.specs.declared.making.Made.{Made}
+use Rattle.qs_calls.specs.declared.making.LostFault.{LostFault}
 use Rattle.qs_calls.specs.declared.making.MakeFault.{MakeFault}
 use Rattle.qs_calls.specs.declared.token.Token.{Token}
 use Rattle.qs_calls.specs.declared.token.Taken.{Taken}
@@ -28,8 +29,10 @@ use Rattle.qs_machine.specs.Tables.{lookup}
 use Rattle.qs_machine.specs.Ends.{End, AckedItems, first_send_limit}
 use Rattle.qs_machine.specs.Receiving.{ReceiveStep, ReceiveBy}
 use Rattle.qs_machine.specs.Credit.{settle}
-use Rattle.qs_machine.specs.Making.{MakeStep, make_refusal}
-use Rattle.qs_machine.specs.Alone.{token_refusal, TokenAckedStep, TokenLostStep}
+use Rattle.qs_machine.specs.Making.{MakeStep, LoseStep, make_refusal}
+use Rattle.qs_machine.proofs.CallsCounts.{sound_end}
+use Rattle.qs_machine.proofs.SentCalls.{keeps_call}
+use Rattle.qs_machine.specs.Alone.{token_refusal, TokenAckedStep, TokenLostStep, LosesEach}
 use Rattle.qs_machine.specs.Seen.{seen_all}
 use Rattle.qs_machine.specs.FrameStep.{AckedPiece, acks, named, frame_taken}
 use Rattle.qs_machine.proofs.Leaves.{acks_leave}
@@ -41,7 +44,7 @@ use Rattle.qs_machine.proofs.TablesAfter.{KeptIn}
 use Rattle.qs_machine.proofs.EveryCall.{by_open}
 use Rattle.qs_machine.proofs.SettledLimits.{calls_settle}
 use Rattle.qs_machine.proofs.CallsCounts.{settled_call}
-use Rattle.qs_runs.specs.Logs.{is_done, StandAt}
+use Rattle.qs_runs.specs.Logs.{is_done, StandAt, was_told, is_in}
 use Rattle.qs_runs.specs.Agree.{frames_in}
 use Rattle.qs_runs.specs.Worlds.{OwnStep, HandedIn}
 use Rattle.qs_runs.specs.Pasts.{Packets, Past, seen_by}
@@ -195,14 +198,24 @@ packs_rest p texts e new sound sent ok packs =
       | inr none ↦ subst (RestOk (with_packets p (map frames_in texts))) (sym none.1) (same_rests p (map frames_in texts) e ok)
     ]
 
--- a token's packet is declared lost
+lose_rests : (p : Past) (e new : End) → IsSound e → SentWasWritten e → RestOk p e → (k : ℕ) (declared : Result (Unit {0}) LostFault) → LoseStep e k declared new → RestOk p new
+lose_rests p e new sound sent ok k declared lost =
+    call_rests p p refl refl refl (λ i told. told) e new sound sent ok (Lose k) declared lost
+    (lose_by (Moved p e) e (moved_edits p e (slots p e ok) ok.acked) k declared new lost) (lost_told e new (all_told e ok.told) k declared lost)
+
+lost_each_rests : (p : Past) (count first : ℕ) (e new : End) (result : Result (Unit {0}) TokenFault) → IsSound e → SentWasWritten e → RestOk p e → LosesEach count first e result new → RestOk p new
+lost_each_rests p zero first e new result sound sent ok step = subst (RestOk p) (sym step.1) ok
+lost_each_rests p (suc n) first e new result sound sent ok (inl (mid, (declared, lost, is), later)) =
+    let k = first + n in
+    lost_each_rests p n first mid new result (sound_end e (Lose k) declared mid sound lost) (keeps_call e (Lose k) declared mid lost sent) (lose_rests p e mid sound sent ok k declared lost) later
+lost_each_rests p (suc n) first e new result sound sent ok (inr (fault, (declared, lost, is), failed)) = lose_rests p e new sound sent ok (first + n) declared lost
+
+-- a token's packets are declared lost
 pub lost_rests : (p : Past) (e new : End) → IsSound e → SentWasWritten e → RestOk p e → (token : Token) (result : Result (Unit {0}) TokenFault) → TokenLostStep e token result new → RestOk (with_packets p []) new
 lost_rests p e new sound sent ok token result step =
     elim (certain_cases (token_refusal e token) e result new _ step) [
       | inl (fault, is, same) ↦ subst (RestOk (with_packets p [])) (sym same) (same_rests p [] e ok)
-      | inr (allowed, (declared, loses, told)) ↦
-          call_rests p (with_packets p []) refl refl refl (told_packets p []) e new sound sent ok (Lose token.number) declared loses
-          (lose_by (Moved p e) e (moved_edits p e (slots p e ok) ok.acked) token.number declared new loses) (lost_told e new (all_told e ok.told) token.number declared loses)
+      | inr (allowed, lost) ↦ same_rests p [] new (lost_each_rests p ((token.number + 1) - token.first) token.first e new result sound sent ok lost)
     ]
 
 -- whether an ACK is due doesn't matter
@@ -338,18 +351,18 @@ alone_rests p e new k places fs all result good open_end ok is stand step call g
 -- Tokens
 
 -- an end is told more tokens
-token_more : (p : Past) (k : ℕ) (i : Item) → WasTold p i → WasTold (with_token p k) i
-token_more p k i (j, holds, inl ack) = (j, holds, inl ack)
-token_more p k i (j, holds, inr told) = (j, holds, inr (or_cond (j == k) (p.tokens j) told))
+token_more : (p : Past) (t : Token) (was : Bool) (i : Item) → WasTold p i → WasTold (with_token p t was) i
+token_more p t was i (j, holds, inl ack) = (j, holds, inl ack)
+token_more p t was i (j, holds, inr told) = (j, holds, inr (or_cond (was && is_in t j) (p.tokens j) told))
 
-with_token_rests : (p : Past) (k : ℕ) (e : End) → RestOk p e → RestOk (with_token p k) e
-with_token_rests p k e ok =
+with_token_rests : (p : Past) (t : Token) (was : Bool) (e : End) → RestOk p e → RestOk (with_token p t was) e
+with_token_rests p t was e ok =
     record {
       conn = ok.conn;
       bidi = ok.bidi;
       uni = ok.uni;
-      sends = λ n l at. half_more p (with_token p k) (token_more p k) n _ l (ok.sends n l at);
-      acked = acked_more p (with_token p k) (token_more p k) e.acked ok.acked;
+      sends = λ n l at. half_more p (with_token p t was) (token_more p t was) n _ l (ok.sends n l at);
+      acked = acked_more p (with_token p t was) (token_more p t was) e.acked ok.acked;
       told = ok.told;
       taken = ok.taken;
       limits = ok.limits;
@@ -365,17 +378,17 @@ module _ (p : Past) (e : End) (ok : RestOk p e) where
         told_settles (acks pieces e) (subst AllTold (sym (ap (λ (x : End). x.recvs) (acks_leave pieces e))) (all_told e ok.told)),
       )
 
-pub token_rests : (p : Past) (e new : End) → IsSound e → SentWasWritten e → EndOk p e → RestOk p e → (token : Token) (result : Result (Unit {0}) TokenFault) → TokenAckedStep e token result new → RestOk (with_token p token.number) new
+pub token_rests : (p : Past) (e new : End) → IsSound e → SentWasWritten e → EndOk p e → RestOk p e → (token : Token) (result : Result (Unit {0}) TokenFault) → TokenAckedStep e token result new → RestOk (with_token p token (was_told result)) new
 unfolding frame_taken
 token_rests p e new sound sent good ok token result step =
-    let k : ℕ = token.number in
-    let q : Past = with_token p k in
-    let now : RestOk q e = with_token_rests p k e ok in
-    let all = token_pieces p k e (token_ok p k e good) in
+    let q : Past = with_token p token true in
+    let now : RestOk q e = with_token_rests p token true e ok in
+    let all = token_pieces p token e (token_ok p token true e good) in
     let by : (x : End) → Moved q e x × AllTold x.recvs → new ≡ x → RestOk q new =
     λ x h same. call_rests q q refl refl refl (λ i told. told) e new sound sent now (TokenAcked token) result step (subst (Moved q e) (sym same) h.0) (subst (λ y. AllTold y.recvs) (sym same) h.1) in
+    let told : was_told result ≡ true → RestOk q new → RestOk (with_token p token (was_told result)) new = λ is. subst (λ b. RestOk (with_token p token b) new) (sym is) in
     elim (certain_cases (token_refusal e token) e result new _ step) [
-      | inl (fault, is, same) ↦ subst (RestOk q) (sym same) now
-      | inr (allowed, inl (is, same)) ↦ by (settle (acks (named e ((k, k) ∷ [])) e)) (pieces_moved q e now (named e ((k, k) ∷ [])) all) same
-      | inr (allowed, inr (is, mid, (m, h, asks), same)) ↦ by (settle (acks (take m (named e ((k, k) ∷ []))) e)) (pieces_moved q e now (take m (named e ((k, k) ∷ []))) (All_take _ m _ all)) (same ∙ ap settle h)
+      | inl (fault, is, same) ↦ subst (RestOk _) (sym same) (with_token_rests p token (was_told result) e ok)
+      | inr (allowed, inl (is, same)) ↦ told (ap was_told is) (by (settle (acks (named e ((token.first, token.number) ∷ [])) e)) (pieces_moved q e now (named e ((token.first, token.number) ∷ [])) all) same)
+      | inr (allowed, inr (is, mid, (m, h, asks), same)) ↦ told (ap was_told is) (by (settle (acks (take m (named e ((token.first, token.number) ∷ []))) e)) (pieces_moved q e now (take m (named e ((token.first, token.number) ∷ []))) (All_take _ m _ all)) (same ∙ ap settle h))
     ]

@@ -1,5 +1,5 @@
 -- Frames that come without their packet, and tokens that are acknowledged.
-use Rattle.std.proofs.Common.{◌≡◌, ℕ, zero, suc, Bool, true, false, ◌==◌, List, [], ◌∷◌, take, ◌⊎◌, inl, inr, Option, Some, None, Result, Ok, Err, slice_get, refl, sym, ap, ◌∙◌, subst, arith, if◌then◌else◌, MatchBool, nat_le}
+use Rattle.std.proofs.Common.{◌≡◌, ℕ, zero, suc, Bool, true, false, ◌==◌, List, [], ◌∷◌, take, ◌⊎◌, inl, inr, Option, Some, None, Result, Ok, Err, slice_get, refl, sym, ap, ◌∙◌, subst, arith, if◌then◌else◌, MatchBool, nat_le, ◌&&◌}
 use Rattle.std.proofs.lemmas.Option.{none-some, same_Some}
 use Rattle.std.proofs.lemmas.Bool.{false≢true, or_cases, and_parts, eqb-true, eq-eqb, leb-true}
 use Rattle.std.specs.List.{AllByRecursion}
@@ -22,7 +22,7 @@ use Rattle.qs_machine.specs.Verdicts.{verdict}
 use Rattle.qs_machine.specs.FrameStep.{frame_taken, named, is_named}
 use Rattle.qs_machine.specs.Receiving.{RunsOut}
 use Rattle.qs_machine.specs.Alone.{is_ours, MayTake, TakesOne, TakesEach, TakeBy, TakeAllBy, after_one, token_refusal, TokenAckedStep}
-use Rattle.qs_runs.specs.Logs.{StandAt, is_among, is_taken, is_taken_at}
+use Rattle.qs_runs.specs.Logs.{StandAt, is_among, is_taken, is_taken_at, was_told, is_in}
 use Rattle.qs_runs.specs.Worlds.{HandedIn}
 use Rattle.qs_runs.specs.Pasts.{Past, Tells, WasConfirmed, HoldsAt, EachTaken}
 use Rattle.qs_runs.specs.Invariant.{EndOk, SendSlot, FrameTaken, standing}
@@ -39,9 +39,9 @@ use Rattle.qs_runs.proofs.Standing.{certain_cases}
 abbrev pub with_took : Past → ℕ → List ℕ → Result Taken TakeFault → Past
 with_took p k places result = record p { took = λ j i. if is_taken_at j i k places result then true else p.took j i }
 
--- this end was told that its packet k was acknowledged
-abbrev pub with_token : Past → ℕ → Past
-with_token p k = record p { tokens = λ j. if j == k then true else p.tokens j }
+-- this end was told that the token's packets were acknowledged, if it was
+abbrev pub with_token : Past → Token → Bool → Past
+with_token p t told = record p { tokens = λ j. if told && is_in t j then true else p.tokens j }
 
 cond_or : (b x : Bool) → (if b then true else x) ≡ true → (b ≡ true) ⊎ (x ≡ true)
 cond_or true x h = inl refl
@@ -246,15 +246,15 @@ took_ok p k places result e ok taken =
 -- Tokens
 
 -- an end is told more tokens
-pub token_ok : (p : Past) (k : ℕ) (e : End) → EndOk p e → EndOk (with_token p k) e
-token_ok p k e ok =
+pub token_ok : (p : Past) (t : Token) (told : Bool) (e : End) → EndOk p e → EndOk (with_token p t told) e
+token_ok p t was e ok =
     record { sends = λ n. slot n (lookup e.sends n) (ok.sends n); recvs = ok.recvs; packets = ok.packets; taken = ok.taken; credit = ok.credit; streams = ok.streams }
   where
-    more : (j : ℕ) → WasConfirmed p.theirs p.tokens j → WasConfirmed p.theirs (with_token p k).tokens j
+    more : (j : ℕ) → WasConfirmed p.theirs p.tokens j → WasConfirmed p.theirs (with_token p t was).tokens j
     more j (inl ack) = inl ack
-    more j (inr told) = inr (or_cond (j == k) (p.tokens j) told)
+    more j (inr told) = inr (or_cond (was && is_in t j) (p.tokens j) told)
 
-    slot : (n : ℕ) (o : Option SendLane) → SendSlot p n (first_send_limit e n) o → SendSlot (with_token p k) n (first_send_limit e n) o
+    slot : (n : ℕ) (o : Option SendLane) → SendSlot p n (first_send_limit e n) o → SendSlot (with_token p t was) n (first_send_limit e n) o
     slot n None h = h
     slot n (Some l) h =
         record {
@@ -271,30 +271,26 @@ token_ok p k e ok =
           limit_told = h.limit_told;
         }
 
-named_alone : (k j : ℕ) → is_named ((k, k) ∷ []) j ≡ true → k ≡ j
-named_alone k j h =
-    elim (or_cases _ _ h) [
-      | inl both ↦ (let (low, high) = and_parts (nat_le k j) (nat_le j k) both in omega (arith, leb-true k j low, leb-true j k high))
-      | inr none ↦ absurd (false≢true none)
-    ]
+named_alone : (t : Token) (j : ℕ) → is_named ((t.first, t.number) ∷ []) j ≡ true → is_in t j ≡ true
+named_alone t j h = elim (or_cases _ _ h) [ inl both ↦ both | inr none ↦ absurd (false≢true none) ]
 
--- the pieces of a packet that is told by its token
-pub token_pieces : (p : Past) (k : ℕ) (e : End) → EndOk (with_token p k) e → AllByRecursion (WasAcked (with_token p k)) (named e ((k, k) ∷ []))
-token_pieces p k e ok = named_pieces_ok (with_token p k) e ok ((k, k) ∷ []) (λ j is. inr (told j (named_alone k j is)))
+-- the pieces of the packets that are told by their token
+pub token_pieces : (p : Past) (t : Token) (e : End) → EndOk (with_token p t true) e → AllByRecursion (WasAcked (with_token p t true)) (named e ((t.first, t.number) ∷ []))
+token_pieces p t e ok = named_pieces_ok (with_token p t true) e ok ((t.first, t.number) ∷ []) (λ j is. inr (told j (named_alone t j is)))
   where
-    told : (j : ℕ) → k ≡ j → (if j == k then true else p.tokens j) ≡ true
-    told j same = rw (eq-eqb j k (sym same)) refl
+    told : (j : ℕ) → is_in t j ≡ true → (if is_in t j then true else p.tokens j) ≡ true
+    told j is = rw is refl
 
-pub token_acked_moves : (p : Past) (e new : End) (t : Token) (result : Result (Unit {0}) TokenFault) → EndOk p e → TokenAckedStep e t result new → EndOk (with_token p t.number) new
+pub token_acked_moves : (p : Past) (e new : End) (t : Token) (result : Result (Unit {0}) TokenFault) → EndOk p e → TokenAckedStep e t result new → EndOk (with_token p t (was_told result)) new
 unfolding frame_taken
 token_acked_moves p e new t result ok step =
-    let k : ℕ = t.number in
-    let q : Past = with_token p k in
-    let now : EndOk q e = token_ok p k e ok in
-    let all = token_pieces p k e now in
+    let q : Past = with_token p t true in
+    let now : EndOk q e = token_ok p t true e ok in
+    let all = token_pieces p t e now in
+    let told : was_told result ≡ true → EndOk q new → EndOk (with_token p t (was_told result)) new = λ is. subst (λ b. EndOk (with_token p t b) new) (sym is) in
     elim (certain_cases (token_refusal e t) e result new _ step) [
-      | inl (fault, is, same) ↦ ended_by q e new same now
-      | inr (allowed, inl (is, same)) ↦ ended_by q _ new same (settle_ok q _ (acks_ok q (named e ((k, k) ∷ [])) e all now))
+      | inl (fault, is, same) ↦ ended_by _ e new same (token_ok p t (was_told result) e ok)
+      | inr (allowed, inl (is, same)) ↦ told (ap was_told is) (ended_by q _ new same (settle_ok q _ (acks_ok q (named e ((t.first, t.number) ∷ [])) e all now)))
       | inr (allowed, inr (is, mid, (m, h, asks), same)) ↦
-          ended_by q _ new same (settle_ok q mid (ended_by q _ mid h (acks_ok q (take m (named e ((k, k) ∷ []))) e (All_take _ m _ all) now)))
+          told (ap was_told is) (ended_by q _ new same (settle_ok q mid (ended_by q _ mid h (acks_ok q (take m (named e ((t.first, t.number) ∷ []))) e (All_take _ m _ all) now))))
     ]

@@ -61,6 +61,9 @@ tokens =
       none_made = refl;
       acked = refl;
       not_another_token = refl;
+      of_several = refl;
+      not_below = refl;
+      not_refused = refl;
       not_at_the_peer = refl;
       none_made_by_it = refl;
     }

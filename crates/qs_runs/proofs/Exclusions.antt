@@ -1,5 +1,5 @@
 -- Each clause of what agrees excludes something.
-use Rattle.std.proofs.Common.{◌≡◌, ℕ, zero, suc, ◌+◌, ◌<◌, ◌≤◌, List, [], ◌∷◌, ◌++◌, ◌⊎◌, inl, inr, length, take, drop, nat_le, Bool, true, false, cond, ◌&&◌, ◌==◌, Option, Some, None, is_some, option_map, Result, Ok, Err, slice_get, slice_index_or, refl, sym, ap, ◌∙◌, arith, subst}
+use Rattle.std.proofs.Common.{◌≡◌, ℕ, zero, suc, ◌+◌, ◌<◌, ◌≤◌, List, [], ◌∷◌, ◌++◌, ◌⊎◌, inl, inr, length, take, drop, nat_le, Bool, true, false, cond, ◌&&◌, ◌==◌, Option, Some, None, is_some, option_map, Result, Ok, Err, slice_get, slice_index_or, refl, sym, ap, ◌∙◌, arith, subst, not, nat_eq, nat_lt}
 use Rattle.std.specs.Global.{Vec}
 use Rattle.std.specs.FinSet as set
 use Rattle.std.proofs.lemmas.Option.{same_Some, none-some}
@@ -179,10 +179,22 @@ fill_fits None e new want filled h = (let le : 1 ≤ 0 = h.fits in omega arith)
 abbrev told_done : Result (Unit {0}) TokenFault
 told_done = Ok tt
 
-none_given : (e new : End) (closed given : Bool) (E : Type 0) → given ≡ true → Certain (first_refusal (refuse_if closed tokens.Closed) (refuse_if given tokens.NotGiven)) e told_done new E → ⊥
-none_given e new true given E is h = cc (h.0)
-none_given e new false true E is h = cc (h.0)
-none_given e new false false E is h = false≢true is
+none_given : (e new : End) (closed own made : Bool) (E : Type 0) → (own ≡ false) ⊎ (made ≡ false) → Certain (first_refusal (refuse_if closed tokens.Closed) (refuse_if (not (own && made)) tokens.NotGiven)) e told_done new E → ⊥
+none_given e new true own made E is h = cc (h.0)
+none_given e new false false made E is h = cc (h.0)
+none_given e new false true false E is h = cc (h.0)
+none_given e new false true true E (inl is) h = false≢true (sym is)
+none_given e new false true true E (inr is) h = false≢true (sym is)
+
+is_foreign : (a b : ℕ) → (a ≡ b → ⊥) → nat_eq a b ≡ false
+is_foreign a b differs = grind (arith, nat_tests, differs)
+
+is_unmade : (first k next : ℕ) → next ≤ k → (nat_le first k && nat_lt k next) ≡ false
+is_unmade first k next le = go (nat_le first k) (grind (arith, nat_tests, le))
+  where
+    go : (b : Bool) → nat_lt k next ≡ false → (b && nat_lt k next) ≡ false
+    go true later = later
+    go false later = refl
 
 -- an end that closed takes no limits in
 refused : (p : PeerLimits) (e new : End) → e.closed ≡ Some (ByPeer 0) → RaiseStep e p (Ok tt) new → ⊥
@@ -202,7 +214,8 @@ others bytes text none =
       ack_other = λ v w step changed. changed step.1;
       fill_too_long = λ v w want filled step. fill_fits (make_refusal v.a) v.a w.a want filled step.0;
       fill_other = λ v w want step changed. changed step.1;
-      not_given = λ v w token le step. none_given v.a w.a (is_some v.a.closed) (nat_le v.a.next token.number) _ (le-leb v.a.next token.number le) step.0;
+      not_given = λ v w token le step. none_given v.a w.a (is_some v.a.closed) _ _ _ (inr (is_unmade token.first token.number v.a.next le)) step.0;
+      foreign = λ v w token differs step. none_given v.a w.a (is_some v.a.closed) _ _ _ (inl (is_foreign token.epoch v.a.tuning.epoch differs)) step.0;
       lost_other = λ v w token step changed. changed step.1;
       ungranted = λ v w p r refuses ((granted, step), same). refuses granted;
       closed = λ v w p shut ((granted, step), same). refused p v.a w.a shut step;
@@ -333,7 +346,7 @@ frames text is =
 -- of the two frames one wasn't taken, and the packet wasn't processed
 one_left : (text : Vec ℕ) → text.items ≡ two_frames → (h : History) → payload A 0 h ≡ Some text.items → processed B 0 h ≡ false → (took B 0 0 h ≡ false) ⊎ (took B 0 1 h ≡ false) → TokenAcked h → ⊥
 one_left text is h there unprocessed left (v, w, r, ((landed, step), same)) =
-    elim landed [
+    elim (landed refl 0 refl) [
       | inl done ↦ false≢true (sym unprocessed ∙ done)
       | inr (bytes, made, all) ↦ (
           let read : frames_of (reading_of bytes).left ≡ max_data 5 ∷ max_data 6 ∷ [] = ap (λ bs. frames_of (reading_of bs).left) (sym (same_Some text.items bytes (sym there ∙ made)) ∙ is) ∙ read_two in
@@ -357,7 +370,7 @@ landing : (text : Vec ℕ) → text.items ≡ two_frames → NotYetLanded text
 unfolding made processed took
 landing text is =
     record {
-      unmade = λ (v, w, r, ((landed, step), same)). elim landed [ inl done ↦ false≢true done | inr (bytes, none, all) ↦ none-some bytes none ];
+      unmade = λ (v, w, r, ((landed, step), same)). elim (landed refl 0 refl) [ inl done ↦ false≢true done | inr (bytes, none, all) ↦ none-some bytes none ];
       on_its_way = one_left text is (packet A text ∷ []) refl refl (inl refl);
       first = one_left text is (came_alone 0 (0 ∷ []) (Ok Took) ∷ packet A text ∷ []) refl refl (inr refl);
       first_unchanged = one_left text is (came_alone 0 (0 ∷ []) (Ok Unchanged) ∷ packet A text ∷ []) refl refl (inr refl);
@@ -365,6 +378,8 @@ landing text is =
       twice = one_left text is (came_alone 0 (0 ∷ []) (Ok Took) ∷ came_alone 0 (0 ∷ []) (Ok Took) ∷ packet A text ∷ []) refl refl (inr refl);
       no_memory = one_left text is (came_alone 0 (0 ∷ 1 ∷ []) (Err NoMemory) ∷ packet A text ∷ []) refl refl (inl refl);
       not_processed = one_left text is (came A 0 answered.NoMemory ∷ packet A text ∷ []) refl refl (inl refl);
+      half = λ v w r ((landed, step), same). elim (landed refl 1 refl) [ inl done ↦ false≢true done | inr (bytes, none, all) ↦ none-some bytes none ];
+      foreign = λ h v w token differs step. none_given v.a w.a (is_some v.a.closed) _ _ _ (inl (is_foreign token.epoch v.a.tuning.epoch differs)) step.0.1;
       other = λ h v w token r step changed. changed step.1;
       each = both_taken text is (came_alone 0 (0 ∷ []) (Ok Took) ∷ came_alone 0 (1 ∷ []) (Ok Took) ∷ packet A text ∷ []) refl refl refl;
       unchanged = both_taken text is (came_alone 0 (0 ∷ []) (Ok Unchanged) ∷ came_alone 0 (1 ∷ []) (Ok Took) ∷ packet A text ∷ []) refl refl refl;

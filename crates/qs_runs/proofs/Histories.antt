@@ -25,7 +25,7 @@ use Rattle.qs_calls.specs.declared.event.Act.TheVariants as acts
 use Rattle.qs_calls.specs.declared.event.Event.{Event}
 use Rattle.qs_calls.specs.declared.answer.Answer.{Answer}
 use Rattle.qs_calls.specs.declared.answer.Answer.TheVariants as answers
-use Rattle.qs_runs.specs.Logs.{Happening, Did, MadeAck, FilledIn, AckedToken, LostToken, RaisedLimits, CameWith, CameAlone, History, other, own_of, own_calls, is_delivery, delivers, is_done, takes_in, processed, takes_frame, took, tells_acked, was_acked, texts_of, made, made_by, made_now, payload}
+use Rattle.qs_runs.specs.Logs.{Happening, Did, MadeAck, FilledIn, AckedToken, LostToken, RaisedLimits, CameWith, CameAlone, History, other, own_of, own_calls, is_delivery, delivers, is_done, takes_in, processed, takes_frame, took, tells_acked, was_acked, texts_of, made, made_by, made_now, payload, was_told}
 use Rattle.qs_runs.specs.Worlds.{OwnStep}
 use Rattle.qs_runs.specs.Agree.{frames_in}
 use Rattle.qs_runs.specs.Invariant.{HasNoFault}
@@ -138,10 +138,10 @@ past_came_to A k places result h = λ i. with_took (past_of (own_calls B h) (app
 past_came_to B k places result h = λ i. with_took (past_of (own_calls A h) (append-nil (packets_of A h) i) (append-nil (packets_of B h) i) (λ k. processed A k h) (λ k i. took A k i h) (λ k. was_acked A k h)) k places result
 
 -- a token is acknowledged
-pub past_token : (s : Side) (token : Token) (result : Result (Unit {0}) TokenFault) (h : History) → past s (AckedToken s token result ∷ h) ≡ with_token (past s h) token.number
+pub past_token : (s : Side) (token : Token) (result : Result (Unit {0}) TokenFault) (h : History) → past s (AckedToken s token result ∷ h) ≡ with_token (past s h) token (was_told result)
 unfolding own_calls packets_of processed took was_acked
-past_token A token result h = λ i. with_token (past_of (own_calls A h) (append-nil (packets_of A h) i) (append-nil (packets_of B h) i) (λ k. processed A k h) (λ k i. took A k i h) (λ k. was_acked A k h)) token.number
-past_token B token result h = λ i. with_token (past_of (own_calls B h) (append-nil (packets_of B h) i) (append-nil (packets_of A h) i) (λ k. processed B k h) (λ k i. took B k i h) (λ k. was_acked B k h)) token.number
+past_token A token result h = λ i. with_token (past_of (own_calls A h) (append-nil (packets_of A h) i) (append-nil (packets_of B h) i) (λ k. processed A k h) (λ k i. took A k i h) (λ k. was_acked A k h)) token (was_told result)
+past_token B token result h = λ i. with_token (past_of (own_calls B h) (append-nil (packets_of B h) i) (append-nil (packets_of A h) i) (λ k. processed B k h) (λ k i. took B k i h) (λ k. was_acked B k h)) token (was_told result)
 
 pub past_peer_token : (s : Side) (token : Token) (result : Result (Unit {0}) TokenFault) (h : History) → past (other s) (AckedToken s token result ∷ h) ≡ past (other s) h
 unfolding own_calls packets_of processed took was_acked

@@ -1,5 +1,5 @@
 -- What a token told landed, and what landed took effect.
-use Rattle.std.proofs.Common.{◌≡◌, ℕ, zero, suc, Bool, true, false, List, [], ◌∷◌, inl, inr, Option, Some, None, slice_get, option_map, refl, sym, ap, ◌∙◌, subst, if◌then◌else◌, ◌==◌}
+use Rattle.std.proofs.Common.{◌≡◌, ℕ, zero, suc, Bool, true, false, List, [], ◌∷◌, inl, inr, Option, Some, None, slice_get, option_map, refl, sym, ap, ◌∙◌, subst, if◌then◌else◌, ◌==◌, ◌&&◌, is_some, Result, nat_lt, nat_eq, not, nat_le}
 use Rattle.std.proofs.lemmas.Option.{none-some, same_Some, slice_get-map}
 use Rattle.std.proofs.lemmas.Bool.{false≢true, and_parts, eqb-true}
 use Rattle.std.specs.List.{AllByRecursion}
@@ -7,12 +7,17 @@ use Rattle.qs_wire.specs.Grammar.{frames_of}
 use Rattle.qs_wire.specs.Reading.{reading_of}
 use Rattle.qs_send.specs.Records.{Among}
 use Rattle.qs_calls.specs.declared.settings.Settings.{Settings}
+use Rattle.qs_calls.specs.declared.token.Token.{Token}
+use Rattle.qs_calls.specs.declared.token.TokenFault.{TokenFault}
+use Rattle.qs_calls.specs.declared.token.TokenFault.TheVariants as tokens
 use Rattle.qs_calls.specs.declared.event.Side.{Side}
 use Rattle.qs_calls.specs.declared.event.Side.TheVariants.{A, B}
+use Rattle.qs_machine.specs.Ends.{End}
 use Rattle.qs_machine.specs.Seen.{Seen, seen}
-use Rattle.qs_machine.specs.Alone.{is_ours}
-use Rattle.qs_runs.specs.Logs.{Happening, Did, MadeAck, FilledIn, AckedToken, LostToken, RaisedLimits, CameWith, CameAlone, History, other, same_side, made, made_now, processed, takes_in, took, takes_frame, was_acked, tells_acked, HasLanded}
-use Rattle.qs_runs.specs.Worlds.{World, WorldStep}
+use Rattle.qs_machine.specs.Owner.{Certain, first_refusal, refuse_if}
+use Rattle.qs_machine.specs.Alone.{is_ours, TokenAckedStep}
+use Rattle.qs_runs.specs.Logs.{Happening, Did, MadeAck, FilledIn, AckedToken, LostToken, RaisedLimits, CameWith, CameAlone, History, other, same_side, made, made_now, processed, takes_in, took, takes_frame, was_acked, tells_acked, HasLanded, was_told, is_in}
+use Rattle.qs_runs.specs.Worlds.{World, WorldStep, end_of}
 use Rattle.qs_runs.specs.Agree.{frames_in}
 use Rattle.qs_runs.specs.Pasts.{Packets, past, Holds, WasConfirmed, EachTaken, Landed}
 use Rattle.qs_runs.specs.Invariant.{WorldOk}
@@ -50,11 +55,21 @@ same_sides A B is = absurd (false≢true is)
 same_sides B A is = absurd (false≢true is)
 same_sides B B is = refl
 
+-- the end took the token, so it is of its epoch
+told_is_own : (e new : End) (t : Token) (result : Result (Unit {0}) TokenFault) → TokenAckedStep e t result new → was_told result ≡ true → t.epoch ≡ e.tuning.epoch
+told_is_own e new t result step told = eqb-true t.epoch e.tuning.epoch (go _ (is_some e.closed) (nat_eq t.epoch e.tuning.epoch) (nat_le t.first t.number && nat_lt t.number e.next) step)
+  where
+    go : (E : Type 0) (closed own made : Bool) → Certain (first_refusal (refuse_if closed tokens.Closed) (refuse_if (not (own && made)) tokens.NotGiven)) e result new E → own ≡ true
+    go E true own made h = absurd (false≢true (sym (ap was_told h.0) ∙ told))
+    go E false false made h = absurd (false≢true (sym (ap was_told h.0) ∙ told))
+    go E false true made h = refl
+
 -- what a token tells landed before
 landed_before : (h : History) (v w : World) (x : Happening) → WorldStep h v x w → (s : Side) (k : ℕ) → tells_acked s k x ≡ true → HasLanded h s k
 landed_before h v w (AckedToken end token result) ((landed, step), same) s k is =
-    let parts = and_parts (same_side s end) (k == token.number) is in
-    subst (λ j. HasLanded h s j) (sym (eqb-true k token.number parts.1)) (subst (λ t. HasLanded h t token.number) (same_sides s end parts.0) landed)
+    let (here, both) = and_parts (same_side s end) (was_told result && is_in token k) is in
+    let (told, among) = and_parts (was_told result) (is_in token k) both in
+    subst (λ t. HasLanded h t k) (same_sides s end here) (landed (told_is_own (end_of v end) (end_of w end) token result step told) k among)
 landed_before h v w (Did event answer) step s k is = absurd (false≢true is)
 landed_before h v w (MadeAck end room result text) step s k is = absurd (false≢true is)
 landed_before h v w (FilledIn end want room result text) step s k is = absurd (false≢true is)

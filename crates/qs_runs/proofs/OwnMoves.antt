@@ -1,5 +1,5 @@
 -- Each call of its owner keeps the invariant of an end.
-use Rattle.std.proofs.Common.{◌≡◌, ◌≢◌, ℕ, ◌+◌, ◌*◌, Bool, true, false, not, ◌&&◌, List, [], ◌∷◌, ◌++◌, map, length, take, Option, Some, None, Result, Ok, Err, is_some, refl, sym, ap, ◌∙◌, subst, inl, inr, if◌then◌else◌, ◌==◌, append-nil, MatchBool, nat_le}
+use Rattle.std.proofs.Common.{◌≡◌, ◌≢◌, ℕ, ◌+◌, ◌*◌, Bool, true, false, not, ◌&&◌, List, [], ◌∷◌, ◌++◌, map, length, take, Option, Some, None, Result, Ok, Err, is_some, refl, sym, ap, ◌∙◌, subst, inl, inr, if◌then◌else◌, ◌==◌, append-nil, MatchBool, nat_le, zero, suc, ◌-◌}
 use Rattle.std.proofs.lemmas.Option.{none-some}
 use Rattle.std.proofs.lemmas.Bool.{eq-eqb, ne_eqb, leb-false}
 use Rattle.std.specs.Global.{Vec}
@@ -28,7 +28,7 @@ use Rattle.qs_machine.specs.Seen.{Seen, seen_all}
 use Rattle.qs_machine.specs.Due.{known_count}
 use Rattle.qs_machine.specs.Owner.{first_refusal, refuse_if, send_refusal, recv_refusal, is_read_no_more, half_refusal, no_half, opened_count, own_type, peer_type, with_wanted, OpenStep, IsBlocked, IsOpened, AcceptStep, GivesNone, GivesBidi, GivesUni, AcceptOpen, WriteStep, FinishStep, ResetStep, StopStep, ReadStep, ReadBy, next_stream, accepted_by}
 use Rattle.qs_machine.specs.Making.{MakeStep, MakeAt, make_refusal, IsMade, LoseStep, lose_refusal, ClaimStep, claim_refusal}
-use Rattle.qs_machine.specs.Alone.{token_refusal, TokenLostStep}
+use Rattle.qs_machine.specs.Alone.{token_refusal, TokenLostStep, LosesEach}
 use Rattle.qs_calls.specs.declared.event.Act.{Act}
 use Rattle.qs_calls.specs.declared.event.Act.TheVariants as acts
 use Rattle.qs_calls.specs.declared.answer.Answer.{Answer}
@@ -298,13 +298,6 @@ module _ (p : Past) (e new : End) (ok : EndOk p e) where
         | inr (allowed, (ps, there, inr (moved, lt, is, same))) ↦ ended_by p _ new same (losses_ok p k (take moved ps) e (λ x a. ok.packets.records k ps x there (Among_take moved ps x a)) ok)
       ]
 
-  pub token_lost_moves : (t : Token) (answer : Result (Unit {0}) TokenFault) → TokenLostStep e t answer new → EndOk p new
-  token_lost_moves t answer step =
-      elim (certain_cases (token_refusal e t) e answer new _ step) [
-        | inl (fault, is, same) ↦ ended_by p e new same ok
-        | inr (allowed, (declared, loses, told)) ↦ lose_moves t.number declared loses
-      ]
-
   claim_moves : (answer : Result ℕ MakeFault) → ClaimStep e answer new → EndOk (with_call p acts.Claim (answers.Claim answer)) new
   claim_moves answer step =
       elim (certain_cases (claim_refusal e) e answer new _ step) [
@@ -315,6 +308,18 @@ module _ (p : Past) (e new : End) (ok : EndOk p e) where
             (λ i. record { mine = p.mine ++ sym ping_seen i ∷ []; theirs = p.theirs; bytes = λ m. sym (append-nil (p.bytes m)) i; gave = λ m. sym (append-nil (p.gave m)) i; stopped = p.stopped; ended = p.ended; processed = p.processed; took = p.took; tokens = p.tokens })
             (ended_by _ _ new same (claimed_ok p e ok)))
       ]
+
+lose_each_moves : (p : Past) (count first : ℕ) (e new : End) (answer : Result (Unit {0}) TokenFault) → EndOk p e → LosesEach count first e answer new → EndOk p new
+lose_each_moves p zero first e new answer ok step = ended_by p e new step.1 ok
+lose_each_moves p (suc n) first e new answer ok (inl (mid, (declared, lost, is), later)) = lose_each_moves p n first mid new answer (lose_moves p e mid ok (first + n) declared lost) later
+lose_each_moves p (suc n) first e new answer ok (inr (fault, (declared, lost, is), failed)) = lose_moves p e new ok (first + n) declared lost
+
+pub token_lost_moves : (p : Past) (e new : End) → EndOk p e → (t : Token) (answer : Result (Unit {0}) TokenFault) → TokenLostStep e t answer new → EndOk p new
+token_lost_moves p e new ok t answer step =
+    elim (certain_cases (token_refusal e t) e answer new _ step) [
+      | inl (fault, is, same) ↦ ended_by p e new same ok
+      | inr (allowed, lost) ↦ lose_each_moves p ((t.number + 1) - t.first) t.first e new answer ok lost
+    ]
 
 pub own_moves : (p : Past) (e new : End) (act : Act) (answer : Answer) → EndOk p e → OwnStep e act answer new → EndOk (with_call p act answer) new
 own_moves p e new (acts.OpenStream dir) (answers.OpenStream r) ok step = quiet_moves p e new ok (acts.OpenStream dir) (answers.OpenStream r) (quiet p (acts.OpenStream dir) (answers.OpenStream r) refl (λ m. refl) (λ m. refl) (λ m. refl) (λ m. refl)) (open_moves p e new ok dir r step)

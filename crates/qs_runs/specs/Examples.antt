@@ -13,6 +13,7 @@ use Rattle.qs_calls.specs.declared.token.Token.{Token}
 use Rattle.qs_calls.specs.declared.token.Taken.TheVariants.{Took, Unchanged, NotOurs}
 use Rattle.qs_calls.specs.declared.token.TakeFault.{TakeFault}
 use Rattle.qs_calls.specs.declared.token.TakeFault.TheVariants.{NoMemory}
+use Rattle.qs_calls.specs.declared.token.TokenFault.TheVariants.{NotGiven}
 use Rattle.qs_calls.specs.declared.token.Taken.{Taken}
 use Rattle.qs_calls.specs.declared.event.Side.{Side}
 use Rattle.qs_calls.specs.declared.event.Side.TheVariants.{A, B}
@@ -134,7 +135,7 @@ came_alone number places answer = CameAlone A number places answer
 
 -- A is told that the packet of this token was acknowledged
 abbrev pub token_acked : ℕ → Happening
-token_acked number = AckedToken A (record { number = number }) (Ok tt)
+token_acked number = AckedToken A (record { epoch = 0; first = number; number = number }) (Ok tt)
 
 -- Frames and tokens
 pub record TokensAreRead : Type 0 where
@@ -154,9 +155,12 @@ pub record TokensAreRead : Type 0 where
   -- its packet wasn't processed, and no other was made
   pub not_processed : processed B 0 (came_alone 0 (1 ∷ []) (Ok Took) ∷ []) ≡ false
   pub none_made : made A (came_alone 0 (1 ∷ []) (Ok Took) ∷ []) ≡ []
-  -- a token was told to be acknowledged, that one, and at that end
+  -- a token was told to be acknowledged, that one, if the end took it, and at that end
   pub acked : was_acked A 3 (token_acked 3 ∷ []) ≡ true
   pub not_another_token : was_acked A 4 (token_acked 3 ∷ []) ≡ false
+  pub of_several : was_acked A 4 (AckedToken A (record { epoch = 0; first = 3; number = 5 }) (Ok tt) ∷ []) ≡ true
+  pub not_below : was_acked A 2 (AckedToken A (record { epoch = 0; first = 3; number = 5 }) (Ok tt) ∷ []) ≡ false
+  pub not_refused : was_acked A 3 (AckedToken A (record { epoch = 1; first = 3; number = 3 }) (Err NotGiven) ∷ []) ≡ false
   pub not_at_the_peer : was_acked B 3 (token_acked 3 ∷ []) ≡ false
   -- which makes nothing
   pub none_made_by_it : made A (token_acked 3 ∷ []) ≡ []

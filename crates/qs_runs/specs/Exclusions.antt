@@ -31,6 +31,7 @@ use Rattle.qs_calls.specs.declared.event.Act.TheVariants.{Accept, Claim}
 use Rattle.qs_calls.specs.declared.answer.Answer.TheVariants as answers
 use Rattle.qs_machine.specs.Ends.{End}
 use Rattle.qs_machine.specs.Seen.{Seen, Stream, Control, Plain}
+use Rattle.qs_machine.specs.Alone.{token_of}
 use Rattle.qs_machine.specs.Plains.{DifferInPlain}
 use Rattle.qs_machine.specs.Examples.{standard, server, client_of}
 use Rattle.qs_machine.specs.SmallEnds.{client_with, server_with, abc, wrote as wrote_half, sent, fresh, all_came}
@@ -151,6 +152,8 @@ pub record NothingElseHappens (bytes text none : Vec ℕ) : Type 0 where
   pub fill_other : (v w : World) (want : Fill) → WorldStep [] v (FilledIn A want 1200 (Ok None) []) w → (w.b ≡ v.b → ⊥) → ⊥
   -- a token is lost that wasn't given
   pub not_given : (v w : World) (token : Token) → v.a.next ≤ token.number → WorldStep [] v (LostToken A token (Ok tt)) w → ⊥
+  -- or that another end gave
+  pub foreign : (v w : World) (token : Token) → (token.epoch ≡ v.a.tuning.epoch → ⊥) → WorldStep [] v (LostToken A token (Ok tt)) w → ⊥
   -- or the other end changes
   pub lost_other : (v w : World) (token : Token) → WorldStep [] v (LostToken A token (Ok tt)) w → (w.b ≡ v.b → ⊥) → ⊥
   -- limits are taken in that the peer doesn't grant
@@ -180,9 +183,9 @@ pub record NoFrameComes (text : Vec ℕ) : Type 0 where
   -- several as one of another kind
   pub several : (e new : End) → HandedIn (max_data 5 ∷ max_data 6 ∷ []) e (Ok NotOurs) new → ⊥
 
--- the token of packet 0 is told to be acknowledged
+-- the token of packet 0 of an end is told to be acknowledged
 abbrev pub TokenAcked : History → Type 0
-TokenAcked h = (v : World) × (w : World) × (r : Result (Unit {0}) TokenFault) × WorldStep h v (AckedToken A (record { number = 0 }) r) w
+TokenAcked h = (v : World) × (w : World) × (r : Result (Unit {0}) TokenFault) × WorldStep h v (AckedToken A (token_of v.a 0) r) w
 
 -- It isn't told (sections 13.1 and 13.3)
 pub record NotYetLanded (text : Vec ℕ) : Type 0 where
@@ -202,6 +205,10 @@ pub record NotYetLanded (text : Vec ℕ) : Type 0 where
   pub no_memory : TokenAcked (came_alone 0 (0 ∷ 1 ∷ []) (Err NoMemory) ∷ packet A text ∷ []) → ⊥
   -- where the packet came and found none
   pub not_processed : TokenAcked (came A 0 received.NoMemory ∷ packet A text ∷ []) → ⊥
+  -- of two packets once the first one landed, and the other wasn't made
+  pub half : (v w : World) (r : Result (Unit {0}) TokenFault) → WorldStep (came A 0 Done ∷ packet A text ∷ []) v (AckedToken A (record (token_of v.a 0) { number = 1 }) r) w → ⊥
+  -- one of another end isn't taken, and changes nothing
+  pub foreign : (h : History) (v w : World) (token : Token) → (token.epoch ≡ v.a.tuning.epoch → ⊥) → WorldStep h v (AckedToken A token (Ok tt)) w → ⊥
   -- nor does the other end change
   pub other : (h : History) (v w : World) (token : Token) (r : Result (Unit {0}) TokenFault) → WorldStep h v (AckedToken A token r) w → (w.b ≡ v.b → ⊥) → ⊥
   -- though the packet landed once each of its frames was taken, in any order

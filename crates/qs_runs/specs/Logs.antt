@@ -1,7 +1,7 @@
 -- Trusted.
 -- What happened to two ends, and what can be read off it: what was written, read, made and processed. The whole file is ours:
 -- RFC 9000 has no log.
-use Rattle.std.specs.Prelude.{◌≡◌, ℕ, Bool, true, false, not, ◌&&◌, ◌||◌, ◌==◌, List, [], ◌∷◌, ◌++◌, map, take, ◌⊎◌, ⊤, Option, None, Some, Result, Ok, Err, slice_get, if◌then◌else◌}
+use Rattle.std.specs.Prelude.{◌≡◌, ℕ, Bool, true, false, not, ◌&&◌, ◌||◌, ◌==◌, List, [], ◌∷◌, ◌++◌, map, take, ◌⊎◌, ⊤, Option, None, Some, Result, Ok, Err, slice_get, if◌then◌else◌, nat_le}
 use Rattle.qs_wire.specs.Layout.{FrameValue}
 use Rattle.qs_wire.specs.Grammar.{frames_of}
 use Rattle.qs_wire.specs.Reading.{reading_of}
@@ -19,6 +19,7 @@ use Rattle.qs_calls.specs.declared.token.Taken.{Taken}
 use Rattle.qs_calls.specs.declared.token.Taken.TheVariants.{Took, Unchanged}
 use Rattle.qs_calls.specs.declared.token.TakeFault.{TakeFault}
 use Rattle.qs_calls.specs.declared.token.TokenFault.{TokenFault}
+use Rattle.qs_calls.specs.declared.token.TokenFault.TheVariants as tokens
 use Rattle.qs_machine.specs.Seen.{seen}
 use Rattle.qs_machine.specs.Alone.{is_ours}
 use Rattle.qs_recv.specs.declared.half.Read.TheVariants.{Bytes, End}
@@ -198,9 +199,19 @@ HasLanded h s k =
     ⊎ ((text : List ℕ) × (payload s k h ≡ Some text)
     × ((i : ℕ) (f : FrameValue) → slice_get (frames_of (reading_of text).left) i ≡ Some f → is_ours (seen f) ≡ true → took (other s) k i h ≡ true))
 
+-- the end took the token: it is open, and gave it
+abbrev pub was_told : Result (Unit {0}) TokenFault → Bool
+was_told (Ok done) = true
+was_told (Err tokens.NoMemory) = true
+was_told (Err fault) = false
+
+-- the packet is one of the token's
+abbrev pub is_in : Token → ℕ → Bool
+is_in token k = nat_le token.first k && nat_le k token.number
+
 -- one end is told by a token that its packet k was acknowledged
 abbrev pub tells_acked : Side → ℕ → Happening → Bool
-tells_acked s k (AckedToken end token result) = same_side s end && k == token.number
+tells_acked s k (AckedToken end token result) = same_side s end && (was_told result && is_in token k)
 tells_acked s k x = false
 
 -- it was told so

@@ -1,7 +1,7 @@
 -- Trusted.
 -- Two ends, each of which was told limits that the other grants, and what may happen to them. The whole file is ours, but that an
 -- end is the client, the other the server, and each knows limits of the other (RFC 9000, sections 2.1, 7.4.1 and 18.2).
-use Rattle.std.specs.Prelude.{◌≡◌, ℕ, ◌≤◌, List, [], ◌∷◌, ◌⊎◌, Some, Result, Ok, Err}
+use Rattle.std.specs.Prelude.{◌≡◌, ℕ, ◌≤◌, List, [], ◌∷◌, ◌⊎◌, Some, Result, Ok, Err, true}
 use Rattle.qs_wire.specs.declared.stream_id.Role.TheVariants.{Client, Server}
 use Rattle.qs_wire.specs.Layout.{FrameValue}
 use Rattle.qs_calls.specs.declared.token.Taken.{Taken}
@@ -27,7 +27,7 @@ use Rattle.qs_calls.specs.declared.event.Act.{Act}
 use Rattle.qs_calls.specs.declared.event.Act.TheVariants as acts
 use Rattle.qs_calls.specs.declared.answer.Answer.{Answer}
 use Rattle.qs_calls.specs.declared.answer.Answer.TheVariants as answers
-use Rattle.qs_runs.specs.Logs.{Happening, Did, MadeAck, FilledIn, AckedToken, LostToken, RaisedLimits, CameWith, CameAlone, History, Log, happened, other, payload, AreFramesOf, HasLanded}
+use Rattle.qs_runs.specs.Logs.{Happening, Did, MadeAck, FilledIn, AckedToken, LostToken, RaisedLimits, CameWith, CameAlone, History, Log, happened, other, payload, AreFramesOf, HasLanded, is_in}
 
 pub record World : Type 0 where
   pub a : End
@@ -109,13 +109,13 @@ ComeAloneStep h old s k places r new =
     × HandedIn fs (end_of old (other s)) r (end_of new (other s))
     × (end_of new s ≡ end_of old s)
 
--- one thing happens in a world with this history; an ACK may tell any delay, limits are taken in that the peer grants, and a token is
--- acknowledged only once its packet landed at the peer
+-- one thing happens in a world with this history; an ACK may tell any delay, limits are taken in that the peer grants, and a token of an
+-- end's epoch is acknowledged only once each of its packets landed at the peer
 abbrev pub WorldStep : History → World → Happening → World → Type 0
 WorldStep h old (Did event answer) new = EventStep h old event.end event.act answer new
 WorldStep h old (MadeAck s room r text) new = OwnCall old s new ((delay : ℕ) × MakeAckStep (end_of old s) delay room r text (end_of new s))
 WorldStep h old (FilledIn s want room r text) new = OwnCall old s new (FillStep (end_of old s) want room r text (end_of new s))
-WorldStep h old (AckedToken s token r) new = OwnCall old s new (HasLanded h s token.number × TokenAckedStep (end_of old s) token r (end_of new s))
+WorldStep h old (AckedToken s token r) new = OwnCall old s new ((token.epoch ≡ (end_of old s).tuning.epoch → (k : ℕ) → is_in token k ≡ true → HasLanded h s k) × TokenAckedStep (end_of old s) token r (end_of new s))
 WorldStep h old (LostToken s token r) new = OwnCall old s new (TokenLostStep (end_of old s) token r (end_of new s))
 WorldStep h old (RaisedLimits s p r) new = OwnCall old s new (AreGranted p (end_of old (other s)).settings × RaiseStep (end_of old s) p r (end_of new s))
 WorldStep h old (CameWith s k bytes r) new = ComeWithStep h old s k bytes r new

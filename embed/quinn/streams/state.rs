@@ -114,7 +114,7 @@ impl StreamsState {
     pub fn retransmit_all_for_0rtt(&mut self) {
         let mut from = 0;
         while let Some(number) = self.end.next_outstanding(from) {
-            let _ = self.end.lost(Token { number });
+            let _ = self.end.lost(self.end.token_of(number));
             from = number + 1;
         }
     }
@@ -284,7 +284,7 @@ impl StreamsState {
         streams.sort_by_key(|&(id, _)| id);
         streams.dedup();
         for number in packet.tokens {
-            let _ = self.end.acked(Token { number });
+            let _ = self.end.acked(self.end.token_of(number));
         }
         for (id, before) in streams {
             match self.send_state(id) {
@@ -302,7 +302,7 @@ impl StreamsState {
 
     pub fn retransmit(&mut self, packet: Carried) {
         for number in packet.tokens {
-            let _ = self.end.lost(Token { number });
+            let _ = self.end.lost(self.end.token_of(number));
         }
     }
 

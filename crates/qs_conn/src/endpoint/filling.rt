@@ -7,7 +7,7 @@ ghost use Rattle.qs_conn.specs.Written.{filled_text, KeepsBehind};
 
 use super::Endpoint;
 use crate::filling::Wish;
-use qs_calls::{Fill, Filled, MAX_VARINT, MakeFault, Token};
+use qs_calls::{Fill, Filled, MAX_VARINT, MakeFault};
 use qs_wire::last_stream;
 
 impl Endpoint {
@@ -27,6 +27,7 @@ impl Endpoint {
             return Err(MakeFault::Closed);
         }
         let number = self.core.outbox.next();
+        let token = self.token_of(number);
         if number > MAX_VARINT {
             return Err(MakeFault::Exhausted);
         }
@@ -48,7 +49,7 @@ impl Endpoint {
         let more = self.has_more(want);
         let last_stream = last_stream(&out[..len]);
         Ok(Some(Filled {
-            token: Token { number },
+            token,
             len,
             last_stream,
             more,

@@ -8,7 +8,7 @@ ghost use Rattle.qs_machine.specs.Outgoing.{first_piece, first_acked_out, acked_
 ghost use Rattle.qs_conn.specs.Middle.{IsAtRest, KeepsStreams};
 ghost use Rattle.qs_conn.specs.Ended.{half_of};
 ghost use Rattle.qs_conn.specs.NewlyTold.{TellsNamed, TellsAhead};
-ghost use Rattle.qs_conn.specs.Runs.{AcksAhead, AcksNamed, AcksOnly, AcksPacket, AcksRanges, held_out};
+ghost use Rattle.qs_conn.specs.Runs.{AcksAhead, AcksBoth, AcksNamed, AcksPacket, AcksRanges, from_below, held_out};
 
 use super::Core;
 use crate::newly_told::{Silent, Told};
@@ -40,31 +40,45 @@ impl Core {
         self.ack_all(true, AckRanges::new(largest, ranges), &mut Silent)
     }
 
-    /// One packet is acknowledged, be it outstanding or declared lost (RFC 9000, section 13.3).
-    pub(crate) fn ack_only(&mut self, number: u64) -> Result<(), NoMemory>
+    /// The packets from one number on and below another are acknowledged, as by an ACK of them alone: the outstanding ones and then the lost
+    /// ones, each from the highest number down (RFC 9000, section 13.3).
+    pub(crate) fn ack_range(&mut self, first: u64, end: u64) -> Result<(), NoMemory>
         requires rest { IsAtRest self.old }
         ensures rest { IsAtRest self.new }
         ensures streams { KeepsStreams self.old self.new }
-        ensures step { AcksOnly number self.old.outbox result self.new.outbox }
+        ensures step { AcksBoth (from_below first end) self.old.outbox result self.new.outbox }
     {
-        let result = self.ack_kept(number);
+        let result = self.ack_both(first, end);
         self.outbox.trim();
         result
     }
 
-    // The pieces of a packet are acknowledged, those that are outstanding and those that were declared lost.
-    #[tactic(auto, using(crate::proofs::OneAcks::both_stops, crate::proofs::OneAcks::both_done))]
-    fn ack_kept(&mut self, number: u64) -> Result<(), NoMemory>
+    // The packets of these numbers are acknowledged, those that are outstanding and those that were declared lost.
+    #[tactic(auto, using(crate::proofs::RangeAcks::both_stops, crate::proofs::RangeAcks::both_done))]
+    fn ack_both(&mut self, first: u64, end: u64) -> Result<(), NoMemory>
         requires rest { IsAtRest self.old }
         ensures rest { IsAtRest self.new }
         ensures streams { KeepsStreams self.old self.new }
-        ensures step { AcksOnly number self.old.outbox result self.new.outbox }
+        ensures step { AcksBoth (from_below first end) self.old.outbox result self.new.outbox }
     {
-        self.ack_packet(KeptPacket {
-            late: false,
-            number,
-        })?;
-        self.ack_packet(KeptPacket { late: true, number })
+        self.ack_numbers(false, first, end)?;
+        self.ack_numbers(true, first, end)
+    }
+
+    // The packets of these numbers are acknowledged, the outstanding ones or the lost ones.
+    #[tactic(auto, using(crate::proofs::RangeAcks::range_end, crate::proofs::RangeAcks::range_stop, crate::proofs::RangeAcks::range_more))]
+    fn ack_numbers(&mut self, late: bool, first: u64, end: u64) -> Result<(), NoMemory>
+        requires rest { IsAtRest self.old }
+        ensures rest { IsAtRest self.new }
+        ensures streams { KeepsStreams self.old self.new }
+        ensures step { AcksAhead late (from_below first end) self.old.outbox result self.new.outbox }
+    {
+        let mut number = end;
+        while number > first {
+            number -= 1;
+            self.ack_packet(KeptPacket { late, number })?;
+        }
+        Ok(())
     }
 
     // The packets that the ranges name are acknowledged in one pass, the outstanding ones or the lost ones.

@@ -7,7 +7,6 @@ use crate::proved::qs_c::answers::{
 };
 use crate::proved::qs_c::structs::{GvClosing, GvLimits, GvMade};
 use crate::proved::qs_c::thing::Thing;
-use crate::proved::qs_calls::Token;
 use crate::proved::qs_wire::{Dir, StreamId};
 
 const LIMIT: u64 = 1 << 62;
@@ -104,11 +103,13 @@ impl Thing {
     }
 
     pub(crate) fn acked(&mut self, token: u64) -> u32 {
-        of_token(self.end.acked(Token { number: token }))
+        let given = self.end.token_of(token);
+        of_token(self.end.acked(given))
     }
 
     pub(crate) fn lost(&mut self, token: u64) -> u32 {
-        of_token(self.end.lost(Token { number: token }))
+        let given = self.end.token_of(token);
+        of_token(self.end.lost(given))
     }
 
     pub(crate) fn claim_number(&mut self, number: &mut u64) -> u32 {

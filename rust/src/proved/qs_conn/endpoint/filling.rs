@@ -3,7 +3,7 @@
 
 use super::Endpoint;
 use crate::proved::qs_conn::filling::Wish;
-use crate::proved::qs_calls::{Fill, Filled, MAX_VARINT, MakeFault, Token};
+use crate::proved::qs_calls::{Fill, Filled, MAX_VARINT, MakeFault};
 use crate::proved::qs_wire::last_stream;
 
 impl Endpoint {
@@ -19,6 +19,7 @@ impl Endpoint {
             return Err(MakeFault::Closed);
         }
         let number = self.core.outbox.next();
+        let token = self.token_of(number);
         if number > MAX_VARINT {
             return Err(MakeFault::Exhausted);
         }
@@ -40,7 +41,7 @@ impl Endpoint {
         let more = self.has_more(want);
         let last_stream = last_stream(&out[..len]);
         Ok(Some(Filled {
-            token: Token { number },
+            token,
             len,
             last_stream,
             more,

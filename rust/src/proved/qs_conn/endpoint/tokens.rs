@@ -6,11 +6,21 @@ use crate::proved::qs_calls::{LostFault, Token, TokenFault};
 use crate::proved::qs_ranges::NoMemory;
 
 impl Endpoint {
+    /// The token of the packet of a number: that of a packet which was made (`Made`), where the layer beneath tells its packets by tokens.
+    pub fn token_of(&self, number: u64) -> Token {
+        Token {
+            epoch: self.core.limits.tuning.epoch,
+            first: number,
+            number,
+        }
+    }
+
     /// The peer acknowledged the packet of a token: what an ACK of that packet alone does, in time or after it was declared lost (RFC
-    /// 9000, section 13.3). Call it only where the peer did so. Of a packet that is done it changes nothing.
+    /// 9000, section 13.3). Call it only where the peer did so. Of a packet that is done it changes nothing. Of a token that was joined it
+    /// is the ACK of all that it names; it takes a turn for each number.
     ///
-    /// Refused: `Closed`; `NotGiven` where no packet was made yet that has the token; and `NoMemory` where memory was refused. Then some
-    /// of the packet's first pieces may be acknowledged already, and the call may be made again.
+    /// Refused: `Closed`; `NotGiven` where not all of its packets were made yet, or the token is of another epoch; and `NoMemory` where
+    /// memory was refused. Then some of the packet's first pieces may be acknowledged already, and the call may be made again.
     ///
     /// ```text
     /// for token in acknowledged { end.acked(token)?; }
@@ -19,7 +29,7 @@ impl Endpoint {
         if let Some(fault) = self.token_refusal(token) {
             return Err(fault);
         }
-        let told = self.ack_only(token.number);
+        let told = self.ack_only(token);
         self.settle();
         match told {
             Ok(()) => Ok(()),
@@ -28,15 +38,31 @@ impl Endpoint {
     }
 
     /// The packet of a token is declared lost, as `declare_lost` does: what it carried and is still of use is due again, and a late
-    /// `acked` still counts (RFC 9000, section 13.3). Of a packet that is done it changes nothing.
+    /// `acked` still counts (RFC 9000, section 13.3). Of a packet that is done it changes nothing. Of a token that was joined each of the
+    /// packets is lost, from the highest number down.
     ///
-    /// Refused: `Closed`; `NotGiven` where no packet was made yet that has the token; and `NoMemory` where memory was refused. Then the
-    /// first pieces of the packet may be lost already, and the call may be made again.
+    /// Refused: `Closed`; `NotGiven` where not all of its packets were made yet, or the token is of another epoch; and `NoMemory` where
+    /// memory was refused. Then some pieces may be lost already, and the call may be made again.
     pub fn lost(&mut self, token: Token) -> Result<(), TokenFault> {
         if let Some(fault) = self.token_refusal(token) {
             return Err(fault);
         }
-        match self.declare_lost(token.number) {
+        self.lose_each(token.first, token.number + 1)
+    }
+
+    // The packets from one number on and below another are lost, from the highest number down.
+    fn lose_each(&mut self, first: u64, end: u64) -> Result<(), TokenFault> {
+        let mut number = end;
+        while number > first {
+            number -= 1;
+            self.lose_one(number)?;
+        }
+        Ok(())
+    }
+
+    // A packet is lost, or nothing changes where it is done.
+    fn lose_one(&mut self, number: u64) -> Result<(), TokenFault> {
+        match self.declare_lost(number) {
             Ok(()) => Ok(()),
             Err(LostFault::NotOutstanding) => Ok(()),
             Err(LostFault::NoMemory) => Err(TokenFault::NoMemory),
@@ -49,16 +75,24 @@ impl Endpoint {
         if self.closed.is_some() {
             return Some(TokenFault::Closed);
         }
-        if token.number >= self.core.outbox.next() {
+        if !self.gave(token) {
             return Some(TokenFault::NotGiven);
         }
         None
     }
 
-    // A packet is acknowledged, as by an ACK of it alone.
-    fn ack_only(&mut self, number: u64) -> Result<(), NoMemory> {
+    // Whether this end made the packets of a token.
+    fn gave(&self, token: Token) -> bool {
+        let limits = &self.core.limits;
+        token.epoch == limits.tuning.epoch
+            && token.first <= token.number
+            && token.number < self.core.outbox.next()
+    }
+
+    // The packets of a token are acknowledged, as by an ACK of them alone.
+    fn ack_only(&mut self, token: Token) -> Result<(), NoMemory> {
         let before = self.core.ended;
-        let taken = self.core.ack_only(number);
+        let taken = self.core.ack_range(token.first, token.number + 1);
         self.is_settled &= self.core.ended.is_same(before);
         taken
     }

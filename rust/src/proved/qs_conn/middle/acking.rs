@@ -24,20 +24,28 @@ impl Core {
         self.ack_all(true, AckRanges::new(largest, ranges), &mut Silent)
     }
 
-    /// One packet is acknowledged, be it outstanding or declared lost (RFC 9000, section 13.3).
-    pub(crate) fn ack_only(&mut self, number: u64) -> Result<(), NoMemory> {
-        let result = self.ack_kept(number);
+    /// The packets from one number on and below another are acknowledged, as by an ACK of them alone: the outstanding ones and then the lost
+    /// ones, each from the highest number down (RFC 9000, section 13.3).
+    pub(crate) fn ack_range(&mut self, first: u64, end: u64) -> Result<(), NoMemory> {
+        let result = self.ack_both(first, end);
         self.outbox.trim();
         result
     }
 
-    // The pieces of a packet are acknowledged, those that are outstanding and those that were declared lost.
-    fn ack_kept(&mut self, number: u64) -> Result<(), NoMemory> {
-        self.ack_packet(KeptPacket {
-            late: false,
-            number,
-        })?;
-        self.ack_packet(KeptPacket { late: true, number })
+    // The packets of these numbers are acknowledged, those that are outstanding and those that were declared lost.
+    fn ack_both(&mut self, first: u64, end: u64) -> Result<(), NoMemory> {
+        self.ack_numbers(false, first, end)?;
+        self.ack_numbers(true, first, end)
+    }
+
+    // The packets of these numbers are acknowledged, the outstanding ones or the lost ones.
+    fn ack_numbers(&mut self, late: bool, first: u64, end: u64) -> Result<(), NoMemory> {
+        let mut number = end;
+        while number > first {
+            number -= 1;
+            self.ack_packet(KeptPacket { late, number })?;
+        }
+        Ok(())
     }
 
     // The packets that the ranges name are acknowledged in one pass, the outstanding ones or the lost ones.

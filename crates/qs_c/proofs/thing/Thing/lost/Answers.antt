@@ -1,8 +1,9 @@
-use Rattle.std.proofs.Common.{rules}
-use Rattle.qs_machine.specs.Alone.{TokenLostStep}
+use Rattle.std.proofs.Common.{rules, subst}
+use Rattle.qs_machine.specs.Alone.{TokenLostStep, token_of}
 use Rattle.qs_c.proofs.Steps.{same_end}
 use Rattle.qs_c.proofs.thing.Thing.lost.Goals as goal
 
 pub returns : goal.returns
 returns c =
-    (c.lost.result, c.of_token.ensures, same_end (λ e. TokenLostStep e (record { number = c.args.token }) c.lost.result c.lost.new.self) c.self.inside.end c.args.self.now (search rules) c.lost.ensures)
+    let told = subst (λ t. TokenLostStep c.self.inside.end t c.lost.result c.lost.new.self) c.token_of-given.ensures c.lost.ensures in
+    (c.lost.result, c.of_token.ensures, same_end (λ e. TokenLostStep e (token_of e c.args.token) c.lost.result c.lost.new.self) c.self.inside.end c.args.self.now (search rules) told)

@@ -1,4 +1,6 @@
-use Rattle.std.proofs.Common.{◌≡◌, ℕ, ◌∙◌, arith, refl, sym, subst, length, drop}
+use Rattle.std.proofs.Common.{◌≡◌, ℕ, ◌∙◌, arith, refl, sym, subst, length, drop, ap}
+use Rattle.qs_calls.specs.declared.token.Token.{Token}
+use Rattle.qs_machine.specs.Outgoing.{Outgoing}
 use Rattle.qs_conn.proofs.Cores.{core_outbox, kept_streams}
 use Rattle.qs_conn.proofs.MadePackets.{fill_exhausted, fill_none, fill_idle, fill_next, fill_some, fill_order}
 use Rattle.qs_conn.proofs.Rests.{behind_none, behind_kept}
@@ -42,7 +44,7 @@ pub returns-clause-step : goal.returns-clause-step
 returns-clause-step c =
     fill_some _ c.args.self.now c.self.view_is (record c.self.inside.core { outbox = c.begin.new.self }) c.fill-len.new.self c.args.want.now (length c.args.out.now) c.fill-len.result c.fill-len.new.out c.self.invariant.rest.idle (rw c.in_default.ensures.ok refl) c.fill-len.ensures.packed
     c.settle.new.self c.commit.new.self c.next-number.result c.next-number.ensures c.commit.ensures.after c.settle.ensures
-    c.last_stream-last_stream.result c.has_more-more.result c.last_stream-last_stream.ensures c.has_more-more.ensures
+    c.token_of-token.result c.last_stream-last_stream.result c.has_more-more.result c.token_of-token.ensures c.last_stream-last_stream.ensures c.has_more-more.ensures
     (sym c.is_some.ensures ∙ c.if-is_some.false) (omega (arith, c.if-number-gt-MAX_VARINT.false, c.next-number.ensures))
     (omega (arith, c.if-len-eq0.false)) (omega (arith, c.fill-len.ensures.filled.filling.within, c.fill-len.ensures.filled.room)) c.fill-len.ensures.filled.room
 
@@ -53,7 +55,7 @@ pub returns-then-len-eq0-clause-rest : goal.returns-then-len-eq0-clause-rest
 returns-then-len-eq0-clause-rest c = subst (λ (k : ℕ). drop k c.fill-len.new.out ≡ drop k c.args.out.now) c.if-len-eq0.true c.fill-len.ensures.filled.rest.1
 
 pub returns-clause-rest : goal.returns-clause-rest
-returns-clause-rest c = behind_kept (record { token = record { number = c.next-number.result }; len = c.fill-len.result; last_stream = c.last_stream-last_stream.result; more = c.has_more-more.result }) c.args.out.now c.fill-len.new.out c.fill-len.ensures.filled.filling.within c.fill-len.ensures.filled.rest.1
+returns-clause-rest c = behind_kept (record { token = c.token_of-token.result; len = c.fill-len.result; last_stream = c.last_stream-last_stream.result; more = c.has_more-more.result }) c.args.out.now c.fill-len.new.out c.fill-len.ensures.filled.filling.within c.fill-len.ensures.filled.rest.1
 
 pub returns-in-Err-clause-order : goal.returns-in-Err-clause-order
 returns-in-Err-clause-order c = c.unfilled.ensures.order _ _
@@ -61,4 +63,4 @@ returns-in-Err-clause-order c = c.unfilled.ensures.order _ _
 pub returns-clause-order : goal.returns-clause-order
 returns-clause-order c =
     fill_order _ c.args.self.now c.self.view_is (record c.self.inside.core { outbox = c.begin.new.self }) c.fill-len.new.self c.args.want.now (length c.args.out.now) c.fill-len.result c.fill-len.new.out c.self.invariant.rest.idle (rw c.in_default.ensures.ok refl) c.fill-len.ensures.packed
-    c.settle.new.self c.commit.new.self c.next-number.result c.next-number.ensures c.commit.ensures.after c.settle.ensures (record { token = record { number = c.next-number.result }; len = c.fill-len.result; last_stream = c.last_stream-last_stream.result; more = c.has_more-more.result }) refl
+    c.settle.new.self c.commit.new.self c.next-number.result c.next-number.ensures c.commit.ensures.after c.settle.ensures (record { token = c.token_of-token.result; len = c.fill-len.result; last_stream = c.last_stream-last_stream.result; more = c.has_more-more.result }) (ap (λ (t : Token). t.number) c.token_of-token.ensures)
