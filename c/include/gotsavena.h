@@ -92,6 +92,12 @@ typedef enum gv_share {
   GV_SHARE_SIXTEENTH = 4
 } gv_share;
 
+/** Whether an end goes about something in a way that its owner may choose. */
+typedef enum gv_switch {
+  GV_OFF = 0, /**< it doesn't */
+  GV_ON = 1   /**< it does */
+} gv_switch;
+
 /** States of sending halves (section 3.1). */
 typedef enum gv_send_state {
   GV_SEND_STATE_READY = 0,
@@ -185,9 +191,9 @@ typedef struct gv_tuning {
                                (GV_SHARE_HALF) */
   gv_share count_step;    /**< how many of its grant's streams have to end until a count of streams moves (section 4.6): GV_SHARE_NONE
                                where each one moves it (GV_SHARE_NONE) */
-  bool within_credit;     /**< a write takes no more bytes than may be sent at once, by the stream's limit and the connection's (false) */
-  bool reads_when_closed; /**< what came in is read on once the end closed (false) */
-  uint64_t epoch;         /**< stands in each token that the end gives, and no token of another epoch is taken (0) */
+  gv_switch within_credit;     /**< whether a write takes no more bytes than may be sent at once, by the stream's limit and the
+                                    connection's (GV_OFF) */
+  gv_switch reads_when_closed; /**< whether what came in is read on once the end closed (GV_OFF) */
 } gv_tuning;
 
 /** What the peer grants at first, by its transport parameters (section 18.2). local and remote are seen from the peer. */
@@ -548,8 +554,8 @@ GV_API gv_status gv_stopped_with(const gv_endpoint *end, uint64_t stream, uint64
  * 4.1). */
 GV_API gv_status gv_is_blocked(const gv_endpoint *end, uint64_t stream, bool *answer);
 
-/** How many bytes gv_write() accepts of a stream now, however many are written: 0 where it is refused (sections 2.2 and 2.4). Credit doesn't
- * count: what is written beyond it waits. */
+/** How many bytes gv_write() accepts of a stream now, however many are written: 0 where it is refused (sections 2.2 and 2.4). Credit
+ * doesn't count, since what is written beyond it waits, but for an end of which it is chosen (gv_tuning, within_credit). */
 GV_API gv_status gv_room(const gv_endpoint *end, uint64_t stream, uint64_t *count);
 
 /** How many bytes were written to a stream that are still to be sent for the first time: 0 after a reset, and where the stream has no
@@ -563,6 +569,16 @@ GV_API gv_status gv_acked_below(const gv_endpoint *end, uint64_t stream, uint64_
 /** @}
  * @name Credit
  * @{ */
+
+/** How many bytes of all streams are still to be sent for the first time (section 2.2). */
+GV_API gv_status gv_unsent_sum(const gv_endpoint *end, uint64_t *count);
+
+/** How many bytes of a stream count as taken, so that its limit lies a window above them at most: those that were read, or all that came
+ * where the stream was stopped or reset (section 4.2). ::GV_NONE: the stream has no receiving half here. */
+GV_API gv_status gv_taken(const gv_endpoint *end, uint64_t stream, uint64_t *count);
+
+/** How many bytes of all streams count as taken, which the connection's limit follows (section 4.2). */
+GV_API gv_status gv_taken_sum(const gv_endpoint *end, uint64_t *count);
 
 /** How many bytes beyond all that were sent the peer's limit on the connection lets go (section 4.1). Bytes that were lost need none. */
 GV_API gv_status gv_credit_left(const gv_endpoint *end, uint64_t *count);

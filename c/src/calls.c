@@ -20,7 +20,7 @@ struct gv_endpoint {
 /* No later field may stand where a struct of today has nothing. */
 #define ENDS_WITH(type, field) _Static_assert(sizeof(type) == UP_TO(type, field), #type " ends with " #field)
 ENDS_WITH(gv_settings, lifetime_uni);
-ENDS_WITH(gv_tuning, epoch);
+ENDS_WITH(gv_tuning, reads_when_closed);
 ENDS_WITH(gv_limits, streams_uni);
 ENDS_WITH(gv_allocator, release);
 ENDS_WITH(gv_made, len);
@@ -128,10 +128,10 @@ gv_status gv_settings_init(gv_settings *settings, size_t size) {
   return GV_OK;
 }
 
-static const gv_tuning untuned = {sizeof untuned, GV_SHARE_HALF, GV_SHARE_NONE, false, false, 0};
+static const gv_tuning untuned = {sizeof untuned, GV_SHARE_HALF, GV_SHARE_NONE, GV_OFF, GV_OFF};
 
 gv_status gv_tuning_init(gv_tuning *tuning, size_t size) {
-  if (tuning == NULL || size < UP_TO(gv_tuning, epoch) || size > MOST_SIZE) return GV_INVALID;
+  if (tuning == NULL || size < UP_TO(gv_tuning, reads_when_closed) || size > MOST_SIZE) return GV_INVALID;
   memset(tuning, 0, size);
   memcpy(tuning, &untuned, least(size, sizeof untuned));
   tuning->size = size;
@@ -157,8 +157,9 @@ static bool take_settings(gvp_settings *to, const gv_settings *from) {
 
 static bool take_tuning(gvp_tuning *to, const gv_tuning *from) {
   gv_tuning t;
-  if (!copy_in(&t, sizeof t, from, UP_TO(gv_tuning, epoch))) return false;
-  gvp_tuning own = {(uint32_t)t.credit_step, (uint32_t)t.count_step, t.within_credit, t.reads_when_closed, t.epoch};
+  if (!copy_in(&t, sizeof t, from, UP_TO(gv_tuning, reads_when_closed))) return false;
+  if ((unsigned)t.within_credit > GV_ON || (unsigned)t.reads_when_closed > GV_ON) return false;
+  gvp_tuning own = {(uint32_t)t.credit_step, (uint32_t)t.count_step, t.within_credit == GV_ON, t.reads_when_closed == GV_ON};
   *to = own;
   return true;
 }
@@ -441,6 +442,12 @@ gv_status gv_unsent(const gv_endpoint *end, uint64_t stream, uint64_t *count) { 
 gv_status gv_acked_below(const gv_endpoint *end, uint64_t stream, uint64_t *offset) { return ask_of(gvp_acked_below, end, stream, offset); }
 
 /* Credit. */
+
+gv_status gv_unsent_sum(const gv_endpoint *end, uint64_t *count) { return ask(gvp_unsent_sum, end, count); }
+
+gv_status gv_taken(const gv_endpoint *end, uint64_t stream, uint64_t *count) { return ask_of(gvp_taken, end, stream, count); }
+
+gv_status gv_taken_sum(const gv_endpoint *end, uint64_t *count) { return ask(gvp_taken_sum, end, count); }
 
 gv_status gv_credit_left(const gv_endpoint *end, uint64_t *count) { return ask(gvp_credit_left, end, count); }
 

@@ -30,7 +30,6 @@ typedef struct gvp_tuning {
   uint32_t count_step;
   bool within_credit;
   bool reads_when_closed;
-  uint64_t epoch;
 } gvp_tuning;
 
 typedef struct gvp_limits {
@@ -169,6 +168,9 @@ uint32_t gvp_is_blocked(gvp_handle *end, uint64_t stream, bool *answer);
 uint32_t gvp_credit_left(gvp_handle *end, uint64_t *count);
 uint32_t gvp_room(gvp_handle *end, uint64_t stream, uint64_t *count);
 uint32_t gvp_unsent(gvp_handle *end, uint64_t stream, uint64_t *count);
+uint32_t gvp_unsent_sum(gvp_handle *end, uint64_t *count);
+uint32_t gvp_taken(gvp_handle *end, uint64_t stream, uint64_t *count);
+uint32_t gvp_taken_sum(gvp_handle *end, uint64_t *count);
 uint32_t gvp_acked_below(gvp_handle *end, uint64_t stream, uint64_t *offset);
 uint32_t gvp_streams_left(gvp_handle *end, uint32_t dir, uint64_t *count);
 uint32_t gvp_open_left(gvp_handle *end, uint32_t dir, uint64_t *count);

@@ -41,7 +41,7 @@ abbrev pub is_tuning : GvTuning → Bool
 is_tuning t = is_share t.credit_step && may_be_share t.count_step
 
 abbrev pub tuning_in : GvTuning → Tuning
-tuning_in t = record { credit_step = share_of t.credit_step; count_step = share_if t.count_step; within_credit = t.within_credit; reads_when_closed = t.reads_when_closed; epoch = t.epoch }
+tuning_in t = record { credit_step = share_of t.credit_step; count_step = share_if t.count_step; within_credit = t.within_credit; reads_when_closed = t.reads_when_closed; epoch = 0 }
 
 abbrev pub limits_in : GvLimits → PeerLimits
 limits_in s = record { max_data = s.max_data; bidi_local = s.bidi_local; bidi_remote = s.bidi_remote; uni = s.uni; streams_bidi = s.streams_bidi; streams_uni = s.streams_uni }

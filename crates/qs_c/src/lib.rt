@@ -22,7 +22,7 @@ mod structs;
 mod telling;
 mod thing;
 
-ghost use Rattle.std.specs.Prelude.{◌≡◌, ◌++◌, ◌&&◌, List, ℕ, true, length, map, drop, Option, None, option_map, Result, MatchBool, ◌↔◌, IsTrue, is_some, nat_eq};
+ghost use Rattle.std.specs.Prelude.{◌≡◌, ◌++◌, ◌-◌, ◌^◌, min, ◌&&◌, List, ℕ, true, length, map, drop, Option, None, option_map, Result, MatchBool, ◌↔◌, IsTrue, is_some, nat_eq};
 ghost use Rattle.qs_wire.specs.Grammar.{frames_of};
 ghost use Rattle.qs_wire.specs.Reading.{reading_of};
 ghost use Rattle.qs_wire.specs.LastStream.{last_stream_of};
@@ -42,9 +42,9 @@ ghost use Rattle.qs_machine.specs.Making.{MakeStep, MakeAckStep, ClaimStep, Lose
 ghost use Rattle.qs_machine.specs.Raising.{RaiseStep};
 ghost use Rattle.qs_machine.specs.Alone.{TokenAckedStep, TokenLostStep, token_of};
 ghost use Rattle.qs_machine.specs.News.{IsLeast, IsReadable, IsWritable, IsSendable, IsEnded};
-ghost use Rattle.qs_machine.specs.Asking.{all_noted, GoesBesideAck, peer_closing, streams_left, open_left, is_blocked, credit_left, room, unsent, acked_below, stopped_with, IsNextOutstanding};
+ghost use Rattle.qs_machine.specs.Asking.{all_noted, GoesBesideAck, peer_closing, streams_left, open_left, is_blocked, credit_left, room, unsent, all_unsent, taken, acked_below, stopped_with, IsNextOutstanding};
 ghost use Rattle.qs_machine.specs.Newly.{IsNewlyAcked};
-ghost use Rattle.qs_machine.specs.Credit.{spent, all_stored, granted_streams};
+ghost use Rattle.qs_machine.specs.Credit.{spent, all_taken, all_stored, granted_streams};
 ghost use Rattle.qs_machine.specs.Reports.{own_closing, lane_report};
 ghost use Rattle.qs_conn.specs.Written.{made_text, KeepsRest};
 ghost use Rattle.qs_conn.specs.Held.{IsHeldBy};
@@ -442,6 +442,42 @@ pub extern "C" fn gvp_unsent(alloc: Global, end: &mut Handle, stream: u64, count
         return INVALID;
     };
     let status = thing.unsent(stream, count);
+    end.put(thing);
+    status
+}
+
+#[unsafe(no_mangle)]
+pub extern "C" fn gvp_unsent_sum(alloc: Global, end: &mut Handle, count: &mut u64) -> u32
+    ensures { Asked end.old.cell.value end.new.cell.value true (Invalid result count.old count.new) (λ e. (result ≡ 0) × (count.new ≡ min (all_unsent e) (2 ^ 64 - 1))) }
+{
+    let Some(thing) = end.take(alloc) else {
+        return INVALID;
+    };
+    let status = thing.unsent_sum(count);
+    end.put(thing);
+    status
+}
+
+#[unsafe(no_mangle)]
+pub extern "C" fn gvp_taken(alloc: Global, end: &mut Handle, stream: u64, count: &mut u64) -> u32
+    ensures { Asked end.old.cell.value end.new.cell.value (is_small stream) (Invalid result count.old count.new) (λ e. (result, count.new) ≡ found (taken e stream) count.old) }
+{
+    let Some(thing) = end.take(alloc) else {
+        return INVALID;
+    };
+    let status = thing.taken(stream, count);
+    end.put(thing);
+    status
+}
+
+#[unsafe(no_mangle)]
+pub extern "C" fn gvp_taken_sum(alloc: Global, end: &mut Handle, count: &mut u64) -> u32
+    ensures { Asked end.old.cell.value end.new.cell.value true (Invalid result count.old count.new) (λ e. (result ≡ 0) × (count.new ≡ all_taken e)) }
+{
+    let Some(thing) = end.take(alloc) else {
+        return INVALID;
+    };
+    let status = thing.taken_sum(count);
     end.put(thing);
     status
 }

@@ -30,7 +30,6 @@ pub struct GvTuning {
     pub count_step: u32,
     pub within_credit: bool,
     pub reads_when_closed: bool,
-    pub epoch: u64,
 }
 
 #[repr(C)]
@@ -152,7 +151,7 @@ impl GvTuning {
             count_step: share_of(self.count_step),
             within_credit: self.within_credit,
             reads_when_closed: self.reads_when_closed,
-            epoch: self.epoch,
+            epoch: 0,
         })
     }
 }

@@ -93,6 +93,9 @@ exports! {
     gvp_credit_left(end: &mut Handle, count: &mut u64) = (Global, end, count);
     gvp_room(end: &mut Handle, stream: u64, count: &mut u64) = (Global, end, stream, count);
     gvp_unsent(end: &mut Handle, stream: u64, count: &mut u64) = (Global, end, stream, count);
+    gvp_unsent_sum(end: &mut Handle, count: &mut u64) = (Global, end, count);
+    gvp_taken(end: &mut Handle, stream: u64, count: &mut u64) = (Global, end, stream, count);
+    gvp_taken_sum(end: &mut Handle, count: &mut u64) = (Global, end, count);
     gvp_acked_below(end: &mut Handle, stream: u64, offset: &mut u64) = (Global, end, stream, offset);
     gvp_ack_is_due(end: &mut Handle, answer: &mut bool) = (Global, end, answer);
     gvp_streams_left(end: &mut Handle, dir: u32, count: &mut u64) = (Global, end, dir, count);

@@ -332,6 +332,33 @@ pub fn gvp_unsent(alloc: Global, end: &mut Handle, stream: u64, count: &mut u64)
     status
 }
 
+pub fn gvp_unsent_sum(alloc: Global, end: &mut Handle, count: &mut u64) -> u32 {
+    let Some(thing) = end.take(alloc) else {
+        return INVALID;
+    };
+    let status = thing.unsent_sum(count);
+    end.put(thing);
+    status
+}
+
+pub fn gvp_taken(alloc: Global, end: &mut Handle, stream: u64, count: &mut u64) -> u32 {
+    let Some(thing) = end.take(alloc) else {
+        return INVALID;
+    };
+    let status = thing.taken(stream, count);
+    end.put(thing);
+    status
+}
+
+pub fn gvp_taken_sum(alloc: Global, end: &mut Handle, count: &mut u64) -> u32 {
+    let Some(thing) = end.take(alloc) else {
+        return INVALID;
+    };
+    let status = thing.taken_sum(count);
+    end.put(thing);
+    status
+}
+
 pub fn gvp_acked_below(
     alloc: Global,
     end: &mut Handle,
