@@ -9,14 +9,14 @@ use Rattle.std.proofs.Math.Nat.{mul-le-mul_left}
 use Rattle.qs_wire.specs.declared.stream_id.Dir.{Dir}
 use Rattle.qs_wire.specs.declared.stream_id.Dir.TheVariants.{Bidi, Uni}
 use Rattle.qs_wire.specs.declared.stream_id.Role.{Role}
-use Rattle.qs_recv.specs.Lane.{RecvLane, raise}
+use Rattle.qs_recv.specs.Lane.{RecvLane, raise, parts}
 use Rattle.qs_send.specs.Lane.{SendLane}
 use Rattle.qs_calls.specs.declared.settings.Settings.{Settings}
 use Rattle.qs_calls.specs.declared.settings.Tuning.{Tuning}
 use Rattle.qs_recv.specs.declared.credit.Share.{Share}
 use Rattle.qs_machine.specs.Tables.{Tables, table, lookup, each}
 use Rattle.qs_machine.specs.Ends.{End, role_bit, peer_type}
-use Rattle.qs_machine.specs.Credit.{recv_ended, send_ended, both_ended, ended, first_grant, lifetime, parts, count_step, in_steps, count_after, next_count, settle}
+use Rattle.qs_machine.specs.Credit.{recv_ended, send_ended, both_ended, ended, first_grant, lifetime, count_step, in_steps, count_after, next_count, settle}
 use Rattle.qs_machine.specs.Standing.{CountsStand, CountsAreSettled, CountsRise}
 use Rattle.qs_machine.proofs.EndedHalves.{RecvStays, SendStays}
 use Rattle.qs_machine.proofs.TablesAfter.{KeptIn}

@@ -1,7 +1,7 @@
 //! What the layer can't be asked for yet, kept beside it.
 //!
 //! Each part has its reason. All else that quinn asks is answered by the layer's calls.
-use gotsavena::{Read, SendReport, SendState};
+use gotsavena::{Read, SendState};
 use rustc_hash::FxHashSet;
 
 use super::{ours, StreamsState};
@@ -9,9 +9,6 @@ use crate::{Dir, StreamId, VarInt};
 
 #[derive(Default)]
 pub struct Gaps {
-    /// The layer takes what its buffer holds; quinn no more than the peer's limits let go. So the bytes of all streams that
-    /// were written and not sent are counted.
-    pub(super) unsent: u64,
     /// Streams of which a write was refused, and whether limits, acknowledgements or resets came since: no event tells that
     /// they may be written again.
     pub(super) blocked: FxHashSet<StreamId>,
@@ -25,33 +22,12 @@ pub struct Gaps {
 }
 
 impl StreamsState {
-    /// How many bytes may be written to a stream: its buffer has room for them, and the peer's limits let them go.
-    pub(super) fn budget(&self, id: StreamId, half: &SendReport) -> usize {
-        let of_stream = half.limit.saturating_sub(half.written);
-        let of_connection = self.end.credit_left().saturating_sub(self.gaps.unsent);
-        self.end.room(ours(id)).min(of_stream).min(of_connection) as usize
-    }
-
-    /// A call after which none of the stream's bytes wait to be sent.
-    pub(super) fn without_unsent<T>(
-        &mut self,
-        id: StreamId,
-        call: impl FnOnce(&mut Self) -> T,
-    ) -> T {
-        let unsent = self.end.unsent(ours(id));
-        let answer = call(self);
-        self.gaps.unsent -= unsent - self.end.unsent(ours(id));
-        self.gaps.came = true;
-        answer
-    }
-
     /// The streams that were refused a write and would accept one now.
     pub(super) fn now_writable(&mut self) -> Vec<StreamId> {
         if !std::mem::take(&mut self.gaps.came) {
             return Vec::new();
         }
-        let may =
-            |id: &StreamId| self.send_report(*id).map_or(false, |half| self.budget(*id, &half) > 0);
+        let may = |id: &StreamId| self.end.room(ours(*id)) > 0;
         let writable: Vec<_> = self.gaps.blocked.iter().copied().filter(may).collect();
         for id in &writable {
             self.gaps.blocked.remove(id);

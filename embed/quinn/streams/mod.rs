@@ -129,8 +129,9 @@ impl SendStream<'_> {
         if self.state.let_go(self.id) {
             return Ok(());
         }
-        let reset = |state: &mut StreamsState| state.end.reset(ours(self.id), error_code.into());
-        self.state.without_unsent(self.id, reset).map_err(|_| UnknownStream(()))
+        let reset = self.state.end.reset(ours(self.id), error_code.into());
+        self.state.gaps.came = true;
+        reset.map_err(|_| UnknownStream(()))
     }
 
     /// Which streams go first.

@@ -5,8 +5,8 @@ use std::{iter, mem};
 
 use bytes::Bytes;
 use gotsavena::{
-    Closing, Endpoint, Fill, Frame, PeerLimits, Role, SendState, Settings, TakeFault, Token,
-    MIN_FILL,
+    Closing, Endpoint, Fill, Frame, PeerLimits, Role, SendState, Settings, Share, TakeFault,
+    Token, Tuning, MIN_FILL,
 };
 use rustc_hash::FxHashMap;
 use tinyvec::TinyVec;
@@ -57,7 +57,8 @@ pub fn told(setting: VarInt, most: u64) -> VarInt {
 fn new_end(side: Side, settings: Settings) -> Endpoint {
     let role = if side.is_client() { Role::Client } else { Role::Server };
     // The peer's limits come with the handshake, or are remembered.
-    Endpoint::new(role, settings, PeerLimits::default()).expect("in range")
+    let tuning = Tuning::default().within_credit(true).credit_step(Share::Eighth);
+    Endpoint::new_wide(role, settings, tuning, PeerLimits::default()).expect("in range")
 }
 
 impl StreamsState {
@@ -149,7 +150,8 @@ impl StreamsState {
         let was_over = matches!(self.send_state(id), Some(DataRecvd | ResetSent | ResetRecvd));
         let was_stopped = self.end.stopped_with(stream).is_some();
         // (quinn asked before whether the frame breaks a rule)
-        let _ = self.without_unsent(id, |streams| streams.take(frame));
+        let _ = self.take(frame);
+        self.gaps.came = true;
         if !was_over && !was_stopped {
             self.gaps.stopped.insert(id);
             self.events.push_back(StreamEvent::Stopped { id, error_code });
@@ -266,11 +268,9 @@ impl StreamsState {
         if begin + MIN_FILL > max_size {
             return;
         }
-        let credit = self.end.credit_left();
         buf.resize(max_size, 0);
         let filled = self.end.fill(&mut buf[begin..], want).ok().flatten();
         buf.truncate(begin + filled.map_or(0, |filled| filled.len));
-        self.gaps.unsent -= credit - self.end.credit_left();
         if let Some(filled) = filled {
             self.carried.add(filled.token, &buf[begin..]);
             self.turn =

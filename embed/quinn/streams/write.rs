@@ -22,7 +22,8 @@ impl StreamsState {
         if half.final_size.is_some() || half.reset_code.is_some() {
             return Err(WriteError::UnknownStream);
         }
-        let mut left = self.budget(id, &half);
+        // (the end writes within the peer's limits)
+        let mut left = self.end.room(ours(id)) as usize;
         if left == 0 {
             self.gaps.blocked.insert(id);
             return Err(WriteError::Blocked);
@@ -38,7 +39,6 @@ impl StreamsState {
             assert_eq!(count, Ok(bytes.len()), "as much room as was told, and memory");
             written.bytes += bytes.len();
             left -= bytes.len();
-            self.gaps.unsent += bytes.len() as u64;
         }
         Ok(written)
     }
