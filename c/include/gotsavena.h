@@ -575,7 +575,7 @@ GV_API gv_status gv_unsent_sum(const gv_endpoint *end, uint64_t *count);
 
 /** How many bytes of a stream count as taken, so that its limit lies a window above them at most: those that were read, or all that came
  * where the stream was stopped or reset (section 4.2). ::GV_NONE: the stream has no receiving half here. */
-GV_API gv_status gv_taken(const gv_endpoint *end, uint64_t stream, uint64_t *count);
+GV_API gv_status gv_taken_on(const gv_endpoint *end, uint64_t stream, uint64_t *count);
 
 /** How many bytes of all streams count as taken, which the connection's limit follows (section 4.2). */
 GV_API gv_status gv_taken_sum(const gv_endpoint *end, uint64_t *count);

@@ -445,7 +445,7 @@ gv_status gv_acked_below(const gv_endpoint *end, uint64_t stream, uint64_t *offs
 
 gv_status gv_unsent_sum(const gv_endpoint *end, uint64_t *count) { return ask(gvp_unsent_sum, end, count); }
 
-gv_status gv_taken(const gv_endpoint *end, uint64_t stream, uint64_t *count) { return ask_of(gvp_taken, end, stream, count); }
+gv_status gv_taken_on(const gv_endpoint *end, uint64_t stream, uint64_t *count) { return ask_of(gvp_taken, end, stream, count); }
 
 gv_status gv_taken_sum(const gv_endpoint *end, uint64_t *count) { return ask(gvp_taken_sum, end, count); }
 

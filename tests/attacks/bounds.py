@@ -144,7 +144,7 @@ BOUNDS = {
         heap_why="the records, buffers and items of the streams",
         growth=0.02,
         growth_why="no half is looked at of which all was told: 4,096 take at most 1.2 times what one takes",
-        count=1095,
+        count=1220,
     ),
     "ping-beside-starved": Bound(
         sizes=(1, 100, 4096),
@@ -152,7 +152,7 @@ BOUNDS = {
         heap_why="the records and buffers of the streams",
         growth=0.02,
         growth_why="no half is looked at whose bytes take credit",
-        count=1095,
+        count=1220,
     ),
     "ping-beside-resets": Bound(
         sizes=(1, 100, 4096),
@@ -160,7 +160,7 @@ BOUNDS = {
         heap_why="the records and items of the streams, and what is live of each until its reset is acknowledged",
         growth=0.02,
         growth_why="no half is looked at of which all was told",
-        count=1095,
+        count=1220,
     ),
     "blocked-below": Bound(
         sizes=(500, 2000, 8000),
@@ -192,7 +192,7 @@ BOUNDS = {
         heap_why="the room of the last packet, for good",
         growth=1.05,
         growth_why="as many frames",
-        count=74_000,
+        count=75_000,
     ),
     "half-over": Bound(
         sizes=(64, 256, 1024),

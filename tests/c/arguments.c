@@ -208,8 +208,8 @@ int main(void) {
   want(gv_unsent(end, 2, &number), GV_OK, "unsent");
   want(gv_unsent_sum(end, NULL), GV_INVALID, "unsent_sum to null");
   want(gv_unsent_sum(end, &number), GV_OK, "unsent_sum");
-  want(gv_taken(end, big, &number), GV_INVALID, "taken");
-  want(gv_taken(end, 1, &number), GV_NONE, "taken of no stream");
+  want(gv_taken_on(end, big, &number), GV_INVALID, "taken");
+  want(gv_taken_on(end, 1, &number), GV_NONE, "taken of no stream");
   want(gv_taken_sum(end, NULL), GV_INVALID, "taken_sum to null");
   want(gv_taken_sum(end, &number), GV_OK, "taken_sum");
   want(number == 0 ? GV_OK : GV_INVALID, GV_OK, "no byte waits");

@@ -32,9 +32,9 @@ next_now s t recvs now e granted g b u raised limit bidi uni =
     record {
       streams = ap (each raise) raised ∙ raised_again recvs ∙ sym raised;
       connection =
-          ap (λ k. next_limit k (total taken now) s.conn_window share) limit
-          ∙ ap (λ k. next_limit (next_limit granted (total taken recvs) s.conn_window share) k s.conn_window share) (ap (total taken) raised ∙ total_each taken raise recvs (λ l. refl))
-          ∙ next_twice granted (total taken recvs) s.conn_window share
+          ap (λ k. next_limit k (total taken now) s.conn_window t.credit_step) limit
+          ∙ ap (λ k. next_limit (next_limit granted (total taken recvs) s.conn_window t.credit_step) k s.conn_window t.credit_step) (ap (total taken) raised ∙ total_each taken raise recvs (λ l. refl))
+          ∙ next_twice granted (total taken recvs) s.conn_window t.credit_step
           ∙ sym limit;
       bidi = sym bidi;
       uni = sym uni;

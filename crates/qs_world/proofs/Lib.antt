@@ -12,4 +12,5 @@ pub mod OneMore
 pub mod Places
 pub mod PlayedCopies
 pub mod PlayedRuns
+pub mod ReadCuts
 pub mod Sides

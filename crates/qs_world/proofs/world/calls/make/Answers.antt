@@ -1,19 +1,16 @@
 use Rattle.std.proofs.Common.{rules, arith, ◌≡◌, ◌++◌, ℕ, List, take, drop, length, Option, None, Some, Result, Ok, Err, refl, sym, ap, ◌∙◌, subst}
-use Rattle.std.proofs.lemmas.List.{append-nil, drop_all, take_all}
 use Rattle.qs_calls.specs.declared.making.Made.{Made}
 use Rattle.qs_calls.specs.declared.making.MakeFault.{MakeFault}
 use Rattle.qs_machine.specs.Making.{MakeStep}
 use Rattle.qs_conn.specs.Filling.{made_text}
 use Rattle.qs_world.specs.Buffers.{count_made}
+use Rattle.qs_world.proofs.ReadCuts.{kept}
 use Rattle.qs_world.proofs.world.calls.make.Goals as goal
 
 cut_is : (r : Result (Option Made) MakeFault) (out : List ℕ) → take (count_made r) out ≡ made_text r out
 cut_is (Ok (Some made)) out = refl
 cut_is (Ok None) out = refl
 cut_is (Err fault) out = refl
-
-kept : (out buffer : List ℕ) (room : ℕ) → length out ≡ length buffer → length buffer ≡ room → take room (out ++ drop (length out) buffer) ≡ out
-kept out buffer room same len = ap (take room) (ap (λ xs. out ++ xs) (drop_all (length out) buffer (omega (arith, same))) ∙ append-nil out) ∙ take_all room out (omega (arith, same, len))
 
 pub returns : goal.returns
 returns c =
