@@ -1,9 +1,9 @@
 //! What the calls ask of an end. Nothing changes.
-ghost use Rattle.std.specs.Prelude.{◌≡◌, ◌↔◌, ◌-◌, ◌^◌, min, ℕ, Option, option_map, IsTrue, MatchBool};
+ghost use Rattle.std.specs.Prelude.{◌≡◌, ◌↔◌, ℕ, Option, option_map, IsTrue, MatchBool};
 ghost use Rattle.qs_machine.specs.News.{IsLeast, IsReadable, IsWritable, IsSendable, IsEnded};
-ghost use Rattle.qs_machine.specs.Asking.{all_noted, GoesBesideAck, peer_closing, streams_left, open_left, is_blocked, credit_left, room, unsent, all_unsent, taken, acked_below, stopped_with, IsNextOutstanding};
+ghost use Rattle.qs_machine.specs.Asking.{all_noted, GoesBesideAck, peer_closing, streams_left, open_left, is_blocked, credit_left, room, unsent, acked_below, stopped_with, IsNextOutstanding};
 ghost use Rattle.qs_machine.specs.Newly.{IsNewlyAcked};
-ghost use Rattle.qs_machine.specs.Credit.{spent, all_taken, all_stored, granted_streams};
+ghost use Rattle.qs_machine.specs.Credit.{spent, all_stored, granted_streams};
 ghost use Rattle.qs_machine.specs.Reports.{lane_report};
 ghost use Rattle.qs_conn.specs.Held.{IsHeldBy};
 ghost use Rattle.qs_c.specs.Statuses.{Invalid, is_small, is_flag, dir_of, found};
@@ -93,29 +93,6 @@ impl Thing {
             return INVALID;
         };
         *count = self.end.unsent(id);
-        OK
-    }
-
-    pub(crate) fn unsent_sum(&self, count: &mut u64) -> u32
-        ensures { (result ≡ 0) × (count.new ≡ min (all_unsent self.now) (2 ^ 64 - 1)) }
-    {
-        *count = self.end.unsent_sum();
-        OK
-    }
-
-    pub(crate) fn taken(&self, stream: u64, count: &mut u64) -> u32
-        ensures { MatchBool (is_small stream) ((result, count.new) ≡ found (taken self.now stream) count.old) (Invalid result count.old count.new) }
-    {
-        let Some(id) = StreamId::new(stream) else {
-            return INVALID;
-        };
-        of_number(self.end.taken(id), count)
-    }
-
-    pub(crate) fn taken_sum(&self, count: &mut u64) -> u32
-        ensures { (result ≡ 0) × (count.new ≡ all_taken self.now) }
-    {
-        *count = self.end.taken_sum();
         OK
     }
 

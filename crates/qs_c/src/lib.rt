@@ -19,10 +19,11 @@ mod reads;
 mod stack;
 mod starts;
 mod structs;
+mod sums;
 mod telling;
 mod thing;
 
-ghost use Rattle.std.specs.Prelude.{◌≡◌, ◌++◌, ◌-◌, ◌^◌, min, ◌&&◌, List, ℕ, true, length, map, drop, Option, None, option_map, Result, MatchBool, ◌↔◌, IsTrue, is_some, nat_eq};
+ghost use Rattle.std.specs.Prelude.{◌≡◌, ◌++◌, ◌&&◌, List, ℕ, true, length, map, drop, Option, None, option_map, Result, MatchBool, ◌↔◌, IsTrue, is_some, nat_eq};
 ghost use Rattle.qs_wire.specs.Grammar.{frames_of};
 ghost use Rattle.qs_wire.specs.Reading.{reading_of};
 ghost use Rattle.qs_wire.specs.LastStream.{last_stream_of};
@@ -42,9 +43,9 @@ ghost use Rattle.qs_machine.specs.Making.{MakeStep, MakeAckStep, ClaimStep, Lose
 ghost use Rattle.qs_machine.specs.Raising.{RaiseStep};
 ghost use Rattle.qs_machine.specs.Alone.{TokenAckedStep, TokenLostStep, token_of};
 ghost use Rattle.qs_machine.specs.News.{IsLeast, IsReadable, IsWritable, IsSendable, IsEnded};
-ghost use Rattle.qs_machine.specs.Asking.{all_noted, GoesBesideAck, peer_closing, streams_left, open_left, is_blocked, credit_left, room, unsent, all_unsent, taken, acked_below, stopped_with, IsNextOutstanding};
+ghost use Rattle.qs_machine.specs.Asking.{all_noted, GoesBesideAck, peer_closing, streams_left, open_left, is_blocked, credit_left, room, unsent, acked_below, stopped_with, IsNextOutstanding};
 ghost use Rattle.qs_machine.specs.Newly.{IsNewlyAcked};
-ghost use Rattle.qs_machine.specs.Credit.{spent, all_taken, all_stored, granted_streams};
+ghost use Rattle.qs_machine.specs.Credit.{spent, all_stored, granted_streams};
 ghost use Rattle.qs_machine.specs.Reports.{own_closing, lane_report};
 ghost use Rattle.qs_conn.specs.Written.{made_text, KeepsRest};
 ghost use Rattle.qs_conn.specs.Held.{IsHeldBy};
@@ -65,6 +66,7 @@ pub use consuming::gvp_consume;
 use qs_wire::last_stream;
 pub use stack::{gvp_fill, gvp_take_frame};
 use std::alloc::Global;
+pub use sums::{gvp_taken, gvp_taken_sum, gvp_unsent_sum};
 pub use telling::gvp_receive_telling;
 
 /// Takes the memory for an end: the handle holds one then, which `gvp_new` makes another. A handle that holds one loses it.
@@ -442,42 +444,6 @@ pub extern "C" fn gvp_unsent(alloc: Global, end: &mut Handle, stream: u64, count
         return INVALID;
     };
     let status = thing.unsent(stream, count);
-    end.put(thing);
-    status
-}
-
-#[unsafe(no_mangle)]
-pub extern "C" fn gvp_unsent_sum(alloc: Global, end: &mut Handle, count: &mut u64) -> u32
-    ensures { Asked end.old.cell.value end.new.cell.value true (Invalid result count.old count.new) (λ e. (result ≡ 0) × (count.new ≡ min (all_unsent e) (2 ^ 64 - 1))) }
-{
-    let Some(thing) = end.take(alloc) else {
-        return INVALID;
-    };
-    let status = thing.unsent_sum(count);
-    end.put(thing);
-    status
-}
-
-#[unsafe(no_mangle)]
-pub extern "C" fn gvp_taken(alloc: Global, end: &mut Handle, stream: u64, count: &mut u64) -> u32
-    ensures { Asked end.old.cell.value end.new.cell.value (is_small stream) (Invalid result count.old count.new) (λ e. (result, count.new) ≡ found (taken e stream) count.old) }
-{
-    let Some(thing) = end.take(alloc) else {
-        return INVALID;
-    };
-    let status = thing.taken(stream, count);
-    end.put(thing);
-    status
-}
-
-#[unsafe(no_mangle)]
-pub extern "C" fn gvp_taken_sum(alloc: Global, end: &mut Handle, count: &mut u64) -> u32
-    ensures { Asked end.old.cell.value end.new.cell.value true (Invalid result count.old count.new) (λ e. (result ≡ 0) × (count.new ≡ all_taken e)) }
-{
-    let Some(thing) = end.take(alloc) else {
-        return INVALID;
-    };
-    let status = thing.taken_sum(count);
     end.put(thing);
     status
 }

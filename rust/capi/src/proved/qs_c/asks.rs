@@ -70,23 +70,6 @@ impl Thing {
         OK
     }
 
-    pub(crate) fn unsent_sum(&self, count: &mut u64) -> u32 {
-        *count = self.end.unsent_sum();
-        OK
-    }
-
-    pub(crate) fn taken(&self, stream: u64, count: &mut u64) -> u32 {
-        let Some(id) = StreamId::new(stream) else {
-            return INVALID;
-        };
-        of_number(self.end.taken(id), count)
-    }
-
-    pub(crate) fn taken_sum(&self, count: &mut u64) -> u32 {
-        *count = self.end.taken_sum();
-        OK
-    }
-
     pub(crate) fn acked_below(&self, stream: u64, offset: &mut u64) -> u32 {
         let Some(id) = StreamId::new(stream) else {
             return INVALID;

@@ -19,6 +19,7 @@ pub(crate) mod reads;
 pub(crate) mod stack;
 pub(crate) mod starts;
 pub(crate) mod structs;
+pub(crate) mod sums;
 pub(crate) mod telling;
 pub(crate) mod thing;
 
@@ -32,6 +33,7 @@ pub use consuming::gvp_consume;
 use crate::proved::qs_wire::last_stream;
 pub use stack::{gvp_fill, gvp_take_frame};
 use crate::shim::alloc::Global;
+pub use sums::{gvp_taken, gvp_taken_sum, gvp_unsent_sum};
 pub use telling::gvp_receive_telling;
 
 /// Takes the memory for an end: the handle holds one then, which `gvp_new` makes another. A handle that holds one loses it.
@@ -328,33 +330,6 @@ pub fn gvp_unsent(alloc: Global, end: &mut Handle, stream: u64, count: &mut u64)
         return INVALID;
     };
     let status = thing.unsent(stream, count);
-    end.put(thing);
-    status
-}
-
-pub fn gvp_unsent_sum(alloc: Global, end: &mut Handle, count: &mut u64) -> u32 {
-    let Some(thing) = end.take(alloc) else {
-        return INVALID;
-    };
-    let status = thing.unsent_sum(count);
-    end.put(thing);
-    status
-}
-
-pub fn gvp_taken(alloc: Global, end: &mut Handle, stream: u64, count: &mut u64) -> u32 {
-    let Some(thing) = end.take(alloc) else {
-        return INVALID;
-    };
-    let status = thing.taken(stream, count);
-    end.put(thing);
-    status
-}
-
-pub fn gvp_taken_sum(alloc: Global, end: &mut Handle, count: &mut u64) -> u32 {
-    let Some(thing) = end.take(alloc) else {
-        return INVALID;
-    };
-    let status = thing.taken_sum(count);
     end.put(thing);
     status
 }

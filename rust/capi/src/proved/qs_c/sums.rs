@@ -1,0 +1,57 @@
+// Made from crates/qs_c/src/sums.rt by rust/erase; not edited by hand.
+//! The calls of C for what an owner has to know of all streams: what waits to be sent, and what was taken.
+
+use crate::proved::qs_c::answers::{INVALID, OK, of_number};
+use crate::proved::qs_c::handle::Handle;
+use crate::proved::qs_c::thing::Thing;
+use crate::proved::qs_wire::StreamId;
+use crate::shim::alloc::Global;
+
+/// How many bytes of all streams wait to be sent for the first time.
+pub fn gvp_unsent_sum(alloc: Global, end: &mut Handle, count: &mut u64) -> u32 {
+    let Some(thing) = end.take(alloc) else {
+        return INVALID;
+    };
+    let status = thing.unsent_sum(count);
+    end.put(thing);
+    status
+}
+
+/// How many bytes of a stream count as taken.
+pub fn gvp_taken(alloc: Global, end: &mut Handle, stream: u64, count: &mut u64) -> u32 {
+    let Some(thing) = end.take(alloc) else {
+        return INVALID;
+    };
+    let status = thing.taken(stream, count);
+    end.put(thing);
+    status
+}
+
+/// The same of all streams.
+pub fn gvp_taken_sum(alloc: Global, end: &mut Handle, count: &mut u64) -> u32 {
+    let Some(thing) = end.take(alloc) else {
+        return INVALID;
+    };
+    let status = thing.taken_sum(count);
+    end.put(thing);
+    status
+}
+
+impl Thing {
+    pub(crate) fn unsent_sum(&self, count: &mut u64) -> u32 {
+        *count = self.end.unsent_sum();
+        OK
+    }
+
+    pub(crate) fn taken(&self, stream: u64, count: &mut u64) -> u32 {
+        let Some(id) = StreamId::new(stream) else {
+            return INVALID;
+        };
+        of_number(self.end.taken(id), count)
+    }
+
+    pub(crate) fn taken_sum(&self, count: &mut u64) -> u32 {
+        *count = self.end.taken_sum();
+        OK
+    }
+}
