@@ -69,6 +69,20 @@ pub enum Read {
     Wait,
 }
 
+/// What a look at a stream tells, which reads nothing ([`Endpoint::peek`](crate::Endpoint::peek)).
+#[derive(Clone, Copy, Debug, PartialEq, Eq)]
+pub enum Peek<'a> {
+    /// The bytes that are next, in order: those of the first slice and then those of the second, which may be empty. The first
+    /// has one at least.
+    Bytes(&'a [u8], &'a [u8]),
+    /// The stream ended: all its bytes were read before, or thrown away by a stop.
+    End,
+    /// The peer broke the stream off, with this code.
+    Reset(u64),
+    /// Nothing is there to read now.
+    Wait,
+}
+
 /// What came of bytes that were taken without a copy ([`Endpoint::consume`](crate::Endpoint::consume)).
 #[derive(Clone, Copy, Debug, PartialEq, Eq)]
 #[non_exhaustive]
@@ -281,6 +295,17 @@ impl Read {
             recv::Read::End => Read::End,
             recv::Read::Reset(code) => Read::Reset(code),
             recv::Read::Wait => Read::Wait,
+        }
+    }
+}
+
+impl<'a> Peek<'a> {
+    pub(crate) fn of(peek: recv::Peek<'a>) -> Peek<'a> {
+        match peek {
+            recv::Peek::Bytes(front, back) => Peek::Bytes(front, back),
+            recv::Peek::End => Peek::End,
+            recv::Peek::Reset(code) => Peek::Reset(code),
+            recv::Peek::Wait => Peek::Wait,
         }
     }
 }

@@ -1,19 +1,24 @@
 //! One end of a connection.
 
-use crate::answers::{Closing, Consumed, Held, Made, Read, Received, StreamReport, Taken, Token};
+mod stream_setting;
+
+use crate::answers::{
+    Closing, Consumed, Held, Made, Peek, Read, Received, StreamReport, Taken, Token,
+};
 use crate::faults::{
-    LostFault, MakeFault, OpenFault, RaiseFault, ReceiveFault, SetupFault, TakeFault, TokenFault,
-    UseFault,
+    LostFault, MakeFault, OpenFault, RaiseFault, ReceiveFault, SetFault, SetupFault, TakeFault,
+    TokenFault, UseFault,
 };
 use crate::filling::{Fill, Filled};
 use crate::frame::{Frame, MAX_VARINT};
 use crate::ids::{Dir, Role, StreamId};
 use crate::proved::qs_conn as conn;
 use crate::settings::{PeerLimits, Settings};
+use crate::shim::Vec;
 use crate::shim::alloc::Global;
 use crate::streams::{RecvStream, SendStream};
 use crate::tuning::Tuning;
-use core::fmt;
+use core::{array, fmt};
 
 /// The least room of a packet's payload, in bytes.
 pub const MIN_ROOM: usize = 128;
@@ -23,6 +28,9 @@ pub const MAX_ROOM: usize = 16_383;
 
 /// The most bytes of a payload that comes.
 pub const MAX_PAYLOAD: usize = 65_535;
+
+// So many frames are handed over together without memory.
+const FEW_FRAMES: usize = 16;
 
 /// One end of a connection: its streams, its credit, and what its packets carry (RFC 9000, sections 2 to 4 and 13).
 ///
@@ -109,6 +117,58 @@ impl Endpoint {
             .map_err(RaiseFault::of)
     }
 
+    /// Sets the connection's window anew, in bytes: how far what is received on all streams may run ahead of what is
+    /// taken (RFC 9000, section 4.1). A greater window moves the connection's limit at once, be it by less than a step
+    /// of [`Tuning::credit_step`], and the next packet tells it. Under a smaller one the limit stands until so much was
+    /// taken that it moves again: no limit falls. What the peer was told as the end was made, [`Settings`], stays.
+    ///
+    /// ```
+    /// use gotsavena::{Endpoint, Role, SetFault, Settings};
+    ///
+    /// let own = Settings::small().conn_window(1000);
+    /// let mut end = Endpoint::new(Role::Server, own, Settings::small().limits())?;
+    /// assert_eq!(end.set_conn_window(1001), Ok(()));
+    /// assert_eq!(end.granted(), 1001);
+    /// assert_eq!(end.set_conn_window(10), Ok(()));
+    /// assert_eq!(end.granted(), 1001);
+    /// assert_eq!(end.set_conn_window(0), Err(SetFault::OutOfRange));
+    /// # Ok::<(), gotsavena::SetupFault>(())
+    /// ```
+    ///
+    /// # Errors
+    ///
+    /// `Closed`; and `OutOfRange` where the window is 0 or above 2^40.
+    pub fn set_conn_window(&mut self, window: u64) -> Result<(), SetFault> {
+        self.inner.set_conn_window(window).map_err(SetFault::of)
+    }
+
+    /// Sets anew how many streams of a direction the peer may have open (RFC 9000, section 4.6). A greater grant moves
+    /// the count of its streams at once, beside those that came to their end, up to the lifetime's, and the next packet
+    /// tells it. Under a smaller one, 0 even, the count stands until so many streams ended that it moves again: no
+    /// count falls. What the peer was told as the end was made, [`Settings`], stays, and so does the lifetime.
+    ///
+    /// ```
+    /// use gotsavena::{Dir, Endpoint, Role, SetFault, Settings};
+    ///
+    /// let own = Settings::small().bidi_streams(1, 100);
+    /// let mut end = Endpoint::new(Role::Server, own, Settings::small().limits())?;
+    /// assert_eq!(end.set_grant(Dir::Bidi, 10), Ok(()));
+    /// assert_eq!(end.granted_streams(Dir::Bidi), 10);
+    /// assert_eq!(end.set_grant(Dir::Bidi, 0), Ok(()));
+    /// assert_eq!(end.granted_streams(Dir::Bidi), 10);
+    /// assert_eq!(end.set_grant(Dir::Bidi, (1 << 17) + 1), Err(SetFault::OutOfRange));
+    /// # Ok::<(), gotsavena::SetupFault>(())
+    /// ```
+    ///
+    /// # Errors
+    ///
+    /// `Closed`; and `OutOfRange` above 2^17.
+    pub fn set_grant(&mut self, dir: Dir, streams: u64) -> Result<(), SetFault> {
+        self.inner
+            .set_grant(dir.inner(), streams)
+            .map_err(SetFault::of)
+    }
+
     /// Opens the next stream of that direction, and answers its number (RFC 9000, sections 2.1 and 4.6). The peer learns
     /// of it with its first byte, its end or its reset.
     ///
@@ -189,6 +249,45 @@ impl Endpoint {
             .map_err(UseFault::of)
     }
 
+    /// Tells what [`Endpoint::read`] would, and changes nothing: the bytes that are next stay where they are, in one piece of
+    /// memory or two, until [`Endpoint::consume`] takes them (RFC 9000, section 2.2). What lies behind a gap isn't in.
+    ///
+    /// Where bytes are next it shows one at least, and as many as stand there in a row: an owner takes what it saw, and looks
+    /// again until it is told to wait. It takes no memory.
+    ///
+    /// ```
+    /// use gotsavena::{Dir, Endpoint, Peek, Role, Settings};
+    ///
+    /// let settings = Settings::default();
+    /// let mut client = Endpoint::new(Role::Client, settings, settings.limits())?;
+    /// let mut server = Endpoint::new(Role::Server, settings, settings.limits())?;
+    /// let stream = client.open(Dir::Uni)?;
+    /// client.write(stream, b"abc")?;
+    /// client.finish(stream)?;
+    /// let mut payload = [0; 1200];
+    /// let made = client.make_packet(&mut payload)?.expect("bytes are due");
+    /// server.receive(made.number, &payload[..made.len])?;
+    ///
+    /// let Peek::Bytes(front, back) = server.peek(stream)? else {
+    ///     panic!("bytes came");
+    /// };
+    /// assert_eq!([front, back].concat(), b"abc");
+    /// let count = front.len() + back.len();
+    /// assert!(server.consume(stream, count)?.at_end);
+    /// assert_eq!(server.peek(stream)?, Peek::End);
+    /// # Ok::<(), Box<dyn std::error::Error>>(())
+    /// ```
+    ///
+    /// # Errors
+    ///
+    /// Those of [`Endpoint::read`].
+    pub fn peek(&self, stream: StreamId) -> Result<Peek<'_>, UseFault> {
+        self.inner
+            .peek(stream.inner())
+            .map(Peek::of)
+            .map_err(UseFault::of)
+    }
+
     /// Takes the bytes that are next, at most so many, as [`Endpoint::read`] into a slice of that length does, and copies
     /// none: to pass over what isn't wanted. Where that reaches the final size `at_end` says so, and the end counts as told:
     /// the stream needs no further call (RFC 9000, sections 2.2, 3.2 and 4.5).
@@ -238,6 +337,49 @@ impl Endpoint {
             return Err(UseFault::Invalid);
         }
         self.inner.stop(stream.inner(), code).map_err(UseFault::of)
+    }
+
+    /// Stops the stream as [`Endpoint::stop`] does, and tells nothing more of it: it counts as read to its end as soon as
+    /// its last byte comes, or a reset (RFC 9000, sections 3.2, 3.5 and 4.6). So its owner needn't read on for the peer to
+    /// be granted another stream; a stream of both directions counts as over once its sending half is, too. The code is the
+    /// application's, below 2^62, and the first one stays.
+    ///
+    /// [`Endpoint::next_readable`] passes it over from now on. [`Endpoint::read`] answers as after a stop, and
+    /// [`Endpoint::next_ended`] finds the stream once it is over.
+    ///
+    /// ```
+    /// # use gotsavena::{Dir, Endpoint, Role, Settings};
+    /// # let settings = Settings::small().uni_window(1000);
+    /// # let end = |role| Endpoint::new(role, settings, settings.limits());
+    /// # let (mut client, mut server) = (end(Role::Client)?, end(Role::Server)?);
+    /// # let carry = |from: &mut Endpoint, to: &mut Endpoint| -> Result<(), Box<dyn std::error::Error>> {
+    /// #     let mut payload = [0; 1200];
+    /// #     if let Some(made) = from.make_packet(&mut payload)? {
+    /// #         to.receive(made.number, &payload[..made.len])?;
+    /// #     }
+    /// #     Ok(())
+    /// # };
+    /// let stream = client.open(Dir::Uni)?;
+    /// client.write(stream, b"a request")?;
+    /// carry(&mut client, &mut server)?;
+    /// server.stop_and_forget(stream, 7)?;
+    /// // The client is asked to stop, and resets its stream; nobody reads that.
+    /// carry(&mut server, &mut client)?;
+    /// carry(&mut client, &mut server)?;
+    /// assert_eq!(server.next_ended(stream), Some(stream));
+    /// # Ok::<(), Box<dyn std::error::Error>>(())
+    /// ```
+    ///
+    /// # Errors
+    ///
+    /// Those of [`Endpoint::stop`].
+    pub fn stop_and_forget(&mut self, stream: StreamId, code: u64) -> Result<(), UseFault> {
+        if code > MAX_VARINT {
+            return Err(UseFault::Invalid);
+        }
+        self.inner
+            .stop_and_forget(stream.inner(), code)
+            .map_err(UseFault::of)
     }
 
     /// Makes the next packet: writes its payload at the slice's front. `None` where nothing is to be sent that the
@@ -438,6 +580,53 @@ impl Endpoint {
         }
     }
 
+    /// Takes in the frames of one packet, as [`take_frame`](Endpoint::take_frame) each of them, one after the other, but that
+    /// limits move once, as the call ends: what [`receive`](Endpoint::receive) does with them (RFC 9000, sections 4.1 and
+    /// 12.4). Frames of other kinds are passed over. Up to 16 frames take no memory.
+    ///
+    /// It answers [`Taken::Took`] where one of them changed something, else [`Taken::Unchanged`] where one was taken.
+    ///
+    /// ```
+    /// use gotsavena::{Dir, Endpoint, Role, Settings, Taken, frames};
+    ///
+    /// let settings = Settings::default();
+    /// let mut client = Endpoint::new(Role::Client, settings, settings.limits())?;
+    /// let mut server = Endpoint::new(Role::Server, settings, settings.limits())?;
+    /// let stream = client.open(Dir::Uni)?;
+    /// client.write(stream, b"hello")?;
+    /// let mut payload = [0; 1200];
+    /// let made = client.make_packet(&mut payload)?.expect("bytes are due");
+    ///
+    /// let read: Result<Vec<_>, _> = frames(&payload[..made.len])
+    ///     .map(|placed| placed.map(|placed| placed.frame))
+    ///     .collect();
+    /// assert_eq!(server.take_frames(&read?)?, Taken::Took);
+    /// assert_eq!(server.stored(), 5);
+    /// # Ok::<(), Box<dyn std::error::Error>>(())
+    /// ```
+    ///
+    /// # Errors
+    ///
+    /// As of [`take_frame`](Endpoint::take_frame), by the first frame that is refused: those before it took effect. After
+    /// `NoMemory` the same frames may come again.
+    pub fn take_frames(&mut self, frames: &[Frame<'_>]) -> Result<Taken, TakeFault> {
+        let taken = if frames.len() <= FEW_FRAMES {
+            let few: [_; FEW_FRAMES] =
+                array::from_fn(|place| frames.get(place).unwrap_or(&Frame::Ping).inner());
+            self.inner.take_frames(&few[..frames.len()])
+        } else {
+            let Ok(mut all) = Vec::with_capacity(Global, frames.len()) else {
+                return Err(TakeFault::NoMemory);
+            };
+            for frame in frames {
+                // (there is room)
+                let _ = all.push(frame.inner());
+            }
+            self.inner.take_frames(&all)
+        };
+        taken.map(Taken::of).map_err(TakeFault::of)
+    }
+
     /// The token of a packet that [`make_packet`](Endpoint::make_packet) made, by the number of [`Made`], for a stack that
     /// tells its packets by tokens.
     pub fn token_of(&self, number: u64) -> Token {
@@ -630,8 +819,8 @@ impl Endpoint {
     /// and then, and not for each packet.
     ///
     /// The rings take at least what is [`stored`](Self::stored). A peer can't make them take more than four times the
-    /// connection's window, and 4,096 bytes for each receiving half that wasn't read to its end, reset or stopped. A buffer takes
-    /// at most twice the settings' `send_buffer`, no more than 4,096 bytes where all of it is acknowledged, and nothing where the
+    /// widest window of the connection that was set, and 4,096 bytes for each receiving half that wasn't read to its end, reset or
+    /// stopped. A buffer takes at most twice the settings' `send_buffer`, no more than 4,096 bytes where all of it is acknowledged, and nothing where the
     /// end is too, or the stream was reset.
     ///
     /// ```
@@ -661,8 +850,8 @@ impl Endpoint {
         self.inner.spent()
     }
 
-    /// How many streams of a direction the peer may open: the first count, and one more for each of its streams that
-    /// came to its end, up to the settings' count of all (RFC 9000, section 4.6).
+    /// How many streams of a direction the peer may open: the grant, and one more for each of its streams that came to
+    /// its end, up to the settings' count of all, and no fewer than before (RFC 9000, section 4.6).
     pub fn granted_streams(&self, dir: Dir) -> u64 {
         self.inner.granted_streams(dir.inner())
     }
@@ -784,6 +973,29 @@ impl Endpoint {
     /// ```
     pub fn unsent_sum(&self) -> u64 {
         self.inner.unsent_sum()
+    }
+
+    /// How many bytes of all streams are kept until they are acknowledged (RFC 9000, section 13.3): of each those from the
+    /// lowest offset on that isn't, and none after a reset. A sum that is no u64 is the greatest one. It takes constant time.
+    /// A cap over all streams is built of it: an owner writes no more than the cap leaves beside this sum.
+    ///
+    /// ```
+    /// use gotsavena::{Dir, Endpoint, Role, Settings};
+    ///
+    /// let settings = Settings::default();
+    /// let mut end = Endpoint::new(Role::Client, settings, settings.limits()).expect("in range");
+    /// let (one, other) = (end.open(Dir::Uni).expect("granted"), end.open(Dir::Bidi).expect("granted"));
+    /// assert_eq!((end.write(one, b"abc"), end.write(other, b"de")), (Ok(3), Ok(2)));
+    /// assert_eq!(end.kept_sum(), 5);
+    /// let mut payload = [0; 1200];
+    /// end.make_packet(&mut payload).expect("open").expect("due");
+    /// // What was sent is kept still, until it is acknowledged.
+    /// assert_eq!((end.unsent_sum(), end.kept_sum()), (0, 5));
+    /// end.reset(one, 7).expect("open");
+    /// assert_eq!(end.kept_sum(), 2);
+    /// ```
+    pub fn kept_sum(&self) -> u64 {
+        self.inner.kept_sum()
     }
 
     /// The lowest offset of a stream that isn't acknowledged, in bytes from its start: all below it are (RFC 9000, section

@@ -25,6 +25,20 @@ pub enum RaiseFault {
     Refused(SetupFault),
 }
 
+/// Why nothing was set anew. Nothing changed.
+#[derive(Clone, Copy, Debug, PartialEq, Eq)]
+#[non_exhaustive]
+pub enum SetFault {
+    /// The connection is closed.
+    Closed,
+    /// The value lies outside the range that [`Endpoint::new_wide`](crate::Endpoint::new_wide) has for it.
+    OutOfRange,
+    /// No stream of that number is open.
+    NoSuchStream,
+    /// The stream has no half of that kind at this end.
+    WrongDirection,
+}
+
 /// Why no stream was opened.
 #[derive(Clone, Copy, Debug, PartialEq, Eq)]
 #[non_exhaustive]
@@ -157,6 +171,17 @@ impl RaiseFault {
     }
 }
 
+impl SetFault {
+    pub(crate) fn of(fault: calls::SetFault) -> SetFault {
+        match fault {
+            calls::SetFault::Closed => SetFault::Closed,
+            calls::SetFault::OutOfRange => SetFault::OutOfRange,
+            calls::SetFault::NoSuchStream => SetFault::NoSuchStream,
+            calls::SetFault::WrongDirection => SetFault::WrongDirection,
+        }
+    }
+}
+
 impl OpenFault {
     pub(crate) fn of(fault: calls::OpenFault) -> OpenFault {
         match fault {
@@ -265,6 +290,17 @@ impl fmt::Display for RaiseFault {
     }
 }
 
+impl fmt::Display for SetFault {
+    fn fmt(&self, f: &mut fmt::Formatter<'_>) -> fmt::Result {
+        f.write_str(match self {
+            SetFault::Closed => CLOSED,
+            SetFault::OutOfRange => "a setting is out of its range",
+            SetFault::NoSuchStream => "the stream is not open",
+            SetFault::WrongDirection => "the stream goes the other way",
+        })
+    }
+}
+
 impl fmt::Display for MakeFault {
     fn fmt(&self, f: &mut fmt::Formatter<'_>) -> fmt::Result {
         f.write_str(match self {
@@ -330,6 +366,7 @@ impl fmt::Display for PutFault {
 
 impl Error for SetupFault {}
 impl Error for OpenFault {}
+impl Error for SetFault {}
 impl Error for UseFault {}
 impl Error for MakeFault {}
 impl Error for LostFault {}

@@ -83,13 +83,13 @@ mod streams;
 mod tuning;
 
 pub use answers::{
-    Closing, Consumed, Held, Made, Read, Received, RecvReport, RecvState, SendReport, SendState,
-    StreamReport, Taken, Token,
+    Closing, Consumed, Held, Made, Peek, Read, Received, RecvReport, RecvState, SendReport,
+    SendState, StreamReport, Taken, Token,
 };
 pub use endpoint::{Endpoint, MAX_PAYLOAD, MAX_ROOM, MIN_ROOM};
 pub use faults::{
-    LostFault, MakeFault, OpenFault, PutFault, RaiseFault, ReceiveFault, SetupFault, TakeFault,
-    TokenFault, UseFault,
+    LostFault, MakeFault, OpenFault, PutFault, RaiseFault, ReceiveFault, SetFault, SetupFault,
+    TakeFault, TokenFault, UseFault,
 };
 pub use filling::{Fill, Filled, MIN_FILL};
 pub use frame::{

@@ -47,7 +47,7 @@ impl Tuning {
 
     /// How many of its grant's streams have to end until a count of streams moves (section 4.6). `None`, the default:
     /// each one moves it, which costs a frame for each. With a share the count moves by whole steps of that share of the
-    /// first grant, of one stream at least; so no peer waits for ever, since a step is no more than the grant.
+    /// grant, of one stream at least; so no peer waits for ever, since a step is no more than the grant.
     ///
     /// ```
     /// use gotsavena::{Dir, Endpoint, Role, Settings, Share, Tuning};

@@ -85,6 +85,7 @@ fn told(end: &Endpoint, stream: StreamId) -> String {
             end.unsent(stream),
             end.acked_below(stream),
         ),
+        (end.kept_sum(), end.peek(stream)),
         (end.stopped_with(stream), end.peer_closed()),
         end.next_outstanding(0),
         end.next_newly_acked(&[2, 9, 0, 0, 9], 0),
@@ -97,7 +98,7 @@ fn told(end: &Endpoint, stream: StreamId) -> String {
 // One call. Answers whether it was invalid.
 fn call(end: &mut Endpoint, random: &mut Random, stream: StreamId) -> bool {
     let (length, code) = (size(random), number(random));
-    match random.below(11) {
+    match random.below(13) {
         0 => {
             _ = end.open(if random.chance(50) {
                 Dir::Bidi
@@ -114,6 +115,8 @@ fn call(end: &mut Endpoint, random: &mut Random, stream: StreamId) -> bool {
         7 => return end.make_packet(&mut vec![0; length]) == Err(MakeFault::Invalid),
         8 => _ = end.declare_lost(code),
         9 => _ = end.raise_limits(any_limits(random)),
+        10 => _ = end.set_conn_window(number(random)),
+        11 => _ = end.set_grant(stream.dir(), code),
         _ => {
             let mut payload = vec![0; length];
             let frame = any_frame(random, stream);

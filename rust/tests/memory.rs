@@ -173,6 +173,7 @@ fn questions(end: &mut Endpoint, number: u64) {
     _ = (end.is_sendable(), end.is_blocked(stream), end.ack_is_due());
     _ = (end.credit_left(), end.room(stream));
     _ = (end.unsent(stream), end.acked_below(stream));
+    _ = (end.kept_sum(), end.peek(stream).is_ok());
     _ = (end.next_readable(stream), end.next_sendable(stream));
     _ = (end.next_writable(stream), end.next_ended(stream));
     _ = (
@@ -180,6 +181,7 @@ fn questions(end: &mut Endpoint, number: u64) {
         end.next_newly_acked(&[2, 0, 0, 0, 0], number),
     );
     _ = end.raise_limits(Settings::small().limits());
+    _ = (end.set_conn_window(4096), end.set_grant(Dir::Bidi, 8));
 }
 
 // How often each of the calls that may ask for memory asked.

@@ -28,10 +28,22 @@ fn prudent(role: Role, settings: Settings, peer: PeerLimits) -> Endpoint {
     Endpoint::new_wide(role, settings, tuning, peer).expect("in range")
 }
 
-// What waits is what each stream tells, and has credit.
+// How many bytes of a stream are kept: those from the lowest offset on that isn't acknowledged, and none after a reset.
+fn kept(end: &Endpoint, stream: StreamId) -> u64 {
+    let send = end.report(stream).and_then(|report| report.send);
+    let send = send.expect("open");
+    match send.reset_code {
+        Some(_code) => 0,
+        None => send.written - end.acked_below(stream).expect("open"),
+    }
+}
+
+// What waits is what each stream tells, and has credit; what is kept is what wasn't acknowledged.
 fn check(end: &Endpoint, streams: &[StreamId], within: bool) {
     let plain: u64 = streams.iter().map(|&stream| end.unsent(stream)).sum();
     assert_eq!(end.unsent_sum(), plain);
+    let kept: u64 = streams.iter().map(|&stream| kept(end, stream)).sum();
+    assert_eq!(end.kept_sum(), kept);
     if !within {
         return;
     }

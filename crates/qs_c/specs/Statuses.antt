@@ -32,6 +32,8 @@ use Rattle.qs_calls.specs.declared.settings.SetupFault.{SetupFault}
 use Rattle.qs_calls.specs.declared.settings.SetupFault.TheVariants.{OutOfRange, TooManyStreams}
 use Rattle.qs_calls.specs.declared.settings.RaiseFault.{RaiseFault}
 use Rattle.qs_calls.specs.declared.settings.RaiseFault.TheVariants as raising
+use Rattle.qs_calls.specs.declared.settings.SetFault.{SetFault}
+use Rattle.qs_calls.specs.declared.settings.SetFault.TheVariants as setting
 use Rattle.qs_machine.specs.Ends.{End}
 use Rattle.qs_c.specs.declared.structs.GvMade.{GvMade}
 use Rattle.qs_c.specs.declared.structs.GvFilled.{GvFilled}
@@ -124,6 +126,13 @@ setup_status TooManyStreams = 20
 abbrev pub raise_status : RaiseFault → ℕ
 raise_status raising.Closed = 3
 raise_status (raising.Refused fault) = setup_status fault
+
+-- why nothing was set anew
+abbrev pub set_status : SetFault → ℕ
+set_status setting.Closed = 3
+set_status setting.NoSuchStream = 4
+set_status setting.WrongDirection = 5
+set_status setting.OutOfRange = 19
 
 -- an answer that writes nothing
 abbrev pub status_of : {F : Type 0} → (F → ℕ) → Result (Unit {0}) F → ℕ

@@ -15,6 +15,8 @@ use Rattle.qs_c.specs.declared.structs.GvRequest.{GvRequest}
 use Rattle.qs_calls.specs.declared.filling.Fill.{Fill}
 use Rattle.qs_c.specs.declared.structs.GvFilled.{GvFilled}
 use Rattle.qs_calls.specs.declared.filling.Filled.{Filled}
+use Rattle.qs_c.specs.declared.structs.GvToken.{GvToken}
+use Rattle.qs_calls.specs.declared.token.Token.{Token}
 use Rattle.qs_c.specs.declared.structs.GvClosing.{GvClosing}
 use Rattle.qs_calls.specs.declared.closing.Closing.{Closing}
 
@@ -41,7 +43,7 @@ abbrev pub is_tuning : GvTuning → Bool
 is_tuning t = is_share t.credit_step && may_be_share t.count_step
 
 abbrev pub tuning_in : GvTuning → Tuning
-tuning_in t = record { credit_step = share_of t.credit_step; count_step = share_if t.count_step; within_credit = t.within_credit; reads_when_closed = t.reads_when_closed; epoch = 0 }
+tuning_in t = record { credit_step = share_of t.credit_step; count_step = share_if t.count_step; within_credit = t.within_credit; reads_when_closed = t.reads_when_closed; epoch = t.epoch }
 
 abbrev pub limits_in : GvLimits → PeerLimits
 limits_in s = record { max_data = s.max_data; bidi_local = s.bidi_local; bidi_remote = s.bidi_remote; uni = s.uni; streams_bidi = s.streams_bidi; streams_uni = s.streams_uni }
@@ -52,6 +54,12 @@ request_in r = record { items = r.items; streams = r.streams; first = r.first; a
 -- where no STREAM frame was filled in, 0
 abbrev pub filled_of : Filled → GvFilled
 filled_of f = record { has_last_stream = is_some f.last_stream; more = f.more; token = f.token.number; len = f.len; last_stream = unwrap_or f.last_stream 0 }
+
+abbrev pub numbers_of : Token → GvToken
+numbers_of t = record { epoch = t.epoch; first = t.first; number = t.number }
+
+abbrev pub token_in : GvToken → Token
+token_in t = record { epoch = t.epoch; first = t.first; number = t.number }
 
 abbrev pub made_of : Made → GvMade
 made_of m = record { number = m.number; len = m.len; is_ack_eliciting = m.is_ack_eliciting }

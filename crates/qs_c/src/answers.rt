@@ -1,6 +1,6 @@
 //! The numbers that the calls answer.
 ghost use Rattle.std.specs.Prelude.{◌≡◌, option_map};
-ghost use Rattle.qs_c.specs.Statuses.{use_status, lost_status, make_status, setup_status, raise_status, token_status, taken_number, status_of, told, found, read_told, consumed_told, open_told, made_told, filled_told, taken_told, received_told};
+ghost use Rattle.qs_c.specs.Statuses.{use_status, lost_status, make_status, setup_status, raise_status, set_status, token_status, taken_number, status_of, told, found, read_told, consumed_told, open_told, made_told, filled_told, taken_told, received_told};
 ghost use Rattle.qs_c.specs.Structs.{closing_of};
 ghost use Rattle.qs_c.specs.Lanes.{lane_of};
 
@@ -8,8 +8,8 @@ use crate::lane::GvLane;
 use crate::structs::{GvClosing, GvFilled, GvMade};
 use qs_calls::{Consumed, Filled, TakeFault, Taken, TokenFault};
 use qs_conn::{
-    Closing, LaneReport, LostFault, Made, MakeFault, OpenFault, RaiseFault, Received, SetupFault,
-    UseFault,
+    Closing, LaneReport, LostFault, Made, MakeFault, OpenFault, RaiseFault, Received, SetFault,
+    SetupFault, UseFault,
 };
 use qs_recv::Read;
 use qs_wire::StreamId;
@@ -329,6 +329,18 @@ pub(crate) fn of_raise(answer: Result<(), RaiseFault>) -> u32
         Ok(()) => OK,
         Err(RaiseFault::Closed) => CLOSED,
         Err(RaiseFault::Refused(fault)) => of_setup(fault),
+    }
+}
+
+pub(crate) fn of_set(answer: Result<(), SetFault>) -> u32
+    ensures { result ≡ status_of set_status answer }
+{
+    match answer {
+        Ok(()) => OK,
+        Err(SetFault::Closed) => CLOSED,
+        Err(SetFault::OutOfRange) => OUT_OF_RANGE,
+        Err(SetFault::NoSuchStream) => NO_SUCH_STREAM,
+        Err(SetFault::WrongDirection) => WRONG_DIRECTION,
     }
 }
 

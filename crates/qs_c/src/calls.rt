@@ -9,20 +9,18 @@ ghost use Rattle.qs_calls.specs.declared.making.Made.{Made};
 ghost use Rattle.qs_calls.specs.declared.closing.Closing.{Closing};
 ghost use Rattle.qs_calls.specs.declared.closing.Received.{Received};
 ghost use Rattle.qs_calls.specs.declared.settings.RaiseFault.{RaiseFault};
-ghost use Rattle.qs_calls.specs.declared.token.TokenFault.{TokenFault};
-ghost use Rattle.qs_machine.specs.Owner.{WriteStep, FinishStep, ResetStep, StopStep, ReadStep, OpenStep, AcceptStep, AcceptOfStep};
+ghost use Rattle.qs_machine.specs.Owner.{WriteStep, FinishStep, ResetStep, StopStep, StopAndForgetStep, ReadStep, OpenStep, AcceptStep, AcceptOfStep};
 ghost use Rattle.qs_machine.specs.Receiving.{ReceiveStep};
 ghost use Rattle.qs_machine.specs.Making.{MakeStep, MakeAckStep, ClaimStep, LoseStep, ClosePayload};
 ghost use Rattle.qs_machine.specs.Raising.{RaiseStep};
-ghost use Rattle.qs_machine.specs.Alone.{TokenAckedStep, TokenLostStep, token_of};
 ghost use Rattle.qs_machine.specs.Reports.{own_closing};
 ghost use Rattle.qs_conn.specs.Written.{made_text, KeepsRest};
-ghost use Rattle.qs_c.specs.Statuses.{Tested, Invalid, is_small, is_room, is_flag, dir_of, use_status, lost_status, make_status, raise_status, token_status, status_of, told, found, read_told, open_told, made_told, received_told};
+ghost use Rattle.qs_c.specs.Statuses.{Tested, Invalid, is_small, is_room, is_flag, dir_of, use_status, lost_status, make_status, raise_status, status_of, told, found, read_told, open_told, made_told, received_told};
 ghost use Rattle.qs_c.specs.Structs.{closing_of, limits_in};
 
 use crate::answers::{
     INVALID, of_claim, of_closing, of_count, of_len, of_lost, of_made, of_open, of_raise, of_read,
-    of_received, of_stream, of_token, of_use,
+    of_received, of_stream, of_use,
 };
 use crate::structs::{GvClosing, GvLimits, GvMade};
 use crate::thing::Thing;
@@ -128,6 +126,18 @@ impl Thing {
         of_use(self.end.stop(id, code))
     }
 
+    pub(crate) fn stop_and_forget(&mut self, stream: u64, code: u64) -> u32
+        ensures { Tested (is_small stream && is_small code) self.old self.new (result ≡ 1) ((a : Result (Unit {0}) UseFault) × (result ≡ status_of use_status a) × StopAndForgetStep self.old stream code a self.new) }
+    {
+        let Some(id) = StreamId::new(stream) else {
+            return INVALID;
+        };
+        if code >= LIMIT {
+            return INVALID;
+        }
+        of_use(self.end.stop_and_forget(id, code))
+    }
+
     pub(crate) fn read(&mut self, stream: u64, into: &mut [u8], number: &mut u64) -> u32
         ensures { Tested (is_small stream) self.old self.new (Invalid result number.old number.new × (into.new ≡ into.old)) ((a : Result Read UseFault) × (bytes : List ℕ) × ((result, number.new) ≡ read_told a number.old) × (into.new ≡ bytes ++ drop (length bytes) into.old) × ReadStep self.old stream (length into.old) a bytes self.new) }
     {
@@ -141,20 +151,6 @@ impl Thing {
         ensures { (a : Result (Unit {0}) LostFault) × (result ≡ status_of lost_status a) × LoseStep self.old number a self.new }
     {
         of_lost(self.end.declare_lost(number))
-    }
-
-    pub(crate) fn acked(&mut self, token: u64) -> u32
-        ensures { (a : Result (Unit {0}) TokenFault) × (result ≡ status_of token_status a) × TokenAckedStep self.old (token_of self.old token) a self.new }
-    {
-        let given = self.end.token_of(token);
-        of_token(self.end.acked(given))
-    }
-
-    pub(crate) fn lost(&mut self, token: u64) -> u32
-        ensures { (a : Result (Unit {0}) TokenFault) × (result ≡ status_of token_status a) × TokenLostStep self.old (token_of self.old token) a self.new }
-    {
-        let given = self.end.token_of(token);
-        of_token(self.end.lost(given))
     }
 
     pub(crate) fn claim_number(&mut self, number: &mut u64) -> u32

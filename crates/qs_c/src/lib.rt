@@ -16,12 +16,14 @@ mod lane;
 mod loose;
 mod puts;
 mod reads;
+mod setting;
 mod stack;
 mod starts;
 mod structs;
 mod sums;
 mod telling;
 mod thing;
+mod tokens;
 
 ghost use Rattle.std.specs.Prelude.{◌≡◌, ◌++◌, ◌&&◌, List, ℕ, true, length, map, drop, Option, None, option_map, Result, MatchBool, ◌↔◌, IsTrue, is_some, nat_eq};
 ghost use Rattle.qs_wire.specs.Grammar.{frames_of};
@@ -36,12 +38,10 @@ ghost use Rattle.qs_calls.specs.declared.making.Made.{Made};
 ghost use Rattle.qs_calls.specs.declared.closing.Closing.{Closing};
 ghost use Rattle.qs_calls.specs.declared.closing.Received.{Received};
 ghost use Rattle.qs_calls.specs.declared.settings.RaiseFault.{RaiseFault};
-ghost use Rattle.qs_calls.specs.declared.token.TokenFault.{TokenFault};
-ghost use Rattle.qs_machine.specs.Owner.{WriteStep, FinishStep, ResetStep, StopStep, ReadStep, OpenStep, AcceptStep, AcceptOfStep};
+ghost use Rattle.qs_machine.specs.Owner.{WriteStep, FinishStep, ResetStep, StopStep, StopAndForgetStep, ReadStep, OpenStep, AcceptStep, AcceptOfStep};
 ghost use Rattle.qs_machine.specs.Receiving.{ReceiveStep};
 ghost use Rattle.qs_machine.specs.Making.{MakeStep, MakeAckStep, ClaimStep, LoseStep, ClosePayload};
 ghost use Rattle.qs_machine.specs.Raising.{RaiseStep};
-ghost use Rattle.qs_machine.specs.Alone.{TokenAckedStep, TokenLostStep, token_of};
 ghost use Rattle.qs_machine.specs.News.{IsLeast, IsReadable, IsWritable, IsSendable, IsEnded};
 ghost use Rattle.qs_machine.specs.Asking.{all_noted, GoesBesideAck, peer_closing, streams_left, open_left, is_blocked, credit_left, room, unsent, acked_below, stopped_with, IsNextOutstanding};
 ghost use Rattle.qs_machine.specs.Newly.{IsNewlyAcked};
@@ -49,7 +49,7 @@ ghost use Rattle.qs_machine.specs.Credit.{spent, all_stored, granted_streams};
 ghost use Rattle.qs_machine.specs.Reports.{own_closing, lane_report};
 ghost use Rattle.qs_conn.specs.Written.{made_text, KeepsRest};
 ghost use Rattle.qs_conn.specs.Held.{IsHeldBy};
-ghost use Rattle.qs_c.specs.Statuses.{Called, Asked, Invalid, Starts, role_of, is_small, is_room, is_flag, dir_of, use_status, lost_status, make_status, raise_status, token_status, status_of, told, found, read_told, open_told, made_told, received_told};
+ghost use Rattle.qs_c.specs.Statuses.{Called, Asked, Invalid, Starts, role_of, is_small, is_room, is_flag, dir_of, use_status, lost_status, make_status, raise_status, status_of, told, found, read_told, open_told, made_told, received_told};
 ghost use Rattle.qs_c.specs.Structs.{closing_of, settings_in, is_tuning, tuning_in, limits_in};
 ghost use Rattle.qs_c.specs.Lanes.{lane_of};
 ghost use Rattle.qs_c.specs.Frames.{NextAnswer, GivenAnswer};
@@ -64,10 +64,12 @@ use crate::lane::GvLane;
 use crate::structs::{GvClosing, GvLimits, GvMade, GvSettings, GvTuning};
 pub use consuming::gvp_consume;
 use qs_wire::last_stream;
+pub use setting::{gvp_set_conn_window, gvp_set_grant, gvp_set_send_buffer};
 pub use stack::{gvp_fill, gvp_take_frame};
 use std::alloc::Global;
-pub use sums::{gvp_taken, gvp_taken_sum, gvp_unsent_sum};
+pub use sums::{gvp_kept_sum, gvp_taken, gvp_taken_sum, gvp_unsent_sum};
 pub use telling::gvp_receive_telling;
+pub use tokens::{gvp_token_acked, gvp_token_and, gvp_token_lost, gvp_token_of};
 
 /// Takes the memory for an end: the handle holds one then, which `gvp_new` makes another. A handle that holds one loses it.
 #[unsafe(no_mangle)]
@@ -233,6 +235,23 @@ pub extern "C" fn gvp_stop(alloc: Global, end: &mut Handle, stream: u64, code: u
 }
 
 #[unsafe(no_mangle)]
+pub extern "C" fn gvp_stop_and_forget(
+    alloc: Global,
+    end: &mut Handle,
+    stream: u64,
+    code: u64,
+) -> u32
+    ensures { Called end.old.cell.value end.new.cell.value (is_small stream && is_small code) (result ≡ 1) (λ e f. (a : Result (Unit {0}) UseFault) × (result ≡ status_of use_status a) × StopAndForgetStep e stream code a f) }
+{
+    let Some(mut thing) = end.take(alloc) else {
+        return INVALID;
+    };
+    let status = thing.stop_and_forget(stream, code);
+    end.put(thing);
+    status
+}
+
+#[unsafe(no_mangle)]
 pub extern "C" fn gvp_read(
     alloc: Global,
     end: &mut Handle,
@@ -258,30 +277,6 @@ pub extern "C" fn gvp_declare_lost(alloc: Global, end: &mut Handle, number: u64)
         return INVALID;
     };
     let status = thing.declare_lost(number);
-    end.put(thing);
-    status
-}
-
-#[unsafe(no_mangle)]
-pub extern "C" fn gvp_token_acked(alloc: Global, end: &mut Handle, token: u64) -> u32
-    ensures { Called end.old.cell.value end.new.cell.value true (result ≡ 1) (λ e f. (a : Result (Unit {0}) TokenFault) × (result ≡ status_of token_status a) × TokenAckedStep e (token_of e token) a f) }
-{
-    let Some(mut thing) = end.take(alloc) else {
-        return INVALID;
-    };
-    let status = thing.acked(token);
-    end.put(thing);
-    status
-}
-
-#[unsafe(no_mangle)]
-pub extern "C" fn gvp_token_lost(alloc: Global, end: &mut Handle, token: u64) -> u32
-    ensures { Called end.old.cell.value end.new.cell.value true (result ≡ 1) (λ e f. (a : Result (Unit {0}) TokenFault) × (result ≡ status_of token_status a) × TokenLostStep e (token_of e token) a f) }
-{
-    let Some(mut thing) = end.take(alloc) else {
-        return INVALID;
-    };
-    let status = thing.lost(token);
     end.put(thing);
     status
 }

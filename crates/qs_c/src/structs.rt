@@ -1,8 +1,8 @@
 //! The structs that C passes.
 ghost use Rattle.std.specs.Prelude.{◌≡◌, Some, None, if◌then◌else◌};
-ghost use Rattle.qs_c.specs.Structs.{made_of, filled_of, closing_of, settings_in, is_share, share_of, may_be_share, share_if, is_tuning, tuning_in, limits_in};
+ghost use Rattle.qs_c.specs.Structs.{made_of, filled_of, numbers_of, token_in, closing_of, settings_in, is_share, share_of, may_be_share, share_if, is_tuning, tuning_in, limits_in};
 
-use qs_calls::Filled;
+use qs_calls::{Filled, Token};
 use qs_conn::{Closing, Made, PeerLimits, Settings, Share, Tuning};
 
 /// The greatest number of a part.
@@ -30,6 +30,7 @@ pub struct GvTuning {
     pub count_step: u32,
     pub within_credit: bool,
     pub reads_when_closed: bool,
+    pub epoch: u64,
 }
 
 #[repr(C)]
@@ -73,6 +74,14 @@ pub struct GvFilled {
 
 #[repr(C)]
 #[derive(Clone, Copy, Drop)]
+pub struct GvToken {
+    pub epoch: u64,
+    pub first: u64,
+    pub number: u64,
+}
+
+#[repr(C)]
+#[derive(Clone, Copy, Drop)]
 pub struct GvClosing {
     pub code: u64,
     pub frame_type: u64,
@@ -104,6 +113,28 @@ impl GvFilled {
                 Some(stream) => stream.value(),
                 None => 0,
             },
+        }
+    }
+}
+
+impl GvToken {
+    pub(crate) fn of(token: Token) -> GvToken
+        ensures { result ≡ numbers_of token }
+    {
+        GvToken {
+            epoch: token.epoch,
+            first: token.first,
+            number: token.number,
+        }
+    }
+
+    pub(crate) fn token(&self) -> Token
+        ensures { result ≡ token_in self.now }
+    {
+        Token {
+            epoch: self.epoch,
+            first: self.first,
+            number: self.number,
         }
     }
 }
@@ -151,7 +182,7 @@ impl GvTuning {
             count_step: share_of(self.count_step),
             within_credit: self.within_credit,
             reads_when_closed: self.reads_when_closed,
-            epoch: 0,
+            epoch: self.epoch,
         })
     }
 }

@@ -1,6 +1,6 @@
-//! The calls of C for what an owner has to know of all streams: what waits to be sent, and what was taken.
+//! The calls of C for what an owner has to know of all streams: what waits to be sent, what is kept, and what was taken.
 ghost use Rattle.std.specs.Prelude.{◌≡◌, ◌-◌, ◌^◌, true, min, MatchBool};
-ghost use Rattle.qs_machine.specs.Asking.{all_unsent, taken};
+ghost use Rattle.qs_machine.specs.Asking.{all_unsent, all_kept, taken};
 ghost use Rattle.qs_machine.specs.Credit.{all_taken};
 ghost use Rattle.qs_c.specs.Statuses.{Asked, Invalid, found, is_small};
 
@@ -19,6 +19,19 @@ pub extern "C" fn gvp_unsent_sum(alloc: Global, end: &mut Handle, count: &mut u6
         return INVALID;
     };
     let status = thing.unsent_sum(count);
+    end.put(thing);
+    status
+}
+
+/// How many bytes of all streams are kept until they are acknowledged.
+#[unsafe(no_mangle)]
+pub extern "C" fn gvp_kept_sum(alloc: Global, end: &mut Handle, count: &mut u64) -> u32
+    ensures { Asked end.old.cell.value end.new.cell.value true (Invalid result count.old count.new) (λ e. (result ≡ 0) × (count.new ≡ min (all_kept e) (2 ^ 64 - 1))) }
+{
+    let Some(thing) = end.take(alloc) else {
+        return INVALID;
+    };
+    let status = thing.kept_sum(count);
     end.put(thing);
     status
 }
@@ -54,6 +67,13 @@ impl Thing {
         ensures { (result ≡ 0) × (count.new ≡ min (all_unsent self.now) (2 ^ 64 - 1)) }
     {
         *count = self.end.unsent_sum();
+        OK
+    }
+
+    pub(crate) fn kept_sum(&self, count: &mut u64) -> u32
+        ensures { (result ≡ 0) × (count.new ≡ min (all_kept self.now) (2 ^ 64 - 1)) }
+    {
+        *count = self.end.kept_sum();
         OK
     }
 

@@ -21,6 +21,6 @@ pub use qs_recv::Share;
 pub use qs_send::MAX_VARINT;
 pub use reading::Consumed;
 pub use report::{LaneReport, RecvReport, SendReport};
-pub use settings::{PeerLimits, RaiseFault, Settings, SetupFault, Tuning};
+pub use settings::{PeerLimits, RaiseFault, SetFault, Settings, SetupFault, Tuning};
 pub use token::{TakeFault, Taken, Token, TokenFault};
 pub use uses::{OpenFault, UseFault};

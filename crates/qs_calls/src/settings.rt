@@ -78,6 +78,21 @@ pub enum RaiseFault {
     Refused(SetupFault),
 }
 
+/// Why nothing was set anew.
+#[derive(Clone, Copy, Debug, PartialEq, Eq, Drop, Error)]
+pub enum SetFault {
+    #[error("the connection is closed")]
+    Closed,
+    /// The value lies outside the range that a new end has for it.
+    #[error("a setting is out of its range")]
+    OutOfRange,
+    #[error("there is no such stream")]
+    NoSuchStream,
+    /// The stream has no half of that direction at this end.
+    #[error("the stream has no such half at this end")]
+    WrongDirection,
+}
+
 impl Settings {
     /// What the other end is told of these settings.
     pub fn limits(&self) -> PeerLimits

@@ -13,7 +13,7 @@ use Rattle.qs_recv.specs.declared.half.Read.TheVariants.{Bytes, End, Reset, Wait
 use Rattle.qs_recv.specs.declared.credit.Share.TheVariants.{Half}
 use Rattle.qs_send.specs.declared.piece.Item.{Item}
 use Rattle.qs_machine.specs.Tables.{Tables, lookup, updated}
-use Rattle.qs_machine.specs.Ends.{Records, AckedItems, window_by}
+use Rattle.qs_machine.specs.Ends.{Present, Records, AckedItems, window_by}
 use Rattle.qs_machine.specs.Verdicts.{or_new}
 use Rattle.qs_machine.specs.Standing.{KeepsCredit, HasLawfulLane}
 use Rattle.qs_machine.proofs.EndedHalves.{whole_stays}
@@ -53,8 +53,8 @@ read_calm l room w n = go (read_answer l room)
 
 module _ (r : Role) (s : Settings) (recvs : Tables RecvLane) (m : Records) (a : AckedItems) (marks : Tables Bool) (h : AreTold (TellsAt r s) recvs m a marks) (now : Tables RecvLane) (n : ℕ) where
   -- bytes came that passed the check
-  pub told_streamed : (g : ℕ) → KeepsCredit r s recvs g → (offset : ℕ) (bytes : List ℕ) (fin : Bool) → IsOk (check_stream (or_new (lookup recvs n) 0 Half) offset (length bytes) fin) → now ≡ updated recvs n (λ l. take_stream l offset bytes fin) (lookup recvs n) → AreTold (TellsAt r s) now m a marks
-  told_streamed g k offset bytes fin passed is =
+  pub told_streamed : (p : Present) (g : ℕ) → KeepsCredit r s p recvs g → (offset : ℕ) (bytes : List ℕ) (fin : Bool) → IsOk (check_stream (or_new (lookup recvs n) 0 Half) offset (length bytes) fin) → now ≡ updated recvs n (λ l. take_stream l offset bytes fin) (lookup recvs n) → AreTold (TellsAt r s) now m a marks
+  told_streamed p g k offset bytes fin passed is =
       told_updated (TellsAt r s) recvs m a marks h now n (λ l. take_stream l offset bytes fin) is
       (λ l there. data_calm l offset bytes fin (subst (HasLawfulLane r s n) there (k.lanes n)).0 (subst (λ o. IsOk (check_stream (or_new o 0 Half) offset (length bytes) fin)) there passed) (window_by r s n) n)
 

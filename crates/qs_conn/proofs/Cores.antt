@@ -6,9 +6,9 @@ use Rattle.std.proofs.lemmas.Bool.{true≢false}
 use Rattle.std.proofs.lemmas.Option.{none-some, same_Some}
 use Rattle.qs_ranges.specs.declared.NoMemory.{NoMemory}
 use Rattle.qs_ranges.specs.Numbers.{MAX_VARINT, NumberSet}
-use Rattle.qs_recv.specs.Lane.{RecvLane, after_read, stop, new_lane as new_recv_lane}
+use Rattle.qs_recv.specs.Lane.{RecvLane, after_read, stop, stop_and_forget, new_lane as new_recv_lane}
 use Rattle.qs_recv.specs.declared.credit.Share.{Share}
-use Rattle.qs_send.specs.Lane.{SendLane, Sending, new_lane as new_send_lane, answer_of, refusal, reset_refusal, write_lane, finish_lane, reset_lane, stopped_lane, allow_lane}
+use Rattle.qs_send.specs.Lane.{SendLane, Sending, new_lane as new_send_lane, answer_of, refusal, reset_refusal, write_lane, finish_lane, reset_lane, stopped_lane, allow_lane, buffer_lane}
 use Rattle.qs_send.specs.declared.parts.Chunk.{Chunk}
 use Rattle.qs_send.specs.declared.piece.Item.{Item}
 use Rattle.qs_send.specs.declared.piece.Piece.{Piece}
@@ -27,18 +27,18 @@ use Rattle.qs_conn.specs.declared.by_dir.ByDir.{ByDir}
 use Rattle.qs_conn.specs.declared.middle.Core.{Core}
 use Rattle.qs_conn.specs.Middle.{IsCore, IsAtRest, IsKept, KeepsStreams, IsFilling, FillsOn, HasMemory, end_of}
 use Rattle.qs_conn.specs.Ended.{AreAllCounted, CountsFit, half_of, is_over, recounted}
-use Rattle.qs_conn.specs.Filling.{end_by, PutsItem, LeavesRest}
+use Rattle.qs_conn.specs.Filling.{end_by, present_of, PutsItem, LeavesRest}
 use Rattle.qs_conn.specs.Marks.{IsIdle as IsIdleAt}
 use Rattle.qs_conn.specs.Runs.{held_out}
 use Rattle.qs_conn.specs.declared.slot.Slot.TheVariants as slots
 use Rattle.qs_conn.specs.Untold.{AreTold, TellsAt, SendTells, HasMore, told_by_recv, told_by_send, marked_for}
 use Rattle.qs_conn.proofs.Calm.{told_read}
-use Rattle.qs_conn.proofs.Counted.{fit_sends, fit_allowed, fit_written, fit_finished, fit_reset, fit_told_to_stop, fit_read, fit_stopped, fit_opened, put_counted}
+use Rattle.qs_conn.proofs.Counted.{fit_sends, fit_allowed, fit_written, fit_finished, fit_reset, fit_told_to_stop, fit_read, fit_stopped, fit_forgotten, fit_opened, put_counted, fit_buffered}
 use Rattle.qs_conn.proofs.Flows.{end_chunk}
 use Rattle.qs_conn.proofs.Funded.{sum_lane, reset_sends, sum_piece, sum_put}
-use Rattle.qs_conn.proofs.Kept.{sound_after_read, sound_after_stop, sound_opened}
+use Rattle.qs_conn.proofs.Kept.{sound_after_read, sound_after_stop, sound_after_forget, sound_opened}
 use Rattle.qs_conn.proofs.Pieces.{noted_old, put_old}
-use Rattle.qs_conn.proofs.Untolds.{recv_own, send_own, recv_noted, send_noted, recvs_open, sends_open, told_carried, told_edited, told_placed, told_unmarked, told_written, told_sent, told_finished, told_allowed, told_put, told_noted, acked_stays, lost_stays, marks_stay, in_idle, out_idle}
+use Rattle.qs_conn.proofs.Untolds.{recv_own, send_own, recv_noted, send_noted, recvs_open, sends_open, told_carried, told_edited, told_placed, told_unmarked, told_written, told_sent, told_finished, told_allowed, told_buffered, told_put, told_noted, acked_stays, lost_stays, marks_stay, in_idle, out_idle}
 use Rattle.qs_conn.proofs.EachItem.{each_item}
 use Rattle.qs_conn.proofs.Rests.{rest_same, rest_on}
 use Rattle.qs_conn.proofs.Slots.{end_put}
@@ -82,6 +82,11 @@ module _ (c : Core) (h : IsAtRest c) where
       on_half n (λ l. allow_lane l limit) o c.untold_sends is (λ l. refl) (fit_allowed _ _ _ _ _ _ _ core.counts _ n limit refl)
       (told_allowed c.outbox.sends c.outbox.outstanding c.outbox.acked c.untold_sends core.told_out _ n limit (λ l at. subst (λ (k : SendLane). k.sent_end ≤ k.limit) (same_Some half.lane l (sym has.lane ∙ at)) has.lawful.order.sent_limit) refl)
 
+  pub rest_buffered : (n size : ℕ) (o : Outgoing) → o ≡ on_lane n (λ l. buffer_lane l size) c.outbox → IsAtRest (record c { outbox = o })
+  rest_buffered n size o is =
+      on_half n (λ l. buffer_lane l size) o c.untold_sends is (λ l. refl) (fit_buffered _ _ _ _ _ _ _ core.counts _ n size refl)
+      (told_buffered c.outbox.sends c.outbox.outstanding c.outbox.acked c.untold_sends core.told_out _ n size refl)
+
   pub rest_written : (n : ℕ) (bytes : List ℕ) (o : Outgoing) (marks : Tables Bool) → refusal (or_none (lookup c.outbox.sends n)) ≡ None → o ≡ on_lane n (λ l. write_lane l bytes) c.outbox → HasMore c.untold_sends marks
       → ((m : ℕ) → IsBlockedAt (lookup o.sends n) m → lookup marks n ≡ Some false → ⊥) → IsAtRest (record c { outbox = o; untold_sends = marks })
   rest_written n bytes o marks free is more blocked =
@@ -103,7 +108,7 @@ module _ (c : Core) (h : IsAtRest c) where
 
   -- Receiving halves
 
-  pub rest_recvs : (now : Tables RecvLane) (marks : Tables Bool) (e : ByDir ℕ) → KeepsCredit c.limits.role c.limits.settings now c.limits.granted
+  pub rest_recvs : (now : Tables RecvLane) (marks : Tables Bool) (e : ByDir ℕ) → KeepsCredit c.limits.role c.limits.settings (present_of c.limits) now c.limits.granted
       → CountsFit c.limits.role c.limits.settings now c.outbox.sends e c.limits.granted_streams.bidi c.limits.granted_streams.uni → AreTold (TellsAt c.limits.role c.limits.settings) now c.outbox.outstanding c.outbox.acked marks
       → IsAtRest (record c { recvs = now; untold_recvs = marks; ended = e })
   rest_recvs now marks e sound counts told = record { core = record { sound = sound; fits = core.fits; credit = core.credit; counts = counts; told_in = told; told_out = core.told_out }; idle = h.idle }
@@ -112,15 +117,23 @@ module _ (c : Core) (h : IsAtRest c) where
   pub rest_read : (n size : ℕ) (now : Tables RecvLane) (e : ByDir ℕ) (was is : Bool) → now ≡ updated c.recvs n (λ l. after_read l size) (lookup c.recvs n) → was ≡ is_over c.limits.role c.recvs c.outbox.sends n → is ≡ is_over c.limits.role now c.outbox.sends n
       → e ≡ recounted n was is c.ended → IsAtRest (record c { recvs = now; ended = e })
   rest_read n size now e was is after before behind to =
-      rest_recvs now c.untold_recvs e (sound_after_read c.limits.role c.limits.settings c.recvs now c.limits.granted n size core.sound after)
-      (fit_read _ _ _ _ _ _ _ core.counts _ core.sound now n size e was is after before behind to)
+      rest_recvs now c.untold_recvs e (sound_after_read c.limits.role c.limits.settings (present_of c.limits) c.recvs now c.limits.granted n size core.sound after)
+      (fit_read _ _ _ _ _ _ _ core.counts _ _ core.sound now n size e was is after before behind to)
       (told_read c.limits.role c.limits.settings c.recvs c.outbox.outstanding c.outbox.acked c.untold_recvs core.told_in now n size after)
 
   pub rest_stopped : (n code : ℕ) (now : Tables RecvLane) (marks : Tables Bool) → now ≡ updated c.recvs n (λ l. stop l code) (lookup c.recvs n) → marks ≡ updated c.untold_recvs n (λ b. true) (lookup c.untold_recvs n) → IsAtRest (record c { recvs = now; untold_recvs = marks })
   rest_stopped n code now marks after are =
-      rest_recvs now marks c.ended (sound_after_stop c.limits.role c.limits.settings c.recvs now c.limits.granted n code core.sound after)
+      rest_recvs now marks c.ended (sound_after_stop c.limits.role c.limits.settings (present_of c.limits) c.recvs now c.limits.granted n code core.sound after)
       (fit_stopped _ _ _ _ _ _ _ core.counts now n code after)
       (told_edited (TellsAt c.limits.role c.limits.settings) c.recvs c.outbox.outstanding c.outbox.acked c.untold_recvs core.told_in now marks n (λ l. stop l code) after are)
+
+  -- a stream is stopped and forgotten, and counted anew
+  pub rest_forgotten : (n code : ℕ) (now : Tables RecvLane) (marks : Tables Bool) (e : ByDir ℕ) (was is : Bool) → now ≡ updated c.recvs n (λ l. stop_and_forget l code) (lookup c.recvs n) → marks ≡ updated c.untold_recvs n (λ b. true) (lookup c.untold_recvs n) → was ≡ is_over c.limits.role c.recvs c.outbox.sends n
+      → is ≡ is_over c.limits.role now c.outbox.sends n → e ≡ recounted n was is c.ended → IsAtRest (record c { recvs = now; untold_recvs = marks; ended = e })
+  rest_forgotten n code now marks e was is after are before behind to =
+      rest_recvs now marks e (sound_after_forget c.limits.role c.limits.settings (present_of c.limits) c.recvs now c.limits.granted n code core.sound after)
+      (fit_forgotten _ _ _ _ _ _ _ core.counts now n code e was is after before behind to)
+      (told_edited (TellsAt c.limits.role c.limits.settings) c.recvs c.outbox.outstanding c.outbox.acked c.untold_recvs core.told_in now marks n (λ l. stop_and_forget l code) after are)
 
   -- Streams open
 
@@ -133,7 +146,7 @@ module _ (c : Core) (h : IsAtRest c) where
       subst (λ (x : Outgoing). IsAtRest (record c { outbox = x; recvs = now; untold_recvs = ins; untold_sends = outs })) (sym is)
       (record {
         core = record {
-          sound = sound_opened c.limits.role c.limits.settings c.recvs now c.limits.granted n w share no_recv core.sound window after;
+          sound = sound_opened c.limits.role c.limits.settings (present_of c.limits) c.recvs now c.limits.granted n w share no_recv core.sound window after;
           fits = core.fits;
           credit = omega (arith, sum, credit);
           counts = fit_opened _ _ _ _ _ _ _ core.counts now _ n w share limit buffer no_send no_recv refl after;

@@ -1,15 +1,15 @@
 -- The counts of the streams that came to their end: each call keeps them right.
-use Rattle.std.proofs.Common.{◌≡◌, ℕ, ◌+◌, ◌≤◌, Bool, true, false, not, ◌&&◌, ◌||◌, cond, List, [], length, Option, None, Some, is_some, refl, sym, ap, ◌∙◌, subst, arith}
-use Rattle.std.specs.Prelude.{min, is_none, ◌==◌, Ok, IsOk}
+use Rattle.std.proofs.Common.{◌≡◌, ℕ, ◌≤◌, Bool, true, false, not, ◌&&◌, ◌||◌, cond, List, [], length, Option, None, Some, is_some, refl, sym, ap, ◌∙◌, subst, arith, inr}
+use Rattle.std.specs.Prelude.{max, is_none, ◌==◌, Ok, IsOk}
 use Rattle.std.proofs.lemmas.Bool.{both_ways}
 use Rattle.std.proofs.lemmas.Option.{none-some, same_Some}
 use Rattle.qs_wire.specs.declared.stream_id.Role.{Role}
-use Rattle.qs_recv.specs.Lane.{RecvLane, stop, raise, after_read, take_stream, take_reset, check_stream, is_whole as recv_whole, new_lane as new_recv_lane}
+use Rattle.qs_recv.specs.Lane.{RecvLane, stop, stop_and_forget, raise, after_read, take_stream, take_reset, check_stream, is_whole as recv_whole, new_lane as new_recv_lane}
 use Rattle.qs_recv.specs.Lawful.{IsLawful}
 use Rattle.qs_recv.specs.Assembled.{discard, forget}
 use Rattle.qs_recv.specs.declared.credit.Share.{Share}
 use Rattle.qs_recv.specs.declared.credit.Share.TheVariants.{Half}
-use Rattle.qs_send.specs.Lane.{new_lane as new_send_lane, Sending, SendLane, is_whole, unacked_from, answer_of, write_lane, finish_lane, reset_lane, stopped_lane, reset_refusal, refusal, allow_lane, blocked_lane, sent_lane, acked_lane, reset_acked_lane}
+use Rattle.qs_send.specs.Lane.{new_lane as new_send_lane, Sending, SendLane, is_whole, unacked_from, answer_of, write_lane, finish_lane, reset_lane, stopped_lane, reset_refusal, refusal, allow_lane, buffer_lane, blocked_lane, sent_lane, acked_lane, reset_acked_lane}
 use Rattle.qs_send.specs.declared.parts.SendFault.{SendFault}
 use Rattle.qs_send.specs.declared.parts.SendFault.TheVariants.{Finished, WasReset}
 use Rattle.qs_send.specs.declared.parts.Reset.{Reset}
@@ -20,14 +20,14 @@ use Rattle.qs_calls.specs.declared.settings.Tuning.{Tuning}
 use Rattle.qs_calls.specs.Settings.{are_in_wide_range}
 use Rattle.std.proofs.lemmas.Bool.Decides.{nat_tests}
 use Rattle.qs_machine.specs.Tables.{Tables, no_streams, lookup, updated, open_to, each}
-use Rattle.qs_machine.specs.Ends.{End, is_uni, is_own, window, first_send_limit, opens, opened_by_peer}
+use Rattle.qs_machine.specs.Ends.{End, Present, is_uni, is_own, window, first_send_limit, opens, opened_by_peer}
 use Rattle.qs_wire.specs.declared.stream_id.Dir.{Dir}
 use Rattle.qs_wire.specs.declared.stream_id.Dir.TheVariants.{Bidi, Uni}
 use Rattle.qs_machine.specs.Standing.{KeepsCredit, HasLawfulLane, IsInCredit, IsWithinCredit}
 use Rattle.qs_machine.specs.Verdicts.{or_new}
-use Rattle.qs_machine.proofs.EndedHalves.{RecvStays, stop_stays, reset_stays_ended}
+use Rattle.qs_machine.proofs.EndedHalves.{reset_stays_ended}
 use Rattle.qs_machine.proofs.LanesAgain.{data_after}
-use Rattle.qs_conn.proofs.ToldEnds.{same_end, still_told, told_updated, told_read, told_opened, told_raised, none_told}
+use Rattle.qs_conn.proofs.ToldEnds.{still_told, forgotten_told, told_updated, told_read, told_opened, told_raised, none_told}
 use Rattle.qs_machine.proofs.Bounds.{within_credit}
 use Rattle.qs_machine.specs.Credit.{recv_ended, send_ended, granted_streams, lifetime, count_after}
 use Rattle.qs_machine.specs.Seen.{Seen, Ack, Stream, Control, Close, Plain}
@@ -95,38 +95,63 @@ module _ (role : Role) (s : Settings) (recvs : Tables RecvLane) (sends : Tables 
   pub fit_recvs : (now_r : Tables RecvLane) (now_s : Tables SendLane) (e' : ByDir ℕ) → AreAllCounted role now_r now_s e' → ((n : ℕ) → IsToldOfEnd (lookup now_r n)) → CountsFit role s now_r now_s e' b u
   fit_recvs now_r now_s e' is told = record { counted = is; told = told; bidi = h.bidi; uni = h.uni }
 
-  -- a half of which nothing is told, and which stays ended
-  unread : (now : Tables RecvLane) (n : ℕ) (f : RecvLane → RecvLane) → now ≡ updated recvs n f (lookup recvs n) → ((l : RecvLane) → lookup recvs n ≡ Some l → ((f l).told ≡ l.told) × RecvStays l (f l)) → CountsFit role s now sends e b u
-  unread now n f is keeps =
-      fit_recvs now sends e
-      (recvs_same role recvs now sends n f e h.counted is (λ l there. same_end l (f l) (subst IsToldOfEnd there (h.told n)) (keeps l there).0 (keeps l there).1))
-      (told_updated recvs now n f h.told is (λ l there told. still_told l (f l) told (keeps l there).0 (keeps l there).1))
+  -- a half changes, and its stream is counted anew
+  recounts : (now : Tables RecvLane) (n : ℕ) (f : RecvLane → RecvLane) (e' : ByDir ℕ) (was is : Bool) → now ≡ updated recvs n f (lookup recvs n) → was ≡ is_over role recvs sends n → is ≡ is_over role now sends n → e' ≡ recounted n was is e
+      → ((l : RecvLane) → lookup recvs n ≡ Some l → IsToldOfEnd (Some l) → IsToldOfEnd (Some (f l))) → CountsFit role s now sends e' b u
+  recounts now n f e' was is after before behind to told =
+      fit_recvs now sends e' (recv_recounted role recvs now sends n f e e' was is h.counted after before behind to) (told_updated recvs now n f h.told after told)
 
   -- a stop
   pub fit_stopped : (now : Tables RecvLane) (n code : ℕ) → now ≡ updated recvs n (λ l. stop l code) (lookup recvs n) → CountsFit role s now sends e b u
-  fit_stopped now n code is = unread now n (λ l. stop l code) is (λ l there. (by_test l (is_some l.stop_code), stop_stays code l))
+  fit_stopped now n code is =
+      fit_recvs now sends e (recvs_same role recvs now sends n (λ l. stop l code) e h.counted is (λ l there. by_test (is_some l.stop_code) l))
+      (told_updated recvs now n (λ l. stop l code) h.told is (λ l there told. still_stopped (is_some l.stop_code) l told))
     where
-      by_test : (l : RecvLane) (t : Bool) → (cond t l (record l { arrived = discard l.arrived; stop_code = Some code })).told ≡ l.told
-      by_test l true = refl
-      by_test l false = refl
+      stopped : RecvLane → RecvLane
+      stopped l = record l { arrived = discard l.arrived; stop_code = Some code }
+
+      by_test : (t : Bool) (l : RecvLane) → recv_ended (cond t l (stopped l)) ≡ recv_ended l
+      by_test true l = refl
+      by_test false l = refl
+
+      still_stopped : (t : Bool) (l : RecvLane) → IsToldOfEnd (Some l) → IsToldOfEnd (Some (cond t l (stopped l)))
+      still_stopped true l told is = told is
+      still_stopped false l told is = inr refl
+
+  -- one of a stream that is forgotten
+  pub fit_forgotten : (now : Tables RecvLane) (n code : ℕ) (e' : ByDir ℕ) (was is : Bool) → now ≡ updated recvs n (λ l. stop_and_forget l code) (lookup recvs n) → was ≡ is_over role recvs sends n → is ≡ is_over role now sends n → e' ≡ recounted n was is e
+      → CountsFit role s now sends e' b u
+  fit_forgotten now n code e' was is after before behind to = recounts now n (λ l. stop_and_forget l code) e' was is after before behind to (λ l there told. forgotten_told l code)
 
   -- a reset came
-  pub fit_broken : (now : Tables RecvLane) (n code size : ℕ) → now ≡ updated recvs n (λ l. take_reset l code size) (lookup recvs n) → CountsFit role s now sends e b u
-  fit_broken now n code size is = unread now n (λ l. take_reset l code size) is (λ l there. (by_test l (is_some l.reset_code || recv_whole l), reset_stays_ended l code size))
+  pub fit_broken : (now : Tables RecvLane) (n code size : ℕ) (e' : ByDir ℕ) (was is : Bool) → now ≡ updated recvs n (λ l. take_reset l code size) (lookup recvs n) → was ≡ is_over role recvs sends n → is ≡ is_over role now sends n → e' ≡ recounted n was is e
+      → CountsFit role s now sends e' b u
+  fit_broken now n code size e' was is after before behind to =
+      recounts now n (λ l. take_reset l code size) e' was is after before behind to
+      (λ l there told. still_told l (take_reset l code size) told (same_told (is_some l.reset_code || recv_whole l) l) (reset_stays_ended l code size) (same_stop (is_some l.reset_code || recv_whole l) l))
     where
-      by_test : (l : RecvLane) (t : Bool) → (cond t l (record l { arrived = forget l.arrived; final_size = Some size; reset_code = Some code })).told ≡ l.told
-      by_test l true = refl
-      by_test l false = refl
+      broken : RecvLane → RecvLane
+      broken l = record l { arrived = forget l.arrived; final_size = Some size; reset_code = Some code }
 
-  module _ (g : ℕ) (k : KeepsCredit role s recvs g) where
+      same_told : (t : Bool) (l : RecvLane) → (cond t l (broken l)).told ≡ l.told
+      same_told true l = refl
+      same_told false l = refl
+
+      same_stop : (t : Bool) (l : RecvLane) → is_some l.stop_code ≡ true → is_some (cond t l (broken l)).stop_code ≡ true
+      same_stop true l is = is
+      same_stop false l is = is
+
+  module _ (p : Present) (g : ℕ) (k : KeepsCredit role s p recvs g) where
     lawful_at : (n : ℕ) (l : RecvLane) → lookup recvs n ≡ Some l → IsLawful l
     lawful_at n l there = (subst (HasLawfulLane role s n) there (k.lanes n)).0
 
     -- bytes came that passed the check
-    pub fit_streamed : (now : Tables RecvLane) (n offset : ℕ) (bytes : List ℕ) (fin : Bool) → IsOk (check_stream (or_new (lookup recvs n) 0 Half) offset (length bytes) fin) → now ≡ updated recvs n (λ l. take_stream l offset bytes fin) (lookup recvs n)
-        → CountsFit role s now sends e b u
-    fit_streamed now n offset bytes fin passed is =
-        unread now n (λ l. take_stream l offset bytes fin) is (λ l there. (refl, (data_after l offset bytes fin (lawful_at n l there) (subst (λ o. IsOk (check_stream (or_new o 0 Half) offset (length bytes) fin)) there passed)).ended))
+    pub fit_streamed : (now : Tables RecvLane) (n offset : ℕ) (bytes : List ℕ) (fin : Bool) (e' : ByDir ℕ) (was is : Bool) → IsOk (check_stream (or_new (lookup recvs n) 0 Half) offset (length bytes) fin)
+        → now ≡ updated recvs n (λ l. take_stream l offset bytes fin) (lookup recvs n) → was ≡ is_over role recvs sends n → is ≡ is_over role now sends n → e' ≡ recounted n was is e → CountsFit role s now sends e' b u
+    fit_streamed now n offset bytes fin e' was is passed after before behind to =
+        recounts now n (λ l. take_stream l offset bytes fin) e' was is after before behind to
+        (λ l there told. still_told l (take_stream l offset bytes fin) told refl
+        (data_after l offset bytes fin (lawful_at n l there) (subst (λ o. IsOk (check_stream (or_new o 0 Half) offset (length bytes) fin)) there passed)).ended (λ off. off))
 
     -- a stream is read, and counted anew
     pub fit_read : (now : Tables RecvLane) (n size : ℕ) (e' : ByDir ℕ) (was is : Bool) → now ≡ updated recvs n (λ l. after_read l size) (lookup recvs n) → was ≡ is_over role recvs sends n → is ≡ is_over role now sends n → e' ≡ recounted n was is e
@@ -136,6 +161,9 @@ module _ (role : Role) (s : Settings) (recvs : Tables RecvLane) (sends : Tables 
 
   pub fit_allowed : (now : Tables SendLane) (n limit : ℕ) → now ≡ updated sends n (λ l. allow_lane l limit) (lookup sends n) → CountsFit role s recvs now e b u
   fit_allowed now n limit is = fit_sends now e (sends_same role recvs sends now n (λ l. allow_lane l limit) e h.counted is (λ l there. refl))
+
+  pub fit_buffered : (now : Tables SendLane) (n size : ℕ) → now ≡ updated sends n (λ l. buffer_lane l size) (lookup sends n) → CountsFit role s recvs now e b u
+  fit_buffered now n size is = fit_sends now e (sends_same role recvs sends now n (λ l. buffer_lane l size) e h.counted is (λ l there. refl))
 
   -- bytes are written, of a half that isn't finished
   pub fit_written : (now : Tables SendLane) (n : ℕ) (bytes : List ℕ) → refusal (or_none (lookup sends n)) ≡ None → now ≡ updated sends n (λ l. write_lane l bytes) (lookup sends n) → CountsFit role s recvs now e b u
@@ -180,8 +208,8 @@ module _ (role : Role) (s : Settings) (recvs : Tables RecvLane) (sends : Tables 
       fit_recvs now_r now_s e (recvs_opened role recvs now_r now_s e n w share no_recv (sends_opened role recvs sends now_s e n limit buffer no_send h.counted sent) received) (told_opened recvs now_r n w share no_recv h.told received)
 
   -- limits rise, and each granted count becomes the next one
-  pub fit_settled : (t : Tuning) (now : Tables RecvLane) (g v : ℕ) → now ≡ each raise recvs → g ≡ count_after s t Bidi e.bidi → v ≡ count_after s t Uni e.uni → CountsFit role s now sends e g v
-  fit_settled t now g v is bidi uni = record { counted = counted_raised role recvs now sends e h.counted is; told = told_raised recvs now h.told is; bidi = omega (arith, bidi); uni = omega (arith, uni) }
+  pub fit_settled : (t : Tuning) (p : Present) (now : Tables RecvLane) (g v : ℕ) → now ≡ each raise recvs → g ≡ max b (count_after s t Bidi p.grant_bidi e.bidi) → v ≡ max u (count_after s t Uni p.grant_uni e.uni) → CountsFit role s now sends e g v
+  fit_settled t p now g v is bidi uni = record { counted = counted_raised role recvs now sends e h.counted is; told = told_raised recvs now h.told is; bidi = omega (arith, bidi, h.bidi); uni = omega (arith, uni, h.uni) }
 
 -- an end within the credit, whose granted counts are within its lifetimes
 pub within_counted : (e : End) → IsInCredit e → e.granted_bidi ≤ e.settings.lifetime_bidi → e.granted_uni ≤ e.settings.lifetime_uni → IsWithinCredit e

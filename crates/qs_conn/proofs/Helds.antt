@@ -9,13 +9,14 @@ use Rattle.qs_send.specs.Lane.{SendLane, Sending}
 use Rattle.qs_calls.specs.declared.settings.Settings.{Settings}
 use Rattle.qs_machine.specs.Tables.{Tables, lookup, total}
 use Rattle.qs_machine.specs.Ends.{End}
+use Rattle.qs_machine.specs.Asking.{kept_on}
 use Rattle.qs_machine.specs.Credit.{spent, all_taken}
 use Rattle.qs_machine.specs.Outgoing.{lanes_of}
 use Rattle.qs_machine.specs.Standing.{HasLawfulLane, IsInCredit}
 use Rattle.qs_machine.specs.Sums.{stored_on}
 use Rattle.qs_machine.proofs.TableLaws.{value, total_le, total_both}
 use Rattle.qs_conn.specs.declared.held.Held.{Held}
-use Rattle.qs_conn.specs.Held.{keeps, most_held, most_buffered, kept_on, half_count, IsHeldBy}
+use Rattle.qs_conn.specs.Held.{keeps, most_held, most_buffered, half_count, IsHeldBy}
 
 module _ {X : Type 0} (f : X → ℕ) where
   -- a page for each that counts

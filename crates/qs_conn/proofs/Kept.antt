@@ -5,7 +5,7 @@ use Rattle.std.proofs.lemmas.Bool.{true≢false}
 use Rattle.std.proofs.lemmas.Bool.Decides.{nat_tests}
 use Rattle.qs_ranges.specs.Numbers.{NumberSet, run_starts}
 use Rattle.qs_wire.specs.declared.stream_id.Role.{Role}
-use Rattle.qs_recv.specs.Lane.{RecvLane, new_lane, after_read, stop}
+use Rattle.qs_recv.specs.Lane.{RecvLane, new_lane, after_read, stop, stop_and_forget}
 use Rattle.qs_recv.specs.declared.credit.Share.{Share}
 use Rattle.qs_calls.specs.declared.settings.Settings.{Settings}
 use Rattle.qs_calls.specs.declared.settings.Tuning.{Tuning}
@@ -13,7 +13,7 @@ use Rattle.qs_calls.specs.declared.settings.PeerLimits.{PeerLimits}
 use Rattle.qs_calls.specs.declared.settings.SetupFault.TheVariants.{OutOfRange, TooManyStreams}
 use Rattle.qs_calls.specs.Settings.{are_in_wide_range, are_spellable, are_countable, wide_setup_fault, default_tuning}
 use Rattle.qs_machine.specs.Tables.{Tables, no_streams, lookup, updated, open_to}
-use Rattle.qs_machine.specs.Ends.{End, new_end, end_unless, window_by}
+use Rattle.qs_machine.specs.Ends.{End, Present, first_present, new_end, end_unless, window_by}
 use Rattle.qs_machine.specs.Standing.{KeepsCredit}
 use Rattle.qs_machine.specs.Outgoing.{Outgoing, no_packets, sent_sum}
 use Rattle.qs_conn.specs.declared.by_dir.ByDir.{ByDir}
@@ -24,7 +24,7 @@ use Rattle.qs_conn.proofs.Runs.{idle_new}
 use Rattle.qs_conn.specs.Untold.{TellsAt, SendTells}
 use Rattle.qs_conn.proofs.Untolds.{told_none}
 use Rattle.qs_machine.proofs.Sound.{keeps_open}
-use Rattle.qs_machine.proofs.CallsSound.{sound_read, sound_stop}
+use Rattle.qs_machine.proofs.CallsSound.{sound_read, sound_stop, sound_forget}
 use Rattle.qs_machine.proofs.Bounds.{new_ends_sound}
 
 record AllTrue (a b c : Bool) : Type 0 where
@@ -46,6 +46,9 @@ pub kept_new : (role : Role) (s : Settings) (tuned : Tuning) (p : PeerLimits) (w
         role = role;
         settings = s;
         tuning = tuned;
+        conn_window = s.conn_window;
+        widest = s.conn_window;
+        grants = record { bidi = s.grant_bidi; uni = s.grant_uni };
         granted = s.conn_window;
         known_data = p.max_data;
         granted_streams = record { bidi = s.grant_bidi; uni = s.grant_uni };
@@ -69,7 +72,7 @@ kept_new role s tuned p wanted o recvs ins outs done is empty none no_numbers =
     record {
       rest = record {
         core = record {
-          sound = subst (λ (t : Tables RecvLane). KeepsCredit role s t s.conn_window) (sym none) (new_ends_sound role s tuned p (new_end role s tuned p) (ap (λ o. end_unless o (new_end role s tuned p)) is)).0;
+          sound = subst (λ (t : Tables RecvLane). KeepsCredit role s (first_present s) t s.conn_window) (sym none) (new_ends_sound role s tuned p (new_end role s tuned p) (ap (λ o. end_unless o (new_end role s tuned p)) is)).0;
           fits = record {
             granted = grind (arith, nat_tests, in_range);
             granted_bidi = grind (arith, nat_tests, in_range);
@@ -95,16 +98,19 @@ kept_new role s tuned p wanted o recvs ins outs done is empty none no_numbers =
 -- The peer stays within its credit
 
 -- an end with these receiving halves
-abbrev end_with : Role → Settings → Tables RecvLane → ℕ → End
-end_with role s recvs g = record (new_end role s default_tuning (record { max_data = 0; bidi_local = 0; bidi_remote = 0; uni = 0; streams_bidi = 0; streams_uni = 0 })) { recvs = recvs; granted = g }
+abbrev pub end_with : Role → Settings → Present → Tables RecvLane → ℕ → End
+end_with role s p recvs g = record (new_end role s default_tuning (record { max_data = 0; bidi_local = 0; bidi_remote = 0; uni = 0; streams_bidi = 0; streams_uni = 0 })) { present = p; recvs = recvs; granted = g }
 
-pub sound_after_read : (role : Role) (s : Settings) (recvs now : Tables RecvLane) (g n size : ℕ) → KeepsCredit role s recvs g → now ≡ updated recvs n (λ l. after_read l size) (lookup recvs n) → KeepsCredit role s now g
-sound_after_read role s recvs now g n size k after = subst (λ (t : Tables RecvLane). KeepsCredit role s t g) (sym after) (sound_read n size (end_with role s recvs g) k)
+pub sound_after_read : (role : Role) (s : Settings) (p : Present) (recvs now : Tables RecvLane) (g n size : ℕ) → KeepsCredit role s p recvs g → now ≡ updated recvs n (λ l. after_read l size) (lookup recvs n) → KeepsCredit role s p now g
+sound_after_read role s p recvs now g n size k after = subst (λ (t : Tables RecvLane). KeepsCredit role s p t g) (sym after) (sound_read n size (end_with role s p recvs g) k)
 
-pub sound_after_stop : (role : Role) (s : Settings) (recvs now : Tables RecvLane) (g n code : ℕ) → KeepsCredit role s recvs g → now ≡ updated recvs n (λ l. stop l code) (lookup recvs n) → KeepsCredit role s now g
-sound_after_stop role s recvs now g n code k after = subst (λ (t : Tables RecvLane). KeepsCredit role s t g) (sym after) (sound_stop n code (end_with role s recvs g) k)
+pub sound_after_stop : (role : Role) (s : Settings) (p : Present) (recvs now : Tables RecvLane) (g n code : ℕ) → KeepsCredit role s p recvs g → now ≡ updated recvs n (λ l. stop l code) (lookup recvs n) → KeepsCredit role s p now g
+sound_after_stop role s p recvs now g n code k after = subst (λ (t : Tables RecvLane). KeepsCredit role s p t g) (sym after) (sound_stop n code (end_with role s p recvs g) k)
+
+pub sound_after_forget : (role : Role) (s : Settings) (p : Present) (recvs now : Tables RecvLane) (g n code : ℕ) → KeepsCredit role s p recvs g → now ≡ updated recvs n (λ l. stop_and_forget l code) (lookup recvs n) → KeepsCredit role s p now g
+sound_after_forget role s p recvs now g n code k after = subst (λ (t : Tables RecvLane). KeepsCredit role s p t g) (sym after) (sound_forget n code (end_with role s p recvs g) k)
 
 -- a stream was opened, or wasn't
-pub sound_opened : (role : Role) (s : Settings) (recvs now : Tables RecvLane) (g n w : ℕ) (share : Share) (absent : Bool) → KeepsCredit role s recvs g → w ≡ window_by role s n → now ≡ cond absent recvs (open_to recvs n (λ m. new_lane w share)) → KeepsCredit role s now g
-sound_opened role s recvs now g n w share true k window is = subst (λ (t : Tables RecvLane). KeepsCredit role s t g) (sym is) k
-sound_opened role s recvs now g n w share false k window is = subst (λ (t : Tables RecvLane). KeepsCredit role s t g) (sym (is ∙ ap (λ v. open_to recvs n (λ m. new_lane v share)) window)) (keeps_open role s recvs g k n share)
+pub sound_opened : (role : Role) (s : Settings) (p : Present) (recvs now : Tables RecvLane) (g n w : ℕ) (share : Share) (absent : Bool) → KeepsCredit role s p recvs g → w ≡ window_by role s n → now ≡ cond absent recvs (open_to recvs n (λ m. new_lane w share)) → KeepsCredit role s p now g
+sound_opened role s p recvs now g n w share true k window is = subst (λ (t : Tables RecvLane). KeepsCredit role s p t g) (sym is) k
+sound_opened role s p recvs now g n w share false k window is = subst (λ (t : Tables RecvLane). KeepsCredit role s p t g) (sym (is ∙ ap (λ v. open_to recvs n (λ m. new_lane v share)) window)) (keeps_open role s p recvs g k n share)

@@ -15,6 +15,8 @@ pub mod Flows
 pub mod Funded
 pub mod Items
 pub mod Kept
+pub mod LastStreams
+pub mod NewSettings
 pub mod LaneEdits
 pub mod MadePackets
 pub mod Halves

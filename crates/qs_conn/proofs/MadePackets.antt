@@ -8,9 +8,7 @@ use Rattle.std.specs.List.{AllByRecursion}
 use Rattle.std.specs.FinMap as fmap
 use Rattle.qs_wire.specs.LastStream.{last_stream_of}
 use Rattle.qs_wire.specs.Layout.{FrameValue, ack}
-use Rattle.qs_wire.specs.Grammar.{Fits, canonical_all, frames_of}
-use Rattle.qs_wire.specs.Reading.{reading_of}
-use Rattle.qs_wire.proofs.PayloadLaws.{canonical_payload, payload_again}
+use Rattle.qs_wire.specs.Grammar.{canonical_all}
 use Rattle.qs_ranges.specs.Numbers.{MAX_VARINT}
 use Rattle.qs_send.specs.declared.piece.Piece.{Piece}
 use Rattle.qs_calls.specs.declared.filling.Fill.{Fill}
@@ -31,7 +29,8 @@ use Rattle.qs_machine.specs.InOrder.{AreInOrder, NothingStarves, NoItemStarves}
 use Rattle.qs_machine.specs.Outgoing.{Outgoing}
 use Rattle.qs_conn.specs.declared.middle.Core.{Core}
 use Rattle.qs_conn.specs.Middle.{end_of}
-use Rattle.qs_conn.specs.Filling.{InPacket, end_by, Packed, IsWished, HasWished, IsAckLeft}
+use Rattle.qs_conn.specs.Filling.{InPacket, pieces_at, last_data, end_by, Packed, IsWished, HasWished, IsAckLeft}
+use Rattle.qs_conn.proofs.LastStreams.{last_filled}
 use Rattle.qs_conn.proofs.Pieces.{put_next}
 use Rattle.qs_conn.proofs.Stages.{packed_same, packed_none, packed_asks, packed_made, packed_some, goes_same}
 
@@ -55,7 +54,7 @@ fills_next old e mid [] is = ap (λ (x : End). x.next) is
 fills_next old e mid (f ∷ fs) (may, rest) = fills_next old (frame_put f e) mid fs rest ∙ put_next f e
 
 abbrev pub limits_of : End → Limits
-limits_of v = record { role = v.role; settings = v.settings; tuning = v.tuning; granted = v.granted; known_data = v.known_data; granted_streams = record { bidi = v.granted_bidi; uni = v.granted_uni }; known_streams = record { bidi = v.known_bidi; uni = v.known_uni }; wanted_streams = record { bidi = v.wanted_bidi; uni = v.wanted_uni } }
+limits_of v = record { role = v.role; settings = v.settings; tuning = v.tuning; conn_window = v.present.conn_window; widest = v.present.widest; grants = record { bidi = v.present.grant_bidi; uni = v.present.grant_uni }; granted = v.granted; known_data = v.known_data; granted_streams = record { bidi = v.granted_bidi; uni = v.granted_uni }; known_streams = record { bidi = v.known_bidi; uni = v.known_uni }; wanted_streams = record { bidi = v.wanted_bidi; uni = v.wanted_uni } }
 
 abbrev pub outgoing_of : ℕ → End → Outgoing
 outgoing_of spare v = record { sends = v.sends; next = v.next; outstanding = v.outstanding; lost = v.lost; acked = v.acked; spare = spare }
@@ -198,14 +197,6 @@ fill_exhausted v old want room same clear past = subst (λ e. FillStep e want ro
     is : make_refusal v ≡ Some making.Exhausted
     is = (let test : nat_le (MAX_VARINT + 1) v.next ≡ true = grind (arith, nat_tests, past) in rw (clear, test) refl)
 
--- what is filled in is read again
-read_back : (delay : ℕ) (frames : List FrameValue) (text : List ℕ) → IsText delay frames text → text ≢ [] → frames_of (reading_of text).left ≡ frames
-read_back delay frames text is some = ap (λ t. frames_of (reading_of t).left) is.canonical ∙ (payload_again frames (canonical_all frames) (canonical_payload frames (not_empty frames refl) is.fits)).0
-  where
-    not_empty : (fs : List FrameValue) → frames ≡ fs → 0 < length frames
-    not_empty [] none = absurd (some (is.canonical ∙ ap canonical_all none))
-    not_empty (f ∷ fs) there = omega (arith, ap length there)
-
 module _ (v old : End) (same : v ≡ old) (c new_c : Core) (want : Fill) (room len : ℕ) (out : List ℕ) (idle : fmap.get v.outstanding v.next ≡ None) (parts : end_of c v ≡ v)
     (fills : (x : End) (b : Bool) → end_of c x ≡ x → x.done ≡ v.done → IsAckLeft false x.ack_due b → ((p : Piece) → InPacket x p → ⊥) → Packed want.first (only_of want) room x (take len out) (end_of new_c (record x { ack_due = b }))) where
   abbrev full : Packed want.first (only_of want) room v (take len out) (end_of new_c v)
@@ -235,7 +226,7 @@ module _ (v old : End) (same : v ≡ old) (c new_c : Core) (want : Fill) (room l
     fill_order filled token asked = subst (λ e. AreInOrder e [] (pieces_so_far new filled.token.number)) same (subst (λ k. AreInOrder v [] (pieces_so_far new k)) (sym token) (in_order v c new_c (only_of want) room len out v.ack_due idle parts refl fills new o number is after settled asked))
 
     -- something went in
-    pub fill_some : (token : Token) (last_one : Option ℕ) (more : Bool) → token ≡ token_of old number → last_one ≡ last_stream_of None (frames_of (reading_of (take len out)).left) → (more ≡ true) ↔ WantedGoes want new → is_some v.closed ≡ false → v.next ≤ MAX_VARINT → 0 < len → len ≤ room → length out ≡ room
+    pub fill_some : (token : Token) (last_one : Option ℕ) (more : Bool) → token ≡ token_of old number → last_one ≡ last_data None (pieces_at new_c.outbox.outstanding new_c.outbox.next) → (more ≡ true) ↔ WantedGoes want new → is_some v.closed ≡ false → v.next ≤ MAX_VARINT → 0 < len → len ≤ room → length out ≡ room
         → FillStep old want room (Ok (Some (record { token = token; len = len; last_stream = last_one; more = more }))) (take len out) new
     fill_some token last_one more gives read goes clear le some within count =
         let text = take len out in
@@ -253,7 +244,7 @@ module _ (v old : End) (same : v ≡ old) (c new_c : Core) (want : Fill) (room l
           fits = omega (arith, inside, within);
           wanted = wanted;
           whole = λ left. (let w = (full.whole left).wanted in record { items = w.items; streams = λ n asked goes. w.streams n asked (goes_same mid (v.next + 1) n goes) });
-          last_stream = read ∙ ap (last_stream_of None) (read_back 0 full.frames text full.spells there);
+          last_stream = read ∙ last_filled v v mid full.frames full.fills ∙ ap (λ (o : Option (List Piece)). last_stream_of (last_data None (elim o [ None ↦ [] | Some qs ↦ qs ])) full.frames) idle;
           more = subst (λ e. (more ≡ true) ↔ WantedGoes want e) fill_end goes;
         } in
         subst (λ e. FillStep e want room (Ok (Some filled)) text new) same

@@ -7,7 +7,7 @@ use Rattle.std.specs.Result.{OnOk, OnErr, IfOk, IfErr}
 use Rattle.qs_send.specs.declared.parts.SendFault.{SendFault}
 use Rattle.qs_send.specs.declared.parts.SendFault.TheVariants.{NoMemory}
 use Rattle.qs_send.specs.declared.piece.Piece.{Piece}
-use Rattle.qs_send.specs.Lane.{SendLane, Sending, new_sending, new_lane, accepted, refusal, reset_refusal, answer_of, write_lane, finish_lane, after_write, after_finish, after_reset, after_stopped, after_allow}
+use Rattle.qs_send.specs.Lane.{SendLane, Sending, new_sending, new_lane, accepted, refusal, reset_refusal, answer_of, write_lane, finish_lane, after_write, after_finish, after_reset, after_stopped, after_allow, after_buffer}
 use Rattle.qs_send.specs.Sound.{IsLawful}
 use Rattle.qs_machine.specs.Tables.{Tables, table, with_table, lookup, update, updated, open_to, no_streams, total}
 use Rattle.qs_machine.specs.Ends.{Records}
@@ -18,7 +18,7 @@ use Rattle.qs_machine.specs.Outgoing.{Outgoing, with_sends, on_lane, sent_sum, l
 use Rattle.qs_machine.proofs.TablesAfter.{updated_back}
 use Rattle.qs_machine.proofs.TableLaws.{total_update, total_open}
 use Rattle.qs_machine.proofs.Carried.{some_is}
-use Rattle.qs_machine.proofs.Tied.{tied_write, tied_finish, tied_reset, tied_stopped, tied_allow, tied_flight}
+use Rattle.qs_machine.proofs.Tied.{tied_write, tied_finish, tied_reset, tied_stopped, tied_allow, tied_buffer, tied_flight}
 use Rattle.qs_machine.proofs.LaneTables.{lookup_lanes, lane_there, lanes_updated, lanes_opened, lanes_closed, update_lanes}
 use Rattle.qs_machine.proofs.Ties.{ties_none, ties_updated, ties_opened, ties_closed}
 
@@ -90,6 +90,12 @@ module _ (t t' : Tables Sending) (m : Records) (r : Bool) (ps : List Piece) (k s
       let s = or_no_sending (lookup t n) in
       let at = half_found t n there in
       box_updated n s (after_allow s limit) at (is ∙ ap (updated t n (λ s. after_allow s limit)) at) (tied_allow (with_pending m k ps) n s (h.tied.lanes n s at) limit) (λ x. x) refl
+
+  pub box_buffered : (n size : ℕ) → is_some (lookup t n) ≡ true → t' ≡ updated t n (λ s. after_buffer s size) (lookup t n) → IsOutbox t' m r ps k sent spare free
+  box_buffered n size there is =
+      let s = or_no_sending (lookup t n) in
+      let at = half_found t n there in
+      box_updated n s (after_buffer s size) at (is ∙ ap (updated t n (λ s. after_buffer s size)) at) (tied_buffer (with_pending m k ps) n s (h.tied.lanes n s at) size) (λ x. x) refl
 
   pub box_finished : (n : ℕ) (s : Sending) → lookup t n ≡ Some s → IsLawful s → t' ≡ updated t n after_finish (lookup t n) → IsOutbox t' m r ps k sent spare free
   box_finished n s at law is =

@@ -2,21 +2,23 @@
 use Rattle.std.proofs.Common.{◌≡◌, ℕ, ◌<◌, Bool, true, false, List, [], length, take, Option, Some, None, is_some, Result, Ok, Err, refl, ap, ◌∙◌, inl, inr, subst, unwrap_or, rules, sym}
 use Rattle.std.specs.Prelude.{is_none}
 use Rattle.std.proofs.lemmas.Option.{none-some}
-use Rattle.qs_recv.specs.Lane.{RecvLane, read_answer, bytes_of, bytes_read, after_answer, after_read, stop}
+use Rattle.qs_recv.specs.Lane.{RecvLane, read_answer, bytes_of, bytes_read, after_answer, after_read, stop, stop_and_forget}
+use Rattle.qs_recv.specs.Peek.{IsPeek}
+use Rattle.qs_recv.specs.declared.half.Peek.{Peek}
 use Rattle.qs_recv.specs.declared.half.Read.{Read}
 use Rattle.qs_recv.specs.declared.half.Read.TheVariants.{Wait}
-use Rattle.qs_send.specs.Lane.{SendLane, refusal, write_lane, accepted}
+use Rattle.qs_send.specs.Lane.{SendLane, refusal, write_lane}
 use Rattle.qs_recv.specs.declared.credit.Share.TheVariants.{Half}
 use Rattle.qs_send.specs.declared.parts.SendFault.{SendFault}
 use Rattle.qs_send.specs.declared.parts.SendFault.TheVariants as sends
-use Rattle.qs_calls.specs.declared.reading.Consumed.{Consumed}
 use Rattle.qs_calls.specs.declared.uses.UseFault.{UseFault}
 use Rattle.qs_calls.specs.declared.uses.UseFault.TheVariants.{Closed, NoMemory}
+use Rattle.qs_machine.specs.Asking.{IsPeeked}
 use Rattle.qs_machine.specs.Tables.{Tables, lookup, updated}
 use Rattle.qs_machine.specs.Ends.{End, send_lane, recv_lane, on_send, on_recv}
 use Rattle.qs_machine.specs.Credit.{settle}
 use Rattle.qs_machine.specs.Verdicts.{or_new}
-use Rattle.qs_machine.specs.Owner.{Certain, Uncertain, first_refusal, refuse_if, no_half, half_refusal, use_fault, send_refusal, recv_refusal, is_read_no_more, AsksToKeep, WriteStep, StopStep, ReadStep, ConsumeStep, is_end, accepted_by}
+use Rattle.qs_machine.specs.Owner.{Certain, Uncertain, first_refusal, refuse_if, no_half, half_refusal, use_fault, send_refusal, recv_refusal, is_read_no_more, AsksToKeep, WriteStep, StopStep, StopAndForgetStep, ReadStep, ConsumeStep, is_end, accepted_by}
 use Rattle.qs_machine.specs.Sums.{or_none}
 use Rattle.qs_machine.proofs.TablesAfter.{updated_back}
 use Rattle.qs_machine.proofs.Again.{changed}
@@ -100,6 +102,11 @@ pub stop_done : (e : End) (n code : ℕ) (recvs : Tables RecvLane) (new : End) �
 stop_done e n code recvs new is after settled =
     passed _ e new (Ok tt) _ (recv_refusal_is (is_some e.closed) e n ∙ is) (refl, settled ∙ ap (λ t. settle (record e { recvs = t })) after)
 
+pub forget_done : (e : End) (n code : ℕ) (recvs : Tables RecvLane) (new : End) → no_receiver (is_some e.closed) e n ≡ None → recvs ≡ updated e.recvs n (λ l. stop_and_forget l code) (recv_lane e n)
+    → new ≡ settle (record e { recvs = recvs }) → StopAndForgetStep e n code (Ok tt) new
+forget_done e n code recvs new is after settled =
+    passed _ e new (Ok tt) _ (recv_refusal_is (is_some e.closed) e n ∙ is) (refl, settled ∙ ap (λ t. settle (record e { recvs = t })) after)
+
 pub read_done : (e : End) (n size : ℕ) (answer : Read) (recvs : Tables RecvLane) (new : End) → no_receiver (is_read_no_more e) e n ≡ None → answer ≡ read_answer (or_new (recv_lane e n) 0 Half) size
     → recvs ≡ updated e.recvs n (λ l. after_read l size) (recv_lane e n) → new ≡ settle (record e { recvs = recvs })
     → ReadStep e n size (Ok answer) (bytes_read (or_new (recv_lane e n) 0 Half) size) new
@@ -150,10 +157,21 @@ pub stop_ok : (e now : End) (n code : ℕ) (recvs : Tables RecvLane) (new : End)
 stop_ok e now n code recvs new is none after settled =
     subst (λ (k : End). StopStep k n code (Ok tt) new) is (stop_done e n code recvs new (ap (λ k. no_receiver (is_some k.closed) k n) is ∙ none) after settled)
 
+pub forget_ok : (e now : End) (n code : ℕ) (recvs : Tables RecvLane) (new : End) → e ≡ now → no_receiver (is_some now.closed) now n ≡ None → recvs ≡ updated e.recvs n (λ l. stop_and_forget l code) (recv_lane e n)
+    → new ≡ settle (record e { recvs = recvs }) → StopAndForgetStep now n code (Ok tt) new
+forget_ok e now n code recvs new is none after settled =
+    subst (λ (k : End). StopAndForgetStep k n code (Ok tt) new) is (forget_done e n code recvs new (ap (λ k. no_receiver (is_some k.closed) k n) is ∙ none) after settled)
+
 -- Bytes that are taken without a copy
 
 pub consume_refused : (e : End) (n most : ℕ) (fault : UseFault) → Some fault ≡ no_receiver (is_read_no_more e) e n → ConsumeStep e n most (Err fault) e
 consume_refused e n most fault is = rw (recv_refusal_is (is_read_no_more e) e n ∙ sym is) (refl, refl)
+
+pub peek_refused : (e : End) (n : ℕ) (fault : UseFault) → Some fault ≡ no_receiver (is_read_no_more e) e n → IsPeeked e n (Err fault)
+peek_refused e n fault is = recv_refusal_is (is_read_no_more e) e n ∙ sym is
+
+pub peek_ok : (e : End) (n : ℕ) (peek : Peek) → no_receiver (is_read_no_more e) e n ≡ None → IsPeek (or_new (lookup e.recvs n) 0 Half) peek → IsPeeked e n (Ok peek)
+peek_ok e n peek none is = (recv_refusal_is (is_read_no_more e) e n ∙ none, or_new (lookup e.recvs n) 0 Half, receiver_there e n none, is)
 
 pub receiver_open : (e : End) (n : ℕ) → no_receiver (is_read_no_more e) e n ≡ None → is_some (lookup e.recvs n) ≡ true
 receiver_open e n none = ap is_some (receiver_there e n none)

@@ -1,8 +1,8 @@
--- How many bytes halves promise: one half changes, some open, some leave.
+-- How many bytes halves promise and keep: one half changes, some open, some leave.
 use Rattle.std.proofs.Common.{◌≡◌, ℕ, zero, suc, ◌+◌, ◌-◌, ◌*◌, ◌%◌, ◌^◌, ◌<◌, ◌≤◌, Bool, true, false, not, ◌&&◌, ◌||◌, List, [], ◌∷◌, ◌++◌, length, take, map, get_or, Option, Some, None, is_some, Result, Ok, Err, cond, unwrap_or, refl, sym, ap, ◌∙◌, subst, arith}
 use Rattle.std.specs.Result.{OnOk, OnErr, IfOk, IfErr, result_unwrap_or}
 use Rattle.std.specs.List.{sum_by}
-use Rattle.std.proofs.lemmas.List.{length-take}
+use Rattle.std.proofs.lemmas.List.{length-take, length-append}
 use Rattle.std.proofs.lemmas.List.Sums.{sum_by-cons, sum_by-append, sum_by-set, get_or-le-sum_by}
 use Rattle.std.proofs.Math.ListN.{set}
 use Rattle.qs_ranges.specs.Numbers.{MAX_VARINT}
@@ -17,6 +17,7 @@ use Rattle.qs_send.specs.Sound.{IsLawful}
 use Rattle.qs_send.proofs.Steps.{due_within, none_due}
 use Rattle.qs_machine.specs.Tables.{Tables, table, with_table, open_to, total}
 use Rattle.qs_machine.specs.Ends.{End, is_own, is_uni, first_send_limit, opened_by_peer}
+use Rattle.qs_machine.specs.Asking.{kept_on}
 use Rattle.qs_machine.specs.Credit.{unsent_on}
 use Rattle.qs_machine.specs.Sums.{tables_of}
 use Rattle.qs_machine.specs.Outgoing.{Outgoing, lanes_of, sent_sum, with_sends}
@@ -24,52 +25,88 @@ use Rattle.qs_machine.proofs.TableLaws.{total_open, total_both}
 use Rattle.qs_machine.proofs.TableEdits.{table_at, opened_closed}
 use Rattle.qs_machine.proofs.LaneTables.{lanes_closed}
 use Rattle.qs_machine.proofs.Taken.{mid_sends, sends_back}
-use Rattle.qs_conn.specs.Promised.{promised_on, ArePromised, EachSmall}
+use Rattle.qs_conn.specs.Promised.{promised_on, EachSmall, IsSumOf, AreSums}
 use Rattle.qs_conn.proofs.Helds.{total_lanes}
 
 abbrev pub promised_of : Sending → ℕ
 promised_of s = promised_on s.lane
 
--- One half among all
+abbrev pub kept_of : Sending → ℕ
+kept_of s = kept_on s.lane
 
-small_set : (xs : List Sending) (i : ℕ) (y : Sending) → promised_of y ≤ MAX_VARINT → EachSmall xs → EachSmall (set xs i y)
-small_set [] i y small each = tt
-small_set (x ∷ xs) zero y small each = (small, each.1)
-small_set (x ∷ xs) (suc i) y small each = (each.0, small_set xs i y small each.1)
+-- One half among all, whatever is counted of each
 
-small_at : (xs : List Sending) (i : ℕ) (d : Sending) → i < length xs → EachSmall xs → promised_of (get_or xs i d) ≤ MAX_VARINT
-small_at [] i d there each = absurd (omega (arith, there))
-small_at (x ∷ xs) zero d there each = each.0
-small_at (x ∷ xs) (suc i) d there each = small_at xs i d (omega (arith, there)) each.1
+module _ (f : Sending → ℕ) where
+  small_set : (xs : List Sending) (i : ℕ) (y : Sending) → f y ≤ MAX_VARINT → EachSmall f xs → EachSmall f (set xs i y)
+  small_set [] i y small each = tt
+  small_set (x ∷ xs) zero y small each = (small, each.1)
+  small_set (x ∷ xs) (suc i) y small each = (each.0, small_set xs i y small each.1)
 
-sum_small : (xs : List Sending) → EachSmall xs → sum_by promised_of xs ≤ length xs * MAX_VARINT
-sum_small [] each = omega arith
-sum_small (x ∷ xs) each = omega (arith, sum_by-cons promised_of x xs, each.0, sum_small xs each.1)
+  small_at : (xs : List Sending) (i : ℕ) (d : Sending) → i < length xs → EachSmall f xs → f (get_or xs i d) ≤ MAX_VARINT
+  small_at [] i d there each = absurd (omega (arith, there))
+  small_at (x ∷ xs) zero d there each = each.0
+  small_at (x ∷ xs) (suc i) d there each = small_at xs i d (omega (arith, there)) each.1
 
--- the sum has few digits
-pub promised_few : (xs : List Sending) (n : ℕ) → length xs ≤ 2 ^ 60 → ArePromised xs n → n ≤ 2 ^ 122
-promised_few xs n few h = omega (arith, few, h.is, sum_small xs h.small)
+  sum_small : (xs : List Sending) → EachSmall f xs → sum_by f xs ≤ length xs * MAX_VARINT
+  sum_small [] each = omega arith
+  sum_small (x ∷ xs) each = omega (arith, sum_by-cons f x xs, each.0, sum_small xs each.1)
 
--- one half's part
-pub promised_part : (xs : List Sending) (n i : ℕ) (x : Sending) → i < length xs → x ≡ get_or xs i x → ArePromised xs n → promised_of x ≤ n
-promised_part xs n i x there at h =
-    let le = get_or-le-sum_by promised_of xs i x there in
-    let e : promised_of (get_or xs i x) ≡ promised_of x = ap promised_of (sym at) in
-    omega (arith, le, e, h.is)
+  -- the sum has few digits
+  pub sum_few : (xs : List Sending) (n : ℕ) → length xs ≤ 2 ^ 60 → IsSumOf f xs n → n ≤ 2 ^ 122
+  sum_few xs n few h = omega (arith, few, h.is, sum_small xs h.small)
 
-pub promised_set : (xs : List Sending) (n now i : ℕ) (x y : Sending) → i < length xs → x ≡ get_or xs i x → promised_of y ≤ MAX_VARINT → now + promised_of x ≡ n + promised_of y → ArePromised xs n → ArePromised (set xs i y) now
-promised_set xs n now i x y there at small moved h =
-    let whole = sum_by-set promised_of xs i y x there in
-    let e : promised_of (get_or xs i x) ≡ promised_of x = ap promised_of (sym at) in
-    record { is = omega (arith, whole, e, h.is, moved); small = small_set xs i y small h.small }
+  -- one half's part
+  pub sum_part : (xs : List Sending) (n i : ℕ) (x : Sending) → i < length xs → x ≡ get_or xs i x → IsSumOf f xs n → f x ≤ n
+  sum_part xs n i x there at h =
+      let le = get_or-le-sum_by f xs i x there in
+      let e : f (get_or xs i x) ≡ f x = ap f (sym at) in
+      omega (arith, le, e, h.is)
 
--- a change that promises neither more nor less
-pub promised_same : (xs : List Sending) (n i : ℕ) (x y : Sending) → i < length xs → x ≡ get_or xs i x → promised_of y ≡ promised_of x → ArePromised xs n → ArePromised (set xs i y) n
-promised_same xs n i x y there at same h =
-    let e : promised_of (get_or xs i x) ≡ promised_of x = ap promised_of (sym at) in
-    promised_set xs n n i x y there at (omega (arith, same, e, small_at xs i x there h.small)) (omega (arith, same)) h
+  pub sum_set : (xs : List Sending) (n now i : ℕ) (x y : Sending) → i < length xs → x ≡ get_or xs i x → f y ≤ MAX_VARINT → now + f x ≡ n + f y → IsSumOf f xs n → IsSumOf f (set xs i y) now
+  sum_set xs n now i x y there at small moved h =
+      let whole = sum_by-set f xs i y x there in
+      let e : f (get_or xs i x) ≡ f x = ap f (sym at) in
+      record { is = omega (arith, whole, e, h.is, moved); small = small_set xs i y small h.small }
+
+  -- a change that counts neither more nor less
+  pub sum_same : (xs : List Sending) (n i : ℕ) (x y : Sending) → i < length xs → x ≡ get_or xs i x → f y ≡ f x → IsSumOf f xs n → IsSumOf f (set xs i y) n
+  sum_same xs n i x y there at same h =
+      let e : f (get_or xs i x) ≡ f x = ap f (sym at) in
+      sum_set xs n n i x y there at (omega (arith, same, e, small_at xs i x there h.small)) (omega (arith, same)) h
+
+  -- a half that may have changed in any way is counted anew
+  pub sum_moved : (xs : List Sending) (n i before after : ℕ) (s y : Sending) → i < length xs → s ≡ get_or xs i s → before ≡ f s → after ≡ f y → after ≤ MAX_VARINT → IsSumOf f xs n → IsSumOf f (set xs i y) (n - before + after)
+  sum_moved xs n i before after s y there at was is small h =
+      let part = sum_part xs n i s there at h in
+      sum_set xs n (n - before + after) i s y there at (omega (arith, is, small)) (omega (arith, part, was, is)) h
+
+-- a change that neither promises nor keeps more or less
+pub sums_same : (xs : List Sending) (n k i : ℕ) (x y : Sending) → i < length xs → x ≡ get_or xs i x → promised_of y ≡ promised_of x → kept_of y ≡ kept_of x → AreSums xs n k → AreSums (set xs i y) n k
+sums_same xs n k i x y there at promised kept h =
+    record { promised = sum_same promised_of xs n i x y there at promised h.promised; kept = sum_same kept_of xs k i x y there at kept h.kept }
+
+-- one that may do both
+pub sums_moved : (xs : List Sending) (n k i before after had has : ℕ) (s y : Sending) → i < length xs → s ≡ get_or xs i s → before ≡ promised_on s.lane → after ≡ promised_on y.lane → after ≤ MAX_VARINT → had ≡ kept_on s.lane → has ≡ kept_on y.lane → has ≤ MAX_VARINT
+    → AreSums xs n k → AreSums (set xs i y) (n - before + after) (k - had + has)
+sums_moved xs n k i before after had has s y there at was is small kept_was kept_is kept_small h =
+    record { promised = sum_moved promised_of xs n i before after s y there at was is small h.promised; kept = sum_moved kept_of xs k i had has s y there at kept_was kept_is kept_small h.kept }
 
 -- The changes of a half
+
+pub finish_keeps : (s y : Sending) → y ≡ after_finish s → kept_of y ≡ kept_of s
+finish_keeps s y is = ap kept_of is ∙ go (is_some (refusal s.lane))
+  where
+    go : (b : Bool) → kept_of (cond b s (record { lane = finish_lane s.lane; due = record { offsets = s.due.offsets; fin = true } })) ≡ kept_of s
+    go true = refl
+    go false = refl
+
+pub lost_keeps : {E : Type 0} (r : Result (Unit {0}) E) (s y : Sending) (c : Chunk) → OnOk r (y ≡ after_lost s c) → OnErr r (y ≡ s) → kept_of y ≡ kept_of s
+lost_keeps (Ok a) s y c ok err = ap kept_of ok ∙ go (is_some s.lane.was_reset)
+  where
+    go : (b : Bool) → kept_of (cond b s (record s { due = lost_due s.lane s.due c })) ≡ kept_of s
+    go true = refl
+    go false = refl
+lost_keeps (Err e) s y c ok err = ap kept_of err
 
 pub finish_promises : (s y : Sending) → y ≡ after_finish s → promised_of y ≡ promised_of s
 finish_promises s y is = ap promised_of is ∙ go (is_some (refusal s.lane))
@@ -116,12 +153,12 @@ pub wrote_few : (r : Result ℕ SendFault) (s y : Sending) (bytes : List ℕ) (k
 wrote_few (Ok j) s y bytes k is ok = omega (arith, is, ok.1)
 wrote_few (Err f) s y bytes k is ok = omega (arith, is)
 
-pub promised_wrote : (r : Result ℕ SendFault) (xs : List Sending) (n i : ℕ) (s y : Sending) (bytes : List ℕ) (k : ℕ) → i < length xs → s ≡ get_or xs i s → IsLawful s → k ≡ result_unwrap_or r 0
+promised_wrote : (r : Result ℕ SendFault) (xs : List Sending) (n i : ℕ) (s y : Sending) (bytes : List ℕ) (k : ℕ) → i < length xs → s ≡ get_or xs i s → IsLawful s → k ≡ result_unwrap_or r 0
     → IfOk r (λ j. (refusal s.lane ≡ None) × (j ≡ accepted s.lane (length bytes)) × (y ≡ after_write s (take j bytes)))
-    → IfErr r (λ f. (y ≡ s) × (f ≡ unwrap_or (refusal s.lane) NoMemory)) → ArePromised xs n → ArePromised (set xs i y) (n + k)
+    → IfErr r (λ f. (y ≡ s) × (f ≡ unwrap_or (refusal s.lane) NoMemory)) → IsSumOf promised_of xs n → IsSumOf promised_of (set xs i y) (n + k)
 promised_wrote (Err f) xs n i s y bytes k there at law is ok err h =
     let same : n ≡ n + k = omega (arith, is) in
-    subst (λ m. ArePromised (set xs i y) m) same (promised_same xs n i s y there at (ap promised_of err.0) h)
+    subst (λ m. IsSumOf promised_of (set xs i y) m) same (sum_same promised_of xs n i s y there at (ap promised_of err.0) h)
 promised_wrote (Ok j) xs n i s y bytes k there at law is ok err h =
     let free : is_some s.lane.was_reset ≡ false = open_half s.lane.was_reset s.lane.finished ok.0 in
     let low = law.order.sent_written in
@@ -130,44 +167,68 @@ promised_wrote (Ok j) xs n i s y bytes k there at law is ok err h =
     let few = ok.1 in
     let part : promised_of y ≡ promised_of s + length (take j bytes) = ap promised_of ok.2 ∙ more_written (is_some s.lane.was_reset) s.lane.written s.lane.sent_end (length (take j bytes)) free low in
     let whole : promised_of s ≡ s.lane.written = all_written (is_some s.lane.was_reset) s.lane.written s.lane.sent_end free low in
-    promised_set xs n (n + k) i s y there at (omega (arith, part, whole, small, len, few)) (omega (arith, part, len, few, is)) h
+    sum_set promised_of xs n (n + k) i s y there at (omega (arith, part, whole, small, len, few)) (omega (arith, part, len, few, is)) h
 
--- a half that may be reset is counted anew
-pub promised_moved : (xs : List Sending) (n i before after : ℕ) (s y : Sending) → i < length xs → s ≡ get_or xs i s → before ≡ promised_on s.lane → after ≡ promised_on y.lane → after ≤ MAX_VARINT → ArePromised xs n → ArePromised (set xs i y) (n - before + after)
-promised_moved xs n i before after s y there at was is small h =
-    let part = promised_part xs n i s there at h in
-    promised_set xs n (n - before + after) i s y there at (omega (arith, is, small)) (omega (arith, part, was, is)) h
+kept_wrote : (r : Result ℕ SendFault) (xs : List Sending) (n i : ℕ) (s y : Sending) (bytes : List ℕ) (k : ℕ) → i < length xs → s ≡ get_or xs i s → IsLawful s → k ≡ result_unwrap_or r 0
+    → IfOk r (λ j. (refusal s.lane ≡ None) × (j ≡ accepted s.lane (length bytes)) × (y ≡ after_write s (take j bytes)))
+    → IfErr r (λ f. (y ≡ s) × (f ≡ unwrap_or (refusal s.lane) NoMemory)) → IsSumOf kept_of xs n → IsSumOf kept_of (set xs i y) (n + k)
+kept_wrote (Err f) xs n i s y bytes k there at law is ok err h =
+    let same : n ≡ n + k = omega (arith, is) in
+    subst (λ m. IsSumOf kept_of (set xs i y) m) same (sum_same kept_of xs n i s y there at (ap kept_of err.0) h)
+kept_wrote (Ok j) xs n i s y bytes k there at law is ok err h =
+    let free : is_some s.lane.was_reset ≡ false = open_half s.lane.was_reset s.lane.finished ok.0 in
+    let from = law.bytes.from free in
+    let small = law.order.small in
+    let len = length-take j bytes in
+    let few = ok.1 in
+    let part : kept_of y ≡ kept_of s + length (take j bytes) = ap kept_of ok.2 ∙ length-append s.lane.kept (take j bytes) in
+    sum_set kept_of xs n (n + k) i s y there at (omega (arith, part, from, small, len, few)) (omega (arith, part, len, few, is)) h
+
+pub sums_wrote : (r : Result ℕ SendFault) (xs : List Sending) (n m i : ℕ) (s y : Sending) (bytes : List ℕ) (k : ℕ) → i < length xs → s ≡ get_or xs i s → IsLawful s → k ≡ result_unwrap_or r 0
+    → IfOk r (λ j. (refusal s.lane ≡ None) × (j ≡ accepted s.lane (length bytes)) × (y ≡ after_write s (take j bytes)))
+    → IfErr r (λ f. (y ≡ s) × (f ≡ unwrap_or (refusal s.lane) NoMemory)) → AreSums xs n m → AreSums (set xs i y) (n + k) (m + k)
+sums_wrote r xs n m i s y bytes k there at law is ok err h =
+    record { promised = promised_wrote r xs n i s y bytes k there at law is ok err h.promised; kept = kept_wrote r xs m i s y bytes k there at law is ok err h.kept }
 
 -- Some open, some leave
 
-small_take : (n : ℕ) (xs : List Sending) → EachSmall xs → EachSmall (take n xs)
-small_take zero xs each = tt
-small_take (suc n) [] each = tt
-small_take (suc n) (x ∷ xs) each = (each.0, small_take n xs each.1)
+module _ (f : Sending → ℕ) where
+  small_take : (n : ℕ) (xs : List Sending) → EachSmall f xs → EachSmall f (take n xs)
+  small_take zero xs each = tt
+  small_take (suc n) [] each = tt
+  small_take (suc n) (x ∷ xs) each = (each.0, small_take n xs each.1)
 
-pub promised_taken : (xs now : List Sending) (n count : ℕ) → now ≡ take count xs → sum_by promised_of (take count xs) ≡ sum_by promised_of xs → ArePromised xs n → ArePromised now n
-promised_taken xs now n count is same h = subst (λ l. ArePromised l n) (sym is) (record { is = h.is ∙ sym same; small = small_take count xs h.small })
+  sum_taken : (xs now : List Sending) (n count : ℕ) → now ≡ take count xs → sum_by f (take count xs) ≡ sum_by f xs → IsSumOf f xs n → IsSumOf f now n
+  sum_taken xs now n count is same h = subst (λ l. IsSumOf f l n) (sym is) (record { is = h.is ∙ sym same; small = small_take count xs h.small })
 
-small_append : (xs ys : List Sending) → EachSmall xs → EachSmall ys → EachSmall (xs ++ ys)
-small_append [] ys a b = b
-small_append (x ∷ xs) ys a b = (a.0, small_append xs ys a.1 b)
+  small_append : (xs ys : List Sending) → EachSmall f xs → EachSmall f ys → EachSmall f (xs ++ ys)
+  small_append [] ys a b = b
+  small_append (x ∷ xs) ys a b = (a.0, small_append xs ys a.1 b)
 
-module _ (kind limit buffer : ℕ) where
-  small_begun : (ks : List ℕ) → EachSmall (map (λ (i : ℕ). new_sending (i * 4 + kind) limit buffer) ks)
+pub sums_taken : (xs now : List Sending) (n k count : ℕ) → now ≡ take count xs → sum_by promised_of (take count xs) ≡ sum_by promised_of xs → sum_by kept_of (take count xs) ≡ sum_by kept_of xs → AreSums xs n k → AreSums now n k
+sums_taken xs now n k count is promised kept h =
+    record { promised = sum_taken promised_of xs now n count is promised h.promised; kept = sum_taken kept_of xs now k count is kept h.kept }
+
+module _ (f : Sending → ℕ) (kind limit buffer : ℕ) (none : (i : ℕ) → f (new_sending i limit buffer) ≡ 0) where
+  small_begun : (ks : List ℕ) → EachSmall f (map (λ (i : ℕ). new_sending (i * 4 + kind) limit buffer) ks)
   small_begun [] = tt
-  small_begun (k ∷ ks) = (omega arith, small_begun ks)
+  small_begun (k ∷ ks) = (omega (arith, none (k * 4 + kind)), small_begun ks)
 
-  sum_begun : (ks : List ℕ) → sum_by promised_of (map (λ (i : ℕ). new_sending (i * 4 + kind) limit buffer) ks) ≡ 0
+  sum_begun : (ks : List ℕ) → sum_by f (map (λ (i : ℕ). new_sending (i * 4 + kind) limit buffer) ks) ≡ 0
   sum_begun [] = refl
-  sum_begun (k ∷ ks) = omega (arith, sum_by-cons promised_of (new_sending (k * 4 + kind) limit buffer) (map (λ (i : ℕ). new_sending (i * 4 + kind) limit buffer) ks), sum_begun ks)
+  sum_begun (k ∷ ks) = omega (arith, sum_by-cons f (new_sending (k * 4 + kind) limit buffer) (map (λ (i : ℕ). new_sending (i * 4 + kind) limit buffer) ks), sum_begun ks, none (k * 4 + kind))
 
-  pub promised_opened : (xs now : List Sending) (n : ℕ) (ks : List ℕ) → now ≡ xs ++ map (λ (i : ℕ). new_sending (i * 4 + kind) limit buffer) ks → ArePromised xs n → ArePromised now n
-  promised_opened xs now n ks is h =
-      subst (λ l. ArePromised l n) (sym is)
+  sum_opened : (xs now : List Sending) (n : ℕ) (ks : List ℕ) → now ≡ xs ++ map (λ (i : ℕ). new_sending (i * 4 + kind) limit buffer) ks → IsSumOf f xs n → IsSumOf f now n
+  sum_opened xs now n ks is h =
+      subst (λ l. IsSumOf f l n) (sym is)
       (record {
-        is = omega (arith, h.is, sum_by-append promised_of xs (map (λ (i : ℕ). new_sending (i * 4 + kind) limit buffer) ks), sum_begun ks);
-        small = small_append xs _ h.small (small_begun ks);
+        is = omega (arith, h.is, sum_by-append f xs (map (λ (i : ℕ). new_sending (i * 4 + kind) limit buffer) ks), sum_begun ks);
+        small = small_append f xs _ h.small (small_begun ks);
       })
+
+pub sums_opened : (kind limit buffer : ℕ) (xs now : List Sending) (n k : ℕ) (ks : List ℕ) → now ≡ xs ++ map (λ (i : ℕ). new_sending (i * 4 + kind) limit buffer) ks → AreSums xs n k → AreSums now n k
+sums_opened kind limit buffer xs now n k ks is h =
+    record { promised = sum_opened promised_of kind limit buffer (λ i. refl) xs now n ks is h.promised; kept = sum_opened kept_of kind limit buffer (λ i. refl) xs now k ks is h.kept }
 
 -- what is promised was sent, or waits to be
 pub promised_parts : (t : Tables SendLane) → total promised_on t ≡ total unsent_on t + sent_sum t
@@ -182,31 +243,33 @@ total_with f t (suc zero) ys = omega arith
 total_with f t (suc (suc zero)) ys = omega arith
 total_with f t (suc (suc (suc k))) ys = omega arith
 
-pub closes_none : (ls : List (List Sending)) (n k count : ℕ) (d : List Sending) → length ls ≡ 4 → k ≡ n % 4
-    → total promised_on (with_table (lanes_of (tables_of ls)) (n % 4) (take count (table (lanes_of (tables_of ls)) (n % 4)))) ≡ total promised_on (lanes_of (tables_of ls))
-    → sum_by promised_of (take count (get_or ls k d)) ≡ sum_by promised_of (get_or ls k d)
-closes_none ls n k count d len kind same =
-    let t = tables_of ls in
-    let xs = table t (n % 4) in
-    let halves : total promised_on (lanes_of (with_table t (n % 4) (take count xs))) ≡ total promised_of (with_table t (n % 4) (take count xs)) = total_lanes promised_on (with_table t (n % 4) (take count xs)) in
-    let cut = ap (total promised_on) (lanes_closed t (n % 4) count) in
-    let all : total promised_on (lanes_of t) ≡ total promised_of t = total_lanes promised_on t in
-    let whole = total_with promised_of t (n % 4) (take count xs) in
-    let e : sum_by promised_of (take count xs) ≡ sum_by promised_of xs = omega (arith, halves, cut, all, whole, same) in
-    let at : table t (n % 4) ≡ get_or ls k d = table_at ls (n % 4) d len (omega arith) ∙ ap (λ j. get_or ls j d) (sym kind) in
-    subst (λ (l : List Sending). sum_by promised_of (take count l) ≡ sum_by promised_of l) at e
+module _ (f : SendLane → ℕ) where
+  pub closes_none : (ls : List (List Sending)) (n k count : ℕ) (d : List Sending) → length ls ≡ 4 → k ≡ n % 4
+      → total f (with_table (lanes_of (tables_of ls)) (n % 4) (take count (table (lanes_of (tables_of ls)) (n % 4)))) ≡ total f (lanes_of (tables_of ls))
+      → sum_by (λ (s : Sending). f s.lane) (take count (get_or ls k d)) ≡ sum_by (λ (s : Sending). f s.lane) (get_or ls k d)
+  closes_none ls n k count d len kind same =
+      let t = tables_of ls in
+      let xs = table t (n % 4) in
+      let halves : total f (lanes_of (with_table t (n % 4) (take count xs))) ≡ total (λ (s : Sending). f s.lane) (with_table t (n % 4) (take count xs)) = total_lanes f (with_table t (n % 4) (take count xs)) in
+      let cut = ap (total f) (lanes_closed t (n % 4) count) in
+      let all : total f (lanes_of t) ≡ total (λ (s : Sending). f s.lane) t = total_lanes f t in
+      let whole = total_with (λ (s : Sending). f s.lane) t (n % 4) (take count xs) in
+      let e : sum_by (λ (s : Sending). f s.lane) (take count xs) ≡ sum_by (λ (s : Sending). f s.lane) xs = omega (arith, halves, cut, all, whole, same) in
+      let at : table t (n % 4) ≡ get_or ls k d = table_at ls (n % 4) d len (omega arith) ∙ ap (λ j. get_or ls j d) (sym kind) in
+      subst (λ (l : List Sending). sum_by (λ (s : Sending). f s.lane) (take count l) ≡ sum_by (λ (s : Sending). f s.lane) l) at e
 
-begins_none : (t : Tables SendLane) (n limit buffer : ℕ) (b : Bool) → total promised_on (cond b t (open_to t n (λ m. new_send_lane m limit buffer))) ≡ total promised_on t
-begins_none t n limit buffer true = refl
-begins_none t n limit buffer false = total_open promised_on t n (λ m. new_send_lane m limit buffer) (λ j. refl)
+  module _ (none : (j limit buffer : ℕ) → f (new_send_lane j limit buffer) ≡ 0) where
+    begins_none : (t : Tables SendLane) (n limit buffer : ℕ) (b : Bool) → total f (cond b t (open_to t n (λ m. new_send_lane m limit buffer))) ≡ total f t
+    begins_none t n limit buffer true = refl
+    begins_none t n limit buffer false = total_open f t n (λ m. new_send_lane m limit buffer) (λ j. none j limit buffer)
 
-pub peer_unwritten : (e mid : End) (n m : ℕ) → mid ≡ opened_by_peer n e → m ≡ length (table e.sends (n % 4)) → total promised_on (with_table mid.sends (n % 4) (take m (table mid.sends (n % 4)))) ≡ total promised_on mid.sends
-peer_unwritten e mid n m is len =
-    ap (total promised_on) (sends_back e mid n m _ is len refl)
-    ∙ sym (ap (total promised_on) (mid_sends e mid n is) ∙ begins_none e.sends n (first_send_limit e n) e.settings.send_buffer (is_own e n || (is_uni n && not (is_own e n))))
+    pub peer_unwritten : (e mid : End) (n m : ℕ) → mid ≡ opened_by_peer n e → m ≡ length (table e.sends (n % 4)) → total f (with_table mid.sends (n % 4) (take m (table mid.sends (n % 4)))) ≡ total f mid.sends
+    peer_unwritten e mid n m is len =
+        ap (total f) (sends_back e mid n m _ is len refl)
+        ∙ sym (ap (total f) (mid_sends e mid n is) ∙ begins_none e.sends n (first_send_limit e n) e.settings.send_buffer (is_own e n || (is_uni n && not (is_own e n))))
 
-pub unwritten_back : (o mid : Outgoing) (n m limit buffer : ℕ) (b : Bool) → mid ≡ with_sends (cond b o.sends (open_to o.sends n (λ j. new_send_lane j limit buffer))) o → m ≡ length (table o.sends (n % 4))
-    → total promised_on (with_table mid.sends (n % 4) (take m (table mid.sends (n % 4)))) ≡ total promised_on mid.sends
-unwritten_back o mid n m limit buffer b is len =
-    let opened : mid.sends ≡ cond b o.sends (open_to o.sends n (λ j. new_send_lane j limit buffer)) = ap (λ (x : Outgoing). x.sends) is in
-    ap (total promised_on) (opened_closed o.sends n (λ j. new_send_lane j limit buffer) b mid.sends _ m opened len refl) ∙ sym (ap (total promised_on) opened ∙ begins_none o.sends n limit buffer b)
+    pub unwritten_back : (o mid : Outgoing) (n m limit buffer : ℕ) (b : Bool) → mid ≡ with_sends (cond b o.sends (open_to o.sends n (λ j. new_send_lane j limit buffer))) o → m ≡ length (table o.sends (n % 4))
+        → total f (with_table mid.sends (n % 4) (take m (table mid.sends (n % 4)))) ≡ total f mid.sends
+    unwritten_back o mid n m limit buffer b is len =
+        let opened : mid.sends ≡ cond b o.sends (open_to o.sends n (λ j. new_send_lane j limit buffer)) = ap (λ (x : Outgoing). x.sends) is in
+        ap (total f) (opened_closed o.sends n (λ j. new_send_lane j limit buffer) b mid.sends _ m opened len refl) ∙ sym (ap (total f) opened ∙ begins_none o.sends n limit buffer b)

@@ -1,5 +1,5 @@
 -- Marks of receiving halves that have an answer for their owner.
-use Rattle.std.proofs.Common.{◌≡◌, ℕ, ◌-◌, ◌≤◌, ◌<◌, ◌^◌, Bool, true, false, not, ◌&&◌, List, [], ◌∷◌, ◌++◌, length, map, take, replicate, Option, None, Some, is_some, refl, sym, ap, ◌∙◌, subst}
+use Rattle.std.proofs.Common.{◌≡◌, ℕ, ◌-◌, ◌≤◌, ◌<◌, ◌^◌, Bool, true, false, not, cond, ◌&&◌, ◌||◌, ◌⊎◌, inl, inr, List, [], ◌∷◌, ◌++◌, length, map, take, replicate, Option, None, Some, is_some, refl, sym, ap, ◌∙◌, subst}
 use Rattle.std.proofs.lemmas.Bool.{true≢false, both_ways}
 use Rattle.std.specs.List.{range_with_len}
 use Rattle.std.specs.Prelude.{if◌then◌else◌, slice_set, slice_index_or}
@@ -7,6 +7,7 @@ use Rattle.std.specs.FinSet as set
 use Rattle.std.specs.Ordering.{nat_cmp}
 use Rattle.std.proofs.Math.ListN as list
 use Rattle.qs_recv.specs.Lane.{RecvLane, new_lane, raise, answer_by, read_answer, is_whole, at_final_size}
+use Rattle.qs_recv.specs.Assembled.{front_of}
 use Rattle.qs_recv.specs.declared.half.Read.TheVariants.{Bytes, End, Wait}
 use Rattle.qs_recv.specs.News.{tells_something}
 use Rattle.qs_recv.specs.declared.credit.Share.{Share}
@@ -43,11 +44,19 @@ waits_by : (o : Option ℕ) (l : RecvLane) (size : ℕ) → tells_something (ans
 waits_by (Some code) l size h = absurd (true≢false h)
 waits_by None l size h = waits_open (is_some l.stop_code) (is_whole l) (at_final_size l.arrived.read_count l.final_size) (set.contains l.arrived.received l.arrived.read_count) _ _ h
 
-pub waits : (l : RecvLane) (size : ℕ) → (l.told ≡ true → recv_ended l ≡ true) → ((t : RecvTask) → HasNone t l) → read_answer l size ≡ Wait
+-- one that was stopped, and hasn't come to its end
+waits_off : (o : Option ℕ) (l : RecvLane) (size : ℕ) → is_some l.stop_code ≡ true → (is_some o || is_whole l) ≡ false → answer_by o l size ≡ Wait
+waits_off (Some code) l size off h = absurd (true≢false h)
+waits_off None l size off h = ap (λ b. cond b (cond (is_whole l) End Wait) (cond (at_final_size l.arrived.read_count l.final_size) End (cond (set.contains l.arrived.received l.arrived.read_count) (Bytes (length (front_of l.arrived size))) Wait))) off ∙ ap (λ b. cond b End Wait) h
+
+pub waits : (l : RecvLane) (size : ℕ) → (l.told ≡ true → (recv_ended l ≡ true) ⊎ (is_some l.stop_code ≡ true)) → ((t : RecvTask) → HasNone t l) → read_answer l size ≡ Wait
 waits l size told none = go l.told refl
   where
     go : (b : Bool) → l.told ≡ b → read_answer l size ≡ Wait
-    go true is = absurd (both_ways (recv_ended l) (none tasks.Ended) (told is))
+    go true is = elim (told is) [
+      | inl ended ↦ absurd (both_ways (recv_ended l) (none tasks.Ended) ended)
+      | inr off ↦ waits_off l.reset_code l size off (ap (λ b. b && (is_some l.reset_code || is_whole l)) (sym is) ∙ none tasks.Ended)
+    ]
     go false is = waits_by l.reset_code l size (ap (λ b. not b && tells_something (read_answer l 1)) (sym is) ∙ none tasks.Readable)
 
 -- a lane was changed and then looked at

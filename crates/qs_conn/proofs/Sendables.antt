@@ -1,10 +1,12 @@
 -- What a walk over control items and streams tells.
-use Rattle.std.proofs.Common.{◌≡◌, ℕ, ◌+◌, ◌-◌, ◌<◌, ◌≤◌, Bool, true, false, not, IsTrue, ◌↔◌, Option, None, Some, is_some, refl, sym, ap, ◌∙◌, subst, arith, inl, inr}
+use Rattle.std.proofs.Common.{◌≡◌, ℕ, ◌+◌, ◌-◌, ◌<◌, ◌≤◌, ◌&&◌, min, nat_lt, Bool, true, false, not, IsTrue, ◌↔◌, Option, None, Some, is_some, refl, sym, ap, ◌∙◌, subst, arith, inl, inr}
 use Rattle.std.proofs.lemmas.Bool.{true≢false, both_ways, cases_lt}
+use Rattle.std.proofs.lemmas.Bool.Decides.{nat_tests}
+use Rattle.std.specs.FinSet as set
 use Rattle.qs_wire.specs.declared.stream_id.Dir.TheVariants.{Bidi, Uni}
 use Rattle.qs_recv.specs.Lane.{RecvLane}
 use Rattle.qs_send.specs.Lane.{Sending}
-use Rattle.qs_send.specs.Chunks.{HasNoChunk}
+use Rattle.qs_send.specs.Chunks.{HasNoChunk, has_unsent}
 use Rattle.qs_send.specs.declared.parts.Chunk.{Chunk}
 use Rattle.qs_send.specs.declared.piece.Item.{Item}
 use Rattle.qs_send.specs.declared.piece.Item.TheVariants.{MaxData, MaxStreamData, MaxStreams, ResetStream, StopSending, DataBlocked, StreamDataBlocked, StreamsBlocked}
@@ -23,7 +25,7 @@ use Rattle.qs_conn.specs.Middle.{end_of}
 use Rattle.qs_conn.specs.Filling.{end_by, slot_of, slot_at, IsCurrentIn, Passed, and_slot, and_kind, and_below, IsPassed, all_items}
 use Rattle.qs_conn.specs.Marks.{IsIdle}
 use Rattle.qs_conn.specs.Sending.{TellsDue, TellsGoing, TellsAnyGoing, TellsFrame, TellsItem, TellsStream, TellsWanted}
-use Rattle.qs_conn.proofs.Chunks.{ties_of, none_goes, chunk_goes}
+use Rattle.qs_conn.proofs.Chunks.{Ties, ties_of, none_goes, chunk_goes}
 use Rattle.qs_conn.proofs.Openings.{none_is}
 
 -- Control items
@@ -41,6 +43,11 @@ tells_fewer e false P Q fewer none = λ i p due. none i (fewer (slot_of i) p) du
 pub tells_absent : (e : End) (b : Bool) (P : Passed) (s : Slot) → b ≡ false → IsCurrentIn e s None → TellsDue b e P → TellsDue false e (and_slot P s)
 tells_absent e true P s is none before = absurd (true≢false is)
 tells_absent e false P s is none before = λ i p due. elim p [ inl was ↦ before i was due | inr at ↦ none i at due.0 ]
+
+-- a slot of which all was told
+pub tells_told : (e : End) (b : Bool) (P : Passed) (s : Slot) → b ≡ false → IsIdle e s → TellsDue b e P → TellsDue false e (and_slot P s)
+tells_told e true P s is idle before = absurd (true≢false is)
+tells_told e false P s is idle before = λ i p due. elim p [ inl was ↦ before i was due | inr at ↦ due.1 (idle i at due.0) ]
 
 -- a slot with one
 pub tells_item : (e : End) (b : Bool) (P : Passed) (s : Slot) (i : Item) (covered : Bool) → b ≡ false → IsCurrentIn e s (Some i) → (covered ≡ true → IsCovered e i) → (covered ≡ false → IsCovered e i → ⊥) → TellsDue b e P → TellsDue (not covered) e (and_slot P s)
@@ -92,6 +99,27 @@ pub going_found : (t : Limits) (recvs : Tables RecvLane) (o : Outgoing) (e : End
 going_found t recvs o e n s fresh None h is credit none = none_goes (end_by t recvs o e) n s 25 (ties_of t recvs o e n s h) (omega arith) credit (subst (HasNoChunk s 25) is none)
 going_found t recvs o e n s fresh (Some c) h is credit next = chunk_goes (end_by t recvs o e) n s (ties_of t recvs o e n s h) c next.0.allowed.chunk (omega (arith, next.0.allowed.within_credit, is, credit))
 
+-- a half with bytes that were never sent, within the connection's credit
+pub going_unsent : (t : Limits) (recvs : Tables RecvLane) (o : Outgoing) (e : End) (n : ℕ) (s : Sending) → HasSending o n s → has_unsent s.lane ≡ true → sent_sum o.sends < t.known_data → StreamGoes (end_by t recvs o e) n
+going_unsent t recvs o e n s h is credit = (s.lane, ties.lane, inl (s.lane.sent_end, ties.due s.lane.sent_end there, below, inr (refl, credit)))
+  where
+    ties : Ties (end_by t recvs o e) n s
+    ties = ties_of t recvs o e n s h
+
+    parts : (is_some s.lane.was_reset ≡ false) × (s.lane.sent_end < min s.lane.written s.lane.limit)
+    parts = go (is_some s.lane.was_reset) (nat_lt s.lane.sent_end (min s.lane.written s.lane.limit)) refl refl is
+      where
+        go : (a b : Bool) → is_some s.lane.was_reset ≡ a → nat_lt s.lane.sent_end (min s.lane.written s.lane.limit) ≡ b → (not a && b) ≡ true → (is_some s.lane.was_reset ≡ false) × (s.lane.sent_end < min s.lane.written s.lane.limit)
+        go true b r lt both = absurd (true≢false (sym both))
+        go false true r lt both = (r, grind (arith, nat_tests, lt))
+        go false false r lt both = absurd (true≢false (sym both))
+
+    below : s.lane.sent_end < s.lane.limit
+    below = omega (arith, parts.1)
+
+    there : set.contains s.due.offsets s.lane.sent_end ≡ true
+    there = h.lawful.parts.unsent_due parts.0 s.lane.sent_end (omega arith) (omega (arith, parts.1))
+
 -- the streams below a number have nothing that goes, and those up to the next one that is looked at
 pub going_next : (e : End) (from m : ℕ) → ((n : ℕ) → n < from → StreamGoes e n → ⊥) → ((n : ℕ) → from ≤ n → n < m → StreamGoes e n → ⊥) → (StreamGoes e m → ⊥) → (n : ℕ) → n < m + 1 → StreamGoes e n → ⊥
 going_next e from m below quiet here n lt goes =
@@ -103,7 +131,7 @@ going_next e from m below quiet here n lt goes =
 pub going_none : (e : End) (from : ℕ) → ((n : ℕ) → n < from → StreamGoes e n → ⊥) → ((n : ℕ) → from ≤ n → StreamGoes e n → ⊥) → TellsAnyGoing false e
 going_none e from below past = λ n goes. elim (cases_lt n from) [ inl before ↦ below n before goes | inr ge ↦ past n ge goes ]
 
-going_is : (e : End) (n : ℕ) (b : Bool) → b ≡ true → TellsGoing b e n → StreamGoes e n
+pub going_is : (e : End) (n : ℕ) (b : Bool) → b ≡ true → TellsGoing b e n → StreamGoes e n
 going_is e n true is goes = goes
 going_is e n false is none = absurd (true≢false (sym is))
 
@@ -164,6 +192,9 @@ wanted_no_stream want e unasked = λ (n, asked, goes). true≢false (sym asked.0
 pub wanted_one : (want : Fill) (e : End) (b : Bool) → want.streams ≡ true → want.alone ≡ true → TellsGoing b e want.first → TellsStream want b e
 wanted_one want e true some alone goes = (want.first, (some, inr refl), goes)
 wanted_one want e false some alone none = λ (n, asked, goes). elim asked.1 [ inl all ↦ true≢false (sym alone ∙ all) | inr is ↦ none (subst (StreamGoes e) is goes) ]
+
+pub wanted_near : (want : Fill) (e : End) (n : ℕ) → want.streams ≡ true → want.alone ≡ false → StreamGoes e n → TellsStream want true e
+wanted_near want e n some all goes = (n, (some, inl all), goes)
 
 pub wanted_any : (want : Fill) (e : End) (b : Bool) → want.streams ≡ true → want.alone ≡ false → TellsAnyGoing b e → TellsStream want b e
 wanted_any want e true some all (n, goes) = (n, (some, inl all), goes)

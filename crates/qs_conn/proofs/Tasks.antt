@@ -12,8 +12,8 @@ use Rattle.qs_conn.specs.declared.send_marks.SendMarks.{SendMarks}
 use Rattle.qs_conn.proofs.Marked.{look_again, undone, more_begun, fewer, unmarked_at}
 use Rattle.qs_conn.proofs.Least.{part_at}
 use Rattle.qs_conn.proofs.SendEdits.{begins_quiet}
-use Rattle.qs_conn.specs.Promised.{ArePromised}
-use Rattle.qs_conn.proofs.Promised.{promised_of, promised_taken, promised_opened}
+use Rattle.qs_conn.specs.Promised.{AreSums}
+use Rattle.qs_conn.proofs.Promised.{promised_of, kept_of, sums_taken, sums_opened}
 
 module _ (old new : SendMarks) (index : ℕ) (s : Sending) (b g w e : Bool) where
   pub looked : (b ≡ false → IsQuiet tasks.Bytes s) → (g ≡ false → IsQuiet tasks.Again s) → (w ≡ false → IsQuiet tasks.Writable s) → (e ≡ false → IsQuiet tasks.Ended s) → new.bytes ≡ slice_set old.bytes index b → new.again ≡ slice_set old.again index g → new.writable ≡ slice_set old.writable index w → new.ended ≡ slice_set old.ended index e
@@ -24,31 +24,31 @@ module _ (old new : SendMarks) (index : ℕ) (s : Sending) (b g w e : Bool) wher
   looked no_bytes no_again no_room no_end bytes again writable ended tasks.Ended = (e, no_end, ended)
 
 -- a half was changed and then looked at
-pub all_looked : (xs : List Sending) (old new : SendMarks) (n m i : ℕ) (y : Sending) → ((t : Task) → IsLooked t i y (marks_of old t) (marks_of new t)) → (length xs ≤ 2 ^ 60) × AreAllMarked xs old × ArePromised xs n → ArePromised (set xs i y) m
-    → (length (set xs i y) ≤ 2 ^ 60) × AreAllMarked (set xs i y) new × ArePromised (set xs i y) m
-all_looked xs old new n m i y looked h promised = (rw length-set h.0, λ t. let l = looked t in look_again (IsQuiet t) xs (marks_of old t) (marks_of new t) i y l.0 l.1 l.2 (h.1 t), promised)
+pub all_looked : (xs : List Sending) (old new : SendMarks) (n k m j i : ℕ) (y : Sending) → ((t : Task) → IsLooked t i y (marks_of old t) (marks_of new t)) → (length xs ≤ 2 ^ 60) × AreAllMarked xs old × AreSums xs n k → AreSums (set xs i y) m j
+    → (length (set xs i y) ≤ 2 ^ 60) × AreAllMarked (set xs i y) new × AreSums (set xs i y) m j
+all_looked xs old new n k m j i y looked h sums = (rw length-set h.0, λ t. let l = looked t in look_again (IsQuiet t) xs (marks_of old t) (marks_of new t) i y l.0 l.1 l.2 (h.1 t), sums)
 
 -- a half without a mark was quiet, so it is quiet still where its change keeps that
 pub still_quiet : (t : Task) (xs : List Sending) (marks : SendMarks) (i : ℕ) (x y : Sending) → AreAllMarked xs marks → i < length xs → x ≡ get_or xs i x → (IsQuiet t x → IsQuiet t y) → IsStill t i y marks
 still_quiet t xs marks i x y all there at keep no_mark = keep (unmarked_at (IsQuiet t) xs (marks_of marks t) i x (all t) (part_at xs i x there at) no_mark)
 
 -- some halves leave
-pub all_fewer : (xs now : List Sending) (old new : SendMarks) (sum n : ℕ) → now ≡ take n xs → ((t : Task) → marks_of new t ≡ take n (marks_of old t)) → sum_by promised_of (take n xs) ≡ sum_by promised_of xs → (length xs ≤ 2 ^ 60) × AreAllMarked xs old × ArePromised xs sum
-    → (length now ≤ 2 ^ 60) × AreAllMarked now new × ArePromised now sum
-all_fewer xs now old new sum n is at same h =
+pub all_fewer : (xs now : List Sending) (old new : SendMarks) (sum kept n : ℕ) → now ≡ take n xs → ((t : Task) → marks_of new t ≡ take n (marks_of old t)) → sum_by promised_of (take n xs) ≡ sum_by promised_of xs → sum_by kept_of (take n xs) ≡ sum_by kept_of xs → (length xs ≤ 2 ^ 60) × AreAllMarked xs old × AreSums xs sum kept
+    → (length now ≤ 2 ^ 60) × AreAllMarked now new × AreSums now sum kept
+all_fewer xs now old new sum kept n is at same still h =
     let one : (t : Task) → (length now ≤ 2 ^ 60) × AreMarked (IsQuiet t) now (marks_of new t) = λ t. fewer (IsQuiet t) xs now (marks_of old t) (marks_of new t) n is (at t) (h.0, h.1 t) in
-    ((one tasks.Bytes).0, λ t. (one t).1, promised_taken xs now sum n is same h.2)
+    ((one tasks.Bytes).0, λ t. (one t).1, sums_taken xs now sum kept n is same still h.2)
 
 -- what was opened is taken back
-pub all_undone : (xs now : List Sending) (old new : SendMarks) (sum : ℕ) → now ≡ xs → ((t : Task) → marks_of new t ≡ marks_of old t) → (length xs ≤ 2 ^ 60) × AreAllMarked xs old × ArePromised xs sum → (length now ≤ 2 ^ 60) × AreAllMarked now new × ArePromised now sum
-all_undone xs now old new sum is at h =
+pub all_undone : (xs now : List Sending) (old new : SendMarks) (sum kept : ℕ) → now ≡ xs → ((t : Task) → marks_of new t ≡ marks_of old t) → (length xs ≤ 2 ^ 60) × AreAllMarked xs old × AreSums xs sum kept → (length now ≤ 2 ^ 60) × AreAllMarked now new × AreSums now sum kept
+all_undone xs now old new sum kept is at h =
     let one : (t : Task) → (length now ≤ 2 ^ 60) × AreMarked (IsQuiet t) now (marks_of new t) = λ t. undone (IsQuiet t) xs now (marks_of old t) (marks_of new t) is (at t) (h.0, h.1 t) in
-    ((one tasks.Bytes).0, λ t. (one t).1, subst (λ (l : List Sending). ArePromised l sum) (sym is) h.2)
+    ((one tasks.Bytes).0, λ t. (one t).1, subst (λ (l : List Sending). AreSums l sum kept) (sym is) h.2)
 
 -- halves open
-pub all_opened : (kind limit buffer : ℕ) (xs now : List Sending) (old new : SendMarks) (sum count n m : ℕ) → count ≤ 2 ^ 60 → now ≡ xs ++ map (λ (i : ℕ). new_sending (i * 4 + kind) limit buffer) (range_with_len (length xs) n) → n ≤ m → m ≤ n → m ≡ count - length xs
-    → ((t : Task) → marks_of new t ≡ marks_of old t ++ replicate (count - length (marks_of old t)) (begins t)) → (length xs ≤ 2 ^ 60) × AreAllMarked xs old × ArePromised xs sum → (length now ≤ 2 ^ 60) × AreAllMarked now new × ArePromised now sum
-all_opened kind limit buffer xs now old new sum count n m small is le ge missing at h =
+pub all_opened : (kind limit buffer : ℕ) (xs now : List Sending) (old new : SendMarks) (sum kept count n m : ℕ) → count ≤ 2 ^ 60 → now ≡ xs ++ map (λ (i : ℕ). new_sending (i * 4 + kind) limit buffer) (range_with_len (length xs) n) → n ≤ m → m ≤ n → m ≡ count - length xs
+    → ((t : Task) → marks_of new t ≡ marks_of old t ++ replicate (count - length (marks_of old t)) (begins t)) → (length xs ≤ 2 ^ 60) × AreAllMarked xs old × AreSums xs sum kept → (length now ≤ 2 ^ 60) × AreAllMarked now new × AreSums now sum kept
+all_opened kind limit buffer xs now old new sum kept count n m small is le ge missing at h =
     let one : (t : Task) → (length now ≤ 2 ^ 60) × AreMarked (IsQuiet t) now (marks_of new t) = λ t.
     more_begun (IsQuiet t) (begins t) (λ (i : ℕ). new_sending (i * 4 + kind) limit buffer) (λ unmarked i. begins_quiet t unmarked (i * 4 + kind) limit buffer) xs now (marks_of old t) (marks_of new t) count n m small is le ge missing (at t) (h.0, h.1 t) in
-    ((one tasks.Bytes).0, λ t. (one t).1, promised_opened kind limit buffer xs now sum (range_with_len (length xs) n) is h.2)
+    ((one tasks.Bytes).0, λ t. (one t).1, sums_opened kind limit buffer xs now sum kept (range_with_len (length xs) n) is h.2)

@@ -1,10 +1,11 @@
--- A reader is told of the end only where the half came to it.
-use Rattle.std.proofs.Common.{◌≡◌, ℕ, zero, suc, option_map, ◌/◌, ◌%◌, Bool, true, false, ◌&&◌, ◌||◌, cond, Option, None, Some, is_some, ◌⊎◌, inl, inr, refl, sym, ap, ◌∙◌, subst, arith, slice_get}
+-- A reader is told of the end only where the half came to it, or was stopped.
+use Rattle.std.proofs.Common.{◌≡◌, ℕ, zero, suc, option_map, ◌/◌, ◌%◌, Bool, true, false, cond, Option, None, Some, is_some, ◌⊎◌, inl, inr, refl, sym, ◌∙◌, subst, arith, slice_get}
 use Rattle.std.specs.FinSet as set
 use Rattle.std.proofs.lemmas.Bool.{both_ways, or_left, or_right}
 use Rattle.std.proofs.lemmas.Bool.Decides.{nat_tests}
 use Rattle.qs_ranges.proofs.Sets.{covers-of}
-use Rattle.qs_recv.specs.Lane.{RecvLane, new_lane, is_whole, whole_to, at_final_size, answer_by, read_answer, after_answer, after_read, raise}
+use Rattle.qs_recv.specs.Lane.{RecvLane, new_lane, is_whole, whole_to, at_final_size, answer_by, read_answer, after_answer, after_read, stop_and_forget, raise}
+use Rattle.qs_recv.specs.Assembled.{discard}
 use Rattle.qs_recv.specs.Lawful.{IsLawful}
 use Rattle.qs_recv.specs.declared.half.Read.{Read}
 use Rattle.qs_recv.specs.declared.half.Read.TheVariants.{Bytes, End, Reset, Wait}
@@ -18,22 +19,19 @@ use Rattle.qs_conn.specs.Ended.{IsToldOfEnd}
 -- One half
 
 abbrev IsTold : RecvLane → Type 0
-IsTold l = l.told ≡ true → recv_ended l ≡ true
+IsTold l = l.told ≡ true → (recv_ended l ≡ true) ⊎ (is_some l.stop_code ≡ true)
 
--- where a change leaves what a reader was told, and an ended half stays so, nothing ends
-pub same_end : (l m : RecvLane) → IsTold l → m.told ≡ l.told → RecvStays l m → recv_ended m ≡ recv_ended l
-same_end l m told same stays = go (recv_ended l) refl
+-- where a change leaves what a reader was told, and an ended half stays so, and a stopped one
+pub still_told : (l m : RecvLane) → IsTold l → m.told ≡ l.told → RecvStays l m → (is_some l.stop_code ≡ true → is_some m.stop_code ≡ true) → IsTold m
+still_told l m told same stays stopped is = elim (told (sym same ∙ is)) [ inl ended ↦ inl (stays ended) | inr off ↦ inr (stopped off) ]
+
+-- a half that is forgotten was stopped
+pub forgotten_told : (l : RecvLane) (code : ℕ) → IsTold (stop_and_forget l code)
+forgotten_told l code is = inr (go (is_some l.stop_code) refl)
   where
-    go : (b : Bool) → recv_ended l ≡ b → recv_ended m ≡ b
-    go true is = stays is
-    go false is = not_told l.told refl
-      where
-        not_told : (t : Bool) → l.told ≡ t → recv_ended m ≡ false
-        not_told true at = absurd (both_ways (recv_ended l) is (told at))
-        not_told false at = ap (λ b. b && (is_some m.reset_code || is_whole m)) (same ∙ at)
-
-pub still_told : (l m : RecvLane) → IsTold l → m.told ≡ l.told → RecvStays l m → IsTold m
-still_told l m told same stays is = stays (told (sym same ∙ is))
+    go : (b : Bool) → is_some l.stop_code ≡ b → is_some (cond b l (record l { arrived = discard l.arrived; stop_code = Some code })).stop_code ≡ true
+    go true was = was
+    go false was = refl
 
 -- what a reader is told
 
@@ -74,8 +72,8 @@ read_told l size h was = go (read_answer l size) refl
   where
     go : (a : Read) → read_answer l size ≡ a → IsTold (after_answer a l size)
     go (Bytes n) is told = was told
-    go End is told = or_right (is_some l.reset_code) (is_whole l) (told_end l size h l.reset_code is)
-    go (Reset c) is told = or_left (is_some l.reset_code) (is_whole l) (told_reset l size c l.reset_code is)
+    go End is told = inl (or_right (is_some l.reset_code) (is_whole l) (told_end l size h l.reset_code is))
+    go (Reset c) is told = inl (or_left (is_some l.reset_code) (is_whole l) (told_reset l size c l.reset_code is))
     go Wait is told = was told
 
 -- All halves

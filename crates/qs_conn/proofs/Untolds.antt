@@ -11,7 +11,7 @@ use Rattle.qs_wire.specs.declared.stream_id.Dir.TheVariants.{Bidi, Uni}
 use Rattle.qs_calls.specs.declared.settings.Settings.{Settings}
 use Rattle.qs_recv.specs.Lane.{RecvLane, new_lane as new_recv_lane}
 use Rattle.qs_recv.specs.declared.credit.Share.{Share}
-use Rattle.qs_send.specs.Lane.{SendLane, new_lane as new_send_lane, write_lane, finish_lane, allow_lane, sent_lane, acked_lane, reset_acked_lane, blocked_lane}
+use Rattle.qs_send.specs.Lane.{SendLane, new_lane as new_send_lane, write_lane, finish_lane, allow_lane, buffer_lane, sent_lane, acked_lane, reset_acked_lane, blocked_lane}
 use Rattle.qs_send.specs.Records.{IsCarried, first_piece, without_first}
 use Rattle.qs_send.specs.declared.parts.Chunk.{Chunk}
 use Rattle.qs_send.specs.declared.piece.Item.{Item}
@@ -300,6 +300,9 @@ module _ (sends : Tables SendLane) (m : Records) (a : AckedItems) (marks : Table
   -- what doesn't move what is to be told
   pub told_finished : now ≡ updated sends n finish_lane (lookup sends n) → AreTold SendTells now m a marks
   told_finished is = told_updated SendTells sends m a marks h now n finish_lane is (λ l at. send_tell (SendTells n l) n (finish_lane l) (λ k code size has. has) (λ k limit has. has))
+
+  pub told_buffered : (size : ℕ) → now ≡ updated sends n (λ l. buffer_lane l size) (lookup sends n) → AreTold SendTells now m a marks
+  told_buffered size is = told_updated SendTells sends m a marks h now n (λ l. buffer_lane l size) is (λ l at. send_tell (SendTells n l) n (buffer_lane l size) (λ k code size has. has) (λ k limit has. has))
 
   told_acked : (c : Chunk) → now ≡ updated sends n (λ l. acked_lane l c) (lookup sends n) → AreTold SendTells now m a marks
   told_acked c is = told_updated SendTells sends m a marks h now n (λ l. acked_lane l c) is (λ l at. send_tell (SendTells n l) n (acked_lane l c) (λ k code size has. has) (λ k limit has. has))

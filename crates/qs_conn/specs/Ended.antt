@@ -1,6 +1,6 @@
 -- Of private contracts.
 -- Which streams of the peer came to their end, and how many (RFC 9000, sections 3 and 4.6).
-use Rattle.std.specs.Prelude.{◌≡◌, ℕ, ◌+◌, ◌-◌, ◌≤◌, Bool, true, false, ◌&&◌, ◌||◌, if◌then◌else◌, length, zip, Option, None, Some, ⊤}
+use Rattle.std.specs.Prelude.{◌≡◌, ℕ, ◌+◌, ◌-◌, ◌≤◌, Bool, true, false, ◌&&◌, ◌||◌, ◌⊎◌, if◌then◌else◌, length, zip, Option, None, Some, is_some, ⊤}
 use Rattle.std.specs.List.{filter}
 use Rattle.qs_wire.specs.declared.stream_id.Role.{Role}
 use Rattle.qs_recv.specs.Lane.{RecvLane}
@@ -50,10 +50,11 @@ half_of (Data n c) = Some n
 half_of (Told (ResetStream n code size)) = Some n
 half_of (Told item) = None
 
--- a reader is told of the end where all data came, and of a reset where one came (RFC 9000, section 3.2)
+-- a reader is told of the end where all data came, and of a reset where one came; or nothing is told of a half that was stopped (RFC 9000,
+-- sections 3.2 and 3.5)
 abbrev pub IsToldOfEnd : Option RecvLane → Type 0
 IsToldOfEnd None = ⊤
-IsToldOfEnd (Some l) = l.told ≡ true → recv_ended l ≡ true
+IsToldOfEnd (Some l) = l.told ≡ true → (recv_ended l ≡ true) ⊎ (is_some l.stop_code ≡ true)
 
 -- what holds of an endpoint's counts: those of ended streams are right, and no granted one is above its lifetime's
 pub record CountsFit (role : Role) (s : Settings) (recvs : Tables RecvLane) (sends : Tables SendLane) (e : ByDir ℕ) (granted_bidi granted_uni : ℕ) : Type 0 where

@@ -1,9 +1,10 @@
 -- Of private contracts.
 -- A packet in the making: what holds of it so far.
-use Rattle.std.specs.Prelude.{◌≡◌, ℕ, ◌+◌, ◌-◌, ◌*◌, ◌<◌, ◌≤◌, ◌^◌, Bool, true, false, List, [], ◌∷◌, ◌++◌, ◌⊎◌, length, take, drop, Option, None, Some}
+use Rattle.std.specs.Prelude.{◌≡◌, ℕ, ◌+◌, ◌-◌, ◌*◌, ◌<◌, ◌≤◌, ◌^◌, max, Bool, true, false, List, [], ◌∷◌, ◌++◌, ◌⊎◌, length, take, drop, Option, None, Some}
 use Rattle.std.specs.List.{AllByRecursion}
 use Rattle.std.specs.FinMap as fmap
 use Rattle.qs_ranges.specs.Numbers.{MAX_VARINT}
+use Rattle.qs_wire.specs.declared.stream_id.Dir.{Dir}
 use Rattle.qs_wire.specs.declared.stream_id.Dir.TheVariants.{Bidi, Uni}
 use Rattle.qs_wire.specs.Grammar.{Fits, canonical}
 use Rattle.qs_wire.specs.Layout.{FrameValue, stream, reset_stream, stop_sending, max_data, max_stream_data, max_streams, data_blocked, stream_data_blocked, streams_blocked}
@@ -13,7 +14,7 @@ use Rattle.qs_send.specs.Chunks.{IsDueChunk, HasBytes, frame_len}
 use Rattle.qs_send.specs.PieceCodes.{dir_number}
 use Rattle.qs_send.specs.declared.parts.Chunk.{Chunk}
 use Rattle.qs_send.specs.declared.piece.Piece.{Piece}
-use Rattle.qs_send.specs.declared.piece.Piece.TheVariants.{Data}
+use Rattle.qs_send.specs.declared.piece.Piece.TheVariants.{Data, Told}
 use Rattle.qs_send.specs.declared.piece.Item.{Item}
 use Rattle.qs_send.specs.declared.piece.Item.TheVariants.{MaxData, MaxStreamData, MaxStreams, ResetStream, StopSending, DataBlocked, StreamDataBlocked, StreamsBlocked}
 use Rattle.qs_conn.specs.declared.filling.Wish.{Wish}
@@ -23,10 +24,11 @@ use Rattle.qs_conn.specs.declared.slot.Kind.TheVariants as kinds
 use Rattle.qs_conn.specs.declared.limits.Limits.{Limits}
 use Rattle.qs_conn.specs.declared.slot.Slot.TheVariants as slots
 use Rattle.qs_machine.specs.Tables.{Tables, lookup, each}
-use Rattle.qs_machine.specs.Ends.{End}
+use Rattle.qs_machine.specs.Ends.{End, Records, Present}
 use Rattle.qs_machine.specs.Credit.{all_sent}
 use Rattle.qs_machine.specs.Seen.{Seen, Ack, Stream, Control, Close, Plain, seen, seen_all}
 use Rattle.qs_machine.specs.Due.{Among, IsCurrent, IsDueItem, StreamGoes}
+use Rattle.qs_machine.specs.Setting.{limit_with, count_with}
 use Rattle.qs_machine.specs.Outgoing.{Outgoing, HasSending, WantsMore, item_put_out}
 use Rattle.qs_machine.specs.Sums.{or_none}
 use Rattle.qs_machine.specs.Lawful.{MayAck, Fills, NamesAll, AcksAll, AreInTurn, pieces_so_far}
@@ -57,12 +59,17 @@ frame_of_item (DataBlocked m) = data_blocked m
 frame_of_item (StreamDataBlocked n m) = stream_data_blocked n m
 frame_of_item (StreamsBlocked d m) = streams_blocked d m
 
+-- the windows and grants in force
+abbrev pub present_of : Limits → Present
+present_of t = record { conn_window = t.conn_window; widest = t.widest; grant_bidi = t.grants.bidi; grant_uni = t.grants.uni }
+
 -- an end of these parts
 abbrev pub end_by : Limits → Tables RecvLane → Outgoing → End → End
 end_by t recvs o e =
     record e {
       role = t.role;
       settings = t.settings;
+      present = present_of t;
       tuning = t.tuning;
       recvs = recvs;
       granted = t.granted;
@@ -89,6 +96,23 @@ IsCurrentIn e slot (Some i) = IsCurrent e i × (slot_of i ≡ slot) × ((j : Ite
 abbrev pub ItemFits : Option Item → Type 0
 ItemFits None = Unit {0}
 ItemFits (Some i) = Fits (frame_of_item i)
+
+-- the limits with another window of the connection, where so much was taken
+abbrev pub with_window : (window taken : ℕ) → Limits → Limits
+with_window window taken t = record t { granted = limit_with t.conn_window t.granted taken window; conn_window = window; widest = max t.widest window }
+
+-- the limits with another grant of a direction, where so many of its streams ended
+abbrev pub with_grant : Dir → (streams ended : ℕ) → Limits → Limits
+with_grant Bidi streams ended t =
+    record t {
+      granted_streams = record t.granted_streams { bidi = count_with t.grants.bidi t.granted_streams.bidi t.settings.lifetime_bidi ended streams };
+      grants = record t.grants { bidi = streams };
+    }
+with_grant Uni streams ended t =
+    record t {
+      granted_streams = record t.granted_streams { uni = count_with t.grants.uni t.granted_streams.uni t.settings.lifetime_uni ended streams };
+      grants = record t.grants { uni = streams };
+    }
 
 -- what an end has to tell has a text
 pub record LimitsFit (t : Limits) : Type 0 where
@@ -185,6 +209,20 @@ base e = record e { sends = each unmarked e.sends; outstanding = fmap.empty; ack
 -- the piece stands in the packet that is being made
 abbrev pub InPacket : End → Piece → Type 0
 InPacket e x = Among x (pieces_so_far e e.next)
+
+-- the pieces of a packet in these records
+abbrev pub pieces_at : Records → ℕ → List Piece
+pieces_at m k = elim (fmap.get m k) [ None ↦ [] | Some ps ↦ ps ]
+
+-- the stream of a chunk; of an item what was before
+abbrev pub data_or : Option ℕ → Piece → Option ℕ
+data_or last (Data n c) = Some n
+data_or last (Told i) = last
+
+-- the stream of the last chunk among pieces, or, where there is none, what was before
+abbrev pub last_data : Option ℕ → List Piece → Option ℕ
+last_data last [] = last
+last_data last (p ∷ ps) = last_data (data_or last p) ps
 
 -- the frame is of a kind that the packet is to hold
 abbrev pub IsWished : Wish → Seen → Type 0

@@ -6,6 +6,7 @@ use Rattle.qs_send.specs.Lane.{SendLane, is_whole}
 use Rattle.qs_conn.specs.declared.held.Held.{Held}
 use Rattle.qs_machine.specs.Tables.{total}
 use Rattle.qs_machine.specs.Ends.{End}
+use Rattle.qs_machine.specs.Asking.{all_kept}
 use Rattle.qs_machine.specs.Credit.{spent, all_taken, all_stored}
 use Rattle.qs_machine.specs.Sums.{stored_on}
 
@@ -21,27 +22,23 @@ most_held lane =
     else (if stored_on lane == 0 then 4096 else max 4096 (4 * (highest lane - taken lane)))
 
 -- the most that the buffer of a sending half takes: nothing after a reset, and once all that was written and the end were acknowledged;
--- else 4,096 bytes, or while some are kept twice what it is set to
+-- else 4,096 bytes, or while some are kept twice the most that it was set to
 abbrev pub most_buffered : SendLane → ℕ
 most_buffered lane =
     if is_some lane.was_reset || is_whole lane then 0
-    else (if length lane.kept == 0 then 4096 else 2 * lane.buffer)
-
--- how many bytes a sending half keeps
-abbrev pub kept_on : SendLane → ℕ
-kept_on lane = length lane.kept
+    else (if length lane.kept == 0 then 4096 else 2 * lane.widest)
 
 -- how many receiving halves keep bytes that come
 abbrev pub half_count : End → ℕ
 half_count e = total (λ l. if keeps l then 1 else 0) e.recvs
 
 -- All rings together take what is stored at least, and at most what each may take: four times what was spent beyond what was taken, which
--- is within the connection's window, and 4,096 bytes for each half that keeps bytes still. All buffers together take what is kept at least,
+-- is within the widest window of the connection, and 4,096 bytes for each half that keeps bytes still. All buffers together take what is kept at least,
 -- where that has a number of 64 bits, and at most what each may take.
 pub record IsHeldBy (e : End) (held : Held) : Type 0 where
   pub stored : all_stored e ≤ held.receiving
   pub rings : held.receiving ≤ total most_held e.recvs
   pub spent : held.receiving ≤ 4 * (spent e - all_taken e) + 4096 * half_count e
-  pub window : held.receiving ≤ 4 * e.settings.conn_window + 4096 * half_count e
-  pub kept : min (total kept_on e.sends) (2 ^ 64 - 1) ≤ held.sending
+  pub window : held.receiving ≤ 4 * e.present.widest + 4096 * half_count e
+  pub kept : min (all_kept e) (2 ^ 64 - 1) ≤ held.sending
   pub buffers : held.sending ≤ total most_buffered e.sends

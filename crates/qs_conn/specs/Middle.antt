@@ -15,7 +15,7 @@ use Rattle.qs_conn.specs.Ended.{CountsFit}
 use Rattle.qs_conn.specs.declared.slot.Kind.{Kind}
 use Rattle.qs_conn.specs.declared.slot.Slot.{Slot}
 use Rattle.qs_conn.specs.declared.slot.Slot.TheVariants as slots
-use Rattle.qs_conn.specs.Filling.{LimitsFit, end_by, slot_at, HasSpare, LeavesRest}
+use Rattle.qs_conn.specs.Filling.{LimitsFit, present_of, end_by, slot_at, HasSpare, LeavesRest}
 use Rattle.qs_conn.specs.Layers.{ClosingFits}
 use Rattle.qs_conn.specs.Marks.{IsIdle as IsIdleAt}
 use Rattle.qs_conn.specs.Settled.{AreNextWhere}
@@ -24,7 +24,7 @@ use Rattle.qs_conn.specs.Untold.{AreTold, TellsAt, SendTells}
 -- What holds of the tables also while a packet is in the making: the peer is within its credit and this end within the peer's, the limits
 -- have a text, the counts of ended streams are right, and of a half without a mark nothing is to be told that wasn't.
 pub record IsCore (c : Core) : Type 0 where
-  pub sound : KeepsCredit c.limits.role c.limits.settings c.recvs c.limits.granted
+  pub sound : KeepsCredit c.limits.role c.limits.settings (present_of c.limits) c.recvs c.limits.granted
   pub fits : LimitsFit c.limits
   pub credit : sent_sum c.outbox.sends ≤ c.limits.known_data
   pub counts : CountsFit c.limits.role c.limits.settings c.recvs c.outbox.sends c.ended c.limits.granted_streams.bidi c.limits.granted_streams.uni
@@ -49,7 +49,7 @@ pub record IsKept (c : Core) (peer : PeerLimits) (done : NumberSet) (is_settled 
   pub closing_fits : ClosingFits closed
   pub few : set.len (run_starts done) ≤ 32
   pub acks : ack_due ≡ true → 0 < set.len (run_starts done)
-  pub settled : AreNextWhere is_settled c.limits.settings c.limits.tuning c.recvs c.ended c.limits.granted c.limits.granted_streams.bidi c.limits.granted_streams.uni
+  pub settled : AreNextWhere is_settled c.limits.settings c.limits.tuning (present_of c.limits) c.recvs c.ended c.limits.granted c.limits.granted_streams.bidi c.limits.granted_streams.uni
 
 -- A packet in the making
 

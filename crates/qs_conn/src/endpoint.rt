@@ -1,5 +1,5 @@
 //! One end of a connection.
-ghost use Rattle.std.specs.Prelude.{◌≡◌, ◌+◌, ◌≤◌, ◌<◌, length, min, Some, None};
+ghost use Rattle.std.specs.Prelude.{◌≡◌, ◌+◌, ◌≤◌, ◌<◌, length, max, min, Some, None};
 ghost use Rattle.qs_ranges.specs.Numbers.{MAX_VARINT};
 ghost use Rattle.qs_recv.specs.Lane.{MAX_WINDOW, next_limit};
 ghost use Rattle.qs_calls.specs.Settings.{wide_setup_fault};
@@ -41,6 +41,7 @@ mod owner;
 mod raising;
 mod receiving;
 mod recording;
+mod setting;
 mod taking;
 mod tokens;
 
@@ -73,6 +74,12 @@ impl Model for Endpoint {
     ghost view = { λ e. record {
       role = e.core.limits.role;
       settings = e.core.limits.settings;
+      present = record {
+        conn_window = e.core.limits.conn_window;
+        widest = e.core.limits.widest;
+        grant_bidi = e.core.limits.grants.bidi;
+        grant_uni = e.core.limits.grants.uni;
+      };
       tuning = e.core.limits.tuning;
       peer = e.peer;
       sends = e.core.outbox.sends;
@@ -151,6 +158,9 @@ impl Endpoint {
                     role,
                     settings,
                     tuning,
+                    conn_window: settings.conn_window,
+                    widest: settings.conn_window,
+                    grants: ByDir::new(settings.grant_bidi, settings.grant_uni),
                     granted: settings.conn_window,
                     known_data: peer.max_data,
                     granted_streams: ByDir::new(settings.grant_bidi, settings.grant_uni),
@@ -184,7 +194,7 @@ impl Endpoint {
 
     /// How much memory the rings of receiving halves take and the buffers of sending halves, by a walk over all streams that were
     /// opened: for a look now and then, and not for each packet. A peer within its credit can't make the rings take more than four
-    /// times the connection's window, and 4,096 bytes for each receiving half that keeps bytes still. A sending half that was reset,
+    /// times the widest window of the connection that was set, and 4,096 bytes for each receiving half that keeps bytes still. A sending half that was reset,
     /// or of which all that was written and the end were acknowledged, takes nothing.
     pub fn held(&self) -> Held
         ensures { IsHeldBy self.now result }
@@ -204,7 +214,7 @@ impl Endpoint {
     }
 
     /// How many streams of a direction the peer may open: the grant, and one more for each of its streams that came to its end, up to
-    /// the lifetime's count (RFC 9000, section 4.6). It takes no memory.
+    /// the lifetime's count, and no fewer than before (RFC 9000, section 4.6). It takes no memory.
     pub fn granted_streams(&self, dir: Dir) -> u64
         ensures { result ≡ granted_streams self.now dir }
     {
@@ -244,19 +254,21 @@ impl Endpoint {
         self.core.limits.granted = next_limit(
             self.core.limits.granted,
             taken,
-            settings.conn_window,
+            self.core.limits.conn_window,
             self.core.limits.tuning.credit_step,
         );
         self.core.limits.granted_streams = ByDir {
             bidi: next_count(
                 step,
-                settings.grant_bidi,
+                self.core.limits.granted_streams.bidi,
+                self.core.limits.grants.bidi,
                 settings.lifetime_bidi,
                 self.core.ended.bidi,
             ),
             uni: next_count(
                 step,
-                settings.grant_uni,
+                self.core.limits.granted_streams.uni,
+                self.core.limits.grants.uni,
                 settings.lifetime_uni,
                 self.core.ended.uni,
             ),
@@ -313,16 +325,16 @@ pub(crate) fn is_uni(stream: StreamId) -> bool
     type_of(stream) >= 2
 }
 
-// How many streams may be opened, where so many came to their end: as many more of them as make whole steps (RFC 9000, section 4.6).
-fn next_count(step: Option<Share>, grant: u64, lifetime: u64, ended: u64) -> u64
-    requires { grant ≤ lifetime }
-    ensures { result ≡ min lifetime (grant + in_steps (count_step step grant) ended) }
+// How many streams may be opened, where so many came to their end: the grant and as many more of them as make whole steps, and no fewer
+// than were granted (RFC 9000, section 4.6).
+fn next_count(step: Option<Share>, granted: u64, grant: u64, lifetime: u64, ended: u64) -> u64
+    ensures { result ≡ max granted (min lifetime (grant + in_steps (count_step step grant) ended)) }
 {
     let more = match step {
         None => ended,
         Some(share) => in_steps(step_of(share, grant), ended),
     };
-    grant.saturating_add(more).min(lifetime)
+    granted.max(grant.saturating_add(more).min(lifetime))
 }
 
 // As many of so many as make whole steps.

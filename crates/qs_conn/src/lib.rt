@@ -34,6 +34,6 @@ pub use held::Held;
 pub use newly_told::Told;
 pub use qs_calls::{
     Closed, Closing, LaneReport, LostFault, Made, MakeFault, OpenFault, PeerLimits, RaiseFault,
-    Received, RecvReport, SendReport, Settings, SetupFault, Share, Tuning, UseFault,
+    Received, RecvReport, SendReport, SetFault, Settings, SetupFault, Share, Tuning, UseFault,
 };
 pub use qs_machine::laws;

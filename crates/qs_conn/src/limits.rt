@@ -1,12 +1,14 @@
 //! Which control items an end has to tell.
 ghost use Rattle.std.specs.Prelude.{◌≡◌, ◌≤◌, ◌<◌, ◌↔◌, ◌^◌, IsTrue, ℕ, true, None, Some, IfSome};
-ghost use Rattle.qs_recv.specs.Lane.{RecvLane};
+ghost use Rattle.qs_ranges.specs.Numbers.{MAX_VARINT};
+ghost use Rattle.qs_recv.specs.Lane.{MAX_CONN_WINDOW, RecvLane};
 ghost use Rattle.qs_conn.specs.declared.slot.Slot.TheVariants as slots;
 ghost use Rattle.qs_machine.specs.Tables.{Tables, lookup};
 ghost use Rattle.qs_machine.specs.Ends.{End, window_by};
+ghost use Rattle.qs_machine.specs.Setting.{count_with};
 ghost use Rattle.qs_conn.specs.declared.limits.Limits.{Limits};
 ghost use Rattle.qs_machine.specs.Outgoing.{Outgoing};
-ghost use Rattle.qs_conn.specs.Filling.{end_by, IsCurrentIn, ItemFits, LimitsFit, AnyWantsMore};
+ghost use Rattle.qs_conn.specs.Filling.{end_by, IsCurrentIn, ItemFits, LimitsFit, with_window, with_grant, AnyWantsMore};
 ghost use Rattle.qs_conn.specs.Marks.{IsIdle};
 
 use crate::by_dir::ByDir;
@@ -17,7 +19,7 @@ use crate::places::type_of;
 use crate::recv_tables::RecvTables;
 use crate::send_marks::Task;
 use crate::slot::Slot;
-use qs_calls::{Settings, Tuning};
+use qs_calls::{MAX_VARINT, Settings, Tuning};
 use qs_send::Item;
 use qs_wire::{Dir, Role, StreamId};
 
@@ -28,6 +30,10 @@ pub(crate) struct Limits {
     pub role: Role,
     pub settings: Settings,
     pub tuning: Tuning,
+    /// The connection's window and the grants in force, as they were set last, and the widest window so far.
+    pub conn_window: u64,
+    pub widest: u64,
+    pub grants: ByDir<u64>,
     pub granted: u64,
     pub known_data: u64,
     pub granted_streams: ByDir<u64>,
@@ -79,6 +85,47 @@ impl Limits {
         }
         let limit = self.known_data;
         is_covered(outbox, &Item::DataBlocked { limit })
+    }
+
+    /// Sets the connection's window where so much was taken. A greater one moves the limit at once (RFC 9000, section 4.1).
+    pub(crate) fn set_conn_window(&mut self, window: u64, taken: u64)
+        requires taken { taken ≤ MAX_VARINT }
+        requires window { window ≤ MAX_CONN_WINDOW }
+        ensures { self.new ≡ with_window window taken self.old }
+    {
+        if self.conn_window < window {
+            self.granted = self.granted.max((taken + window).min(MAX_VARINT));
+        }
+        self.conn_window = window;
+        self.widest = self.widest.max(window);
+    }
+
+    /// Sets a direction's grant where so many of its streams ended. A greater one moves the count at once (RFC 9000, section 4.6).
+    pub(crate) fn set_grant(&mut self, dir: Dir, streams: u64, ended: u64)
+        ensures { self.new ≡ with_grant dir streams ended self.old }
+    {
+        match dir {
+            Dir::Bidi => {
+                self.granted_streams.bidi = count_with(
+                    self.grants.bidi,
+                    self.granted_streams.bidi,
+                    self.settings.lifetime_bidi,
+                    ended,
+                    streams,
+                );
+                self.grants.bidi = streams;
+            }
+            Dir::Uni => {
+                self.granted_streams.uni = count_with(
+                    self.grants.uni,
+                    self.granted_streams.uni,
+                    self.settings.lifetime_uni,
+                    ended,
+                    streams,
+                );
+                self.grants.uni = streams;
+            }
+        }
     }
 
     // The connection's limit, once it was raised.
@@ -167,6 +214,17 @@ impl Limits {
             Some(blocked) if blocked == count => Some(Item::StreamsBlocked { dir, count }),
             _ => None,
         }
+    }
+}
+
+// The count of streams that a grant leaves where so many ended.
+fn count_with(present: u64, granted: u64, lifetime: u64, ended: u64, grant: u64) -> u64
+    ensures { result ≡ count_with present granted lifetime ended grant }
+{
+    if present < grant {
+        granted.max(grant.saturating_add(ended).min(lifetime))
+    } else {
+        granted
     }
 }
 

@@ -1,13 +1,13 @@
 //! The sending side of an end.
 ghost use Rattle.std.specs.Prelude.{◌≡◌, ◌-◌, ◌≤◌, ◌^◌, ◌<◌, length, min, take, is_some, option_map, unwrap_or, true, OnOk, OnErr, IfOk, IfErr};
 ghost use Rattle.qs_ranges.specs.Numbers.{MAX_VARINT};
-ghost use Rattle.qs_send.specs.Lane.{Sending, new_lane, accepted, refusal, reset_refusal, answer_of, write_lane, finish_lane, reset_lane, stopped_lane, allow_lane};
+ghost use Rattle.qs_send.specs.Lane.{Sending, new_lane, accepted, refusal, reset_refusal, answer_of, write_lane, finish_lane, reset_lane, stopped_lane, allow_lane, buffer_lane};
 ghost use Rattle.qs_machine.specs.Tables.{table, with_table, lookup, open_to, total, type_of};
-ghost use Rattle.qs_machine.specs.Asking.{stop_of};
+ghost use Rattle.qs_machine.specs.Asking.{kept_on, stop_of};
 ghost use Rattle.qs_machine.specs.Reports.{send_report};
 ghost use Rattle.qs_machine.specs.Sums.{or_none};
 ghost use Rattle.qs_conn.specs.Ended.{send_over};
-ghost use Rattle.qs_conn.specs.Held.{kept_on, most_buffered};
+ghost use Rattle.qs_conn.specs.Held.{most_buffered};
 ghost use Rattle.qs_conn.specs.Promised.{promised_on};
 ghost use Rattle.qs_machine.specs.Credit.{unsent_on};
 ghost use Rattle.qs_machine.specs.Outgoing.{no_packets, with_sends, on_lane, sent_sum, HasSending, AreOfOpen};
@@ -205,6 +205,19 @@ impl Outbox {
         unsent as u64
     }
 
+    /// How many bytes of all streams are kept until they are acknowledged. A sum that is no u64 is the greatest one.
+    pub(crate) fn kept_sum(&self) -> u64
+        ensures { result ≡ min (total kept_on self.now.sends) (2 ^ 64 - 1) }
+    {
+        let bidi = self.types[0].kept() + self.types[1].kept();
+        let uni = self.types[2].kept() + self.types[3].kept();
+        let kept = bidi + uni;
+        if kept > u64::MAX as u128 {
+            return u64::MAX;
+        }
+        kept as u64
+    }
+
     /// What the buffers of all streams take, in bytes, by a walk over them. A sum that is no u64 is the greatest one.
     pub(crate) fn held(&self) -> u64
         ensures kept { min (total kept_on self.now.sends) (2 ^ 64 - 1) ≤ result }
@@ -238,12 +251,13 @@ impl Outbox {
         lanes.reserve_to(index_of(stream) + 1)
     }
 
-    /// Takes the streams of the type of this one from a count on away. Nothing of them was sent or is to be sent.
+    /// Takes the streams of the type of this one from a count on away. Nothing of them was sent or is to be sent, and they keep nothing.
     pub(crate) fn close_to(&mut self, stream: StreamId, count: usize)
         requires none { AreOfOpen (with_table self.old.sends (type_of stream) (take count (table self.old.sends (type_of stream)))) self.old.outstanding }
         requires lost { AreOfOpen (with_table self.old.sends (type_of stream) (take count (table self.old.sends (type_of stream)))) self.old.lost.pieces }
         requires unsent { sent_sum (with_table self.old.sends (type_of stream) (take count (table self.old.sends (type_of stream)))) ≡ sent_sum self.old.sends }
         requires unwritten { total promised_on (with_table self.old.sends (type_of stream) (take count (table self.old.sends (type_of stream)))) ≡ total promised_on self.old.sends }
+        requires unkept { total kept_on (with_table self.old.sends (type_of stream) (take count (table self.old.sends (type_of stream)))) ≡ total kept_on self.old.sends }
         ensures { self.new ≡ with_sends (with_table self.old.sends (type_of stream) (take count (table self.old.sends (type_of stream)))) self.old }
     {
         let lanes = &mut self.types[type_of(stream)];
@@ -307,6 +321,15 @@ impl Outbox {
         }
         let half = half_of(&self.types, stream);
         half.stop_code()
+    }
+
+    /// Sets how many bytes an open stream keeps at most.
+    pub(crate) fn set_buffer(&mut self, stream: StreamId, size: usize)
+        requires { is_some (lookup self.old.sends stream) ≡ true }
+        ensures { self.new ≡ on_lane stream (λ l. buffer_lane l size) self.old }
+    {
+        let lanes = &mut self.types[type_of(stream)];
+        lanes.set_buffer(index_of(stream), size);
     }
 
     /// Takes in that the peer allows the offsets of an open stream below a limit.

@@ -2,9 +2,10 @@
 ghost use Rattle.std.specs.Prelude.{◌≡◌, ◌+◌, ◌-◌, ◌≤◌, ◌<◌, ◌^◌, ◌++◌, [], length, drop, map, min, take, slice_get, slice_index_or, option_map, ℕ, false, None, Some, IfSome, OnOk, OnErr, IsOk, IfOk, Ok};
 ghost use Rattle.std.specs.List.{sum_by};
 ghost use Rattle.qs_ranges.specs.Numbers.{MAX_VARINT};
-ghost use Rattle.qs_recv.specs.Lane.{MAX_WINDOW, RecvLane, new_lane, check_stream, check_reset, check_bytes, highest, highest_after, taken, take_stream, take_reset, read_answer, bytes_read, after_read, raise, stop};
+ghost use Rattle.qs_recv.specs.Lane.{MAX_WINDOW, RecvLane, new_lane, check_stream, check_reset, check_bytes, highest, highest_after, taken, take_stream, take_reset, read_answer, bytes_read, after_read, raise, stop, stop_and_forget};
 ghost use Rattle.qs_recv.specs.Lawful.{IsLawful};
 ghost use Rattle.qs_recv.specs.Changes.{stream_changes};
+ghost use Rattle.qs_recv.specs.Peek.{IsPeek};
 ghost use Rattle.qs_machine.specs.Tables.{widened};
 ghost use Rattle.qs_machine.specs.Memory.{HasNews};
 ghost use Rattle.qs_machine.specs.Changes.{half_changes, reset_changes};
@@ -28,7 +29,7 @@ use crate::untold::Untold;
 use qs_calls::RecvReport;
 use qs_machine::Tally;
 use qs_ranges::NoMemory;
-use qs_recv::{Highest, Read, RecvFault, RecvHalf, RecvState, RingAssembly, Share};
+use qs_recv::{Highest, Peek, Read, RecvFault, RecvHalf, RecvState, RingAssembly, Share};
 use qs_wire::StreamId;
 use std::alloc::Global;
 use std::marker::Model;
@@ -344,6 +345,15 @@ impl RecvLanes {
         answer
     }
 
+    /// Tells what a read at an open lane would, and changes nothing.
+    pub(crate) fn peek(&self, index: usize) -> Peek<'_>
+        requires { index < length self.now }
+        ensures { IsPeek (slice_index_or self.now index (new_lane 0 Share.Half)) result }
+    {
+        let half = &self.halves[index];
+        half.peek()
+    }
+
     /// Stops an open lane.
     pub(crate) fn stop(&mut self, index: usize, code: u64)
         requires there { index < length self.old }
@@ -361,6 +371,23 @@ impl RecvLanes {
         self.touched.touch(index);
     }
 
+    /// Stops an open lane, and tells nothing more of it.
+    pub(crate) fn stop_and_forget(&mut self, index: usize, code: u64)
+        requires there { index < length self.old }
+        requires room { sum_by highest self.old + MAX_VARINT < 2 ^ 64 }
+        requires fits { code ≤ MAX_VARINT }
+        ensures after { self.new ≡ changed self.old index (λ l. stop_and_forget l code) (slice_get self.old index) }
+        ensures same { sum_by highest self.new ≡ sum_by highest self.old }
+    {
+        let half = &mut self.halves[index];
+        let was = measure(half);
+        half.stop_and_forget(code);
+        let is = measure(half);
+        self.news.look(index, half);
+        self.tally = moved(self.tally, was, is);
+        self.touched.touch(index);
+    }
+
     /// Whether a lane is in Data Read or Reset Read (RFC 9000, section 3.2).
     pub(crate) fn has_ended(&self, index: usize) -> bool
         ensures { result ≡ recv_over (slice_get self.now index) }
@@ -368,6 +395,9 @@ impl RecvLanes {
         let Some(half) = self.halves.get(index) else {
             return false;
         };
+        if !half.is_told() {
+            return false;
+        }
         matches!(half.state(), RecvState::DataRead | RecvState::ResetRead)
     }
 

@@ -1,11 +1,12 @@
 //! The receiving halves of an end.
 ghost use Rattle.std.specs.Prelude.{◌≡◌, ◌+◌, ◌≤◌, ◌<◌, ◌^◌, ◌++◌, ℕ, length, drop, take, is_some, option_map, true, false, Some, OnOk, OnErr, IsOk, IfOk, IfSome};
 ghost use Rattle.qs_ranges.specs.Numbers.{MAX_VARINT};
-ghost use Rattle.qs_recv.specs.Lane.{RecvLane, new_lane, check_stream, check_reset, check_bytes, highest, taken, noted, take_stream, take_reset, read_answer, bytes_read, after_read, raise, stop, MAX_WINDOW};
+ghost use Rattle.qs_recv.specs.Lane.{RecvLane, new_lane, check_stream, check_reset, check_bytes, highest, taken, noted, take_stream, take_reset, read_answer, bytes_read, after_read, raise, stop, stop_and_forget, MAX_WINDOW};
 ghost use Rattle.qs_machine.specs.Tables.{no_streams, table, with_table, lookup, updated, open_to, each, total, type_of};
 ghost use Rattle.qs_machine.specs.Memory.{HasNews};
 ghost use Rattle.qs_machine.specs.Changes.{half_changes, reset_changes};
 ghost use Rattle.qs_recv.specs.Changes.{stream_changes};
+ghost use Rattle.qs_recv.specs.Peek.{IsPeek};
 ghost use Rattle.qs_machine.specs.Reports.{recv_report};
 ghost use Rattle.qs_machine.specs.Verdicts.{or_new};
 ghost use Rattle.qs_machine.specs.Sums.{stored_on, tally_on, IsPaid};
@@ -26,7 +27,7 @@ use crate::untold::Untold;
 use qs_calls::RecvReport;
 use qs_machine::Tally;
 use qs_ranges::NoMemory;
-use qs_recv::{Highest, Read, RecvFault, Share};
+use qs_recv::{Highest, Peek, Read, RecvFault, Share};
 use qs_wire::StreamId;
 use std::alloc::Global;
 use std::marker::Model;
@@ -261,6 +262,15 @@ impl RecvTables {
         lanes.skip(index_of(stream), most)
     }
 
+    /// Tells what a read at an open stream would, and changes nothing.
+    pub(crate) fn peek(&self, stream: StreamId) -> Peek<'_>
+        requires { is_some (lookup self.now stream) ≡ true }
+        ensures { IsPeek (or_new (lookup self.now stream) 0 Share.Half) result }
+    {
+        let lanes = &self.types[type_of(stream)];
+        lanes.peek(index_of(stream))
+    }
+
     /// Stops an open stream.
     pub(crate) fn stop(&mut self, stream: StreamId, code: u64)
         requires open { is_some (lookup self.old stream) ≡ true }
@@ -270,6 +280,17 @@ impl RecvTables {
     {
         let lanes = &mut self.types[type_of(stream)];
         lanes.stop(index_of(stream), code);
+    }
+
+    /// Stops an open stream, and tells nothing more of it.
+    pub(crate) fn stop_and_forget(&mut self, stream: StreamId, code: u64)
+        requires open { is_some (lookup self.old stream) ≡ true }
+        requires room { total highest self.old < 2 ^ 62 }
+        requires fits { code ≤ MAX_VARINT }
+        ensures { self.new ≡ updated self.old stream (λ l. stop_and_forget l code) (lookup self.old stream) }
+    {
+        let lanes = &mut self.types[type_of(stream)];
+        lanes.stop_and_forget(index_of(stream), code);
     }
 
     /// Whether a stream's receiving half is in Data Read or Reset Read (RFC 9000, section 3.2).

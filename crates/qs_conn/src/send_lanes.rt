@@ -2,13 +2,14 @@
 ghost use Rattle.std.specs.Prelude.{◌≡◌, ◌+◌, ◌-◌, ◌*◌, ◌≤◌, ◌<◌, ◌^◌, [], length, min, take, slice_get, slice_index_or, unwrap_or, ℕ, false, None, Some, OnOk, OnErr, IfOk, IfErr, IfSome};
 ghost use Rattle.std.specs.List.{sum_by};
 ghost use Rattle.qs_ranges.specs.Numbers.{MAX_VARINT};
-ghost use Rattle.qs_send.specs.Lane.{Sending, new_sending, accepted, refusal, reset_refusal, answer_of, state, after_write, after_finish, after_reset, after_stopped, after_reset_acked, after_blocked, after_allow, after_sent, after_acked, after_lost};
+ghost use Rattle.qs_send.specs.Lane.{Sending, new_sending, accepted, refusal, reset_refusal, answer_of, state, after_write, after_finish, after_reset, after_stopped, after_reset_acked, after_blocked, after_allow, after_buffer, after_sent, after_acked, after_lost};
 ghost use Rattle.qs_send.specs.Chunks.{IsDueChunk, WasSent};
 ghost use Rattle.qs_machine.specs.Tables.{widened};
 ghost use Rattle.qs_machine.specs.Memory.{ChunkMayRunOut};
 ghost use Rattle.qs_machine.specs.Sums.{changed, no_sending};
 ghost use Rattle.qs_machine.specs.News.{IsLeast};
-ghost use Rattle.qs_conn.specs.Held.{kept_on, most_buffered};
+ghost use Rattle.qs_machine.specs.Asking.{kept_on};
+ghost use Rattle.qs_conn.specs.Held.{most_buffered};
 ghost use Rattle.qs_conn.specs.Promised.{promised_on};
 ghost use Rattle.qs_conn.specs.Marks.{AreMarked, IsBefore, IsAt};
 ghost use Rattle.qs_conn.specs.declared.send_marks.Task.TheVariants as tasks;
@@ -29,6 +30,8 @@ pub(crate) struct SendLanes {
     halves: Vec<SendHalf>,
     // How many bytes of all halves were sent or are still to be sent. A sum over 2^60 halves is no u64.
     promised: u128,
+    // How many bytes of all halves are kept until they are acknowledged.
+    kept: u128,
     // A half without a mark for a task is quiet of it.
     marks: SendMarks,
 }
@@ -40,7 +43,7 @@ impl Model for SendLanes {
     ghost use Rattle.qs_send.specs.Lane.{Sending};
     ghost use Rattle.qs_send.specs.Codes.{sending_code};
     ghost use Rattle.qs_conn.specs.Tasks.{AreAllMarked};
-    ghost use Rattle.qs_conn.specs.Promised.{ArePromised};
+    ghost use Rattle.qs_conn.specs.Promised.{AreSums};
 
     ghost Value = { List Sending };
 
@@ -48,7 +51,7 @@ impl Model for SendLanes {
 
     ghost view = { λ l. l.halves.items };
 
-    ghost invariant = { λ l. (length l.halves.items ≤ 2 ^ 60) × AreAllMarked l.halves.items l.marks × ArePromised l.halves.items l.promised };
+    ghost invariant = { λ l. (length l.halves.items ≤ 2 ^ 60) × AreAllMarked l.halves.items l.marks × AreSums l.halves.items l.promised l.kept };
 }
 
 impl SendLanes {
@@ -59,6 +62,7 @@ impl SendLanes {
             alloc,
             halves: Vec::new(alloc),
             promised: 0,
+            kept: 0,
             marks: SendMarks::new(alloc),
         }
     }
@@ -90,6 +94,14 @@ impl SendLanes {
         ensures small { result ≤ 2 ^ 122 }
     {
         self.promised
+    }
+
+    /// How many bytes of all halves are kept until they are acknowledged.
+    pub(crate) fn kept(&self) -> u128
+        ensures value { result ≡ sum_by (λ s. kept_on s.lane) self.now }
+        ensures small { result ≤ 2 ^ 122 }
+    {
+        self.kept
     }
 
     /// An open half.
@@ -143,9 +155,10 @@ impl SendLanes {
         }
     }
 
-    /// Takes the halves from a count on away. Nothing of them was sent or is to be sent.
+    /// Takes the halves from a count on away. Nothing of them was sent or is to be sent, and they keep nothing.
     pub(crate) fn close_to(&mut self, count: usize)
-        requires { sum_by (λ s. promised_on s.lane) (take count self.old) ≡ sum_by (λ s. promised_on s.lane) self.old }
+        requires unwritten { sum_by (λ s. promised_on s.lane) (take count self.old) ≡ sum_by (λ s. promised_on s.lane) self.old }
+        requires unkept { sum_by (λ s. kept_on s.lane) (take count self.old) ≡ sum_by (λ s. kept_on s.lane) self.old }
         ensures { self.new ≡ take count self.old }
     {
         self.halves.truncate(count);
@@ -168,7 +181,9 @@ impl SendLanes {
         let half = &mut self.halves[index];
         half.is_lawful();
         let answer = half.write(bytes);
-        self.promised += answer.unwrap_or(0) as u128;
+        let accepted = answer.unwrap_or(0) as u128;
+        self.promised += accepted;
+        self.kept += accepted;
         self.marks.look_written(index, half);
         answer
     }
@@ -193,10 +208,11 @@ impl SendLanes {
         ensures after { self.new ≡ changed self.old index (λ s. after_reset s code) (slice_get self.old index) }
     {
         let half = &mut self.halves[index];
-        let before = promised(half);
+        let (before, had) = (promised(half), kept(half));
         let answer = half.reset(code);
-        let after = promised(half);
+        let (after, has) = (promised(half), kept(half));
         self.promised = self.promised - before + after;
+        self.kept = self.kept - had + has;
         self.marks.look(index, half);
         answer
     }
@@ -208,10 +224,11 @@ impl SendLanes {
         ensures { self.new ≡ changed self.old index (λ s. after_stopped s code) (slice_get self.old index) }
     {
         let half = &mut self.halves[index];
-        let before = promised(half);
+        let (before, had) = (promised(half), kept(half));
         half.stopped(code);
-        let after = promised(half);
+        let (after, has) = (promised(half), kept(half));
         self.promised = self.promised - before + after;
+        self.kept = self.kept - had + has;
         self.marks.look(index, half);
     }
 
@@ -223,6 +240,16 @@ impl SendLanes {
     {
         let half = &mut self.halves[index];
         half.allow(limit);
+        self.marks.look(index, half);
+    }
+
+    /// Sets how many bytes an open half keeps at most.
+    pub(crate) fn set_buffer(&mut self, index: usize, size: usize)
+        requires { index < length self.old }
+        ensures { self.new ≡ changed self.old index (λ s. after_buffer s size) (slice_get self.old index) }
+    {
+        let half = &mut self.halves[index];
+        half.set_buffer(size);
         self.marks.look(index, half);
     }
 
@@ -268,7 +295,10 @@ impl SendLanes {
         ensures asks { OnErr result (ChunkMayRunOut (slice_index_or self.old index no_sending).lane chunk) }
     {
         let half = &mut self.halves[index];
+        let had = kept(half);
         let answer = half.acked(chunk);
+        let has = kept(half);
+        self.kept = self.kept - had + has;
         self.marks.look_acked(index, half);
         answer
     }
@@ -339,6 +369,15 @@ fn promised(half: &SendHalf) -> u128
         return half.sent_end() as u128;
     }
     half.written() as u128
+}
+
+// How many bytes of a half are kept until they are acknowledged.
+fn kept(half: &SendHalf) -> u128
+    ensures value { result ≡ kept_on half.now.lane }
+    ensures small { result ≤ MAX_VARINT }
+{
+    half.is_lawful();
+    half.kept_len() as u128
 }
 
 // A write to a half that has no room: no byte is accepted.

@@ -45,7 +45,7 @@ pub(crate) fn limits_fault(peer: &PeerLimits) -> Option<SetupFault>
     }
 }
 
-fn is_between(low: u64, high: u64, n: u64) -> bool
+pub(crate) fn is_between(low: u64, high: u64, n: u64) -> bool
     ensures { result ≡ is_between low high n }
 {
     low <= n && n <= high

@@ -117,7 +117,7 @@ acks_append (p ∷ ps) qs e = acks_append ps qs (first_acked p e)
 abbrev AreLeft : Bool → Records → End → Type 0
 AreLeft late m e = (j : ℕ) → (fmap.get (held late e) j ≡ fmap.get m j) ⊎ IsBare (fmap.get (held late e) j)
 
-abbrev piece_list : Bool → ℕ → Option (List Piece) → List AckedPiece
+abbrev pub piece_list : Bool → ℕ → Option (List Piece) → List AckedPiece
 piece_list late k o = elim o [ None ↦ [] | Some ps ↦ map (acked_at late k) ps ]
 
 packet_bare : (late : Bool) (m : Records) (e : End) (k : ℕ) → AreLeft late m e → IsBare (fmap.get (held late (acks (pieces_of late m k) e)) k)
@@ -166,7 +166,7 @@ unfolding acks
 late_packet k [] e = refl
 late_packet k (p ∷ ps) e = late_packet k ps (first_acked (acked_at false k p) e) ∙ held_piece true p (without_piece false k e)
 
-late_stays : (m : Records) (ks : List ℕ) (e : End) → held true (acks (flat_map (pieces_of false m) ks) e) ≡ held true e
+pub late_stays : (m : Records) (ks : List ℕ) (e : End) → held true (acks (flat_map (pieces_of false m) ks) e) ≡ held true e
 unfolding acks
 late_stays m [] e = refl
 late_stays m (k ∷ ks) e = ap (held true) (acks_append (pieces_of false m k) (flat_map (pieces_of false m) ks) e) ∙ late_stays m ks (acks (pieces_of false m k) e) ∙ go (fmap.get m k)

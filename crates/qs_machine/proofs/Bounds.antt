@@ -25,7 +25,7 @@ use Rattle.qs_machine.specs.Tables.{table, lookup, total, no_streams}
 use Rattle.qs_machine.specs.Ends.{End, role_bit, window, new_end, end_made, wide_end_made, end_unless}
 use Rattle.qs_machine.specs.Credit.{spent, all_taken, all_stored, granted_streams, lifetime, recv_ended, both_ended, ended}
 use Rattle.qs_machine.specs.Standing.{HasLawfulLane, IsInCredit, CountsStand, IsSound, CountsAreSettled, IsLaneWithin, IsWithinCredit}
-use Rattle.qs_machine.proofs.Counts.{settled_stand, count_first}
+use Rattle.qs_machine.proofs.Counts.{count_first}
 use Rattle.qs_machine.proofs.TableLaws.{value, total_le, total_both}
 
 -- of one lane: what is stored and what was taken, together, the peer has used up
@@ -52,8 +52,8 @@ slot_within role s n None h = omega arith
 slot_within role s n (Some l) h = stored_and_taken l h.0
 
 few_counts : (e : End) → CountsStand e → (d : Dir) → granted_streams e d ≤ lifetime e.settings d
-few_counts e h Bidi = omega (arith, h.0)
-few_counts e h Uni = omega (arith, h.1)
+few_counts e h Bidi = h.0
+few_counts e h Uni = h.1
 
 pub within_credit : (e : End) → IsSound e → IsWithinCredit e
 within_credit e h =
@@ -88,6 +88,7 @@ unfolding total
 new_end_in_credit role s t p fits =
     record {
       settings = fits;
+      present = record { some = grind (arith, nat_tests, fits); widest = omega arith; small = grind (arith, nat_tests, fits); bidi = grind (arith, nat_tests, fits); uni = grind (arith, nat_tests, fits) };
       lanes = λ n. subst (HasLawfulLane role s n) (sym (no_lane n)) tt;
       spent = omega arith;
       in_window = omega arith;
@@ -107,11 +108,11 @@ grants_fit : (s : Settings) → are_in_wide_range s ≡ true → GrantsFit s
 grants_fit s h = record { bidi = grind (arith, nat_tests, h); uni = grind (arith, nat_tests, h) }
 
 new_end_settled : (role : Role) (s : Settings) (t : Tuning) (p : PeerLimits) → are_in_wide_range s ≡ true → CountsAreSettled (new_end role s t p)
-new_end_settled role s t p fits Bidi = sym (count_first s t Bidi (ended (new_end role s t p) Bidi) (none_ended role s t p Bidi) (grants_fit s fits).bidi)
-new_end_settled role s t p fits Uni = sym (count_first s t Uni (ended (new_end role s t p) Uni) (none_ended role s t p Uni) (grants_fit s fits).uni)
+new_end_settled role s t p fits Bidi = omega (arith, count_first s t Bidi s.grant_bidi (ended (new_end role s t p) Bidi) (none_ended role s t p Bidi) (grants_fit s fits).bidi)
+new_end_settled role s t p fits Uni = omega (arith, count_first s t Uni s.grant_uni (ended (new_end role s t p) Uni) (none_ended role s t p Uni) (grants_fit s fits).uni)
 
 new_end_sound : (role : Role) (s : Settings) (t : Tuning) (p : PeerLimits) → are_in_wide_range s ≡ true → IsSound (new_end role s t p)
-new_end_sound role s t p fits = (new_end_in_credit role s t p fits, settled_stand (new_end role s t p) (new_end_settled role s t p fits))
+new_end_sound role s t p fits = (new_end_in_credit role s t p fits, ((grants_fit s fits).bidi, (grants_fit s fits).uni))
 
 in_range : (a b c : Bool) → cond (not (a && b)) (Some OutOfRange) (cond (not c) (Some TooManyStreams) None) ≡ None → a ≡ true
 in_range true b c e = refl

@@ -1,6 +1,6 @@
 -- How many streams ended: no fewer where halves that ended stay so, and as many once limits were raised.
 use Rattle.std.proofs.Common.{◌≡◌, ℕ, zero, suc, ◌+◌, ◌-◌, ◌*◌, ◌/◌, ◌%◌, ◌<◌, ◌≤◌, Bool, true, false, cond, List, [], ◌∷◌, length, map, Option, None, Some, slice_get, refl, sym, ap, ◌∙◌, subst, arith}
-use Rattle.std.specs.Prelude.{min, zip}
+use Rattle.std.specs.Prelude.{max, min, zip}
 use Rattle.std.specs.List.{filter}
 use Rattle.std.proofs.lemmas.Option.{none-some, same_Some}
 use Rattle.std.proofs.lemmas.Bool.{both_ways, and_parts, and_from}
@@ -101,26 +101,13 @@ one_step (Some share) grant = omega arith
 pub steps_within : (k n : ℕ) → 0 < k → in_steps k n ≤ n
 steps_within k n pos = omega (arith, mod_below n k pos)
 
--- and more of them are in more
-steps_grow : (k m n : ℕ) → 0 < k → m ≤ n → in_steps k m ≤ in_steps k n
-steps_grow k m n pos le =
-    let quotients : m / k ≤ n / k = le-div (m / k) n k pos (omega (arith, steps_within k m pos, le)) in
-    let products : k * (m / k) ≤ k * (n / k) = mul-le-mul_left k quotients in
-    omega (arith, products)
-
 -- steps of one are all
 pub steps_of_one : (n : ℕ) → in_steps 1 n ≡ n
 steps_of_one n = omega arith
 
--- so more streams that ended make no lower count
-pub count_grows : (s : Settings) (t : Tuning) (d : Dir) (m n : ℕ) → m ≤ n → count_after s t d m ≤ count_after s t d n
-count_grows s t d m n le =
-    let k = count_step t.count_step (first_grant s d) in
-    omega (arith, steps_grow k m n (one_step t.count_step (first_grant s d)) le)
-
--- and none that ended the first grant
-pub count_first : (s : Settings) (t : Tuning) (d : Dir) (n : ℕ) → n ≡ 0 → first_grant s d ≤ lifetime s d → count_after s t d n ≡ first_grant s d
-count_first s t d n none le = omega (arith, none, le, steps_within (count_step t.count_step (first_grant s d)) n (one_step t.count_step (first_grant s d)))
+-- where none ended the next count is the grant
+pub count_first : (s : Settings) (t : Tuning) (d : Dir) (grant n : ℕ) → n ≡ 0 → grant ≤ lifetime s d → count_after s t d grant n ≡ grant
+count_first s t d grant n none le = omega (arith, none, le, steps_within (count_step t.count_step grant) n (one_step t.count_step grant))
 
 -- Ends
 
@@ -140,31 +127,30 @@ ended_grows a b role recvs sends Uni =
     subst (λ r. ended a Uni ≤ length (filter recv_ended (table b.recvs (3 - role_bit r)))) (sym role)
     (recvs_grow (table a.recvs (peer_type a Uni)) (table b.recvs (peer_type a Uni)) (kept_table RecvStays a.recvs b.recvs (peer_type a Uni) (uni_few a.role) recvs))
 
--- and so the next count is no lower
-pub next_grows : (a b : End) → b.role ≡ a.role → b.settings ≡ a.settings → b.tuning ≡ a.tuning → KeptIn RecvStays a.recvs b.recvs → KeptIn SendStays a.sends b.sends → (d : Dir) → next_count a d ≤ next_count b d
-next_grows a b role settings tuning recvs sends d =
-    subst (λ (s : Settings). next_count a d ≤ count_after s b.tuning d (ended b d)) (sym settings)
-    (subst (λ (t : Tuning). next_count a d ≤ count_after a.settings t d (ended b d)) (sym tuning) (count_grows a.settings a.tuning d (ended a d) (ended b d) (ended_grows a b role recvs sends d)))
-
 -- Limits that rise end no stream.
 pub ended_settle : (e : End) (d : Dir) → ended (settle e) d ≡ ended e d
 ended_settle e Bidi = ap (λ xs. length (filter both_ended (zip xs (table e.sends (peer_type e Bidi))))) (each_table raise e.recvs (peer_type e Bidi)) ∙ both_raised (table e.recvs (peer_type e Bidi)) (table e.sends (peer_type e Bidi))
 ended_settle e Uni = ap (λ xs. length (filter recv_ended xs)) (each_table raise e.recvs (peer_type e Uni)) ∙ recvs_raised (table e.recvs (peer_type e Uni))
 
+greater_twice : (g c : ℕ) → max (max g c) c ≡ max g c
+greater_twice g c = omega arith
+
 pub next_settle : (e : End) (d : Dir) → next_count (settle e) d ≡ next_count e d
-next_settle e d = ap (count_after e.settings e.tuning d) (ended_settle e d)
+next_settle e Bidi =
+    ap (λ n. max (next_count e Bidi) (count_after e.settings e.tuning Bidi e.present.grant_bidi n)) (ended_settle e Bidi)
+    ∙ greater_twice e.granted_bidi (count_after e.settings e.tuning Bidi e.present.grant_bidi (ended e Bidi))
+next_settle e Uni =
+    ap (λ n. max (next_count e Uni) (count_after e.settings e.tuning Uni e.present.grant_uni n)) (ended_settle e Uni)
+    ∙ greater_twice e.granted_uni (count_after e.settings e.tuning Uni e.present.grant_uni (ended e Uni))
 
 pub counts_settle : (e : End) → CountsAreSettled (settle e)
 counts_settle e Bidi = sym (next_settle e Bidi)
 counts_settle e Uni = sym (next_settle e Uni)
 
-pub settled_stand : (e : End) → CountsAreSettled e → CountsStand e
-settled_stand e h = (omega (arith, h Bidi), omega (arith, h Uni))
+pub counts_stand : (e : End) → CountsStand e → CountsStand (settle e)
+counts_stand e h = (omega (arith, h.0), omega (arith, h.1))
 
-pub counts_stand : (e : End) → CountsStand (settle e)
-counts_stand e = settled_stand (settle e) (counts_settle e)
-
--- where counts stood and halves that ended stay so, no count falls as the call ends
-pub counts_rise : (a b : End) → b.role ≡ a.role → b.settings ≡ a.settings → b.tuning ≡ a.tuning → KeptIn RecvStays a.recvs b.recvs → KeptIn SendStays a.sends b.sends → CountsStand a → CountsRise a (settle b)
-counts_rise a b role settings tuning recvs sends h Bidi = omega (arith, h.0, next_grows a b role settings tuning recvs sends Bidi)
-counts_rise a b role settings tuning recvs sends h Uni = omega (arith, h.1, next_grows a b role settings tuning recvs sends Uni)
+-- no count falls where those of each direction don't
+pub counts_rise : (a b : End) → a.granted_bidi ≤ b.granted_bidi → a.granted_uni ≤ b.granted_uni → CountsRise a b
+counts_rise a b bidi uni Bidi = bidi
+counts_rise a b bidi uni Uni = uni

@@ -23,14 +23,14 @@ use Rattle.qs_machine.specs.Tables.{Tables, lookup}
 use Rattle.qs_calls.specs.declared.closing.Closed.{Closed}
 use Rattle.qs_machine.specs.Recording.{recorded}
 use Rattle.qs_machine.specs.Ends.{End, Records, AckedItems, closes, is_own, is_uni, on_send, on_recv, opens, opened_by_peer, first_send_limit, window}
-use Rattle.qs_machine.specs.Credit.{next_count, settle}
+use Rattle.qs_machine.specs.Credit.{settle}
 use Rattle.qs_machine.specs.Seen.{Seen, Ack, Stream, Control, Close, Plain}
 use Rattle.qs_machine.specs.Verdicts.{verdict, or_new}
 use Rattle.qs_machine.specs.FrameStep.{frame_taken, item_taken, AckedPiece, acked_at, held, without_piece, pieces_of, acked_numbers, named_in, named, acks, first_acked, piece_acked, item_acked}
 use Rattle.qs_machine.specs.Standing.{IsInCredit, CountsStand, HasLawfulLane}
 use Rattle.qs_machine.specs.Repeats.{IsWritten, WasWritten, SentWasWritten}
 use Rattle.qs_machine.proofs.EndedHalves.{RecvStays, SendStays, reset_by, new_reset_keeps, reset_acked_keeps, whole_acked, acked_keeps}
-use Rattle.qs_machine.proofs.Counts.{next_grows, counts_stand}
+use Rattle.qs_machine.proofs.Counts.{counts_stand}
 use Rattle.qs_machine.proofs.FramesSound.{sound_opened}
 use Rattle.qs_machine.proofs.Taken.{stream_checked, reset_checked}
 use Rattle.qs_machine.proofs.LanesAgain.{LaneAfter, lane_same, lane_twice, data_after, reset_after, raise_after}
@@ -126,14 +126,10 @@ lanes_stay t u kept n l is = let (m, there, r) = kept n l is in (m, there, r.end
 pub halves_stay : (t u : Tables SendLane) → KeptIn HalfAfter t u → KeptIn SendStays t u
 halves_stay t u kept n l is = let (m, there, r) = kept n l is in (m, there, r.ended)
 
-next_after : (a b : End) → b.role ≡ a.role → b.settings ≡ a.settings → b.tuning ≡ a.tuning → KeptIn LaneAfter a.recvs b.recvs → KeptIn HalfAfter a.sends b.sends → (d : Dir) → next_count a d ≤ next_count b d
-next_after a b role settings tuning rr ss d = next_grows a b role settings tuning (lanes_stay a.recvs b.recvs rr) (halves_stay a.sends b.sends ss) d
-
 -- an end whose tables and known limits moved
 after_parts : (e : End) (s : Tables SendLane) (r : Tables RecvLane) (g d b u : ℕ) → KeptIn HalfAfter e.sends s → KeptIn LaneAfter e.recvs r → e.known_data ≤ d → e.known_bidi ≤ b → e.known_uni ≤ u
     → IsAfter e (record e { sends = s; recvs = r; granted = g; known_data = d; known_bidi = b; known_uni = u })
 after_parts e s r g d b u ss rr dd bb uu =
-    let new : End = record e { sends = s; recvs = r; granted = g; known_data = d; known_bidi = b; known_uni = u } in
     record {
       role = refl;
       settings = refl;
@@ -144,7 +140,7 @@ after_parts e s r g d b u ss rr dd bb uu =
       uni = uu;
       bidi_granted = omega arith;
       uni_granted = omega arith;
-      counts = λ h. (omega (arith, h.0, next_after e new refl refl refl rr ss Bidi), omega (arith, h.1, next_after e new refl refl refl rr ss Uni));
+      counts = λ h. h;
       recvs = rr;
       sends = ss;
       bare = λ late k is. is;
@@ -203,9 +199,9 @@ after_send n f e kept = after_tables e _ e.recvs e.granted (kept_updated HalfAft
 after_recv : (n : ℕ) (f : RecvLane → RecvLane) (e : End) → ((l : RecvLane) → lookup e.recvs n ≡ Some l → LaneAfter l (f l)) → IsAfter e (on_recv n f e)
 after_recv n f e kept = after_tables e e.sends _ e.granted (sends_same e.sends) (kept_updated LaneAfter lane_same e.recvs n f kept)
 
--- as a call ends, no count falls, where each was at most the next one
-pub after_settle : (e : End) → CountsStand e → IsAfter e (settle e)
-after_settle e h =
+-- as a call ends, no count falls
+pub after_settle : (e : End) → IsAfter e (settle e)
+after_settle e =
     record {
       role = refl;
       settings = refl;
@@ -214,9 +210,9 @@ after_settle e h =
       credit = omega arith;
       bidi = omega arith;
       uni = omega arith;
-      bidi_granted = h.0;
-      uni_granted = h.1;
-      counts = λ _. counts_stand e;
+      bidi_granted = omega arith;
+      uni_granted = omega arith;
+      counts = counts_stand e;
       recvs = kept_each LaneAfter lane_same e.recvs raise raise_after;
       sends = sends_same e.sends;
       bare = λ late k is. is;

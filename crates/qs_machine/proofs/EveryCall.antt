@@ -11,7 +11,7 @@ use Rattle.qs_wire.specs.Reading.{reading_of}
 use Rattle.qs_wire.specs.declared.fault.WireFault.{WireFault}
 use Rattle.qs_wire.specs.declared.stream_id.Dir.{Dir}
 use Rattle.qs_wire.specs.declared.stream_id.Dir.TheVariants.{Bidi, Uni}
-use Rattle.qs_recv.specs.Lane.{after_read, stop}
+use Rattle.qs_recv.specs.Lane.{after_read, stop, stop_and_forget}
 use Rattle.qs_recv.specs.declared.half.Read.{Read}
 use Rattle.qs_send.specs.Lane.{SendLane, refusal, reset_refusal, write_lane, finish_lane, reset_lane}
 use Rattle.qs_send.specs.Records.{IsCarried}
@@ -53,7 +53,8 @@ use Rattle.qs_machine.specs.Making.{MakeAt, MakeAckAt, make_refusal, claim_refus
 use Rattle.qs_machine.specs.Filling.{FillAt}
 use Rattle.qs_machine.specs.Alone.{is_ours, TakesOne, OpenTake, TakeBy, TakesEach, TakeAllBy, token_refusal, only, LosesEach, TokenAckedStep, TokenLostStep}
 use Rattle.qs_machine.specs.Raising.{limits_raised, raise_refusal}
-use Rattle.qs_machine.specs.EndStep.{Call, Answer, EndStep, Open, Accept, AcceptOf, Write, Finish, Reset, Stop, ReadUpTo, Consume, Receive, TakeFrame, TakeFrames, TokenAcked, TokenLost, Make, MakeAck, FillIn, Lose, Claim, RaiseLimits}
+use Rattle.qs_machine.specs.Setting.{Setting, SetStep, set_refusal, with_setting}
+use Rattle.qs_machine.specs.EndStep.{Call, Answer, EndStep, Open, Accept, AcceptOf, Write, Finish, Reset, Stop, ReadUpTo, Consume, Receive, TakeFrame, TakeFrames, TokenAcked, TokenLost, Make, MakeAck, FillIn, Lose, Claim, RaiseLimits, Set, StopAndForget}
 use Rattle.qs_machine.proofs.Choices.{by_refusal, by_test, if_allowed}
 
 -- a change of an end
@@ -66,8 +67,10 @@ pub data Change : Type 0 where
   Finished : (n : ℕ) → Change
   WasReset : (n code : ℕ) → Change
   Stopped : (n code : ℕ) → Change
+  Forgotten : (n code : ℕ) → Change
   WasRead : (n size : ℕ) → Change
   Raised : (limits : PeerLimits) → Change
+  WasSet : (setting : Setting) → Change
   -- a frame takes effect, and of an ACK, where no memory is left, some of the pieces
   Took : (f : Seen) → Change
   Acked : (count : ℕ) (ranges : List (ℕ × ℕ)) → Change
@@ -88,8 +91,10 @@ changed (Written n bytes l) e = on_send n (λ m. write_lane m bytes) e
 changed (Finished n) e = on_send n finish_lane e
 changed (WasReset n code) e = on_send n (λ m. reset_lane m code) e
 changed (Stopped n code) e = on_recv n (λ m. stop m code) e
+changed (Forgotten n code) e = on_recv n (λ m. stop_and_forget m code) e
 changed (WasRead n size) e = on_recv n (λ m. after_read m size) e
 changed (Raised limits) e = limits_raised limits e
+changed (WasSet x) e = with_setting x e
 changed (Took f) e = frame_taken f e
 changed (Acked count ranges) e = acks (take count (named e ranges)) e
 changed (Shut c) e = closes c e
@@ -114,6 +119,7 @@ Comes old call e (Took f) = verdict e f ≡ None
 Comes old call e (Put f) = MayPut old e f
 Comes old call e (Numbered next) = next ≡ old.next + 1
 Comes old call e (Raised limits) = MovesStanding call
+Comes old call e (WasSet x) = set_refusal e x ≡ None
 Comes old call e (Shut c) = MovesStanding call
 Comes old call e (Lost k p) = IsCarried e.outstanding p
 Comes old call e c = ⊤
@@ -330,6 +336,9 @@ module _ (old : End) (call : Call) (Q P : End → Type 0) (c : Cases old call Q 
   use_by : {A F : Type 0} (Told : Type 0) (r : Option F) (one : Change) (answer : Result A F) (new : End) → Comes old call old one → Certain r old answer new (Told × (new ≡ settle (changed one old))) → P new
   use_by Told r one answer new comes step = by_refusal (P new) r old answer new _ step (same new) (λ done. edited one new comes done.1)
 
+  set_by : (x : Setting) (answer : Answer (Set x)) (new : End) → SetStep old x answer new → P new
+  set_by x answer new step = if_allowed (P new) (set_refusal old x) old answer new _ step (same new) (λ allowed done. edited (WasSet x) new allowed done.1)
+
   claim_by : (answer : Answer Claim) (new : End) → EndStep old Claim answer new → P new
   claim_by answer new step = by_refusal (P new) (claim_refusal old) old answer new _ step (same new) (λ done. subst P (sym done.1) c.claims)
 
@@ -384,6 +393,8 @@ each_call old (Write n bytes) Q P c answer new step = write_by old (Write n byte
 each_call old (Finish n) Q P c answer new step = use_by old (Finish n) Q P c _ (send_refusal old n refusal) (Finished n) answer new tt step
 each_call old (Reset n code) Q P c answer new step = use_by old (Reset n code) Q P c _ (send_refusal old n reset_refusal) (WasReset n code) answer new tt step
 each_call old (Stop n code) Q P c answer new step = use_by old (Stop n code) Q P c _ (recv_refusal (is_some old.closed) old n) (Stopped n code) answer new tt step
+each_call old (StopAndForget n code) Q P c answer new step =
+    use_by old (StopAndForget n code) Q P c _ (recv_refusal (is_some old.closed) old n) (Forgotten n code) answer new tt step
 each_call old (ReadUpTo n size) Q P c answer new step = read_by old (ReadUpTo n size) Q P c (recv_refusal (is_read_no_more old) old n) n size answer.0 answer.1 new step
 each_call old (Consume n most) Q P c answer new step = consume_by old (Consume n most) Q P c n most answer new step
 each_call old (Receive k payload) Q P c answer new step = receive_by old (Receive k payload) Q P c tt old.closed k payload answer new step
@@ -397,6 +408,7 @@ each_call old (FillIn want room) Q P c answer new step = fill_by old (FillIn wan
 each_call old (Lose k) Q P c answer new step = lose_by old (Lose k) Q P c k old answer new c.stays step
 each_call old Claim Q P c answer new step = claim_by old Claim Q P c answer new step
 each_call old (RaiseLimits p) Q P c answer new step = use_by old (RaiseLimits p) Q P c _ (raise_refusal old p) (Raised p) answer new tt step
+each_call old (Set x) Q P c answer new step = set_by old (Set x) Q P c x answer new step
 each_call old call Q P c answer new step = same old call Q P c new step.1
 
 -- A relation that holds across each change, and across two where it does across each, holds across every call.

@@ -4,7 +4,7 @@ use Rattle.std.specs.FinSet as set
 use Rattle.std.specs.Ordering.{nat_cmp}
 use Rattle.std.proofs.lemmas.Option.{same_Some, none-some}
 use Rattle.std.proofs.lemmas.Bool.{false≢true, true≢false, both_ways}
-use Rattle.qs_recv.specs.Lane.{RecvLane, read_answer, stop}
+use Rattle.qs_recv.specs.Lane.{RecvLane, read_answer, stop, stop_and_forget}
 use Rattle.qs_recv.specs.News.{is_readable, tells_something}
 use Rattle.qs_recv.specs.declared.half.Read.TheVariants as reads
 use Rattle.qs_send.specs.Lane.{SendLane}
@@ -48,6 +48,7 @@ readable =
       nothing_came = λ h. both_ways (is_readable fresh) (ap tells_something waits) (only_is (λ l. is_readable l ≡ true) fresh h.1);
       told = λ h. false≢true (only_is (λ l. is_readable l ≡ true) (record all_came { told = true }) h.1);
       stopped = λ h. false≢true (only_is (λ l. is_readable l ≡ true) (stop three_came 7) h.1);
+      forgotten = λ h. false≢true (only_is (λ l. is_readable l ≡ true) (stop_and_forget all_came 7) h.1);
       closed = λ h. true≢false h.0;
       read_on = λ h. (let (m, found, le) = h.least 0 (omega arith) (refl, held_by (λ l. is_readable l ≡ true) (record fresh { final_size = Some 0; reset_code = Some 7 }) refl) in none-some m found);
       unopened = λ h. no_other (λ l. is_readable l ≡ true) all_came h.1;

@@ -23,9 +23,10 @@ use Rattle.qs_machine.specs.Credit.{settle}
 use Rattle.qs_machine.specs.FrameStep.{frame_taken}
 use Rattle.qs_machine.specs.Owner.{Certain, send_refusal, accepted_by, is_end}
 use Rattle.qs_machine.specs.SmallEnds.{client_with, abc, begun, wrote, fresh}
-use Rattle.qs_machine.specs.ExclusionsOwner.{NoSuchOpening, NoSuchAccepting, NoSuchAcceptingOf, NoSuchSending, NoSuchWriting, NoSuchReading, LimitsSettle, LimitsOnlyRise, NotOwned, prudent}
+use Rattle.qs_machine.specs.ExclusionsOwner.{NoSuchOpening, NoSuchAccepting, NoSuchAcceptingOf, NoSuchSending, NoSuchWriting, NoSuchReading, LimitsSettle, LimitsOnlyRise, SetsNoMore, NotOwned, prudent, NoSuchForgetting}
 use Rattle.qs_machine.proofs.Choices.{not_chosen}
 use Rattle.qs_machine.proofs.ExclusionsMaking.{ok_is_no_err}
+use Rattle.qs_machine.proofs.ExclusionsDue.{came_whole}
 
 -- Answers, told apart
 
@@ -231,12 +232,49 @@ readings =
       stop_on = λ new h. ok_is_no_err _ _ h.0;
     }
 
+forgetting : NoSuchForgetting
+unfolding lookup update each
+forgetting =
+    record {
+      closed = λ new h. ok_is_no_err _ _ h.0;
+      closed_on = λ new h. ok_is_no_err _ _ h.0;
+      unopened = λ new h. ok_is_no_err _ _ h.0;
+      not_stopped = λ new h l at none. none-some 7 (sym none ∙ sym (ap (λ (k : RecvLane). k.stop_code) (same_Some _ l (ap (λ (x : End). recv_lane x 0) (sym h.1) ∙ at))));
+      second_code = λ new h l at code. (let e : 7 ≡ 8 = same_Some 7 8 (ap (λ (k : RecvLane). k.stop_code) (same_Some _ l (ap (λ (x : End). recv_lane x 0) (sym h.1) ∙ at)) ∙ code) in omega arith);
+      waits = λ new h l at untold. true≢false (ap (λ (k : RecvLane). k.told) (same_Some _ l (ap (λ (x : End). recv_lane x 0) (sym h.1) ∙ at)) ∙ untold);
+      too_early = λ h. false≢true h;
+      by_end = came_whole 3;
+      by_reset = refl;
+      at_once = came_whole 3;
+      stopped_alone = λ h. false≢true h;
+    }
+
 settling : LimitsSettle
 unfolding frame_taken lookup update open_to each total
 settling = record { by_one = refl; of_direction = refl; whole_step = refl; by_two = refl; to_lifetime = refl; one_at_least = refl; stream = refl; ended = refl; connection = refl; early = (refl, refl); quarter = (refl, refl); opened = refl }
 
 risings : LimitsOnlyRise
 risings = record { lower = refl; open_too = refl; of_type = refl; closed = λ new h. ok_is_no_err _ _ h.0; uncountable = λ new h. ok_is_no_err _ _ h.0 }
+
+sets : SetsNoMore
+unfolding frame_taken lookup update open_to each total
+sets =
+    record {
+      at_once = refl;
+      narrower = refl;
+      no_step = refl;
+      counts_then = refl;
+      widest = refl;
+      more = refl;
+      of_direction = refl;
+      to_lifetime = refl;
+      fewer = refl;
+      no_more = refl;
+      closed = λ new h. ok_is_no_err _ _ h.0;
+      no_window = λ new h. ok_is_no_err _ _ h.0;
+      too_wide = λ new h. ok_is_no_err _ _ h.0;
+      too_many = λ new h. ok_is_no_err _ _ h.0;
+    }
 
 pub not_owned : NotOwned
 not_owned = record {
@@ -246,6 +284,8 @@ not_owned = record {
   sending = sendings;
   within_credit = writings;
   reading = readings;
+  forgetting = forgetting;
   settling = settling;
   rising = risings;
+  setting = sets;
 }

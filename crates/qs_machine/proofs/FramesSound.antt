@@ -68,8 +68,8 @@ two_checks false false f g x h e = (cc, refl)
 
 pub sound_opens : (n : ℕ) (e : End) → IsInCredit e → IsInCredit (opens n e)
 sound_opens n e h =
-    cond_both (is_uni n && is_own e n) e.recvs (open_to e.recvs n (λ m. new_lane (window e n) e.tuning.credit_step)) (λ t. KeepsCredit e.role e.settings t e.granted)
-    (λ _. h) (λ _. keeps_open e.role e.settings e.recvs e.granted h n e.tuning.credit_step)
+    cond_both (is_uni n && is_own e n) e.recvs (open_to e.recvs n (λ m. new_lane (window e n) e.tuning.credit_step)) (λ t. KeepsCredit e.role e.settings e.present t e.granted)
+    (λ _. h) (λ _. keeps_open e.role e.settings e.present e.recvs e.granted h n e.tuning.credit_step)
 
 pub sound_opened : (n : ℕ) (e : End) → IsInCredit e → IsInCredit (opened_by_peer n e)
 sound_opened n e h = cond_both (is_own e n) e (opens n e) IsInCredit (λ _. h) (λ _. sound_opens n e h)
@@ -122,11 +122,11 @@ on_named : (n : ℕ) (e : End) (f : RecvLane → RecvLane) (h : Highest) → IsI
     → (f (lane_of e n)).arrived.window ≡ (lane_of e n).arrived.window
     → (IsLawful (lane_of e n) → (h.before ≡ highest (lane_of e n)) × (highest (f (lane_of e n)) ≤ max h.before h.after))
     → spent e + (h.after - h.before) ≤ e.granted
-    → KeepsCredit (opened_by_peer n e).role (opened_by_peer n e).settings (updated (opened_by_peer n e).recvs n f (recv_lane (opened_by_peer n e) n)) (opened_by_peer n e).granted
+    → KeepsCredit (opened_by_peer n e).role (opened_by_peer n e).settings (opened_by_peer n e).present (updated (opened_by_peer n e).recvs n f (recv_lane (opened_by_peer n e) n)) (opened_by_peer n e).granted
 on_named n e f h sound passed keeps same counts credit =
     let open_end = opened_by_peer n e in
     let there = opened_lane n e passed in
-    keeps_updated open_end.role open_end.settings open_end.recvs open_end.granted (sound_opened n e sound) n f (λ l is lawful.
+    keeps_updated open_end.role open_end.settings open_end.present open_end.recvs open_end.granted (sound_opened n e sound) n f (λ l is lawful.
     let this : lane_of e n ≡ l = same_Some (lane_of e n) l (sym there ∙ is) in
     let at_lane : IsLawful (lane_of e n) = subst IsLawful (sym this) lawful in
     let k = keeps at_lane in

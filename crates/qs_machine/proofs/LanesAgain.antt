@@ -11,7 +11,7 @@ use Rattle.qs_ranges.specs.Numbers.{NumberSet, ContainsRange, is_within, numbers
 use Rattle.qs_ranges.proofs.Sets.{covers-is, covers-of, below-end_of}
 use Rattle.qs_ranges.proofs.Algebra.{inside, with_range-covered}
 use Rattle.qs_recv.specs.Assembled.{Assembled, put, store, discard, forget}
-use Rattle.qs_recv.specs.Lane.{RecvLane, highest, highest_after, check_stream, check_reset, check_bytes, take_stream, take_reset, is_whole, whole_to, breaks_known, raise, stop, after_read, after_answer, read_answer}
+use Rattle.qs_recv.specs.Lane.{RecvLane, highest, highest_after, check_stream, check_reset, check_bytes, take_stream, take_reset, is_whole, whole_to, breaks_known, raise, stop, stop_and_forget, after_read, after_answer, read_answer}
 use Rattle.qs_recv.specs.declared.half.Read.{Read}
 use Rattle.qs_recv.specs.declared.half.Read.TheVariants as reads
 use Rattle.qs_recv.specs.Lawful.{IsLawful}
@@ -24,7 +24,7 @@ use Rattle.qs_recv.proofs.SameAgain.{check_is, taken_passes, stored_before as by
 use Rattle.qs_recv.proofs.SameLaws.{byte_in, same_none, same_true}
 use Rattle.qs_recv.proofs.LawfulLaws.{unbroken, reset_known, raised_grows}
 use Rattle.qs_recv.proofs.GrowthLaws.{grows_after_call}
-use Rattle.qs_machine.proofs.EndedHalves.{RecvStays, recv_stays, whole_stays, reset_stays_ended, read_stays, stop_stays}
+use Rattle.qs_machine.proofs.EndedHalves.{RecvStays, recv_stays, whole_stays, reset_stays_ended, read_stays, stop_stays, forget_stays}
 
 -- a byte that is stored at an offset that came before was stored there before
 abbrev StaysStored : RecvLane → RecvLane → Type 0
@@ -76,6 +76,11 @@ stop_after l code lawful =
     grown l (stop l code) (grows_after_call l (StopWith code) lawful tt)
     (cond_both (is_some l.stop_code) l (record l { arrived = discard l.arrived; stop_code = Some code }) (λ m. is_some l.reset_code ≡ true → is_some m.reset_code ≡ true) (λ _ is. is) (λ _ is. is))
     (byte_before l (StopWith code)) (stop_stays code l)
+
+pub forget_after : (l : RecvLane) (code : ℕ) → IsLawful l → LaneAfter l (stop_and_forget l code)
+forget_after l code lawful =
+    let s = stop_after l code lawful in
+    record { limit = s.limit; received = s.received; size = s.size; reset = s.reset; stored = s.stored; ended = forget_stays code l }
 
 pub read_after : (l : RecvLane) (size : ℕ) → IsLawful l → LaneAfter l (after_read l size)
 read_after l size lawful = grown l (after_read l size) (grows_after_call l (ReadUpTo size) lawful tt) (by (read_answer l size)) (byte_before l (ReadUpTo size)) (read_stays size l)

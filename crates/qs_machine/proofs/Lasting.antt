@@ -26,10 +26,11 @@ use Rattle.qs_machine.specs.Receiving.{ReceiveBy}
 use Rattle.qs_machine.specs.Alone.{TakeBy, TakeAllBy}
 use Rattle.qs_machine.specs.Making.{MakeAt, ClaimStep, claim_refusal, MakeAckAt}
 use Rattle.qs_machine.specs.Filling.{FillAt}
-use Rattle.qs_machine.specs.EndStep.{Call, Answer, EndStep, Open, Accept, AcceptOf, Write, Finish, Reset, Stop, ReadUpTo, Consume, Receive, TakeFrame, TakeFrames, TokenAcked, TokenLost, Make, Lose, RaiseLimits, Claim, MakeAck, FillIn}
+use Rattle.qs_machine.specs.EndStep.{Call, Answer, EndStep, Open, Accept, AcceptOf, Write, Finish, Reset, Stop, ReadUpTo, Consume, Receive, TakeFrame, TakeFrames, TokenAcked, TokenLost, Make, Lose, RaiseLimits, Set, Claim, MakeAck, FillIn, StopAndForget}
 use Rattle.qs_machine.specs.Laws.{StaysOnceClosed, StaysButRead}
 use Rattle.qs_machine.proofs.Choices.{by_refusal}
 use Rattle.qs_calls.specs.declared.settings.RaiseFault.TheVariants as raising
+use Rattle.qs_calls.specs.declared.settings.SetFault.TheVariants as setting
 
 -- a call whose first refusal is a closing
 refused : {A F : Type 0} (b : Bool) (fault : F) (old : End) (answer : Result A F) (new : End) (Effect : Type 0) → b ≡ true → Certain (refuse_if b fault) old answer new Effect → new ≡ old
@@ -111,6 +112,7 @@ closed_stays old (Write n bytes) answer new is h = refused_first (is_some old.cl
 closed_stays old (Finish n) answer new is h = refused_first (is_some old.closed) uses.Closed _ old answer new _ is h
 closed_stays old (Reset n code) answer new is h = refused_first (is_some old.closed) uses.Closed _ old answer new _ is h
 closed_stays old (Stop n code) answer new is h = refused_first (is_some old.closed) uses.Closed _ old answer new _ is h
+closed_stays old (StopAndForget n code) answer new is h = refused_first (is_some old.closed) uses.Closed _ old answer new _ is h
 closed_stays old (ReadUpTo n size) answer new is h = read_on (is_some old.closed) old.tuning.reads_when_closed _ old n size answer new is h
 closed_stays old (Consume n most) answer new is h = consumed_on (is_some old.closed) old.tuning.reads_when_closed _ old n most answer new _ _ is h
 closed_stays old (Receive k payload) answer new is h = receive_again old.closed k payload old answer new is h
@@ -124,4 +126,5 @@ closed_stays old (FillIn want room) answer new is h = fill_refused (is_some old.
 closed_stays old (Lose k) answer new is h = refused_first (is_some old.closed) losing.Closed _ old answer new _ is h
 closed_stays old Claim answer new is h = claim_stays old answer new h
 closed_stays old (RaiseLimits p) answer new is h = refused_first (is_some old.closed) raising.Closed _ old answer new _ is h
+closed_stays old (Set x) answer new is h = refused_first (is_some old.closed) setting.Closed _ old answer new _ is h
 closed_stays old call answer new is h = h.1

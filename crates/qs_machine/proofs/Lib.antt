@@ -50,5 +50,6 @@ pub mod OffsetParts
 pub mod Claims
 pub mod Ways
 pub mod AckPackets
+pub mod AckTokens
 pub mod Plains
 pub mod NewlyTold

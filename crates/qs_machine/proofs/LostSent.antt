@@ -11,7 +11,7 @@ use Rattle.qs_send.specs.declared.piece.Item.{Item}
 use Rattle.qs_send.specs.declared.piece.Item.TheVariants.{ResetStream, StreamDataBlocked}
 use Rattle.qs_send.specs.declared.piece.Piece.{Piece}
 use Rattle.qs_send.specs.declared.piece.Piece.TheVariants.{Data, Told}
-use Rattle.qs_send.specs.Lane.{SendLane, Sending, new_sending, accepted, refusal, reset_refusal, finish_lane, lost_due, after_write, after_finish, after_reset, after_stopped, after_allow, after_blocked, after_reset_acked, after_sent, after_acked, after_lost}
+use Rattle.qs_send.specs.Lane.{SendLane, Sending, new_sending, accepted, refusal, reset_refusal, finish_lane, lost_due, after_write, after_finish, after_reset, after_stopped, after_allow, after_buffer, after_blocked, after_reset_acked, after_sent, after_acked, after_lost}
 use Rattle.qs_send.specs.Records.{without_first}
 use Rattle.qs_send.specs.LostRecords.{MOST_LOST, with_number, with_piece, without_oldest}
 use Rattle.qs_send.proofs.Carrying.{carried-remove, carried-without_first}
@@ -144,6 +144,9 @@ module _ (t t' : Tables Sending) (m : Records) (h : AreSent t m) where
 
   pub sent_allow : (n limit : ℕ) → t' ≡ updated t n (λ s. after_allow s limit) (lookup t n) → AreSent t' m
   sent_allow n limit is = sent_half n (λ s. after_allow s limit) (λ s. record { sent = omega arith; ended = λ x. x; reset = λ x. x }) is
+
+  pub sent_buffer : (n size : ℕ) → t' ≡ updated t n (λ s. after_buffer s size) (lookup t n) → AreSent t' m
+  sent_buffer n size is = sent_half n (λ s. after_buffer s size) (λ s. record { sent = omega arith; ended = λ x. x; reset = λ x. x }) is
 
   pub sent_finish : (n : ℕ) → t' ≡ updated t n after_finish (lookup t n) → AreSent t' m
   sent_finish n is = sent_half n after_finish lasts_finish is

@@ -67,7 +67,7 @@ none_acks (a ∷ ps) e none = none_acks ps (first_acked a e) (none_first a e non
 
 -- Pieces of packets that ranges name
 
-abbrev AllNamed : List (ℕ × ℕ) → List AckedPiece → Type 0
+abbrev pub AllNamed : List (ℕ × ℕ) → List AckedPiece → Type 0
 AllNamed r [] = ⊤
 AllNamed r (a ∷ ps) = (is_named r a.number ≡ true) × AllNamed r ps
 
@@ -92,13 +92,13 @@ all_flat r late m (k ∷ ks) each = all_append r (pieces_of late m k) (flat_map 
     go None = tt
     go (Some ps) = all_map r late k ps (each k (inl refl))
 
-all_named : (e : End) (r : List (ℕ × ℕ)) → AllNamed r (named e r)
+pub all_named : (e : End) (r : List (ℕ × ℕ)) → AllNamed r (named e r)
 all_named e r = all_append r (named_in false e.outstanding r) (named_in true e.lost.pieces r) (part false e.outstanding) (part true e.lost.pieces)
   where
     part : (late : Bool) (m : Records) → AllNamed r (named_in late m r)
     part late m = all_flat r late m (acked_numbers m r) (λ k a. filter_among (is_named r) k (fmap.keys m) (reverse_among k _ a))
 
-others_stay : (r : List (ℕ × ℕ)) (ps : List AckedPiece) (e : End) (j : ℕ) → AllNamed r ps → is_named r j ≡ false → fmap.get (acks ps e).outstanding j ≡ fmap.get e.outstanding j
+pub others_stay : (r : List (ℕ × ℕ)) (ps : List AckedPiece) (e : End) (j : ℕ) → AllNamed r ps → is_named r j ≡ false → fmap.get (acks ps e).outstanding j ≡ fmap.get e.outstanding j
 unfolding acks
 others_stay r [] e j all off = refl
 others_stay r (a ∷ ps) e j all off =

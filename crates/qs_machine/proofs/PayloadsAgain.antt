@@ -101,7 +101,7 @@ payloads_repeat number again payload old mid result sound sent takes =
     let then_end = frames_taken (seen_in taken) old in
     let first = all_left (seen_in taken) old sound sent fine in
     let last = left_ends number (reading_of payload).fault (any_asks (seen_in taken)) left then_end result mid first.sound first.sent ends in
-    let x : IsAfter then_end (settle mid) = after_twice then_end mid (settle mid) last.after (after_settle mid last.sound.1) in
+    let x : IsAfter then_end (settle mid) = after_twice then_end mid (settle mid) last.after (after_settle mid) in
     let done : (f : Seen) → Among f (seen_in taken) → IsDone f (settle mid) = λ f a. done_stays f then_end (settle mid) x (all_done (seen_in taken) old sound sent fine f a) in (
       taken,
       left,

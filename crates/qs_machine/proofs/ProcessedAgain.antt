@@ -73,8 +73,8 @@ pub settle_twice : (e : End) → settle (settle e) ≡ settle e
 settle_twice e =
     let r : each raise (each raise e.recvs) ≡ each raise e.recvs = each_twice raise raise_twice e.recvs in
     let t : all_taken (settle e) ≡ all_taken e = total_each taken raise e.recvs (λ l. refl) in
-    let g : next_limit (next_limit e.granted (all_taken e) e.settings.conn_window e.tuning.credit_step) (all_taken (settle e)) e.settings.conn_window e.tuning.credit_step ≡ next_limit e.granted (all_taken e) e.settings.conn_window e.tuning.credit_step =
-    ap (λ k. next_limit (next_limit e.granted (all_taken e) e.settings.conn_window e.tuning.credit_step) k e.settings.conn_window e.tuning.credit_step) t ∙ next_twice e.granted (all_taken e) e.settings.conn_window e.tuning.credit_step in
+    let g : next_limit (next_limit e.granted (all_taken e) e.present.conn_window e.tuning.credit_step) (all_taken (settle e)) e.present.conn_window e.tuning.credit_step ≡ next_limit e.granted (all_taken e) e.present.conn_window e.tuning.credit_step =
+    ap (λ k. next_limit (next_limit e.granted (all_taken e) e.present.conn_window e.tuning.credit_step) k e.present.conn_window e.tuning.credit_step) t ∙ next_twice e.granted (all_taken e) e.present.conn_window e.tuning.credit_step in
     λ i. record e { recvs = r i; granted = g i; granted_bidi = next_settle e Bidi i; granted_uni = next_settle e Uni i }
 
 -- Frames close nothing

@@ -6,12 +6,12 @@ use Rattle.std.proofs.lemmas.Bool.{cond_both, cases_eq}
 use Rattle.std.proofs.lemmas.Bool.Decides.{nat_tests}
 use Rattle.qs_wire.specs.declared.stream_id.Dir.TheVariants.{Bidi, Uni}
 use Rattle.qs_recv.specs.Assembled.{discard, forget}
-use Rattle.qs_recv.specs.Lane.{RecvLane, new_lane as new_recv_lane, take_stream, take_reset, after_read, after_answer, read_answer, stop, raise, next_limit, is_whole}
+use Rattle.qs_recv.specs.Lane.{RecvLane, new_lane as new_recv_lane, take_stream, take_reset, after_read, after_answer, read_answer, stop, stop_and_forget, raise, next_limit, is_whole}
 use Rattle.qs_recv.specs.declared.credit.Share.{Share}
 use Rattle.qs_recv.specs.declared.half.Read.{Read}
 use Rattle.qs_recv.specs.declared.half.Read.TheVariants as reads
 use Rattle.qs_recv.proofs.LawfulLaws.{raised_grows}
-use Rattle.qs_send.specs.Lane.{SendLane, new_lane as new_send_lane, reset_refusal, write_lane, finish_lane, reset_lane, stopped_lane, acked_lane, allow_lane, reset_acked_lane, blocked_lane, sent_lane}
+use Rattle.qs_send.specs.Lane.{SendLane, new_lane as new_send_lane, reset_refusal, write_lane, finish_lane, reset_lane, stopped_lane, acked_lane, allow_lane, reset_acked_lane, blocked_lane, sent_lane, buffer_lane}
 use Rattle.qs_send.specs.declared.piece.Item.{Item}
 use Rattle.qs_send.specs.declared.piece.Item.TheVariants.{MaxData, MaxStreamData, MaxStreams, ResetStream, StopSending, StreamDataBlocked, StreamsBlocked}
 use Rattle.qs_send.specs.declared.piece.Piece.{Piece}
@@ -25,9 +25,11 @@ use Rattle.qs_machine.specs.Lawful.{frame_put, chunk_of}
 use Rattle.qs_machine.specs.EndStep.{Call, Answer, EndStep}
 use Rattle.qs_calls.specs.declared.settings.PeerLimits.{PeerLimits}
 use Rattle.qs_machine.specs.Raising.{limits_raised}
+use Rattle.qs_machine.specs.Setting.{Setting, ConnWindow, Grant, limit_with, with_setting}
 use Rattle.qs_machine.proofs.Raised.{kept_raised}
 use Rattle.qs_machine.specs.Standing.{LimitsRiseIn, LimitsRise}
-use Rattle.qs_machine.proofs.EveryCall.{Change, changed, Comes, relates, Wanted, Opened, Written, Finished, WasReset, Stopped, WasRead, Raised, Took, Acked, Put, Settled}
+use Rattle.qs_machine.proofs.EveryCall.{Change, changed, Comes, relates, Wanted, Opened, Written, Finished, WasReset, Stopped, WasRead, Raised, WasSet, Took, Acked, Put, Settled, Forgotten}
+use Rattle.qs_machine.specs.Setting.{SendBuffer}
 use Rattle.qs_machine.proofs.TableLaws.{lookup_same, lookup_other, lookup_open, lookup_each}
 
 le_same : (n : ℕ) → n ≤ n
@@ -117,9 +119,26 @@ rises_opened n e = cond_both (is_own e n) e (opens n e) (LimitsRise e) (λ _. ri
 pub next_limit_grows : (l t w : ℕ) (share : Share) → l ≤ next_limit l t w share
 next_limit_grows l t w share = grind (arith, nat_tests)
 
+-- a limit that a window moves is no lower
+pub window_grows : (present g t w : ℕ) → g ≤ limit_with present g t w
+window_grows present g t w = grind (arith, nat_tests)
+
+rises_set : (x : Setting) (e : End) → LimitsRise e (with_setting x e)
+rises_set (ConnWindow w) e = (
+  window_grows e.present.conn_window e.granted (all_taken e) w,
+  le_same e.known_data,
+  le_same e.known_bidi,
+  le_same e.known_uni,
+  rise_same (λ l. l.limit) e.recvs,
+  rise_same (λ l. l.limit) e.sends,
+)
+rises_set (Grant Bidi n) e = rises_same e
+rises_set (Grant Uni n) e = rises_same e
+rises_set (SendBuffer n size) e = rises_send n (λ m. buffer_lane m size) e (λ m. le_same m.limit)
+
 rises_settle : (e : End) → LimitsRise e (settle e)
 rises_settle e = (
-  next_limit_grows e.granted (all_taken e) e.settings.conn_window e.tuning.credit_step,
+  next_limit_grows e.granted (all_taken e) e.present.conn_window e.tuning.credit_step,
   le_same e.known_data,
   le_same e.known_bidi,
   le_same e.known_uni,
@@ -204,8 +223,10 @@ rises_change old call (Written n bytes l) e comes = rises_send n (λ m. write_la
 rises_change old call (Finished n) e comes = rises_send n finish_lane e (λ m. le_same m.limit)
 rises_change old call (WasReset n code) e comes = rises_send n (λ m. reset_lane m code) e (reset_limit code)
 rises_change old call (Stopped n code) e comes = rises_recv n (λ m. stop m code) e (stop_limit code)
+rises_change old call (Forgotten n code) e comes = rises_recv n (λ m. stop_and_forget m code) e (stop_limit code)
 rises_change old call (WasRead n size) e comes = rises_recv n (λ m. after_read m size) e (λ m. read_limit (read_answer m size) size m)
 rises_change old call (Raised p) e comes = rises_raised p e
+rises_change old call (WasSet x) e comes = rises_set x e
 rises_change old call (Took f) e comes = rises_frame f e
 rises_change old call (Acked count ranges) e comes = rises_acks (take count (named e ranges)) e
 rises_change old call (Put f) e comes = rises_put f e

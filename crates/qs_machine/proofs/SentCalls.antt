@@ -4,7 +4,7 @@ use Rattle.std.specs.Prelude.{cond, Result, Ok, Err}
 use Rattle.std.proofs.lemmas.Option.{same_Some}
 use Rattle.std.proofs.lemmas.Bool.{cond_both}
 use Rattle.qs_wire.specs.declared.stream_id.Dir.TheVariants.{Uni}
-use Rattle.qs_send.specs.Lane.{SendLane, new_lane as new_send_lane, reset_refusal, write_lane, finish_lane, reset_lane, stopped_lane, acked_lane, allow_lane, reset_acked_lane, blocked_lane, sent_lane}
+use Rattle.qs_send.specs.Lane.{SendLane, new_lane as new_send_lane, reset_refusal, write_lane, finish_lane, reset_lane, stopped_lane, acked_lane, allow_lane, reset_acked_lane, blocked_lane, sent_lane, buffer_lane}
 use Rattle.qs_send.specs.declared.piece.Item.{Item}
 use Rattle.qs_send.specs.declared.piece.Item.TheVariants.{MaxStreamData, MaxStreams, ResetStream, StopSending, StreamDataBlocked, StreamsBlocked}
 use Rattle.qs_send.specs.declared.piece.Piece.{Piece}
@@ -17,6 +17,7 @@ use Rattle.qs_machine.specs.Lawful.{MayPut, frame_put, item_put, chunk_of, noted
 use Rattle.qs_machine.specs.Making.{first_lost}
 use Rattle.qs_machine.specs.EndStep.{Call, Answer, EndStep}
 use Rattle.qs_machine.specs.Raising.{limits_raised}
+use Rattle.qs_machine.specs.Setting.{Grant}
 use Rattle.qs_machine.proofs.Raised.{kept_raised}
 use Rattle.std.specs.FinMap as fmap
 use Rattle.qs_wire.specs.declared.stream_id.Role.{Role}
@@ -33,7 +34,8 @@ use Rattle.qs_machine.proofs.TablesAfter.{KeptIn, kept_same, kept_updated, kept_
 use Rattle.qs_machine.proofs.EndsAfter.{written_stays, carried_without}
 use Rattle.qs_machine.proofs.LostSent.{lost_carried}
 use Rattle.qs_machine.proofs.Carried.{among_push}
-use Rattle.qs_machine.proofs.EveryCall.{Change, changed, Comes, relates, Wanted, Opened, Written, Finished, WasReset, Raised, Took, Acked, Put, Numbered, Lost}
+use Rattle.qs_machine.proofs.EveryCall.{Change, changed, Comes, relates, Wanted, Opened, Written, Finished, WasReset, Raised, WasSet, Took, Acked, Put, Numbered, Lost}
+use Rattle.qs_machine.specs.Setting.{SendBuffer}
 
 -- a call leaves all outstanding data written, where it was
 abbrev Keeps : End → End → Type 0
@@ -164,6 +166,8 @@ keeps_change old call (Written n bytes l) e comes = keeps_send n (λ m. write_la
 keeps_change old call (Finished n) e comes = keeps_send n finish_lane e longer_same
 keeps_change old call (WasReset n code) e comes = keeps_send n (λ m. reset_lane m code) e (reset_written code)
 keeps_change old call (Raised p) e comes = keeps_raised p e
+keeps_change old call (WasSet (Grant Uni n)) e comes = keeps_same e
+keeps_change old call (WasSet (SendBuffer n size)) e comes = keeps_send n (λ m. buffer_lane m size) e longer_same
 keeps_change old call (Took f) e comes = keeps_frame f e
 keeps_change old call (Acked count ranges) e comes = keeps_acks (take count (named e ranges)) e
 keeps_change old call (Put f) e comes = keeps_put old f e comes

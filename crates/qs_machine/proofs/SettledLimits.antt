@@ -52,8 +52,8 @@ settles : (e : End) → LimitsAreSettled (settle e)
 settles e =
     record {
       connection =
-          ap (λ t. next_limit (next_limit e.granted (all_taken e) e.settings.conn_window e.tuning.credit_step) t e.settings.conn_window e.tuning.credit_step) (total_each taken raise e.recvs (λ l. refl))
-          ∙ next_twice e.granted (all_taken e) e.settings.conn_window e.tuning.credit_step;
+          ap (λ t. next_limit (next_limit e.granted (all_taken e) e.present.conn_window e.tuning.credit_step) t e.present.conn_window e.tuning.credit_step) (total_each taken raise e.recvs (λ l. refl))
+          ∙ next_twice e.granted (all_taken e) e.present.conn_window e.tuning.credit_step;
       streams = λ n l is none. (let (k, raised) = found (lookup e.recvs n) l (sym (lookup_each raise e.recvs n) ∙ is) in raised_stays k l raised none);
     }
 

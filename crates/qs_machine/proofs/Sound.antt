@@ -11,7 +11,7 @@ use Rattle.qs_recv.proofs.LawfulLaws.{lawful_new, lawful_raise}
 use Rattle.qs_calls.specs.declared.settings.Settings.{Settings}
 use Rattle.qs_calls.specs.Settings.{are_in_wide_range}
 use Rattle.qs_machine.specs.Tables.{Tables, lookup, update, updated, open_to, each, total}
-use Rattle.qs_machine.specs.Ends.{window_by, is_uni, is_own_by}
+use Rattle.qs_machine.specs.Ends.{Present, window_by, is_uni, is_own_by}
 use Rattle.qs_machine.specs.Standing.{HasLawfulLane, KeepsCredit}
 use Rattle.qs_machine.proofs.TableLaws.{slots_updated, slots_opened, slots_each, total_update, total_open, total_each}
 
@@ -41,15 +41,16 @@ window_same role s n m e = rw e refl
 
 -- Changes of a table
 
-module _ (role : Role) (s : Settings) (recvs : Tables RecvLane) (granted : ℕ) (h : KeepsCredit role s recvs granted) where
+module _ (role : Role) (s : Settings) (p : Present) (recvs : Tables RecvLane) (granted : ℕ) (h : KeepsCredit role s p recvs granted) where
   lane_at : (n : ℕ) (l : RecvLane) → lookup recvs n ≡ Some l → IsLawful l × (l.arrived.window ≡ window_by role s n)
   lane_at n l is = subst (HasLawfulLane role s n) is (h.lanes n)
 
   pub keeps_update : (n : ℕ) (l m : RecvLane) → lookup recvs n ≡ Some l → IsLawful m → m.arrived.window ≡ l.arrived.window → taken l ≤ taken m
-      → total highest recvs + highest m ≤ granted + highest l → KeepsCredit role s (update recvs n m) granted
+      → total highest recvs + highest m ≤ granted + highest l → KeepsCredit role s p (update recvs n m) granted
   keeps_update n l m is lawful same more credit =
       record {
         settings = h.settings;
+        present = h.present;
         lanes = slots_updated (HasLawfulLane role s) recvs n l m is (λ j ne. h.lanes j) (lawful, same ∙ (lane_at n l is).1);
         spent = omega (arith, total_update highest recvs n l m is, credit);
         in_window = omega (arith, total_update taken recvs n l m is, more, h.in_window);
@@ -58,19 +59,20 @@ module _ (role : Role) (s : Settings) (recvs : Tables RecvLane) (granted : ℕ) 
   -- a change of a lane, where the lane is open
   pub keeps_updated : (n : ℕ) (f : RecvLane → RecvLane)
       → ((l : RecvLane) → lookup recvs n ≡ Some l → IsLawful l → IsLawful (f l) × ((f l).arrived.window ≡ l.arrived.window) × (taken l ≤ taken (f l)) × (total highest recvs + highest (f l) ≤ granted + highest l))
-      → KeepsCredit role s (updated recvs n f (lookup recvs n)) granted
+      → KeepsCredit role s p (updated recvs n f (lookup recvs n)) granted
   keeps_updated n f keeps = go (lookup recvs n) refl
     where
-      go : (o : Option RecvLane) → lookup recvs n ≡ o → KeepsCredit role s (updated recvs n f o) granted
+      go : (o : Option RecvLane) → lookup recvs n ≡ o → KeepsCredit role s p (updated recvs n f o) granted
       go None is = h
       go (Some l) is = (let k = keeps l is (lane_at n l is).0 in keeps_update n l (f l) is k.0 k.1 k.2 k.3)
 
-  pub keeps_open : (n : ℕ) (share : Share) → KeepsCredit role s (open_to recvs n (λ m. new_lane (window_by role s n) share)) granted
+  pub keeps_open : (n : ℕ) (share : Share) → KeepsCredit role s p (open_to recvs n (λ m. new_lane (window_by role s n) share)) granted
   keeps_open n share =
       let w = window_by role s n in
       let fits = window_fits role s n (windows_fit s h.settings) in
       record {
         settings = h.settings;
+        present = h.present;
         lanes = slots_opened (HasLawfulLane role s) recvs n (λ m. new_lane w share) h.lanes (λ m none kind. (lawful_new w share fits.0 fits.1, window_same role s n m kind));
         spent = omega (arith, total_open highest recvs n (λ m. new_lane w share) (λ m. end_of-empty), h.spent);
         in_window = omega (arith, total_open taken recvs n (λ m. new_lane w share) (λ m. refl), h.in_window);
@@ -79,19 +81,20 @@ module _ (role : Role) (s : Settings) (recvs : Tables RecvLane) (granted : ℕ) 
   next_limit_grows : (l t w : ℕ) (share : Share) → l ≤ next_limit l t w share
   next_limit_grows l t w share = grind (arith, nat_tests)
 
-  next_limit_within : (l t w : ℕ) (share : Share) → l ≤ t + w → next_limit l t w share ≤ t + w
-  next_limit_within l t w share h = grind (arith, nat_tests)
+  next_limit_within : (l t w v : ℕ) (share : Share) → w ≤ v → l ≤ t + v → next_limit l t w share ≤ t + v
+  next_limit_within l t w v share le h = grind (arith, nat_tests)
 
   raised_lane : (n : ℕ) (o : Option RecvLane) → HasLawfulLane role s n o → HasLawfulLane role s n (option_map raise o)
   raised_lane n None has = tt
   raised_lane n (Some l) has = (lawful_raise l has.0, has.1)
 
-  pub keeps_settle : (share : Share) → KeepsCredit role s (each raise recvs) (next_limit granted (total taken recvs) s.conn_window share)
+  pub keeps_settle : (share : Share) → KeepsCredit role s p (each raise recvs) (next_limit granted (total taken recvs) p.conn_window share)
   keeps_settle share =
-      let limit = next_limit granted (total taken recvs) s.conn_window share in
+      let limit = next_limit granted (total taken recvs) p.conn_window share in
       record {
         settings = h.settings;
+        present = h.present;
         lanes = slots_each (HasLawfulLane role s) raise recvs (λ m. raised_lane m (lookup recvs m) (h.lanes m));
-        spent = omega (arith, total_each highest raise recvs (λ l. refl), h.spent, next_limit_grows granted (total taken recvs) s.conn_window share);
-        in_window = omega (arith, total_each taken raise recvs (λ l. refl), next_limit_within granted (total taken recvs) s.conn_window share h.in_window);
+        spent = omega (arith, total_each highest raise recvs (λ l. refl), h.spent, next_limit_grows granted (total taken recvs) p.conn_window share);
+        in_window = omega (arith, total_each taken raise recvs (λ l. refl), next_limit_within granted (total taken recvs) p.conn_window p.widest share h.present.widest h.in_window);
       }

@@ -84,19 +84,19 @@ stream_unchanged e mid n offset bytes fin h is =
 -- the credit is kept
 
 pub reset_sound : (e mid : End) (n code size : ℕ) (recvs : Tables RecvLane) → IsInCredit e → verdict e (Control (ResetStream n code size)) ≡ None → mid ≡ opened_by_peer n e
-    → recvs ≡ updated mid.recvs n (λ l. take_reset l code size) (lookup mid.recvs n) → KeepsCredit mid.role mid.settings recvs mid.granted
+    → recvs ≡ updated mid.recvs n (λ l. take_reset l code size) (lookup mid.recvs n) → KeepsCredit mid.role mid.settings mid.present recvs mid.granted
 unfolding frame_taken
 reset_sound e mid n code size recvs sound passed is after =
-    subst (λ (t : Tables RecvLane). KeepsCredit mid.role mid.settings t mid.granted) (sym after)
-    (subst (λ (k : End). KeepsCredit k.role k.settings (updated k.recvs n (λ l. take_reset l code size) (lookup k.recvs n)) k.granted) (sym is)
+    subst (λ (t : Tables RecvLane). KeepsCredit mid.role mid.settings mid.present t mid.granted) (sym after)
+    (subst (λ (k : End). KeepsCredit k.role k.settings k.present (updated k.recvs n (λ l. take_reset l code size) (lookup k.recvs n)) k.granted) (sym is)
     (sound_frame (Control (ResetStream n code size)) e passed sound))
 
 pub stream_sound : (e mid : End) (n offset : ℕ) (bytes : List ℕ) (fin : Bool) (recvs : Tables RecvLane) → IsInCredit e → verdict e (Stream n offset bytes fin) ≡ None → mid ≡ opened_by_peer n e
-    → recvs ≡ updated mid.recvs n (λ l. take_stream l offset bytes fin) (lookup mid.recvs n) → KeepsCredit mid.role mid.settings recvs mid.granted
+    → recvs ≡ updated mid.recvs n (λ l. take_stream l offset bytes fin) (lookup mid.recvs n) → KeepsCredit mid.role mid.settings mid.present recvs mid.granted
 unfolding frame_taken
 stream_sound e mid n offset bytes fin recvs sound passed is after =
-    subst (λ (t : Tables RecvLane). KeepsCredit mid.role mid.settings t mid.granted) (sym after)
-    (subst (λ (k : End). KeepsCredit k.role k.settings (updated k.recvs n (λ l. take_stream l offset bytes fin) (lookup k.recvs n)) k.granted) (sym is)
+    subst (λ (t : Tables RecvLane). KeepsCredit mid.role mid.settings mid.present t mid.granted) (sym after)
+    (subst (λ (k : End). KeepsCredit k.role k.settings k.present (updated k.recvs n (λ l. take_stream l offset bytes fin) (lookup k.recvs n)) k.granted) (sym is)
     (sound_frame (Stream n offset bytes fin) e passed sound))
 
 -- What a refusal takes back
@@ -140,12 +140,12 @@ restored e mid n sends recvs is p q =
     by_own true = refl
     by_own false = refl
 
-pub back_sound : (e mid : End) (n : ℕ) (recvs : Tables RecvLane) → IsInCredit e → mid ≡ opened_by_peer n e → recvs ≡ e.recvs → KeepsCredit mid.role mid.settings recvs mid.granted
+pub back_sound : (e mid : End) (n : ℕ) (recvs : Tables RecvLane) → IsInCredit e → mid ≡ opened_by_peer n e → recvs ≡ e.recvs → KeepsCredit mid.role mid.settings mid.present recvs mid.granted
 back_sound e mid n recvs sound is same =
-    subst (λ (t : Tables RecvLane). KeepsCredit mid.role mid.settings t mid.granted) (sym same)
-    (subst (λ (k : End). KeepsCredit k.role k.settings e.recvs k.granted) (sym is) (by_own (is_own e n)))
+    subst (λ (t : Tables RecvLane). KeepsCredit mid.role mid.settings mid.present t mid.granted) (sym same)
+    (subst (λ (k : End). KeepsCredit k.role k.settings k.present e.recvs k.granted) (sym is) (by_own (is_own e n)))
   where
-    by_own : (a : Bool) → KeepsCredit (cond a e (opens n e)).role (cond a e (opens n e)).settings e.recvs (cond a e (opens n e)).granted
+    by_own : (a : Bool) → KeepsCredit (cond a e (opens n e)).role (cond a e (opens n e)).settings (cond a e (opens n e)).present e.recvs (cond a e (opens n e)).granted
     by_own true = sound
     by_own false = sound
 

@@ -1,5 +1,5 @@
 -- The sums over the receiving lanes of one type of stream, where one of them changes, and where some are opened.
-use Rattle.std.proofs.Common.{◌≡◌, ℕ, Bool, true, false, ◌||◌, is_some, zero, suc, ◌+◌, ◌-◌, ◌<◌, ◌≤◌, ◌^◌, List, [], ◌∷◌, ◌++◌, length, get_or, map, take, refl, ap, sym, ◌∙◌, arith}
+use Rattle.std.proofs.Common.{◌≡◌, ℕ, Bool, true, false, ◌&&◌, ◌||◌, is_some, zero, suc, ◌+◌, ◌-◌, ◌<◌, ◌≤◌, ◌^◌, List, [], ◌∷◌, ◌++◌, length, get_or, map, take, refl, ap, sym, ◌∙◌, arith}
 use Rattle.std.specs.List.{sum_by}
 use Rattle.std.specs.Ordering.{nat_cmp}
 use Rattle.std.specs.FinMap as fmap
@@ -10,7 +10,7 @@ use Rattle.std.specs.Prelude.{if◌then◌else◌}
 use Rattle.qs_ranges.specs.Numbers.{run_starts}
 use Rattle.qs_ranges.proofs.Sets.{end_of-empty}
 use Rattle.qs_ranges.proofs.Starts.{starts_below_end}
-use Rattle.qs_recv.specs.Lane.{RecvLane, new_lane, highest, taken, noted, raise, MAX_WINDOW}
+use Rattle.qs_recv.specs.Lane.{RecvLane, new_lane, highest, taken, noted, is_whole, raise, MAX_WINDOW}
 use Rattle.qs_recv.specs.declared.credit.Share.{Share}
 use Rattle.qs_recv.specs.Lawful.{IsLawful}
 use Rattle.qs_recv.proofs.LawfulLaws.{lawful_new, lawful_raise}
@@ -47,7 +47,7 @@ pub tally_set : (xs : List RecvLane) (i : ℕ) (x y : RecvLane) → i < length x
 tally_set xs i x y there is = same_tally _ _ (sum_set highest xs i x y there is) (sum_set taken xs i x y there is) (sum_set stored_on xs i x y there is) (sum_set noted xs i x y there is)
 
 noted_within : (l : RecvLane) → IsLawful l → noted l ≤ highest l
-noted_within l h = go (l.told || is_some l.reset_code)
+noted_within l h = go ((l.told && is_whole l) || is_some l.reset_code)
   where
     go : (b : Bool) → (if b then 0 else set.len (run_starts l.arrived.received)) ≤ highest l
     go true = omega arith

@@ -11,7 +11,7 @@ use Rattle.qs_send.specs.declared.parts.SendFault.TheVariants.{Finished, WasRese
 use Rattle.qs_send.specs.declared.piece.Item.{Item}
 use Rattle.qs_send.specs.declared.piece.Piece.{Piece}
 use Rattle.qs_send.specs.declared.piece.Piece.TheVariants.{Data, Told}
-use Rattle.qs_send.specs.Lane.{Sending, new_sending, refusal, reset_refusal, finish_lane, after_write, after_finish, after_reset, after_stopped, after_reset_acked, after_blocked, after_allow, after_sent, after_acked, after_lost, lost_due}
+use Rattle.qs_send.specs.Lane.{Sending, new_sending, refusal, reset_refusal, finish_lane, after_write, after_finish, after_reset, after_stopped, after_reset_acked, after_blocked, after_allow, after_buffer, after_sent, after_acked, after_lost, lost_due}
 use Rattle.qs_send.specs.Chunks.{IsDueChunk}
 use Rattle.qs_send.specs.Parts.{in_flight}
 use Rattle.qs_send.specs.Sound.{IsLawful}
@@ -92,6 +92,17 @@ tied_new m n limit buffer none =
 module _ (m : Records) (n : ℕ) (s : Sending) (t : IsTied m n s) where
   pub tied_allow : (limit : ℕ) → IsTied m n (after_allow s limit)
   tied_allow limit =
+      record {
+        id = t.id;
+        sent = λ c out. (let w = t.sent c out in record { offsets = w.offsets; end = w.end });
+        not_due = t.not_due;
+        flies = t.flies;
+        end_not_due = t.end_not_due;
+        end_flies = t.end_flies;
+      }
+
+  pub tied_buffer : (size : ℕ) → IsTied m n (after_buffer s size)
+  tied_buffer size =
       record {
         id = t.id;
         sent = λ c out. (let w = t.sent c out in record { offsets = w.offsets; end = w.end });

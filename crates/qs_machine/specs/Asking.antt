@@ -1,19 +1,22 @@
 -- Of public contracts.
 -- What an end's owner, and the layer beneath, may ask of an end as it is; nothing changes by it.
-use Rattle.std.specs.Prelude.{◌≡◌, ℕ, ◌-◌, ◌≤◌, Bool, true, false, ◌&&◌, ◌||◌, ◌==◌, nat_lt, ◌⊎◌, Option, None, Some, is_some, is_none, option_map, if◌then◌else◌}
+use Rattle.std.specs.Prelude.{◌≡◌, ℕ, ◌-◌, ◌≤◌, Bool, true, false, ◌&&◌, ◌||◌, ◌==◌, nat_lt, ◌⊎◌, Option, None, Some, is_some, is_none, length, option_map, if◌then◌else◌, Result, Ok, Err}
 use Rattle.std.specs.FinMap as fmap
 use Rattle.qs_wire.specs.declared.stream_id.Dir.{Dir}
-use Rattle.qs_recv.specs.Lane.{noted, taken as taken_on}
-use Rattle.qs_send.specs.Lane.{SendLane, refusal, accepted, free_room, unacked_from}
+use Rattle.qs_recv.specs.Lane.{RecvLane, noted, taken as taken_on}
+use Rattle.qs_recv.specs.Peek.{IsPeek}
+use Rattle.qs_recv.specs.declared.half.Peek.{Peek}
+use Rattle.qs_send.specs.Lane.{SendLane, refusal, free_room, unacked_from}
 use Rattle.qs_send.specs.declared.piece.Item.{Item}
 use Rattle.qs_calls.specs.declared.closing.Closed.{Closed}
 use Rattle.qs_calls.specs.declared.closing.Closed.TheVariants.{ByUs, ByPeer}
+use Rattle.qs_calls.specs.declared.uses.UseFault.{UseFault}
 use Rattle.qs_machine.specs.Tables.{total}
 use Rattle.qs_machine.specs.Ends.{End, Records, send_lane, recv_lane}
 use Rattle.qs_machine.specs.Credit.{all_sent, lifetime, unsent_on}
 pub use Rattle.qs_machine.specs.Credit.{credit_left, all_unsent}
 use Rattle.qs_machine.specs.Due.{IsDueItem, StreamGoes, known_count}
-use Rattle.qs_machine.specs.Owner.{opened_count, own_type, peer_type, accepted_by}
+use Rattle.qs_machine.specs.Owner.{opened_count, own_type, peer_type, accepted_by, recv_refusal, is_read_no_more}
 
 -- Something beside an ACK goes: a control item that is due, or bytes or the end of a stream that no limit holds back. Of an end that
 -- closed nothing goes (RFC 9000, sections 4.1, 10.2 and 13.3).
@@ -33,6 +36,11 @@ all_noted e = total noted e.recvs
 -- how many bytes of a stream count as taken, None where it has no receiving half here (RFC 9000, sections 3.5 and 4.2)
 abbrev pub taken : End → ℕ → Option ℕ
 taken e n = option_map taken_on (recv_lane e n)
+
+-- a look at a stream tells what one at its receiving half does, and is refused as a read is (RFC 9000, section 2.2)
+abbrev pub IsPeeked : End → ℕ → Result Peek UseFault → Type 0
+IsPeeked e n (Err fault) = recv_refusal (is_read_no_more e) e n ≡ Some fault
+IsPeeked e n (Ok peek) = (recv_refusal (is_read_no_more e) e n ≡ None) × (l : RecvLane) × (recv_lane e n ≡ Some l) × IsPeek l peek
 
 -- how many streams of a direction the peer may open in all time to come: the lifetime's count without those that it opened (RFC 9000,
 -- section 4.6)
@@ -70,6 +78,14 @@ unsent_of (Some l) = unsent_on l
 -- the same of a stream at this end (RFC 9000, sections 2.2 and 3.1)
 abbrev pub unsent : End → ℕ → ℕ
 unsent e n = unsent_of (send_lane e n)
+
+-- how many bytes a sending half keeps until they are acknowledged (RFC 9000, section 13.3)
+abbrev pub kept_on : SendLane → ℕ
+kept_on l = length l.kept
+
+-- the sum of these (RFC 9000, section 13.3)
+abbrev pub all_kept : End → ℕ
+all_kept e = total kept_on e.sends
 
 -- the lowest offset of a sending half that isn't acknowledged: all below it are (RFC 9000, section 13.3)
 abbrev pub acked_below_of : Option SendLane → Option ℕ

@@ -1,6 +1,6 @@
 -- Trusted.
 -- Credit: what the peer may send and has used up, and how the limits move (RFC 9000, section 4).
-use Rattle.std.specs.Prelude.{ℕ, ◌+◌, ◌*◌, ◌/◌, Bool, ◌&&◌, ◌||◌, length, min, zip, Option, Some, None, is_some, is_none, if◌then◌else◌, ◌-◌}
+use Rattle.std.specs.Prelude.{ℕ, ◌+◌, ◌*◌, ◌/◌, Bool, ◌&&◌, ◌||◌, length, max, min, zip, Option, Some, None, is_some, is_none, if◌then◌else◌, ◌-◌}
 use Rattle.std.specs.List.{filter}
 use Rattle.std.specs.FinMap as fmap
 use Rattle.qs_wire.specs.declared.stream_id.Dir.{Dir}
@@ -82,7 +82,12 @@ abbrev pub ended : End → Dir → ℕ
 ended e Bidi = length (filter both_ended (zip (table e.recvs (peer_type e Bidi)) (table e.sends (peer_type e Bidi))))
 ended e Uni = length (filter recv_ended (table e.recvs (peer_type e Uni)))
 
--- how many streams have to end until a count moves: each one moves it, or such a share of the first grant does, one stream at least (ours,
+-- how many streams of a direction are granted beside those that ended, as the owner set it last (ours, beside RFC 9000, section 4.6)
+abbrev pub present_grant : End → Dir → ℕ
+present_grant e Bidi = e.present.grant_bidi
+present_grant e Uni = e.present.grant_uni
+
+-- how many streams have to end until a count moves: each one moves it, or such a share of the grant does, one stream at least (ours,
 -- beside RFC 9000, section 4.6)
 abbrev pub count_step : Option Share → ℕ → ℕ
 count_step None grant = 1
@@ -92,22 +97,22 @@ count_step (Some share) grant = step share grant
 abbrev pub in_steps : ℕ → ℕ → ℕ
 in_steps k n = n / k * k
 
--- The count to which a grant is brought where so many streams ended: the first grant and as many of these as make whole steps, up to the
--- lifetime's. A step is no more than the first grant, so below the lifetime's count fewer streams have always ended than are granted, and no
--- peer waits for a count that nothing moves (RFC 9000, section 4.6).
-abbrev pub count_after : Settings → Tuning → Dir → ℕ → ℕ
-count_after s t d n = min (lifetime s d) (first_grant s d + in_steps (count_step t.count_step (first_grant s d)) n)
+-- The count to which a grant is brought where so many streams ended: the grant and as many of these as make whole steps, up to the
+-- lifetime's. A step is no more than the grant, so with a grant that never shrank fewer streams have always ended than are granted, below the
+-- lifetime's count, and no peer waits for a count that nothing moves (RFC 9000, section 4.6).
+abbrev pub count_after : Settings → Tuning → Dir → (grant ended : ℕ) → ℕ
+count_after s t d grant n = min (lifetime s d) (grant + in_steps (count_step t.count_step grant) n)
 
--- the count to which a direction's grant is brought, by the streams of the peer that ended (RFC 9000, section 4.6)
+-- the count to which a direction's grant is brought, by the streams of the peer that ended; what was granted stays so (RFC 9000, section 4.6)
 abbrev pub next_count : End → Dir → ℕ
-next_count e d = count_after e.settings e.tuning d (ended e d)
+next_count e d = max (granted_streams e d) (count_after e.settings e.tuning d (present_grant e d) (ended e d))
 
 -- What happens as a call ends: every limit and each count of streams becomes the next one (RFC 9000, sections 4.2 and 4.6).
 abbrev pub settle : End → End
 settle e =
     record e {
       recvs = each raise e.recvs;
-      granted = next_limit e.granted (all_taken e) e.settings.conn_window e.tuning.credit_step;
+      granted = next_limit e.granted (all_taken e) e.present.conn_window e.tuning.credit_step;
       granted_bidi = next_count e Bidi;
       granted_uni = next_count e Uni;
     }

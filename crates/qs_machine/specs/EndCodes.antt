@@ -23,7 +23,7 @@ use Rattle.qs_calls.specs.declared.closing.Closed.{Closed}
 use Rattle.qs_calls.specs.declared.closing.Closed.TheVariants.{ByUs, ByPeer}
 use Rattle.qs_machine.specs.Tables.{Tables}
 use Rattle.qs_machine.specs.LostPackets.{LostPackets}
-use Rattle.qs_machine.specs.Ends.{End, Records, AckedItems}
+use Rattle.qs_machine.specs.Ends.{End, Present, Records, AckedItems}
 use Rattle.qs_machine.specs.Outgoing.{Outgoing}
 
 -- Roles, settings, closings
@@ -59,6 +59,12 @@ settings_code =
       lifetime_bidi = p.1.1.1.1.1.1.1.0;
       lifetime_uni = p.1.1.1.1.1.1.1.1;
     })
+    (λ _. refl)
+
+abbrev pub present_code : Coded Present
+present_code =
+    code_by (ℕ × (ℕ × (ℕ × ℕ))) (coded× coded_ℕ (coded× coded_ℕ (coded× coded_ℕ coded_ℕ))) (λ p. (p.conn_window, (p.widest, (p.grant_bidi, p.grant_uni))))
+    (λ p. record { conn_window = p.0; widest = p.1.0; grant_bidi = p.1.1.0; grant_uni = p.1.1.1 })
     (λ _. refl)
 
 abbrev pub tuning_code : Coded Tuning
@@ -136,7 +142,7 @@ acked_code =
 
 -- the parts of an end: what it is set to, its streams, its credit, what it processed, what it sent
 abbrev Set_to : Type 0
-Set_to = Role × (Settings × (Tuning × (PeerLimits × Option Closed)))
+Set_to = Role × (Settings × (Present × (Tuning × (PeerLimits × Option Closed))))
 
 abbrev Streams : Type 0
 Streams = Tables SendLane × (Tables RecvLane × (ℕ × (ℕ × (Option ℕ × Option ℕ))))
@@ -153,13 +159,13 @@ Sent = ℕ × (Records × (LostPackets × AckedItems))
 abbrev pub end_code : Coded End
 end_code =
     code_by (Set_to × (Streams × (Limits × (Processed × Sent))))
-    (coded× (coded× role_code (coded× settings_code (coded× tuning_code (coded× limits_code (coded_option closed_code)))))
+    (coded× (coded× role_code (coded× settings_code (coded× present_code (coded× tuning_code (coded× limits_code (coded_option closed_code))))))
     (coded× (coded× (tables_code send_code) (coded× (tables_code recv_code) (coded× coded_ℕ (coded× coded_ℕ (coded× (coded_option coded_ℕ) (coded_option coded_ℕ))))))
     (coded× (coded× coded_ℕ (coded× coded_ℕ (coded× coded_ℕ (coded× coded_ℕ (coded× coded_ℕ coded_ℕ)))))
     (coded× (coded× (set.code coded_ℕ) (coded× coded_ℕ coded_bool))
     (coded× coded_ℕ (coded× packet_pieces_code (coded× lost_packets_code acked_code)))))))
     (λ e. (
-      (e.role, (e.settings, (e.tuning, (e.peer, e.closed)))),
+      (e.role, (e.settings, (e.present, (e.tuning, (e.peer, e.closed))))),
       (
         (e.sends, (e.recvs, (e.accepted_bidi, (e.accepted_uni, (e.wanted_bidi, e.wanted_uni))))),
         (
@@ -174,9 +180,10 @@ end_code =
     (λ p. record {
       role = p.0.0;
       settings = p.0.1.0;
-      tuning = p.0.1.1.0;
-      peer = p.0.1.1.1.0;
-      closed = p.0.1.1.1.1;
+      present = p.0.1.1.0;
+      tuning = p.0.1.1.1.0;
+      peer = p.0.1.1.1.1.0;
+      closed = p.0.1.1.1.1.1;
       sends = p.1.0.0;
       recvs = p.1.0.1.0;
       accepted_bidi = p.1.0.1.1.0;

@@ -16,6 +16,7 @@ use Rattle.qs_calls.specs.declared.reading.Consumed.{Consumed}
 use Rattle.qs_calls.specs.declared.report.LaneReport.{LaneReport}
 use Rattle.qs_calls.specs.declared.settings.PeerLimits.{PeerLimits}
 use Rattle.qs_calls.specs.declared.settings.RaiseFault.{RaiseFault}
+use Rattle.qs_calls.specs.declared.settings.SetFault.{SetFault}
 use Rattle.qs_calls.specs.declared.token.Taken.{Taken}
 use Rattle.qs_calls.specs.declared.token.TakeFault.{TakeFault}
 use Rattle.qs_calls.specs.declared.token.Token.{Token}
@@ -24,13 +25,14 @@ use Rattle.qs_calls.specs.declared.uses.OpenFault.{OpenFault}
 use Rattle.qs_calls.specs.declared.uses.UseFault.{UseFault}
 use Rattle.qs_machine.specs.Ends.{End}
 use Rattle.qs_machine.specs.Credit.{spent, all_stored, granted_streams}
-use Rattle.qs_machine.specs.Owner.{OpenStep, AcceptStep, AcceptOfStep, WriteStep, FinishStep, ResetStep, StopStep, ReadStep, ConsumeStep}
+use Rattle.qs_machine.specs.Owner.{OpenStep, AcceptStep, AcceptOfStep, WriteStep, FinishStep, ResetStep, StopStep, StopAndForgetStep, ReadStep, ConsumeStep}
 use Rattle.qs_machine.specs.Receiving.{ReceiveStep}
 use Rattle.qs_machine.specs.Making.{MakeStep, ClaimStep, LoseStep, ClosePayload, MakeAckStep}
 use Rattle.qs_machine.specs.Filling.{FillStep}
 use Rattle.qs_machine.specs.Alone.{TakeFrameStep, TakeFramesStep, TokenAckedStep, TokenLostStep}
 use Rattle.qs_machine.specs.Reports.{lane_report}
 use Rattle.qs_machine.specs.Raising.{RaiseStep}
+use Rattle.qs_machine.specs.Setting.{Setting, SetStep}
 
 -- a call of an end; of a slice that is written into only what counts, its size or its bytes
 pub data Call : Type 0 where
@@ -41,6 +43,7 @@ pub data Call : Type 0 where
   Finish : (stream : ℕ) → Call
   Reset : (stream code : ℕ) → Call
   Stop : (stream code : ℕ) → Call
+  StopAndForget : (stream code : ℕ) → Call
   ReadUpTo : (stream size : ℕ) → Call
   Consume : (stream most : ℕ) → Call
   Receive : (number : ℕ) (payload : List ℕ) → Call
@@ -54,6 +57,7 @@ pub data Call : Type 0 where
   Lose : (number : ℕ) → Call
   Claim : Call
   RaiseLimits : (limits : PeerLimits) → Call
+  Set : (setting : Setting) → Call
   ClosingPayload : (slice : List ℕ) → Call
   Stored : Call
   Granted : Call
@@ -70,6 +74,7 @@ Answer (Write n bytes) = Result ℕ UseFault
 Answer (Finish n) = Result (Unit {0}) UseFault
 Answer (Reset n code) = Result (Unit {0}) UseFault
 Answer (Stop n code) = Result (Unit {0}) UseFault
+Answer (StopAndForget n code) = Result (Unit {0}) UseFault
 Answer (ReadUpTo n size) = Result Read UseFault × List ℕ
 Answer (Consume n most) = Result Consumed UseFault
 Answer (Receive k payload) = Result Received Closing
@@ -83,6 +88,7 @@ Answer (FillIn want room) = Result (Option Filled) MakeFault × List ℕ
 Answer (Lose k) = Result (Unit {0}) LostFault
 Answer Claim = Result ℕ MakeFault
 Answer (RaiseLimits p) = Result (Unit {0}) RaiseFault
+Answer (Set x) = Result (Unit {0}) SetFault
 Answer (ClosingPayload slice) = Option ℕ × List ℕ
 Answer Stored = ℕ
 Answer Granted = ℕ
@@ -99,6 +105,7 @@ EndStep old (Write n bytes) answer new = WriteStep old n bytes answer new
 EndStep old (Finish n) answer new = FinishStep old n answer new
 EndStep old (Reset n code) answer new = ResetStep old n code answer new
 EndStep old (Stop n code) answer new = StopStep old n code answer new
+EndStep old (StopAndForget n code) answer new = StopAndForgetStep old n code answer new
 EndStep old (ReadUpTo n size) answer new = ReadStep old n size answer.0 answer.1 new
 EndStep old (Consume n most) answer new = ConsumeStep old n most answer new
 EndStep old (Receive k payload) answer new = ReceiveStep old k payload answer new
@@ -112,6 +119,7 @@ EndStep old (FillIn want room) answer new = FillStep old want room answer.0 answ
 EndStep old (Lose k) answer new = LoseStep old k answer new
 EndStep old Claim answer new = ClaimStep old answer new
 EndStep old (RaiseLimits p) answer new = RaiseStep old p answer new
+EndStep old (Set x) answer new = SetStep old x answer new
 EndStep old (ClosingPayload slice) answer new = ClosePayload old slice answer.0 answer.1 × (new ≡ old)
 EndStep old Stored answer new = (answer ≡ all_stored old) × (new ≡ old)
 EndStep old Granted answer new = (answer ≡ old.granted) × (new ≡ old)

@@ -40,10 +40,21 @@ pub record AckedItems : Type 0 where
   pub bidi_streams : Option ℕ
   pub uni_streams : Option ℕ
 
+-- the windows and grants in force, as the owner set them last, and the widest window of the connection so far (ours, beside RFC 9000,
+-- sections 4.1 and 4.6)
+pub record Present : Type 0 where
+  pub conn_window : ℕ
+  pub widest : ℕ
+  pub grant_bidi : ℕ
+  pub grant_uni : ℕ
+
 -- what an end keeps of its streams, its credit and its packets (RFC 9000, sections 2 to 4 and 13)
 pub record End : Type 0 where
   pub role : Role
+  -- what the peer was told as the end was made
   pub settings : Settings
+  -- what is in force since
+  pub present : Present
   pub tuning : Tuning
   -- the limits that the peer began with
   pub peer : PeerLimits
@@ -153,12 +164,17 @@ abbrev pub no_items : AckedItems
 no_items =
     record { max_data = None; max_stream_data = fmap.empty; stop_sending = set.empty; data_blocked = None; stream_data_blocked = fmap.empty; bidi_blocked = None; uni_blocked = None; bidi_streams = None; uni_streams = None }
 
+-- what is in force at first (RFC 9000, sections 4.1 and 4.6)
+abbrev pub first_present : Settings → Present
+first_present s = record { conn_window = s.conn_window; widest = s.conn_window; grant_bidi = s.grant_bidi; grant_uni = s.grant_uni }
+
 -- a new end (RFC 9000, sections 4.1, 4.6 and 18.2)
 abbrev pub new_end : Role → Settings → Tuning → PeerLimits → End
 new_end role settings tuning peer =
     record {
       role = role;
       settings = settings;
+      present = first_present settings;
       tuning = tuning;
       peer = peer;
       sends = no_streams;

@@ -1,10 +1,15 @@
 -- Of laws.
 -- What an end that is asked tells, and doesn't count (RFC 9000, sections 2.2, 4.1 and 13.3).
-use Rattle.std.specs.Prelude.{◌≡◌, None, Some, false, true}
+use Rattle.std.specs.Prelude.{◌≡◌, ℕ, None, Some, false, true, drop, List, [], ◌∷◌, Ok, Err}
+use Rattle.std.specs.FinMap as map
 use Rattle.qs_ranges.specs.Numbers.{numbers}
-use Rattle.qs_machine.specs.Asking.{all_noted, credit_left, room, unsent, acked_below, taken, all_unsent}
+use Rattle.qs_machine.specs.Asking.{IsPeeked, all_noted, credit_left, room, unsent, acked_below, taken, all_unsent, all_kept}
 use Rattle.qs_machine.specs.Credit.{all_taken}
-use Rattle.qs_recv.specs.Lane.{take_stream, take_reset, stop}
+use Rattle.qs_recv.specs.Lane.{take_stream, take_reset, stop, stop_and_forget, RecvLane}
+use Rattle.qs_calls.specs.declared.uses.UseFault.{UseFault}
+use Rattle.qs_recv.specs.Peek.{IsFront}
+use Rattle.qs_recv.specs.declared.half.Peek.{Peek}
+use Rattle.qs_recv.specs.declared.half.Peek.TheVariants as peeks
 use Rattle.qs_machine.specs.SmallEnds.{client_with, server_with, abc, fresh, three_came, all_came, wrote, sent, second_acked, finished, reset_half}
 use Rattle.qs_machine.specs.ExclusionsOwner.{over, prudent}
 
@@ -48,6 +53,16 @@ pub record UnsentIsNew : Type 0 where
   pub all_sent_three : all_unsent (client_with sent) ≡ 0
   pub all_after_reset : all_unsent (client_with reset_half) ≡ 0
 
+-- what is kept (section 13.3)
+pub record KeptUntilAcked : Type 0 where
+  -- what was written, sent or not
+  pub written : all_kept (client_with wrote) ≡ 3
+  pub sent_three : all_kept (client_with sent) ≡ 3
+  -- not what was acknowledged
+  pub two_acked : all_kept (client_with (record sent { acked = numbers 0 2; kept = drop 2 abc })) ≡ 1
+  -- and none after a reset
+  pub after_reset : all_kept (client_with reset_half) ≡ 0
+
 -- below which offset each is acknowledged (section 13.3)
 pub record AckedInARow : Type 0 where
   pub two : acked_below (client_with (record sent { acked = numbers 0 2 })) 0 ≡ Some 2
@@ -66,9 +81,12 @@ pub record RunsAreNoted : Type 0 where
   pub gap : all_noted (server_with (take_stream three_came 5 abc false)) ≡ 2
   -- also of a stream that was stopped
   pub after_stop : all_noted (server_with (stop (take_stream three_came 5 abc false) 0)) ≡ 2
-  -- and none of one that was reset, or of which the end was told
+  -- or forgotten
+  pub forgotten : all_noted (server_with (stop_and_forget (take_stream three_came 5 abc false) 0)) ≡ 2
+  -- and none of one that was reset, or of which the end was told, or would be
   pub after_reset : all_noted (server_with (take_reset three_came 0 8)) ≡ 0
   pub told : all_noted (server_with (record all_came { told = true })) ≡ 0
+  pub forgotten_end : all_noted (server_with (stop_and_forget all_came 0)) ≡ 0
 
 -- how many bytes count as taken (sections 3.5 and 4.2)
 pub record BytesAreTaken : Type 0 where
@@ -83,7 +101,38 @@ pub record BytesAreTaken : Type 0 where
   -- and there are none of a stream that has no receiving half here
   pub unopened : taken (server_with three_came) 4 ≡ None
 
+-- one byte came
+abbrev pub one_stored : RecvLane
+one_stored = record fresh { arrived = record fresh.arrived { stored = map.insert map.empty 0 97; received = numbers 0 1 } }
+
+-- reset with code 7
+abbrev pub was_reset : RecvLane
+was_reset = record fresh { final_size = Some 0; reset_code = Some 7 }
+
+-- a look doesn't tell so (sections 2.2, 3.2, 3.5 and 10.2)
+pub record NoSuchLook : Type 0 where
+  -- of bytes where none came
+  pub none_came : (bytes : List ℕ) → IsFront fresh bytes → ⊥
+  -- of none where some came
+  pub none_shown : IsFront three_came [] → ⊥
+  -- of other bytes than came
+  pub other : IsFront one_stored (98 ∷ []) → ⊥
+  -- of bytes of a stream that was stopped
+  pub after_stop : (bytes : List ℕ) → IsFront (stop three_came 7) bytes → ⊥
+  -- of an end that didn't come
+  pub no_end : IsPeeked (server_with fresh) 0 (Ok peeks.End) → ⊥
+  -- of nothing where a reset came, or of another code
+  pub after_reset : IsPeeked (server_with was_reset) 0 (Ok peeks.Wait) → ⊥
+  pub other_code : IsPeeked (server_with was_reset) 0 (Ok (peeks.Reset 8)) → ⊥
+  -- of a stream that isn't open, or at an end that closed
+  pub unopened : (peek : Peek) → IsPeeked (server_with fresh) 4 (Ok peek) → ⊥
+  pub closed : (peek : Peek) → IsPeeked (over (server_with fresh)) 0 (Ok peek) → ⊥
+  -- nor is it refused where it may be read
+  pub refused : (fault : UseFault) → IsPeeked (server_with fresh) 0 (Err fault) → ⊥
+
 pub record NotAsked : Type 0 where
+  pub looks : NoSuchLook
+  pub kept : KeptUntilAcked
   pub bytes : BytesAreTaken
   pub runs : RunsAreNoted
   pub credit : CreditIsSent

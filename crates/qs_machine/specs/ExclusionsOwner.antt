@@ -2,7 +2,7 @@
 -- Which answers an end's owner isn't given, and what its calls don't leave (RFC 9000, sections 2, 3 and 4).
 use Rattle.std.specs.Prelude.{◌≡◌, ℕ, ◌+◌, ◌^◌, Bool, true, false, List, [], ◌∷◌, None, Some, Result, Ok, Err}
 use Rattle.qs_wire.specs.declared.stream_id.Dir.TheVariants.{Bidi, Uni}
-use Rattle.qs_recv.specs.Lane.{RecvLane, new_lane as new_recv_lane, stop}
+use Rattle.qs_recv.specs.Lane.{RecvLane, new_lane as new_recv_lane, take_stream, take_reset, stop, stop_and_forget}
 use Rattle.qs_recv.specs.declared.credit.Share.{Share}
 use Rattle.qs_recv.specs.declared.credit.Share.TheVariants.{Half, Quarter, Eighth}
 use Rattle.qs_recv.specs.declared.half.Read.TheVariants as reads
@@ -12,12 +12,13 @@ use Rattle.qs_calls.specs.declared.reading.Consumed.{Consumed}
 use Rattle.qs_calls.specs.declared.uses.OpenFault.TheVariants as opening
 use Rattle.qs_calls.specs.declared.uses.UseFault.{UseFault}
 use Rattle.qs_calls.specs.declared.uses.UseFault.TheVariants.{NoSuchStream, NoMemory, Closed}
-use Rattle.qs_machine.specs.Ends.{End, send_lane, recv_lane, opens}
-use Rattle.qs_machine.specs.Credit.{settle}
-use Rattle.qs_machine.specs.Owner.{OpenStep, AcceptStep, AcceptOfStep, WriteStep, FinishStep, ResetStep, StopStep, ReadStep, ConsumeStep}
+use Rattle.qs_machine.specs.Ends.{End, first_present, send_lane, recv_lane, opens}
+use Rattle.qs_machine.specs.Credit.{settle, recv_ended}
+use Rattle.qs_machine.specs.Owner.{OpenStep, AcceptStep, AcceptOfStep, WriteStep, FinishStep, ResetStep, StopStep, ReadStep, ConsumeStep, StopAndForgetStep}
 use Rattle.qs_machine.specs.Raising.{limits_raised, RaiseStep}
+use Rattle.qs_machine.specs.Setting.{ConnWindow, Grant, with_setting, SetStep}
 use Rattle.qs_machine.specs.Examples.{standard, server, client_of, told_reset}
-use Rattle.qs_machine.specs.SmallEnds.{client_with, server_with, abc, begun, wrote, finished, reset_half, fresh, three_came}
+use Rattle.qs_machine.specs.SmallEnds.{client_with, server_with, abc, begun, wrote, finished, reset_half, fresh, three_came, all_came}
 
 -- a client that its peer allows no bidirectional stream
 abbrev pub shut_out : End
@@ -175,9 +176,36 @@ pub record NoSuchReading : Type 0 where
   pub stop_closed : (new : End) → StopStep (over (server_with fresh)) 0 7 (Ok tt) new → ⊥
   pub stop_on : (new : End) → StopStep (reading_on (server_with fresh)) 0 7 (Ok tt) new → ⊥
 
--- a server that grants one stream of each type at first and four in all, once the first unidirectional one ended, as the call ends
+-- A stream isn't forgotten so, and what is forgotten ended with its end alone (sections 3.2 and 3.5)
+pub record NoSuchForgetting : Type 0 where
+  -- once the end closed, also where its owner reads on
+  pub closed : (new : End) → StopAndForgetStep (over (server_with fresh)) 0 7 (Ok tt) new → ⊥
+  pub closed_on : (new : End) → StopAndForgetStep (reading_on (server_with fresh)) 0 7 (Ok tt) new → ⊥
+  -- where it isn't open
+  pub unopened : (new : End) → StopAndForgetStep (server_with fresh) 4 7 (Ok tt) new → ⊥
+  -- without a stop
+  pub not_stopped : (new : End) → StopAndForgetStep (server_with fresh) 0 7 (Ok tt) new → (l : RecvLane) → recv_lane new 0 ≡ Some l → l.stop_code ≡ None → ⊥
+  -- with another code than the first
+  pub second_code : (new : End) → StopAndForgetStep (server_with (stop fresh 7)) 0 8 (Ok tt) new → (l : RecvLane) → recv_lane new 0 ≡ Some l → l.stop_code ≡ Some 8 → ⊥
+  -- so that it waits to be read
+  pub waits : (new : End) → StopAndForgetStep (server_with fresh) 0 7 (Ok tt) new → (l : RecvLane) → recv_lane new 0 ≡ Some l → l.told ≡ false → ⊥
+  -- it hasn't ended before its end came
+  pub too_early : recv_ended (stop_and_forget fresh 7) ≡ true → ⊥
+  -- it has with its end, or with a reset
+  pub by_end : recv_ended (take_stream (stop_and_forget fresh 7) 0 abc true) ≡ true
+  pub by_reset : recv_ended (take_reset (stop_and_forget fresh 7) 0 8) ≡ true
+  -- or at once, where all came before
+  pub at_once : recv_ended (stop_and_forget all_came 7) ≡ true
+  -- one that was stopped alone hasn't
+  pub stopped_alone : recv_ended (take_reset (stop fresh 7) 0 8) ≡ true → ⊥
+
+-- a server that grants one stream of each type at first and four in all, as the first unidirectional one ended
+abbrev pub one_ending : End
+one_ending = told_reset 2 (server (record standard { grant_bidi = 1; lifetime_bidi = 4; grant_uni = 1; lifetime_uni = 4 }))
+
+-- and as that call ends
 abbrev pub one_ended : End
-one_ended = settle (told_reset 2 (server (record standard { grant_bidi = 1; lifetime_bidi = 4; grant_uni = 1; lifetime_uni = 4 })))
+one_ended = settle one_ending
 
 -- a server that grants four unidirectional streams at first and so many in all, by halves of the first grant, of which none ended yet
 abbrev pub by_halves : ℕ → End
@@ -193,7 +221,11 @@ two_read share = record six_read { arrived = record six_read.arrived { read_coun
 
 -- a server of a window of ten bytes, of which two were read, that moves limits by such a share
 abbrev pub tuned : Share → End
-tuned share = record (server_with (two_read share)) { granted = 10; settings = record standard { conn_window = 10 }; tuning = record default_tuning { credit_step = share } }
+tuned share = record (server_with (two_read share)) { granted = 10; settings = record standard { conn_window = 10 }; present = first_present (record standard { conn_window = 10 }); tuning = record default_tuning { credit_step = share } }
+
+-- a server of a window of ten bytes, of which six were read
+abbrev pub much_read : End
+much_read = record (server_with six_read) { granted = 10; settings = record standard { conn_window = 10 }; present = first_present (record standard { conn_window = 10 }) }
 
 -- As a call ends (sections 4.1, 4.2 and 4.6)
 pub record LimitsSettle : Type 0 where
@@ -208,13 +240,13 @@ pub record LimitsSettle : Type 0 where
   -- and no further than in the lifetime
   pub to_lifetime : (settle (told_reset 6 (told_reset 2 (by_halves 5)))).granted_uni ≡ 5
   -- a step is one stream at least, where a share of the grant is none
-  pub one_at_least : (settle (record one_ended { tuning = record default_tuning { count_step = Some Half } })).granted_uni ≡ 2
+  pub one_at_least : (settle (record one_ending { tuning = record default_tuning { count_step = Some Half } })).granted_uni ≡ 2
   -- the limit of a stream is raised by what was read of it
   pub stream : (settle (server_with six_read)).recvs.client_bidi ≡ record six_read { limit = 16 } ∷ []
   -- and not once its final size is known
   pub ended : (settle (server_with (record six_read { final_size = Some 8 }))).recvs.client_bidi ≡ record six_read { final_size = Some 8 } ∷ []
   -- the connection's limit by what was read in all
-  pub connection : (settle (record (server_with six_read) { granted = 10; settings = record standard { conn_window = 10 } })).granted ≡ 16
+  pub connection : (settle much_read).granted ≡ 16
   -- and no limit before its share of the window was read
   pub early : ((settle (tuned Half)).recvs.client_bidi ≡ two_read Half ∷ []) × ((settle (tuned Half)).granted ≡ 10)
   -- a smaller share comes earlier
@@ -235,6 +267,34 @@ pub record LimitsOnlyRise : Type 0 where
   -- nor where more streams are allowed than have a number (section 4.6)
   pub uncountable : (new : End) → RaiseStep (client_of standard) (record (limits_of standard) { streams_uni = 2 ^ 60 + 1 }) (Ok tt) new → ⊥
 
+-- As the owner sets windows and grants anew (sections 4.1 and 4.6)
+pub record SetsNoMore : Type 0 where
+  -- a greater window moves the limit at once, be it by less than a step
+  pub at_once : (settle (with_setting (ConnWindow 11) (tuned Half))).granted ≡ 13
+  -- a smaller one takes nothing back
+  pub narrower : (settle (with_setting (ConnWindow 4) (tuned Half))).granted ≡ 10
+  -- and moves nothing by what is less than a step
+  pub no_step : (settle (with_setting (ConnWindow 9) (tuned Half))).granted ≡ 10
+  -- and it is the one that counts from then on
+  pub counts_then : (settle (with_setting (ConnWindow 4) much_read)).granted ≡ 10
+  -- the widest one that was set is remembered
+  pub widest : (with_setting (ConnWindow 4) (tuned Half)).present.widest ≡ 10
+  -- a greater grant moves the count at once, beside what ended, and that of its direction alone
+  pub more : (settle (with_setting (Grant Uni 2) one_ended)).granted_uni ≡ 3
+  pub of_direction : (settle (with_setting (Grant Uni 2) one_ended)).granted_bidi ≡ 1
+  -- to the lifetime's count at most
+  pub to_lifetime : (settle (with_setting (Grant Uni 9) one_ended)).granted_uni ≡ 4
+  -- a smaller one takes nothing back
+  pub fewer : (settle (with_setting (Grant Uni 0) one_ended)).granted_uni ≡ 2
+  -- and then a stream that ends makes no room for another
+  pub no_more : (settle (told_reset 6 (with_setting (Grant Uni 0) one_ended))).granted_uni ≡ 2
+  -- nothing is set once the end closed
+  pub closed : (new : End) → SetStep (over (server standard)) (ConnWindow 11) (Ok tt) new → ⊥
+  -- no window of no byte, none wider than the widest, and no such grant
+  pub no_window : (new : End) → SetStep (server standard) (ConnWindow 0) (Ok tt) new → ⊥
+  pub too_wide : (new : End) → SetStep (server standard) (ConnWindow (2 ^ 40 + 1)) (Ok tt) new → ⊥
+  pub too_many : (new : End) → SetStep (server standard) (Grant Uni (2 ^ 17 + 1)) (Ok tt) new → ⊥
+
 pub record NotOwned : Type 0 where
   pub opening : NoSuchOpening
   pub accepting : NoSuchAccepting
@@ -242,5 +302,7 @@ pub record NotOwned : Type 0 where
   pub sending : NoSuchSending
   pub within_credit : NoSuchWriting
   pub reading : NoSuchReading
+  pub forgetting : NoSuchForgetting
   pub settling : LimitsSettle
   pub rising : LimitsOnlyRise
+  pub setting : SetsNoMore

@@ -21,6 +21,7 @@ pub mod News
 pub mod Asking
 pub mod Newly
 pub mod Raising
+pub mod Setting
 pub mod EndStep
 pub mod Standing
 pub mod Plains

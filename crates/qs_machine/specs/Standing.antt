@@ -5,12 +5,12 @@ use Rattle.std.specs.FinMap as fmap
 use Rattle.qs_wire.specs.declared.stream_id.Dir.{Dir}
 use Rattle.qs_wire.specs.declared.stream_id.Dir.TheVariants.{Bidi, Uni}
 use Rattle.qs_wire.specs.declared.stream_id.Role.{Role}
-use Rattle.qs_recv.specs.Lane.{RecvLane, highest, taken}
+use Rattle.qs_recv.specs.Lane.{MAX_CONN_WINDOW, RecvLane, highest, taken}
 use Rattle.qs_recv.specs.Lawful.{IsLawful}
 use Rattle.qs_calls.specs.declared.settings.Settings.{Settings}
-use Rattle.qs_calls.specs.Settings.{are_in_wide_range}
+use Rattle.qs_calls.specs.Settings.{MAX_GRANT, are_in_wide_range}
 use Rattle.qs_machine.specs.Tables.{Tables, lookup, total}
-use Rattle.qs_machine.specs.Ends.{End, window_by, window, recv_lane}
+use Rattle.qs_machine.specs.Ends.{End, Present, window_by, window, recv_lane}
 use Rattle.qs_machine.specs.Credit.{spent, all_taken, all_stored, granted_streams, lifetime, next_count}
 
 -- a receiving half that is open is lawful, and has the window of its type of stream
@@ -18,26 +18,35 @@ abbrev pub HasLawfulLane : Role → Settings → ℕ → Option RecvLane → Typ
 HasLawfulLane role s n None = ⊤
 HasLawfulLane role s n (Some l) = IsLawful l × (l.arrived.window ≡ window_by role s n)
 
--- the peer is within the connection limit, and that within the window
-pub record KeepsCredit (role : Role) (s : Settings) (recvs : Tables RecvLane) (granted : ℕ) : Type 0 where
+-- what is in force is in the ranges that an end has at first, and the widest window is no narrower than the present one
+pub record IsInForce (p : Present) : Type 0 where
+  pub some : 1 ≤ p.conn_window
+  pub widest : p.conn_window ≤ p.widest
+  pub small : p.widest ≤ MAX_CONN_WINDOW
+  pub bidi : p.grant_bidi ≤ MAX_GRANT
+  pub uni : p.grant_uni ≤ MAX_GRANT
+
+-- the peer is within the connection limit, and that within the widest window
+pub record KeepsCredit (role : Role) (s : Settings) (p : Present) (recvs : Tables RecvLane) (granted : ℕ) : Type 0 where
   pub settings : are_in_wide_range s ≡ true
+  pub present : IsInForce p
   pub lanes : (n : ℕ) → HasLawfulLane role s n (lookup recvs n)
   pub spent : total highest recvs ≤ granted
-  pub in_window : granted ≤ total taken recvs + s.conn_window
+  pub in_window : granted ≤ total taken recvs + p.widest
 
 -- of an end: its peer is within the credit
 abbrev pub IsInCredit : End → Type 0
-IsInCredit e = KeepsCredit e.role e.settings e.recvs e.granted
+IsInCredit e = KeepsCredit e.role e.settings e.present e.recvs e.granted
 
--- no granted count of streams is above the next one, and so none above its lifetime's (RFC 9000, section 4.6)
+-- no granted count of streams is above its lifetime's (ours, beside RFC 9000, section 4.6)
 abbrev pub CountsStand : End → Type 0
-CountsStand e = (granted_streams e Bidi ≤ next_count e Bidi) × (granted_streams e Uni ≤ next_count e Uni)
+CountsStand e = (granted_streams e Bidi ≤ lifetime e.settings Bidi) × (granted_streams e Uni ≤ lifetime e.settings Uni)
 
 -- every end that is reached is sound
 abbrev pub IsSound : End → Type 0
 IsSound e = IsInCredit e × CountsStand e
 
--- between calls each granted count is the next one: the first, and as many more as ended, in whole steps, up to the lifetime's
+-- between calls each granted count is the next one: no less than the grant, and as many more as ended, in whole steps, up to the lifetime's
 abbrev pub CountsAreSettled : End → Type 0
 CountsAreSettled e = (d : Dir) → granted_streams e d ≡ next_count e d
 
@@ -47,11 +56,11 @@ pub record IsLaneWithin (l : RecvLane) (window : ℕ) : Type 0 where
   pub credit : l.limit - taken l ≤ window
   pub spent : highest l ≤ l.limit
 
--- the bytes that an end stores were granted and aren't taken, and that is within the window; and so of each stream; no count of streams
--- is above its lifetime's
+-- the bytes that an end stores were granted and aren't taken, and that is within the widest window that was set; and so of each stream; no
+-- count of streams is above its lifetime's
 pub record IsWithinCredit (e : End) : Type 0 where
   pub stored : all_stored e ≤ e.granted - all_taken e
-  pub credit : e.granted - all_taken e ≤ e.settings.conn_window
+  pub credit : e.granted - all_taken e ≤ e.present.widest
   pub spent : spent e ≤ e.granted
   pub lanes : (n : ℕ) (l : RecvLane) → recv_lane e n ≡ Some l → IsLaneWithin l (window e n)
   pub counts : (d : Dir) → granted_streams e d ≤ lifetime e.settings d

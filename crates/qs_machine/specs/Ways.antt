@@ -1,20 +1,23 @@
 -- Of laws.
--- How the two ways into an end are one: whole payloads, and frames that come without their packet.
-use Rattle.std.specs.Prelude.{◌≡◌, ℕ, Bool, true, false, List, [], ◌∷◌, None, Ok, nat_lt}
+-- How the two ways into an end are one: whole payloads, and frames that come without their packet; and ACKs, and tokens.
+use Rattle.std.specs.Prelude.{◌≡◌, ℕ, ◌<◌, Bool, true, false, List, [], ◌∷◌, None, Ok, nat_lt, ⊤}
 use Rattle.std.specs.List.{AllByRecursion}
+use Rattle.std.specs.FinMap as fmap
 use Rattle.std.specs.FinSet as set
 use Rattle.qs_wire.specs.Layout.{FrameValue}
 use Rattle.qs_wire.specs.Grammar.{AreBytes, frames_of}
 use Rattle.qs_wire.specs.Reading.{reading_of}
 use Rattle.qs_calls.specs.declared.closing.Received.TheVariants.{Done}
+use Rattle.qs_send.specs.Records.{NoneEmpty}
 use Rattle.qs_calls.specs.declared.token.Taken.{Taken}
+use Rattle.qs_calls.specs.declared.token.Token.{Token}
 use Rattle.qs_machine.specs.Ends.{End}
 use Rattle.qs_machine.specs.Credit.{settle}
 use Rattle.qs_machine.specs.Seen.{Seen, Ack, seen, seen_all, any_asks}
-use Rattle.qs_machine.specs.FrameStep.{NoFault, frames_taken}
+use Rattle.qs_machine.specs.FrameStep.{NoFault, is_named, frame_taken, frames_taken}
 use Rattle.qs_machine.specs.Recording.{recorded}
 use Rattle.qs_machine.specs.Receiving.{ReceiveStep}
-use Rattle.qs_machine.specs.Alone.{is_ours, TakeFrameStep, TakeFramesStep}
+use Rattle.qs_machine.specs.Alone.{is_ours, TakeFrameStep, TakeFramesStep, TokenAckedStep}
 
 -- the frames that are read in a payload
 abbrev pub frames_in : List ℕ → List FrameValue
@@ -53,3 +56,13 @@ abbrev pub AFrameIsItsPayload : Type 0
 AFrameIsItsPayload =
     (old new : End) (k : ℕ) (text : List ℕ) (f : FrameValue) → IsNew old k → AreBytes text → frames_in text ≡ f ∷ [] → is_ours (seen f) ≡ true → ReceiveStep old k text (Ok Done) new →
     (taken : Taken) × (mid : End) × TakeFrameStep old f (Ok taken) mid × (new ≡ recorded k true mid)
+
+-- Acknowledgements (RFC 9000, sections 13.2.1, 13.3 and 19.3)
+
+-- the token of a range of an end's packets
+abbrev pub token_from : End → ℕ × ℕ → Token
+token_from e range = record { epoch = e.tuning.epoch; first = range.0; number = range.1 }
+
+-- An ACK of one range is its token, be it in time or late (RFC 9000, sections 13.2.1 and 13.3).
+abbrev pub AnAckIsItsToken : Type 0
+AnAckIsItsToken = (e new : End) (largest : ℕ) (range : ℕ × ℕ) → TokenAckedStep e (token_from e range) (Ok tt) new → new ≡ settle (frame_taken (Ack largest (range ∷ [])) e)

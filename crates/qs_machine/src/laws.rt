@@ -2,7 +2,7 @@
 
 ghost use Rattle.qs_machine.specs.Laws.{NewEndsAreSound, NewEndsAreWide, CallsKeepEndsSound, StoredBytesWereGranted, EndedIsLastState, NewEndsSettleCounts, CallsSettleCounts, CountsNeverFall, LimitsNeverFall, ClosedEndsStay, AnAckIsAPacket, AFillIsAPacket, ClaimedNumbersAreKnown, PayloadsAreTakenInOrder, EffectsRepeat, PayloadsRepeat, ProcessedPayloadsRepeat, NewEndsSentNothing, CallsSendWhatWasWritten};
 ghost use Rattle.qs_machine.specs.Plains.{PlainFramesTellNothing};
-ghost use Rattle.qs_machine.specs.Ways.{APayloadIsItsFrames, APayloadIsTakeFrames, AFrameIsItsPayload};
+ghost use Rattle.qs_machine.specs.Ways.{APayloadIsItsFrames, APayloadIsTakeFrames, AFrameIsItsPayload, AnAckIsItsToken};
 ghost use Rattle.qs_machine.specs.SettledLimits.{NewEndsSettleLimits, CallsSettleLimits};
 ghost use Rattle.qs_machine.specs.OffsetParts.{OffsetsAreInOnePart};
 ghost use Rattle.qs_machine.specs.Examples.{Examples};
@@ -127,4 +127,9 @@ pub fn payloads_are_their_frames()
     ensures effects { APayloadIsItsFrames }
     ensures several { APayloadIsTakeFrames }
     ensures one { AFrameIsItsPayload }
+{}
+
+/// An ACK of one range of packets is the token of that range, in time or late.
+pub fn acks_are_their_tokens()
+    ensures { AnAckIsItsToken }
 {}

@@ -2,8 +2,8 @@
 --     get-ring, len-ring       the map that a ring stands for
 --     new_ring, ring_at_rest, ring_read, ring_put, ..       what holds of the fields still holds
 --     front_next, rest_next       what a read copies out and leaves
---     IsPut       the ring before a put, with its memory taken, and with the bytes in its gaps
---     put_stored, put_unseen       what a put stores, and that nothing shows before the offsets are noted
+--     IsPut, put_stored       what is kept before a put and after it, and what it stores
+--     same_bytes, same_ring       only the bytes at offsets that came show
 use Rattle.std.specs.Prelude.{◌≡◌, ℕ, ◌+◌, ◌-◌, ◌*◌, ◌/◌, ◌%◌, ◌^◌, ◌<◌, ◌≤◌, zero, suc, Bool, true, false, not, cond, if◌then◌else◌, ◌&&◌, ◌||◌, max, min, nat_eq, nat_le, nat_lt, List, [], ◌++◌, length, take, drop, slice_get, slice_index, Option, None, Some, is_some, Result, Ok, Err, OnOk, OnErr, refl}
 use Rattle.std.proofs.Common.{sym, ◌∙◌, ap, arith, inl, inr}
 use Rattle.std.specs.Int.{IsPowerOfTwo}
@@ -21,7 +21,7 @@ use Rattle.qs_ranges.proofs.Algebra.{with_range-covered}
 use Rattle.qs_ranges.proofs.Sets.{covers-is, end_of-union, end_of-with_range}
 use Rattle.qs_recv.specs.Assembled.{Assembled, front, keep_from, put, store, take_front}
 use Rattle.qs_recv.specs.Bytes.{byte_at}
-use Rattle.qs_recv.specs.Ring.{IsFilled, IsRing, IsSized, IsSizeFor, missing_count, ring_bytes, stored_in_ring}
+use Rattle.qs_recv.specs.Ring.{IsRing, IsSizeFor, missing_count, ring_bytes, stored_in_ring}
 use Rattle.qs_recv.proofs.AssembledLaws.{is_in_run, with_run, contains-with_run, get-insert_nat, get-keep_from, get-store}
 use Rattle.qs_recv.proofs.ReadLaws.{append_nil, front_none, front_of_bytes, front-more, take_done, take_nothing}
 use Rattle.qs_recv.proofs.RingCount.{missing_all, missing_none, missing_parts, missing_same, missing_small}
@@ -33,32 +33,32 @@ ring_one : (b : Bool) (m : map.FinMap nat_cmp ℕ) (k v q : ℕ) → map.get (co
 ring_one true m k v q = get-insert_nat m k v q
 ring_one false m k v q = refl
 
-pub get-ring : (r : NumberSet) (ring : List ℕ) (w from n q : ℕ)
-    → map.get (ring_bytes r ring w from n) q ≡ cond (is_in_run q from n && set.contains r q) (Some (slice_index ring (q % w))) None
+pub get-ring : (r : NumberSet) (f : ℕ → ℕ) (w from n q : ℕ)
+    → map.get (ring_bytes r f from n) q ≡ cond (is_in_run q from n && set.contains r q) (Some (f q)) None
 unfolding ring_bytes
-get-ring r ring w from zero q = map.get-empty nat_cmp q ∙ sym (ap (λ b. cond (b && set.contains r q) (Some (slice_index ring (q % w))) None) (let e : is_in_run q from 0 ≡ false = grind (arith, nat_tests) in e))
-get-ring r ring w from (suc n) q =
-    let rest = get-ring r ring w from n q in
-    let one = ring_one (set.contains r (from + n)) (ring_bytes r ring w from n) (from + n) (slice_index ring ((from + n) % w)) q in
+get-ring r f w from zero q = map.get-empty nat_cmp q ∙ sym (ap (λ b. cond (b && set.contains r q) (Some (f q)) None) (let e : is_in_run q from 0 ≡ false = grind (arith, nat_tests) in e))
+get-ring r f w from (suc n) q =
+    let rest = get-ring r f w from n q in
+    let one = ring_one (set.contains r (from + n)) (ring_bytes r f from n) (from + n) (f (from + n)) q in
     elim (cases_order q (from + n)) [
       | inl same ↦
           let c : set.contains r q ≡ set.contains r (from + n) = ap (set.contains r) same in
-          let v : slice_index ring (q % w) ≡ slice_index ring ((from + n) % w) = ap (λ k. slice_index ring (k % w)) same in
+          let v : f q ≡ f (from + n) = ap (λ k. f k) same in
           grind (arith, nat_tests)
       | inr apart ↦ grind (arith, nat_tests)
     ]
 
 -- each offset is stored or missing
-pub len-ring : (r : NumberSet) (ring : List ℕ) (w from n : ℕ) → map.len (ring_bytes r ring w from n) + missing_count r from n ≡ n
+pub len-ring : (r : NumberSet) (f : ℕ → ℕ) (w from n : ℕ) → map.len (ring_bytes r f from n) + missing_count r from n ≡ n
 unfolding ring_bytes missing_count
-len-ring r ring w from zero = let e = map.len-empty nat_cmp ℕ in omega (arith, e)
-len-ring r ring w from (suc n) =
+len-ring r f w from zero = let e = map.len-empty nat_cmp ℕ in omega (arith, e)
+len-ring r f w from (suc n) =
     let out : is_in_run (from + n) from n ≡ false = grind (arith, nat_tests) in
-    let none : map.contains_key (ring_bytes r ring w from n) (from + n) ≡ false =
-    ap is_some (get-ring r ring w from n (from + n) ∙ ap (λ b. cond (b && set.contains r (from + n)) (Some (slice_index ring ((from + n) % w))) None) out) in
-    let more : map.len (map.insert (ring_bytes r ring w from n) (from + n) (slice_index ring ((from + n) % w))) ≡ map.len (ring_bytes r ring w from n) + 1 =
-    map.len-insert nat_cmp_total (ring_bytes r ring w from n) (from + n) (slice_index ring ((from + n) % w)) ∙ ap (λ b. cond b (map.len (ring_bytes r ring w from n)) (map.len (ring_bytes r ring w from n) + 1)) none in
-    one (set.contains r (from + n)) (ring_bytes r ring w from n) (map.insert (ring_bytes r ring w from n) (from + n) (slice_index ring ((from + n) % w))) (missing_count r from n) more (len-ring r ring w from n)
+    let none : map.contains_key (ring_bytes r f from n) (from + n) ≡ false =
+    ap is_some (get-ring r f w from n (from + n) ∙ ap (λ b. cond (b && set.contains r (from + n)) (Some (f (from + n))) None) out) in
+    let more : map.len (map.insert (ring_bytes r f from n) (from + n) (f (from + n))) ≡ map.len (ring_bytes r f from n) + 1 =
+    map.len-insert nat_cmp_total (ring_bytes r f from n) (from + n) (f (from + n)) ∙ ap (λ b. cond b (map.len (ring_bytes r f from n)) (map.len (ring_bytes r f from n) + 1)) none in
+    one (set.contains r (from + n)) (ring_bytes r f from n) (map.insert (ring_bytes r f from n) (from + n) (f (from + n))) (missing_count r from n) more (len-ring r f w from n)
   where
     one : (b : Bool) (m m' : map.FinMap nat_cmp ℕ) (k : ℕ) → map.len m' ≡ map.len m + 1 → map.len m + k ≡ n → map.len (cond b m' m) + cond b k (k + 1) ≡ suc n
     one true m m' k more is = omega (arith, more, is)
@@ -66,68 +66,77 @@ len-ring r ring w from (suc n) =
 
 -- A new ring, and one that was thrown away
 
-pub empty_ring : (ring : List ℕ) (w from n : ℕ) → ring_bytes set.empty ring w from n ≡ map.empty
-empty_ring ring w from n =
+pub empty_ring : (f : ℕ → ℕ) (w from n : ℕ) → ring_bytes set.empty f from n ≡ map.empty
+empty_ring f w from n =
     same_map nat_cmp_total nat_cmp-IsAntisymmetric _ _ (λ q.
-    get-ring set.empty ring w from n q
-    ∙ ap (λ b. cond b (Some (slice_index ring (q % w))) None) (and_right (is_in_run q from n) (set.contains set.empty q) (set.contains-empty nat_cmp q))
+    get-ring set.empty f w from n q
+    ∙ ap (λ b. cond b (Some (f q)) None) (and_right (is_in_run q from n) (set.contains set.empty q) (set.contains-empty nat_cmp q))
     ∙ sym (map.get-empty nat_cmp q))
 
-pub new_ring : IsRing [] set.empty 0 0 0 false
-new_ring =
+pub new_ring : (f : ℕ → ℕ) (w : ℕ) → w ≤ MAX_WINDOW → IsRing f set.empty w 0 0 false
+new_ring f w small =
     record {
-      small_window = omega arith;
+      small_window = small;
       small_count = omega arith;
       read_came = λ q below. absurd (omega arith);
       came_within = λ _ q came. absurd (both_ways _ (set.contains-empty nat_cmp q) came);
-      held = λ _ q past came. absurd (both_ways _ (set.contains-empty nat_cmp q) came);
-      counted = sym (ap map.len (empty_ring [] 0 0 0) ∙ map.len-empty nat_cmp ℕ);
+      counted = sym (ap map.len (empty_ring f w 0 w) ∙ map.len-empty nat_cmp ℕ);
     }
 
-pub thrown_away : (ring none : List ℕ) (r : NumberSet) (w from stored : ℕ) (off : Bool) → IsRing ring r w from stored off → none ≡ [] → IsRing none r (length none) from 0 true
-thrown_away ring none r w from stored off h is =
+pub thrown_away : (f g : ℕ → ℕ) (r : NumberSet) (w from stored : ℕ) (off : Bool) → IsRing f r w from stored off → IsRing g r w from 0 true
+thrown_away f g r w from stored off h =
     record {
-      small_window = rw is (omega arith);
+      small_window = h.small_window;
       small_count = h.small_count;
       read_came = h.read_came;
       came_within = λ on. absurd (both_ways true on refl);
-      held = λ on. absurd (both_ways true on refl);
       counted = sym (map.len-empty nat_cmp ℕ);
     }
 
 -- A ring at rest
 
-pub nothing_in_ring : (r : NumberSet) (ring : List ℕ) (from : ℕ) (off : Bool) → stored_in_ring r ring 0 from off ≡ map.empty
-unfolding ring_bytes
-nothing_in_ring r ring from true = refl
-nothing_in_ring r ring from false = refl
+pub nothing_in_ring : (r : NumberSet) (f : ℕ → ℕ) (w from : ℕ) (off : Bool) → (off ≡ false → (q : ℕ) → from ≤ q → set.contains r q ≡ false) → stored_in_ring r f w from off ≡ map.empty
+nothing_in_ring r f w from true none = refl
+nothing_in_ring r f w from false none =
+    same_map nat_cmp_total nat_cmp-IsAntisymmetric _ _ (λ q.
+    get-ring r f w from w q
+    ∙ elim (cases_lt q from) [
+      | inl below ↦ (let t : is_in_run q from w ≡ false = grind (arith, nat_tests) in ap (λ b. cond (b && set.contains r q) (Some (f q)) None) t)
+      | inr past ↦ ap (λ b. cond b (Some (f q)) None) (and_right (is_in_run q from w) (set.contains r q) (none refl q past))
+    ]
+    ∙ sym (map.get-empty nat_cmp q))
 
-pub ring_at_rest : (from end : ℕ) (off : Bool) → end ≤ MAX_VARINT → from ≤ end → (off ≡ false → from ≡ end) → IsRing [] (numbers 0 end) 0 from 0 off
-ring_at_rest from end off small came all_read =
+none_at_rest : (from end : ℕ) (off : Bool) → (off ≡ false → from ≡ end) → off ≡ false → (q : ℕ) → from ≤ q → set.contains (numbers 0 end) q ≡ false
+none_at_rest from end off all_read on q past = let all = all_read on in contains-numbers 0 end q ∙ grind (arith, nat_tests)
+
+pub ring_at_rest : (f : ℕ → ℕ) (w from end : ℕ) (off : Bool) → w ≤ MAX_WINDOW → end ≤ MAX_VARINT → from ≤ end → (off ≡ false → from ≡ end) → IsRing f (numbers 0 end) w from 0 off
+ring_at_rest f w from end off wide small came all_read =
     record {
-      small_window = omega arith;
+      small_window = wide;
       small_count = omega arith;
       read_came = λ q below. contains-numbers 0 end q ∙ grind (arith, nat_tests);
       came_within = λ on q is. let all = all_read on in let within : is_within 0 end q ≡ true = sym (contains-numbers 0 end q) ∙ is in grind (arith, nat_tests);
-      held = λ on q past is. let all = all_read on in let within : is_within 0 end q ≡ true = sym (contains-numbers 0 end q) ∙ is in absurd (grind (arith, nat_tests));
-      counted = sym (ap map.len (nothing_in_ring (numbers 0 end) [] from off) ∙ map.len-empty nat_cmp ℕ);
+      counted = sym (ap map.len (nothing_in_ring (numbers 0 end) f w from off (none_at_rest from end off all_read)) ∙ map.len-empty nat_cmp ℕ);
     }
+
+pub view_at_rest : (f : ℕ → ℕ) (w from end : ℕ) (off : Bool) → (off ≡ false → from ≡ end) → stored_in_ring (numbers 0 end) f w from off ≡ map.empty
+view_at_rest f w from end off all_read = nothing_in_ring (numbers 0 end) f w from off (none_at_rest from end off all_read)
 
 -- A read
 
 -- what is next lies within the window
-pub next_within : (r : NumberSet) (ring : List ℕ) (w from n stored : ℕ) → IsRing ring r w from stored false → ContainsRange r from (from + n) → n ≤ w
-next_within r ring w from n stored h came =
+pub next_within : (r : NumberSet) (f : ℕ → ℕ) (w from n stored : ℕ) → IsRing f r w from stored false → ContainsRange r from (from + n) → n ≤ w
+next_within r f w from n stored h came =
     elim (cases_lt w n) [
       | inl more ↦ (let high = h.came_within refl (from + w) (came (from + w) (omega arith) (omega arith)) in absurd (omega (arith, high)))
       | inr within ↦ within
     ]
 
 -- and is stored
-pub next_stored : (r : NumberSet) (ring : List ℕ) (w from n stored : ℕ) → IsRing ring r w from stored false → ContainsRange r from (from + n) → n ≤ stored
-next_stored r ring w from n stored h came =
-    let within = next_within r ring w from n stored h came in
-    let all = len-ring r ring w from w in
+pub next_stored : (r : NumberSet) (f : ℕ → ℕ) (w from n stored : ℕ) → IsRing f r w from stored false → ContainsRange r from (from + n) → n ≤ stored
+next_stored r f w from n stored h came =
+    let within = next_within r f w from n stored h came in
+    let all = len-ring r f w from w in
     let e : w ≡ n + (w - n) = omega (arith, within) in
     let parts = ap (missing_count r from) e ∙ missing_parts r from n (w - n) in
     let none = missing_none r from n came in
@@ -135,19 +144,18 @@ next_stored r ring w from n stored h came =
     let counted = h.counted in
     omega (arith, within, all, parts, none, small, counted)
 
-pub ring_read : (r : NumberSet) (ring : List ℕ) (w from n stored : ℕ) → IsRing ring r w from stored false → ContainsRange r from (from + n) → from + n ≤ 2 ^ 62
-    → IsRing ring r w (from + n) (stored - n) false
-ring_read r ring w from n stored h came small =
-    let within = next_within r ring w from n stored h came in
+pub ring_read : (r : NumberSet) (f : ℕ → ℕ) (w from n stored : ℕ) → IsRing f r w from stored false → ContainsRange r from (from + n) → from + n ≤ 2 ^ 62
+    → IsRing f r w (from + n) (stored - n) false
+ring_read r f w from n stored h came small =
+    let within = next_within r f w from n stored h came in
     record {
       small_window = h.small_window;
       small_count = small;
       read_came = λ q below. elim (cases_lt q from) [ inl old ↦ h.read_came q old | inr new ↦ came q new below ];
       came_within = λ on q is. (let b = h.came_within on q is in omega (arith, b));
-      held = λ on q past is. h.held on q (omega arith) is;
       counted =
-          let before = len-ring r ring w from w in
-          let after = len-ring r ring w (from + n) w in
+          let before = len-ring r f w from w in
+          let after = len-ring r f w (from + n) w in
           let swap : w + n ≡ n + w = omega arith in
           let behind = missing_parts r from w n in
           let front = ap (missing_count r from) swap ∙ missing_parts r from n w in
@@ -157,50 +165,49 @@ ring_read r ring w from n stored h came small =
           omega (arith, before, after, behind, front, none, past, counted);
     }
 
-ring_has : (r : NumberSet) (ring : List ℕ) (w from k : ℕ) → k < w → set.contains r (from + k) ≡ true
-    → map.get (ring_bytes r ring w from w) (from + k) ≡ Some (slice_index ring ((from + k) % w))
-ring_has r ring w from k h came =
-    get-ring r ring w from w (from + k)
-    ∙ ap (λ t. cond (t && set.contains r (from + k)) (Some (slice_index ring ((from + k) % w))) None) (let e : is_in_run (from + k) from w ≡ true = grind (arith, nat_tests) in e)
-    ∙ ap (λ t. cond t (Some (slice_index ring ((from + k) % w))) None) came
+ring_has : (r : NumberSet) (f : ℕ → ℕ) (w from k : ℕ) → k < w → set.contains r (from + k) ≡ true
+    → map.get (ring_bytes r f from w) (from + k) ≡ Some (f (from + k))
+ring_has r f w from k h came =
+    get-ring r f w from w (from + k)
+    ∙ ap (λ t. cond (t && set.contains r (from + k)) (Some (f (from + k))) None) (let e : is_in_run (from + k) from w ≡ true = grind (arith, nat_tests) in e)
+    ∙ ap (λ t. cond t (Some (f (from + k))) None) came
 
-ring_lacks : (r : NumberSet) (ring : List ℕ) (w from q : ℕ) → set.contains r q ≡ false → map.get (ring_bytes r ring w from w) q ≡ None
-ring_lacks r ring w from q new = get-ring r ring w from w q ∙ ap (λ t. cond t (Some (slice_index ring (q % w))) None) (and_right (is_in_run q from w) (set.contains r q) new)
+ring_lacks : (r : NumberSet) (f : ℕ → ℕ) (w from q : ℕ) → set.contains r q ≡ false → map.get (ring_bytes r f from w) q ≡ None
+ring_lacks r f w from q new = get-ring r f w from w q ∙ ap (λ t. cond t (Some (f q)) None) (and_right (is_in_run q from w) (set.contains r q) new)
 
-pub ring_advanced : (r : NumberSet) (ring : List ℕ) (w from n stored : ℕ) → IsRing ring r w from stored false
-    → keep_from (ring_bytes r ring w from w) (from + n) ≡ ring_bytes r ring w (from + n) w
-ring_advanced r ring w from n stored h =
+pub ring_advanced : (r : NumberSet) (f : ℕ → ℕ) (w from n stored : ℕ) → IsRing f r w from stored false
+    → keep_from (ring_bytes r f from w) (from + n) ≡ ring_bytes r f (from + n) w
+ring_advanced r f w from n stored h =
     same_map nat_cmp_total nat_cmp-IsAntisymmetric _ _ (λ q.
-    let left = get-keep_from (ring_bytes r ring w from w) (from + n) q in
-    let before = get-ring r ring w from w q in
-    let right = get-ring r ring w (from + n) w q in
+    let left = get-keep_from (ring_bytes r f from w) (from + n) q in
+    let before = get-ring r f w from w q in
+    let right = get-ring r f w (from + n) w q in
     elim (cases_Bool (set.contains r q)) [
       | inl old ↦ let high : q < from + w = h.came_within refl q old in grind (arith, nat_tests)
       | inr new ↦ grind (arith, nat_tests)
     ])
 
 -- what a read copies out
-pub front_of_ring : (r : NumberSet) (ring out : List ℕ) (w from n stored : ℕ) → IsRing ring r w from stored false → ContainsRange r from (from + n) → length out ≡ n
-    → ((k : ℕ) → k < n → slice_index out k ≡ slice_index ring ((from + k) % length ring))
-    → front (ring_bytes r ring w from w) from n ≡ out
-front_of_ring r ring out w from n stored h came len copied =
-    let within = next_within r ring w from n stored h came in
-    front_of_bytes (ring_bytes r ring w from w) n from out (omega (arith, len)) (λ k below.
-    let size : length ring ≡ w = h.held refl (from + k) (omega arith) (came (from + k) (omega arith) (omega arith)) in
-    ring_has r ring w from k (omega (arith, within)) (came (from + k) (omega arith) (omega arith))
-    ∙ ap (λ v. Some v) (sym (copied k below ∙ ap (λ l. slice_index ring ((from + k) % l)) size)) ∙ sym (slice_get-get_or out k 0 (omega (arith, len))))
+pub front_of_ring : (r : NumberSet) (f : ℕ → ℕ) (out : List ℕ) (w from n stored : ℕ) → IsRing f r w from stored false → ContainsRange r from (from + n) → length out ≡ n
+    → ((k : ℕ) → k < n → slice_index out k ≡ f (from + k))
+    → front (ring_bytes r f from w) from n ≡ out
+front_of_ring r f out w from n stored h came len copied =
+    let within = next_within r f w from n stored h came in
+    front_of_bytes (ring_bytes r f from w) n from out (omega (arith, len)) (λ k below.
+    ring_has r f w from k (omega (arith, within)) (came (from + k) (omega arith) (omega arith))
+    ∙ ap (λ v. Some v) (sym (copied k below)) ∙ sym (slice_get-get_or out k 0 (omega (arith, len))))
     ∙ take_all n out (omega (arith, len))
 
 -- a read stops where the next offset isn't there
-pub front_stops : (r : NumberSet) (ring : List ℕ) (w from n room : ℕ) → n ≤ room → length (front (ring_bytes r ring w from w) from n) ≡ n → (n < room → set.contains r (from + n) ≡ false)
-    → front (ring_bytes r ring w from w) from room ≡ front (ring_bytes r ring w from w) from n
-front_stops r ring w from n room h full none =
-    let m = ring_bytes r ring w from w in
+pub front_stops : (r : NumberSet) (f : ℕ → ℕ) (w from n room : ℕ) → n ≤ room → length (front (ring_bytes r f from w) from n) ≡ n → (n < room → set.contains r (from + n) ≡ false)
+    → front (ring_bytes r f from w) from room ≡ front (ring_bytes r f from w) from n
+front_stops r f w from n room h full none =
+    let m = ring_bytes r f from w in
     elim (cases_lt n room) [
       | inl more ↦
           let e : room ≡ n + (room - n) = omega arith in
           ap (front m from) e ∙ front-more m n from (room - n) full
-          ∙ ap (λ xs. front m from n ++ xs) (front_none m (from + n) (room - n) (ring_lacks r ring w from (from + n) (none more))) ∙ append_nil (front m from n)
+          ∙ ap (λ xs. front m from n ++ xs) (front_none m (from + n) (room - n) (ring_lacks r f w from (from + n) (none more))) ∙ append_nil (front m from n)
       | inr whole ↦ let e : room ≡ n = omega arith in ap (front m from) e
     ]
 
@@ -208,25 +215,24 @@ front_stops r ring w from n room h full none =
 pub came_next : (r : NumberSet) (from next room n : ℕ) → IsLeastMissingFrom r from next → n ≡ min (next - from) room → ContainsRange r from (from + n)
 came_next r from next room n least is q low high = let f = least.from in least.all_before q low (omega (arith, f))
 
-pub front_next : (r : NumberSet) (ring lent into out : List ℕ) (w from next n stored : ℕ) → IsRing ring r w from stored false → IsLeastMissingFrom r from next → n ≡ min (next - from) (length into)
-    → lent ≡ ring → length out ≡ length (take n into) → ((k : ℕ) → k < length (take n into) → slice_index out k ≡ slice_index lent ((from + k) % length lent))
-    → (front (ring_bytes r ring w from w) from n ≡ out) × (front (ring_bytes r ring w from w) from (length into) ≡ out) × (length out ≡ n)
-front_next r ring lent into out w from next n stored h least is lent_is same copied =
+pub front_next : (r : NumberSet) (f : ℕ → ℕ) (into out : List ℕ) (w from next n stored : ℕ) → IsRing f r w from stored false → IsLeastMissingFrom r from next → n ≡ min (next - from) (length into)
+    → length out ≡ length (take n into) → ((k : ℕ) → k < length (take n into) → slice_index out k ≡ f (from + k))
+    → (front (ring_bytes r f from w) from n ≡ out) × (front (ring_bytes r f from w) from (length into) ≡ out) × (length out ≡ n)
+front_next r f into out w from next n stored h least is same copied =
     let part : length (take n into) ≡ n = simp length-take (omega (arith, is)) in
     let len : length out ≡ n = same ∙ part in
-    let out_is = front_of_ring r ring out w from n stored h (came_next r from next (length into) n least is) len (λ k below.
-    copied k (omega (arith, part)) ∙ ap (λ xs. slice_index xs ((from + k) % length xs)) lent_is) in
-    let f = least.from in
-    let stops = front_stops r ring w from n (length into) (omega arith) (ap length out_is ∙ len) (λ more. let e : from + n ≡ next = omega (arith, f) in ap (set.contains r) e ∙ least.missing) in
+    let out_is = front_of_ring r f out w from n stored h (came_next r from next (length into) n least is) len (λ k below. copied k (omega (arith, part))) in
+    let low = least.from in
+    let stops = front_stops r f w from n (length into) (omega arith) (ap length out_is ∙ len) (λ more. let e : from + n ≡ next = omega (arith, low) in ap (set.contains r) e ∙ least.missing) in
     (out_is, stops ∙ out_is, len)
 
-pub rest_next : (r : NumberSet) (ring out : List ℕ) (w window from room n stored : ℕ) → IsRing ring r w from stored false
-    → (front (ring_bytes r ring w from w) from n ≡ out) × (front (ring_bytes r ring w from w) from room ≡ out) × (length out ≡ n)
-    → (let a : Assembled = record { stored = ring_bytes r ring w from w; received = r; read_count = from; window = window; discarding = false } in
-    record a { stored = ring_bytes r ring w (from + n) w; read_count = from + n } ≡ take_front a room)
-rest_next r ring out w window from room n stored h fronts =
-    let a : Assembled = record { stored = ring_bytes r ring w from w; received = r; read_count = from; window = window; discarding = false } in
-    ap (λ m. record a { stored = m; read_count = from + n }) (sym (ring_advanced r ring w from n stored h))
+pub rest_next : (r : NumberSet) (f : ℕ → ℕ) (out : List ℕ) (w window from room n stored : ℕ) → IsRing f r w from stored false
+    → (front (ring_bytes r f from w) from n ≡ out) × (front (ring_bytes r f from w) from room ≡ out) × (length out ≡ n)
+    → (let a : Assembled = record { stored = ring_bytes r f from w; received = r; read_count = from; window = window; discarding = false } in
+    record a { stored = ring_bytes r f (from + n) w; read_count = from + n } ≡ take_front a room)
+rest_next r f out w window from room n stored h fronts =
+    let a : Assembled = record { stored = ring_bytes r f from w; received = r; read_count = from; window = window; discarding = false } in
+    ap (λ m. record a { stored = m; read_count = from + n }) (sym (ring_advanced r f w from n stored h))
     ∙ take_done a n room (ap length fronts.0 ∙ fronts.2) (fronts.1 ∙ sym fronts.0)
 
 -- Where bytes are thrown away
@@ -277,8 +283,8 @@ put_known a offset bytes all =
     either false = sym (store_known a.received a.stored offset bytes all)
 
 -- where nothing is missing before an offset that is read or came
-pub all_known : (r : NumberSet) (ring : List ℕ) (w from stored offset end first : ℕ) (off : Bool) → IsRing ring r w from stored off → ContainsRange r (max offset from) first → end ≤ first → ContainsRange r offset end
-all_known r ring w from stored offset end first off h came past q low high =
+pub all_known : (r : NumberSet) (f : ℕ → ℕ) (w from stored offset end first : ℕ) (off : Bool) → IsRing f r w from stored off → ContainsRange r (max offset from) first → end ≤ first → ContainsRange r offset end
+all_known r f w from stored offset end first off h came past q low high =
     elim (cases_lt q from) [
       | inl read ↦ h.read_came q read
       | inr left ↦ came q (omega arith) (omega arith)
@@ -298,84 +304,55 @@ byte_some offset bytes q run =
     let high = ltb-true q (offset + length bytes) p.1 in
     ap (λ b. cond b (slice_get bytes (q - offset)) None) p.0 ∙ slice_get-get_or bytes (q - offset) 0 (omega (arith, low, high))
 
--- the ring before, with its memory taken, and with the bytes in its gaps
-pub record IsPut (r : NumberSet) (w from stored offset first : ℕ) (bytes ring lent new : List ℕ) : Type 0 where
-  pub was : IsRing ring r w from stored false
+-- what is kept after a put, and before it
+pub record IsPut (r : NumberSet) (w from stored offset first : ℕ) (bytes : List ℕ) (f g : ℕ → ℕ) : Type 0 where
+  pub was : IsRing f r w from stored false
   pub least : IsLeastMissingFrom r (max offset from) first
   pub some : first < offset + length bytes
   pub fits : offset + length bytes ≤ from + w
-  pub size : length lent ≡ w
-  pub kept : length ring ≡ w → lent ≡ ring
-  pub same_len : length new ≡ length lent
-  pub filled : IsFilled r first (offset + length bytes) offset bytes lent new
+  pub same : (q : ℕ) → from ≤ q → set.contains r q ≡ true → g q ≡ f q
+  pub new : (q : ℕ) → first ≤ q → q < offset + length bytes → set.contains r q ≡ false → g q ≡ slice_index bytes (q - offset)
 
-pub is_put : (r : NumberSet) (from stored offset start first : ℕ) (bytes ring new : List ℕ) → IsRing ring r (length ring) from stored false
-    → start ≡ max offset from → IsLeastMissingFrom r start first → first < offset + length bytes → offset + length bytes ≤ from + length ring
-    → length new ≡ length ring → IsFilled r first (offset + length bytes) offset bytes ring new → IsPut r (length ring) from stored offset first bytes ring ring new
-is_put r from stored offset start first bytes ring new was start_is least some fits same filled =
-    record {
-      was = was;
-      least = rw start_is at least;
-      some = some;
-      fits = fits;
-      size = refl;
-      kept = λ _. refl;
-      same_len = same;
-      filled = filled;
-    }
-
--- what an offset in the window has at its place
-place_after : (r : NumberSet) (w from stored offset first q : ℕ) (bytes ring lent new : List ℕ) → IsPut r w from stored offset first bytes ring lent new → from ≤ q → q < from + w
-    → slice_index new (q % w) ≡ (if is_within first (offset + length bytes) q && not (set.contains r q) then slice_index bytes (q - offset) else slice_index lent (q % w))
-place_after r w from stored offset first q bytes ring lent new p low high =
-    let size = p.size in
-    let least = p.least.from in
-    let fits = p.fits in
-    rw (← size) (p.filled q (omega (arith, size, fits)) (omega (arith, size, least)))
-
-place_kept : (r : NumberSet) (w from stored offset first q : ℕ) (bytes ring lent new : List ℕ) → IsPut r w from stored offset first bytes ring lent new → from ≤ q → set.contains r q ≡ true
-    → slice_index new (q % w) ≡ slice_index ring (q % w)
-place_kept r w from stored offset first q bytes ring lent new p low came =
-    place_after r w from stored offset first q bytes ring lent new p low (p.was.came_within refl q came)
-    ∙ ap (λ b. if is_within first (offset + length bytes) q && not b then slice_index bytes (q - offset) else slice_index lent (q % w)) came
-    ∙ ap (λ b. if b then slice_index bytes (q - offset) else slice_index lent (q % w)) (and_right (is_within first (offset + length bytes) q) false refl)
-    ∙ ap (λ xs. slice_index xs (q % w)) (p.kept (p.was.held refl q low came))
-
-place_new : (r : NumberSet) (w from stored offset first q : ℕ) (bytes ring lent new : List ℕ) → IsPut r w from stored offset first bytes ring lent new → from ≤ q → set.contains r q ≡ false
-    → is_in_run q offset (length bytes) ≡ true → slice_index new (q % w) ≡ slice_index bytes (q - offset)
-place_new r w from stored offset first q bytes ring lent new p low none run =
+place_new : (r : NumberSet) (w from stored offset first q : ℕ) (bytes : List ℕ) (f g : ℕ → ℕ) → IsPut r w from stored offset first bytes f g → from ≤ q → set.contains r q ≡ false
+    → is_in_run q offset (length bytes) ≡ true → g q ≡ slice_index bytes (q - offset)
+place_new r w from stored offset first q bytes f g p low none run =
     let parts = and_parts (nat_le offset q) (nat_lt q (offset + length bytes)) run in
     let at : offset ≤ q = leb-true offset q parts.0 in
     let below : q < offset + length bytes = ltb-true q (offset + length bytes) parts.1 in
     let past : first ≤ q = elim (cases_lt q first) [ inl before ↦ absurd (both_ways _ none (p.least.all_before q (omega arith) before)) | inr from ↦ from ] in
-    let fits = p.fits in
-    let within : is_within first (offset + length bytes) q ≡ true = grind (arith, nat_tests) in
-    place_after r w from stored offset first q bytes ring lent new p low (omega (arith, fits))
-    ∙ ap (λ b. if is_within first (offset + length bytes) q && not b then slice_index bytes (q - offset) else slice_index lent (q % w)) none
-    ∙ ap (λ b. if b && true then slice_index bytes (q - offset) else slice_index lent (q % w)) within
+    p.new q past below none
 
--- what is written at offsets that didn't come doesn't show
-pub put_unseen : (r : NumberSet) (w from stored offset first : ℕ) (bytes ring lent new : List ℕ) → IsPut r w from stored offset first bytes ring lent new
-    → ring_bytes r new w from w ≡ ring_bytes r ring w from w
-put_unseen r w from stored offset first bytes ring lent new p =
+-- bytes that are the same at the offsets that came
+pub same_bytes : (r : NumberSet) (f g : ℕ → ℕ) (w from : ℕ) → ((q : ℕ) → from ≤ q → set.contains r q ≡ true → g q ≡ f q) → ring_bytes r g from w ≡ ring_bytes r f from w
+same_bytes r f g w from same =
     same_map nat_cmp_total nat_cmp-IsAntisymmetric _ _ (λ q.
-    let left = get-ring r new w from w q in
-    let right = get-ring r ring w from w q in
+    let left = get-ring r g w from w q in
+    let right = get-ring r f w from w q in
     elim (cases_lt q from) [
       | inl below ↦ grind (arith, nat_tests)
       | inr low ↦ elim (cases_Bool (set.contains r q)) [
-        | inl old ↦ (let is = place_kept r w from stored offset first q bytes ring lent new p low old in left ∙ ap (λ v. cond (is_in_run q from w && set.contains r q) (Some v) None) is ∙ sym right)
+        | inl old ↦ left ∙ ap (λ v. cond (is_in_run q from w && set.contains r q) (Some v) None) (same q low old) ∙ sym right
         | inr none ↦ grind (arith, nat_tests)
       ]
     ])
 
-pub put_stored : (r : NumberSet) (w from stored offset first : ℕ) (bytes ring lent new : List ℕ) → IsPut r w from stored offset first bytes ring lent new
-    → ring_bytes (with_run r offset (length bytes)) new w from w ≡ store r (ring_bytes r ring w from w) offset bytes
-put_stored r w from stored offset first bytes ring lent new p =
+pub same_ring : (r : NumberSet) (f g : ℕ → ℕ) (w from stored : ℕ) → IsRing f r w from stored false → ((q : ℕ) → from ≤ q → set.contains r q ≡ true → g q ≡ f q) → IsRing g r w from stored false
+same_ring r f g w from stored h same =
+    record {
+      small_window = h.small_window;
+      small_count = h.small_count;
+      read_came = h.read_came;
+      came_within = h.came_within;
+      counted = h.counted ∙ ap map.len (sym (same_bytes r f g w from same));
+    }
+
+pub put_stored : (r : NumberSet) (w from stored offset first : ℕ) (bytes : List ℕ) (f g : ℕ → ℕ) → IsPut r w from stored offset first bytes f g
+    → ring_bytes (with_run r offset (length bytes)) g from w ≡ store r (ring_bytes r f from w) offset bytes
+put_stored r w from stored offset first bytes f g p =
     same_map nat_cmp_total nat_cmp-IsAntisymmetric _ _ (λ q.
-    let left = get-ring (with_run r offset (length bytes)) new w from w q in
-    let right = get-store r (ring_bytes r ring w from w) offset bytes q in
-    let before = get-ring r ring w from w q in
+    let left = get-ring (with_run r offset (length bytes)) g w from w q in
+    let right = get-store r (ring_bytes r f from w) offset bytes q in
+    let before = get-ring r f w from w q in
     let came = contains-with_run r offset (length bytes) q in
     let fits = p.fits in
     elim (cases_lt q from) [
@@ -384,16 +361,16 @@ put_stored r w from stored offset first bytes ring lent new p =
         | inl high ↦
             let window : is_in_run q from w ≡ true = grind (arith, nat_tests) in
             elim (cases_Bool (set.contains r q)) [
-              | inl old ↦ let is = place_kept r w from stored offset first q bytes ring lent new p low old in grind (arith, nat_tests)
+              | inl old ↦ let is = p.same q low old in grind (arith, nat_tests)
               | inr none ↦ elim (cases_Bool (is_in_run q offset (length bytes))) [
                 | inl run ↦
-                    let is = place_new r w from stored offset first q bytes ring lent new p low none run in
+                    let is = place_new r w from stored offset first q bytes f g p low none run in
                     let b = byte_some offset bytes q run in
                     left
-                    ∙ ap (λ t. cond t (Some (slice_index new (q % w))) None) (ap (λ t. t && set.contains (with_run r offset (length bytes)) q) window ∙ came ∙ or_right (set.contains r q) (is_in_run q offset (length bytes)) run)
+                    ∙ ap (λ t. cond t (Some (g q)) None) (ap (λ t. t && set.contains (with_run r offset (length bytes)) q) window ∙ came ∙ or_right (set.contains r q) (is_in_run q offset (length bytes)) run)
                     ∙ ap (λ v. Some v) is ∙ sym b
-                    ∙ sym (right ∙ ap (λ t. cond (t && not (set.contains r q)) (byte_at offset bytes q) (map.get (ring_bytes r ring w from w) q)) run
-                    ∙ ap (λ t. cond (not t) (byte_at offset bytes q) (map.get (ring_bytes r ring w from w) q)) none)
+                    ∙ sym (right ∙ ap (λ t. cond (t && not (set.contains r q)) (byte_at offset bytes q) (map.get (ring_bytes r f from w) q)) run
+                    ∙ ap (λ t. cond (not t) (byte_at offset bytes q) (map.get (ring_bytes r f from w) q)) none)
                 | inr out ↦ grind (arith, nat_tests)
               ]
             ]
@@ -402,9 +379,9 @@ put_stored r w from stored offset first bytes ring lent new p =
     ])
 
 -- how many bytes are stored more
-put_counted : (r : NumberSet) (w from stored offset first : ℕ) (bytes ring lent new : List ℕ) → IsPut r w from stored offset first bytes ring lent new
+put_counted : (r : NumberSet) (w from stored offset first : ℕ) (bytes : List ℕ) (f g : ℕ → ℕ) → IsPut r w from stored offset first bytes f g
     → missing_count r from w ≡ missing_count (with_run r offset (length bytes)) from w + missing_count r first (offset + length bytes - first)
-put_counted r w from stored offset first bytes ring lent new p =
+put_counted r w from stored offset first bytes f g p =
     let s = with_run r offset (length bytes) in
     let end = offset + length bytes in
     let least = p.least.from in
@@ -436,9 +413,9 @@ put_counted r w from stored offset first bytes ring lent new p =
     start_low : (q : ℕ) → is_in_run q offset (length bytes) ≡ true → from ≤ q → max offset from ≤ q
     start_low q run low = grind (arith, nat_tests)
 
-pub ring_put : (r : NumberSet) (w from stored offset first count : ℕ) (bytes ring lent new : List ℕ) → IsPut r w from stored offset first bytes ring lent new
-    → count ≡ missing_count r first (offset + length bytes - first) → IsRing new (with_run r offset (length bytes)) w from (stored + count) false
-ring_put r w from stored offset first count bytes ring lent new p is =
+pub ring_put : (r : NumberSet) (w from stored offset first count : ℕ) (bytes : List ℕ) (f g : ℕ → ℕ) → IsPut r w from stored offset first bytes f g
+    → count ≡ missing_count r first (offset + length bytes - first) → IsRing g (with_run r offset (length bytes)) w from (stored + count) false
+ring_put r w from stored offset first count bytes f g p is =
     let s = with_run r offset (length bytes) in
     let fits = p.fits in
     record {
@@ -449,33 +426,16 @@ ring_put r w from stored offset first count bytes ring lent new p is =
         | inl old ↦ p.was.came_within on q old
         | inr run ↦ let high : q < offset + length bytes = ltb-true q (offset + length bytes) (and_parts (nat_le offset q) (nat_lt q (offset + length bytes)) run).1 in omega (arith, high, fits)
       ];
-      held = λ on q past came. p.same_len ∙ p.size;
       counted =
-          let before = len-ring r ring w from w in
-          let after = len-ring s new w from w in
-          let counts = put_counted r w from stored offset first bytes ring lent new p in
+          let before = len-ring r f w from w in
+          let after = len-ring s g w from w in
+          let counts = put_counted r w from stored offset first bytes f g p in
           let counted = p.was.counted in
           omega (arith, before, after, counts, counted, is);
     }
 
--- the same ring, where the offsets weren't noted
-pub ring_unseen : (r : NumberSet) (w from stored offset first : ℕ) (bytes ring lent new : List ℕ) → IsPut r w from stored offset first bytes ring lent new → IsRing new r w from stored false
-ring_unseen r w from stored offset first bytes ring lent new p =
-    record {
-      small_window = p.was.small_window;
-      small_count = p.was.small_count;
-      read_came = p.was.read_came;
-      came_within = p.was.came_within;
-      held = λ on q past came. p.same_len ∙ p.size;
-      counted = p.was.counted ∙ ap map.len (sym (put_unseen r w from stored offset first bytes ring lent new p));
-    }
-
-pub stored_within : (r : NumberSet) (ring : List ℕ) (w from stored : ℕ) → IsRing ring r w from stored false → stored ≤ w
-stored_within r ring w from stored h = let all = len-ring r ring w from w in let counted = h.counted in omega (arith, all, counted)
-
-pub stored_fits : (r : NumberSet) (ring : List ℕ) (w from : ℕ) (off : Bool) → map.len (stored_in_ring r ring w from off) ≤ w
-stored_fits r ring w from true = let none = map.len-empty nat_cmp ℕ in omega (arith, none)
-stored_fits r ring w from false = let all = len-ring r ring w from w in omega (arith, all)
+pub stored_within : (r : NumberSet) (f : ℕ → ℕ) (w from stored : ℕ) → IsRing f r w from stored false → stored ≤ w
+stored_within r f w from stored h = let all = len-ring r f w from w in let counted = h.counted in omega (arith, all, counted)
 
 -- a vector whose whole slice was written
 pub vec_written : (n : ℕ) (old new : List ℕ) → length new ≡ length old → length old ≡ n → take n (new ++ drop (length new) old) ≡ new
@@ -485,41 +445,17 @@ vec_written n old new a b =
 
 -- Where bytes are thrown away, offsets are noted
 
-pub ring_noted : {T E : Type 0} (res : Result T E) (ring : List ℕ) (old new : NumberSet) (w from stored offset n : ℕ)
-    → OnOk res (new ≡ with_run old offset n) → OnErr res (new ≡ old) → IsRing ring old w from stored true → IsRing ring new w from stored true
-ring_noted (Ok x) ring old new w from stored offset n ok err h =
+pub ring_noted : {T E : Type 0} (res : Result T E) (f : ℕ → ℕ) (old new : NumberSet) (w from stored offset n : ℕ)
+    → OnOk res (new ≡ with_run old offset n) → OnErr res (new ≡ old) → IsRing f old w from stored true → IsRing f new w from stored true
+ring_noted (Ok x) f old new w from stored offset n ok err h =
     record {
       small_window = h.small_window;
       small_count = h.small_count;
       read_came = λ q below. ap (λ s. set.contains s q) ok ∙ contains-with_run old offset n q ∙ or_left (set.contains old q) (is_in_run q offset n) (h.read_came q below);
       came_within = λ on. absurd (both_ways true on refl);
-      held = λ on. absurd (both_ways true on refl);
       counted = h.counted;
     }
-ring_noted (Err e) ring old new w from stored offset n ok err h = rw err h
-
--- a ring in which a byte is stored reaches as far as that
-pub ring_reaches : {P : Type 0} (r : NumberSet) (ring : List ℕ) (w from stored end : ℕ) (off : Bool) → off ≡ false → IsRing ring r w from stored off → w < end - from
-    → (q : ℕ) → from ≤ q → end ≤ q + 1 → set.contains r q ≡ true → P
-ring_reaches r ring w from stored end off on h past q low high came = let near = h.came_within on q came in absurd (omega (arith, near, past))
-
--- A put that was done, and one that was refused, over the ring as long as it is
-
-pub put_ring : (r : NumberSet) (from stored offset first count : ℕ) (bytes ring new : List ℕ) → IsPut r (length ring) from stored offset first bytes ring ring new
-    → count ≡ missing_count r first (offset + length bytes - first) → IsRing new (with_run r offset (length bytes)) (length new) from (stored + count) false
-put_ring r from stored offset first count bytes ring new p is =
-    rw (p.same_len) (ring_put r (length ring) from stored offset first count bytes ring ring new p is)
-
-pub put_view : (r : NumberSet) (from stored offset first : ℕ) (bytes ring new : List ℕ) → IsPut r (length ring) from stored offset first bytes ring ring new
-    → ring_bytes (with_run r offset (length bytes)) new (length new) from (length new) ≡ store r (ring_bytes r ring (length ring) from (length ring)) offset bytes
-put_view r from stored offset first bytes ring new p = rw (p.same_len) (put_stored r (length ring) from stored offset first bytes ring ring new p)
-
-pub refused_ring : (r : NumberSet) (from stored offset first : ℕ) (bytes ring new : List ℕ) → IsPut r (length ring) from stored offset first bytes ring ring new → IsRing new r (length new) from stored false
-refused_ring r from stored offset first bytes ring new p = rw (p.same_len) (ring_unseen r (length ring) from stored offset first bytes ring ring new p)
-
-pub refused_view : (r : NumberSet) (from stored offset first : ℕ) (bytes ring new : List ℕ) → IsPut r (length ring) from stored offset first bytes ring ring new
-    → ring_bytes r new (length new) from (length new) ≡ ring_bytes r ring (length ring) from (length ring)
-refused_view r from stored offset first bytes ring new p = rw (p.same_len) (put_unseen r (length ring) from stored offset first bytes ring ring new p)
+ring_noted (Err e) f old new w from stored offset n ok err h = rw err h
 
 -- How large it is
 
@@ -539,26 +475,8 @@ size_fits span window power least size two reaches near least_is size_is fits =
           ];
     }
 
-pub sized_empty : (r : NumberSet) (from end stored window : ℕ) (off : Bool) → window ≤ MAX_WINDOW → (off ≡ false → end ≡ end_of r) → IsSized r 0 from end stored window off
-sized_empty r from end stored window off small ends = record { small_window = small; within = omega arith; bound = omega arith; idle = λ none. omega arith; ends = ends }
-
--- more came, and is noted at the end
-pub sized_more : (r s : NumberSet) (size new from end last stored count window : ℕ) (off : Bool) → IsSized r size from end stored window off → new ≡ size → (off ≡ false → last ≡ end_of (set.union r s))
-    → IsSized (set.union r s) new from last (stored + count) window off
-sized_more r s size new from end last stored count window off h is ends =
-    let more = end_of-union r s in
-    let bound = h.bound in
-    let within = h.within in
-    record {
-      small_window = h.small_window;
-      within = omega (arith, within, is);
-      bound = omega (arith, bound, more, is);
-      idle = λ none. (let idle = h.idle (omega (arith, none)) in omega (arith, idle, is));
-      ends = ends;
-    }
-
 -- some byte is new
-count_some : (r : NumberSet) (first n : ℕ) → set.contains r first ≡ false → 0 < n → 1 ≤ missing_count r first n
+pub count_some : (r : NumberSet) (first n : ℕ) → set.contains r first ≡ false → 0 < n → 1 ≤ missing_count r first n
 count_some r first n missing some =
     let e : n ≡ 1 + (n - 1) = omega (arith, some) in
     let parts = ap (missing_count r first) e ∙ missing_parts r first 1 (n - 1) in
@@ -568,23 +486,3 @@ count_some r first n missing some =
 -- the end of what came, with a run of some more
 pub end_more : (r : NumberSet) (offset n end last : ℕ) → end ≡ end_of r → 0 < n → last ≡ max end (offset + n) → last ≡ end_of (with_run r offset n)
 end_more r offset n end last is some last_is = let ends = end_of-with_range r offset (offset + n) (omega arith) in omega (arith, is, last_is, ends)
-
-pub sized_grown : (r : NumberSet) (offset n from first size new last end stored count window : ℕ) → IsSized r size from end stored window false → new ≤ window → new ≤ max size (max 64 (2 * (offset + n - from)))
-    → IsLeastMissingFrom r (max offset from) first → first < offset + n → 0 < n → count ≡ missing_count r first (offset + n - first) → last ≡ end_of (with_run r offset n) → IsSized (with_run r offset n) new from last (stored + count) window false
-sized_grown r offset n from first size new last end stored count window h within fits least below some count_is ends =
-    let bound = h.bound in
-    let more = end_of-with_range r offset (offset + n) (omega (arith, some)) in
-    let new_one = count_some r first (offset + n - first) least.missing (omega (arith, below)) in
-    record {
-      small_window = h.small_window;
-      within = within;
-      bound = omega (arith, bound, more, fits);
-      idle = λ none. absurd (omega (arith, none, new_one, count_is));
-      ends = λ _. ends;
-    }
-
-pub sized_noted : {T E : Type 0} (res : Result T E) (old new : NumberSet) (size from end stored window offset n : ℕ) → OnOk res (new ≡ with_run old offset n) → OnErr res (new ≡ old) → IsSized old size from end stored window true → IsSized new size from end stored window true
-sized_noted (Ok x) old new size from end stored window offset n ok err h =
-    let same : stored + 0 ≡ stored = omega arith in
-    rw (ok, ← same) (sized_more old _ size size from end end stored 0 window true h refl (λ on. absurd (both_ways true on refl)))
-sized_noted (Err e) old new size from end stored window offset n ok err h = rw err h

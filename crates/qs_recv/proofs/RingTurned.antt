@@ -92,7 +92,7 @@ place_at turn size q bytes pos turned within =
     ]
 
 -- the same where the place is told by the ring's length
-place_of_size : (turn size q : ℕ) (bytes : List ℕ) → 0 < size → turn ≤ size → length bytes ≤ size → slice_index (places_of turn size bytes) (q % length (places_of turn size bytes)) ≡ slice_index bytes ((q + turn) % size)
+pub place_of_size : (turn size q : ℕ) (bytes : List ℕ) → 0 < size → turn ≤ size → length bytes ≤ size → slice_index (places_of turn size bytes) (q % length (places_of turn size bytes)) ≡ slice_index bytes ((q + turn) % size)
 place_of_size turn size q bytes pos turned within =
     ap (λ n. slice_index (places_of turn size bytes) (q % n)) (length_places turn size bytes turned within) ∙ place_at turn size q bytes pos turned within
 

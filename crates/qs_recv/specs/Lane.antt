@@ -15,8 +15,8 @@ use Rattle.qs_recv.specs.declared.credit.Share.TheVariants.{Half, Quarter, Eight
 use Rattle.qs_recv.specs.Assembled.{Assembled, nothing_yet, put, take_front, front_of, discard, same, forget}
 
 -- what arrived; the final size, the reset's code and the code of this end's own stop, where known; whether a reader was told of the end or
--- the reset; the limit on offsets that was granted; and by which share of the window the limit moves (RFC 9000, sections 3.2, 3.5, 4.1
--- and 4.2)
+-- the reset, or wants to be told of neither; the limit on offsets that was granted; and by which share of the window the limit moves
+-- (RFC 9000, sections 3.2, 3.5, 4.1 and 4.2)
 pub record RecvLane : Type 0 where
   pub arrived : Assembled
   pub final_size : Option ℕ
@@ -40,10 +40,6 @@ highest lane = unwrap_or lane.final_size (end_of lane.arrived.received)
 abbrev pub taken : RecvLane → ℕ
 taken lane = if is_some lane.reset_code || is_some lane.stop_code then highest lane else lane.arrived.read_count
 
--- how many runs the offsets make that came, until a reset comes or the reader is told the end: what a lane keeps of them (ours)
-abbrev pub noted : RecvLane → ℕ
-noted lane = if lane.told || is_some lane.reset_code then 0 else set.len (run_starts lane.arrived.received)
-
 -- whether each offset below a known final size came (RFC 9000, section 3.2)
 abbrev pub whole_to : NumberSet → Option ℕ → Bool
 whole_to received None = false
@@ -52,6 +48,11 @@ whole_to received (Some size) = covers received 0 size
 -- whether all data came (RFC 9000, section 3.2)
 abbrev pub is_whole : RecvLane → Bool
 is_whole lane = whole_to lane.arrived.received lane.final_size
+
+-- how many runs the offsets make that came, until a reset comes, or all data did and the reader has nothing to be told: what a lane keeps
+-- of them (ours)
+abbrev pub noted : RecvLane → ℕ
+noted lane = if (lane.told && is_whole lane) || is_some lane.reset_code then 0 else set.len (run_starts lane.arrived.received)
 
 -- the state by the last event that counts (RFC 9000, section 3.2)
 abbrev pub state : RecvLane → RecvState
@@ -160,6 +161,11 @@ after_read lane room = after_answer (read_answer lane room) lane room
 abbrev pub stop : RecvLane → ℕ → RecvLane
 stop lane code =
     if is_some lane.stop_code then lane else record lane { arrived = discard lane.arrived; stop_code = Some code }
+
+-- The same, and nothing more is told of the stream: it is read to its end as soon as that comes, or as a reset does (RFC 9000, sections 3.2
+-- and 3.5).
+abbrev pub stop_and_forget : RecvLane → ℕ → RecvLane
+stop_and_forget lane code = record (stop lane code) { told = true }
 
 -- Credit
 

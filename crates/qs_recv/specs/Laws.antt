@@ -5,16 +5,18 @@ use Rattle.std.specs.FinMap as map
 use Rattle.std.specs.FinSet as set
 use Rattle.qs_recv.specs.Assembled.{Assembled}
 use Rattle.qs_recv.specs.Bytes.{byte_at}
-use Rattle.qs_recv.specs.Lane.{MAX_WINDOW, RecvLane, new_lane, highest, taken, check_stream, check_bytes, take_stream, check_reset, take_reset, after_read, stop, raise}
+use Rattle.qs_recv.specs.Lane.{MAX_WINDOW, RecvLane, new_lane, highest, taken, check_stream, check_bytes, take_stream, check_reset, take_reset, after_read, stop, stop_and_forget, raise}
 use Rattle.qs_recv.specs.Lawful.{IsLawful}
 use Rattle.qs_recv.specs.declared.credit.Share.{Share}
 
--- a call that may change a lane: a frame that is taken, a read of so many bytes, a stop with a code, a raise of the limit
+-- a call that may change a lane: a frame that is taken, a read of so many bytes, a stop with a code, one of a stream that is forgotten too, a
+-- raise of the limit
 pub data LaneCall : Type 0 where
   TakeStream : ℕ → List ℕ → Bool → LaneCall
   TakeReset : ℕ → ℕ → LaneCall
   ReadUpTo : ℕ → LaneCall
   StopWith : ℕ → LaneCall
+  ForgetWith : ℕ → LaneCall
   RaiseLimit : LaneCall
 
 -- the lane after a call
@@ -23,6 +25,7 @@ after_call lane (TakeStream offset bytes fin) = take_stream lane offset bytes fi
 after_call lane (TakeReset code size) = take_reset lane code size
 after_call lane (ReadUpTo room) = after_read lane room
 after_call lane (StopWith code) = stop lane code
+after_call lane (ForgetWith code) = stop_and_forget lane code
 after_call lane (RaiseLimit) = raise lane
 
 -- a frame is taken only once it passed its check
@@ -31,6 +34,7 @@ IsAllowed lane (TakeStream offset bytes fin) = IsOk (check_stream lane offset (l
 IsAllowed lane (TakeReset code size) = IsOk (check_reset lane size)
 IsAllowed lane (ReadUpTo room) = Unit {0}
 IsAllowed lane (StopWith code) = Unit {0}
+IsAllowed lane (ForgetWith code) = Unit {0}
 IsAllowed lane (RaiseLimit) = Unit {0}
 
 -- no count falls, what was received stays received, and a known final size stays
@@ -71,6 +75,7 @@ CarriesSent sent (TakeStream offset bytes fin) = IsPart sent offset bytes
 CarriesSent sent (TakeReset code size) = Unit {0}
 CarriesSent sent (ReadUpTo room) = Unit {0}
 CarriesSent sent (StopWith code) = Unit {0}
+CarriesSent sent (ForgetWith code) = Unit {0}
 CarriesSent sent (RaiseLimit) = Unit {0}
 
 -- where each frame carries what was sent, only that is stored (RFC 9000, section 2.2)

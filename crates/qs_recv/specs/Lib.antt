@@ -6,7 +6,9 @@ pub mod Codes
 pub mod Lawful
 pub mod Laws
 pub mod News
+pub mod Pages
 pub mod Parts
+pub mod Peek
 pub mod Rest
 pub mod Ring
 pub mod Sound

@@ -1,20 +1,22 @@
 -- Of private contracts.
 -- Bytes kept in a ring, and the map of bytes that they stand for. The byte of an offset stands at the offset modulo the ring's size.
 --     padded, places_of, IsKept, around      the bytes that a ring keeps, and those of its places
---     ring_bytes, stored_in_ring      each byte under its offset
---     IsRing, IsSized       what holds of a ring assembly's fields at all times
+--     byte_of, ring_bytes, stored_in_ring      each byte under its offset
+--     IsRing, IsApart, IsSized       what holds of a ring assembly's fields at all times
 --     IsSizeFor, IsMoved, IsReach      a ring of another size
 --     missing_count      how many offsets didn't come
 --     IsNextRun, IsNextGap      where the next offsets that came begin, and where they end, and the same for those that didn't
---     IsInRing       bytes that stand at their places, as far as their offsets came
+--     AreKept       bytes that are kept, as far as their offsets came
 --     IsWritten, IsFilled       what the places have after bytes were written
-use Rattle.std.specs.Prelude.{◌≡◌, ℕ, ◌+◌, ◌-◌, ◌*◌, ◌%◌, ◌^◌, ◌⊎◌, max, ◌<◌, ◌≤◌, zero, suc, Bool, true, false, not, ◌&&◌, if◌then◌else◌, List, ◌++◌, length, take, drop, replicate, slice_index}
+use Rattle.std.specs.Prelude.{◌≡◌, ℕ, ◌+◌, ◌-◌, ◌*◌, ◌%◌, ◌^◌, ◌⊎◌, max, ◌<◌, ◌≤◌, nat_lt, zero, suc, Bool, true, false, not, ◌&&◌, if◌then◌else◌, List, ◌++◌, length, take, drop, replicate, slice_index}
 use Rattle.std.specs.Int.{IsPowerOfTwo}
 use Rattle.std.specs.Ordering.{nat_cmp}
 use Rattle.std.specs.FinMap as map
 use Rattle.std.specs.FinSet as set
-use Rattle.qs_ranges.specs.Numbers.{NumberSet, ContainsRange, MissesRange, is_within, end_of}
+use Rattle.qs_ranges.specs.Numbers.{NumberSet, MAX_VARINT, ContainsRange, MissesRange, is_within, end_of}
+use Rattle.std.specs.BTreeMap.{btree_map_len}
 use Rattle.qs_recv.specs.Lane.{MAX_WINDOW}
+use Rattle.qs_recv.specs.Pages.{AreWhole, PAGE, Pages, has_page, is_used, page_byte}
 
 -- the bytes that a ring of that size keeps, and zeros for those that were never written
 abbrev pub padded : ℕ → List ℕ → List ℕ
@@ -35,37 +37,51 @@ pub record IsKept (turn size count room : ℕ) : Type 0 where
 abbrev pub around : ℕ → ℕ → List ℕ → List ℕ
 around place count bytes = take count (drop place bytes ++ bytes)
 
--- the bytes of those of the n offsets from `from` on that came, each at its place in the ring
-unfoldable pub ring_bytes : NumberSet → List ℕ → ℕ → ℕ → ℕ → map.FinMap nat_cmp ℕ
-ring_bytes received ring window from zero = map.empty
-ring_bytes received ring window from (suc n) =
+-- the byte of an offset: at its place in the ring below `near`, and in its page from there on
+abbrev pub byte_of : List ℕ → ℕ → Pages → ℕ → ℕ
+byte_of ring near pages q = if nat_lt q near then slice_index ring (q % length ring) else page_byte pages q
+
+-- the bytes of those of the n offsets from `from` on that came
+unfoldable pub ring_bytes : NumberSet → (ℕ → ℕ) → ℕ → ℕ → map.FinMap nat_cmp ℕ
+ring_bytes received byte from zero = map.empty
+ring_bytes received byte from (suc n) =
     if set.contains received (from + n)
-    then map.insert (ring_bytes received ring window from n) (from + n) (slice_index ring ((from + n) % window))
-    else ring_bytes received ring window from n
+    then map.insert (ring_bytes received byte from n) (from + n) (byte (from + n))
+    else ring_bytes received byte from n
 
--- the bytes of one ring past what was read, and none where bytes are thrown away
-abbrev pub stored_in_ring : NumberSet → List ℕ → ℕ → ℕ → Bool → map.FinMap nat_cmp ℕ
-stored_in_ring received ring size read_count discarding =
-    if discarding then map.empty else ring_bytes received ring size read_count size
+-- the bytes within a window past what was read, and none where bytes are thrown away
+abbrev pub stored_in_ring : NumberSet → (ℕ → ℕ) → ℕ → ℕ → Bool → map.FinMap nat_cmp ℕ
+stored_in_ring received byte window read_count discarding =
+    if discarding then map.empty else ring_bytes received byte read_count window
 
--- what was read came; until bytes are thrown away, what came lies within the ring's size past it, and the ring has that size where
--- some of it wasn't read; and the stored bytes are counted
-pub record IsRing (ring : List ℕ) (received : NumberSet) (size read_count stored : ℕ) (discarding : Bool) : Type 0 where
-  pub small_window : size ≤ MAX_WINDOW
+-- what was read came; until bytes are thrown away, what came lies within the window past it; and the stored bytes are counted
+pub record IsRing (byte : ℕ → ℕ) (received : NumberSet) (window read_count stored : ℕ) (discarding : Bool) : Type 0 where
+  pub small_window : window ≤ MAX_WINDOW
   pub small_count : read_count ≤ 2 ^ 62
   pub read_came : (q : ℕ) → q < read_count → set.contains received q ≡ true
-  pub came_within : discarding ≡ false → (q : ℕ) → set.contains received q ≡ true → q < read_count + size
-  pub held : discarding ≡ false → (q : ℕ) → read_count ≤ q → set.contains received q ≡ true → length ring ≡ size
-  pub counted : stored ≡ map.len (stored_in_ring received ring size read_count discarding)
+  pub came_within : discarding ≡ false → (q : ℕ) → set.contains received q ≡ true → q < read_count + window
+  pub counted : stored ≡ map.len (stored_in_ring received byte window read_count discarding)
 
--- a ring is no larger than the window, and where it has more than 4,096 bytes, no larger than three times the span from what was read to the
--- end of what came, and some are stored; until bytes are thrown away, that end is kept
-pub record IsSized (received : NumberSet) (size read_count end stored window : ℕ) (discarding : Bool) : Type 0 where
-  pub small_window : window ≤ MAX_WINDOW
-  pub within : size ≤ window
-  pub bound : size ≤ max 4096 (3 * (end_of received - read_count))
-  pub idle : stored ≡ 0 → size ≤ 4096
-  pub ends : discarding ≡ false → end ≡ end_of received
+-- the ring reaches from what was read to `near`; what came from there on lies a page past it or further, in pages that are in use; and these
+-- begin past it, and before the end of what came
+pub record IsApart (ring : List ℕ) (pages : Pages) (received : NumberSet) (read_count near end : ℕ) : Type 0 where
+  pub ends : end ≡ end_of received
+  pub small : end ≤ MAX_VARINT
+  pub starts : read_count ≤ near
+  pub before : near ≤ end_of received
+  pub reaches : near ≤ read_count + length ring
+  pub gap : (q : ℕ) → near ≤ q → set.contains received q ≡ true → near + PAGE ≤ q
+  pub had : (q : ℕ) → near ≤ q → set.contains received q ≡ true → has_page pages q ≡ true
+  pub used : (n : ℕ) → is_used pages n ≡ true → (near < n * PAGE) × (n * PAGE < end)
+
+-- a ring is no larger than the window, and where it has more than 4,096 bytes, no larger than three times the span from what was read to
+-- `near`; where bytes are thrown away, there are none
+pub record IsSized (ring : List ℕ) (pages : Pages) (received : NumberSet) (read_count near end window : ℕ) (discarding : Bool) : Type 0 where
+  pub within : length ring ≤ window
+  pub bound : length ring ≤ max 4096 (3 * (near - read_count))
+  pub whole : AreWhole pages
+  pub none : discarding ≡ true → (length ring ≡ 0) × (btree_map_len pages ≡ 0)
+  pub apart : discarding ≡ false → IsApart ring pages received read_count near end
 
 -- the size of a ring that reaches so far: a power of two, or the window
 pub record IsSizeFor (span window size : ℕ) : Type 0 where
@@ -129,8 +145,7 @@ IsFilled received first end offset bytes old new =
 abbrev pub AreAt : List ℕ → ℕ → List ℕ → Type 0
 AreAt ring at bytes = (k : ℕ) → k < length bytes → slice_index bytes k ≡ slice_index ring ((at + k) % length ring)
 
--- the same of the bytes from `offset` on, for the offsets from `start` on that came (RFC 9000, section 2.2)
-abbrev pub IsInRing : NumberSet → List ℕ → ℕ → ℕ → List ℕ → Type 0
-IsInRing received ring start offset bytes =
-    (q : ℕ) → start ≤ q → q < offset + length bytes → set.contains received q ≡ true
-    → slice_index bytes (q - offset) ≡ slice_index ring (q % length ring)
+-- the bytes from `offset` on are those that are kept, for the offsets from `start` on that came (RFC 9000, section 2.2)
+abbrev pub AreKept : NumberSet → (ℕ → ℕ) → ℕ → ℕ → List ℕ → Type 0
+AreKept received byte start offset bytes =
+    (q : ℕ) → start ≤ q → q < offset + length bytes → set.contains received q ≡ true → slice_index bytes (q - offset) ≡ byte q

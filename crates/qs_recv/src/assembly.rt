@@ -1,6 +1,7 @@
 //! What an assembly of arrived bytes promises, however it keeps them (RFC 9000, section 2.2).
-ghost use Rattle.std.specs.Prelude.{◌≡◌, ℕ, ◌+◌, ◌-◌, ◌*◌, ◌≤◌, ◌⊎◌, ◌++◌, max, length, drop, true, false, OnOk, OnErr};
+ghost use Rattle.std.specs.Prelude.{◌≡◌, ℕ, ◌+◌, ◌-◌, ◌*◌, ◌<◌, ◌≤◌, ◌⊎◌, ◌++◌, max, length, drop, true, false, OnOk, OnErr};
 ghost use Rattle.std.specs.FinMap as map;
+ghost use Rattle.std.specs.FinSet as set;
 ghost use Rattle.qs_recv.specs.Assembled.{Assembled, nothing_yet, at_rest, put, take_front, front_of, discard, same};
 ghost use Rattle.qs_ranges.specs.Numbers.{MAX_VARINT, MissesRange, covers, end_of};
 ghost use Rattle.qs_recv.specs.Lane.{MAX_WINDOW};
@@ -88,6 +89,16 @@ pub trait Assembly: Drop {
     /// Every offset that came.
     fn received(&self) -> &RangeSet
         ensures { result.now ≡ (holds self.now).received };
+}
+
+/// An assembly whose next bytes can be looked at where they stand.
+pub trait Peeking: Skipping {
+    /// The bytes that are next to be read, in two pieces where they stand so: as many as stand there in a row, and one at least where
+    /// one is next.
+    fn front(&self) -> (&[u8], &[u8])
+        ensures next { result.0.now ++ result.1.now ≡ front_of (Self.holds self.now) (length (result.0.now ++ result.1.now)) }
+        ensures some { (Self.holds self.now).discarding ≡ false → set.contains (Self.holds self.now).received (Self.holds self.now).read_count ≡ true
+            → 0 < length (result.0.now ++ result.1.now) };
 }
 
 /// An assembly whose next bytes can be passed over without a copy.

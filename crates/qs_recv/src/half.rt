@@ -5,10 +5,11 @@ ghost use Rattle.qs_ranges.specs.Numbers.{MAX_VARINT, MissesRange, covers};
 ghost use Rattle.qs_recv.specs.Lawful.{IsLawful};
 ghost use Rattle.qs_recv.specs.Sound.{CodeFits};
 ghost use Rattle.qs_recv.specs.News.{is_readable, tells_something};
-ghost use Rattle.qs_recv.specs.Lane.{new_lane, highest, highest_after, noted, taken, state, check_stream, check_bytes, take_stream, check_reset, take_reset, is_whole, breaks_final_size, read_answer, bytes_read, after_read, stop, raise, raise_answer, MAX_WINDOW};
+ghost use Rattle.qs_recv.specs.Lane.{new_lane, highest, highest_after, noted, taken, state, check_stream, check_bytes, take_stream, check_reset, take_reset, is_whole, breaks_final_size, read_answer, bytes_read, after_read, stop, stop_and_forget, raise, raise_answer, MAX_WINDOW};
 ghost use Rattle.qs_recv.specs.Changes.{stream_changes};
+ghost use Rattle.qs_recv.specs.Peek.{IsPeek};
 
-use crate::assembly::{Assembly, Skipping};
+use crate::assembly::{Assembly, Peeking, Skipping};
 use crate::credit::Share;
 use crate::live::LiveHalf;
 use crate::rest::Rest;
@@ -46,6 +47,16 @@ pub enum Read {
     Wait,
 }
 
+/// What a look at a stream tells, without reading: the bytes that are next, in one piece of memory or two; that all data was read; that
+/// the stream was reset with a code; or that nothing is next.
+#[derive(Debug, Clone, Copy, PartialEq, Eq)]
+pub enum Peek<'a> {
+    Bytes(&'a [u8], &'a [u8]),
+    End,
+    Reset(u64),
+    Wait,
+}
+
 /// The states of the receiving part of a stream (section 3.2).
 #[derive(Debug, Clone, Copy, PartialEq, Eq, Drop)]
 pub enum RecvState {
@@ -59,8 +70,8 @@ pub enum RecvState {
 
 /// The receiving half of a stream, over any assembly. Offsets and sizes count bytes from the start of the stream.
 ///
-/// One that never carried a byte, one that was reset, and one of which a reader was told the end, is a record of 56 bytes; the
-/// first byte that is stored takes the box.
+/// One that never carried a byte, one that was reset, and one of which a reader was told the end or that was forgotten, while no
+/// offset is missing, is a record of 56 bytes; the first byte that is stored takes the box.
 #[derive(Drop)]
 pub struct RecvHalf<A: Assembly> {
     alloc: Global,
@@ -168,7 +179,11 @@ impl<A: Assembly> RecvHalf<A> {
                 self.parts = Parts::Live(boxed);
                 Ok(())
             }
-            Parts::Live(live) => live.take_stream(offset, bytes, fin),
+            Parts::Live(live) => {
+                live.take_stream(offset, bytes, fin)?;
+                self.settle();
+                Ok(())
+            }
         }
     }
 
@@ -231,6 +246,20 @@ impl<A: Assembly> RecvHalf<A> {
         }
     }
 
+    /// Stops it, and tells nothing more of it: it counts as read to its end as soon as that comes, or as a reset does
+    /// (sections 3.2 and 3.5).
+    pub fn stop_and_forget(&mut self, code: u64)
+        requires { code ≤ MAX_VARINT }
+        ensures after { self.new ≡ stop_and_forget self.old code }
+        ensures same_highest { highest self.new ≡ highest self.old }
+    {
+        match &mut self.parts {
+            Parts::Resting(rest) => rest.stop_and_forget(code),
+            Parts::Live(live) => live.stop_and_forget(code),
+        }
+        self.settle();
+    }
+
     /// Raises the limit by what was taken, once that is the half's share of its window or more, and answers the new one where it rose
     /// (section 4.2). Once the final size is known it stays.
     pub fn raise(&mut self) -> Option<u64>
@@ -287,7 +316,8 @@ impl<A: Assembly> RecvHalf<A> {
     }
 
     /// How many runs the offsets make that came: none where none did, else one, and one more for each gap between them. After a
-    /// reset, and once the reader was told the end, there are none: the half keeps no offset then. It takes constant time.
+    /// reset, and once the reader was told the end, or would be told it had it not forgotten the stream, there are none: the half
+    /// keeps no offset then. It looks at no more than the first run.
     pub fn noted(&self) -> u64
         ensures value { result ≡ noted self.now }
         ensures within { result ≤ highest self.now }
@@ -305,6 +335,16 @@ impl<A: Assembly> RecvHalf<A> {
         match &self.parts {
             Parts::Resting(rest) => rest.final_size(),
             Parts::Live(live) => live.final_size(),
+        }
+    }
+
+    /// Whether all is told that is to be: the end or a reset was, or it was stopped and forgotten.
+    pub fn is_told(&self) -> bool
+        ensures { result ≡ self.now.told }
+    {
+        match &self.parts {
+            Parts::Resting(rest) => rest.is_told(),
+            Parts::Live(live) => live.is_told(),
         }
     }
 
@@ -386,7 +426,7 @@ impl<A: Assembly> RecvHalf<A> {
         }
     }
 
-    // A half that is over is kept by its numbers alone from now on.
+    // A half of which nothing more is told is kept by its numbers alone, where no offset is missing.
     fn settle(&mut self)
         ensures { self.new ≡ self.old }
     {
@@ -403,6 +443,19 @@ impl<A: Assembly> RecvHalf<A> {
         ensures { result ≡ rest.now }
     {
         LiveHalf::revived(self.alloc, rest)
+    }
+}
+
+impl<A: Peeking> RecvHalf<A> {
+    /// Tells what a read would, and changes nothing: the bytes that are next stay where they are, one at least, and as many as stand there
+    /// in a row.
+    pub fn peek(&self) -> Peek<'_>
+        ensures { IsPeek self.now result }
+    {
+        match &self.parts {
+            Parts::Resting(rest) => rest.peek(),
+            Parts::Live(live) => live.peek(),
+        }
     }
 }
 

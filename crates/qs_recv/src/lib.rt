@@ -6,12 +6,13 @@ mod credit;
 mod half;
 pub mod laws;
 mod live;
+mod pages;
 mod rest;
 mod ring;
 mod ring_assembly;
 mod window;
 
-pub use assembly::{Assembly, Skipping};
+pub use assembly::{Assembly, Peeking, Skipping};
 pub use credit::{Share, next_limit, step_of};
-pub use half::{Highest, Read, RecvFault, RecvHalf, RecvState};
+pub use half::{Highest, Peek, Read, RecvFault, RecvHalf, RecvState};
 pub use ring_assembly::RingAssembly;

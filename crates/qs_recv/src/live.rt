@@ -1,16 +1,17 @@
 //! A receiving half that may store bytes.
-ghost use Rattle.std.specs.Prelude.{if◌then◌else◌, ◌==◌, max, ◌≡◌, ◌+◌, ◌-◌, ◌*◌, ◌≤◌, ◌^◌, ◌++◌, ◌||◌, length, drop, IsOk, IfOk, IfSome, IfNone, OnOk, OnErr, IfErr, IsTrue, is_some, false, None};
+ghost use Rattle.std.specs.Prelude.{true, None, if◌then◌else◌, ◌==◌, max, ◌≡◌, ◌+◌, ◌-◌, ◌*◌, ◌≤◌, ◌^◌, ◌++◌, ◌||◌, length, drop, IsOk, IfOk, IfSome, IfNone, OnOk, OnErr, IfErr, IsTrue, is_some, false};
 ghost use Rattle.std.specs.FinMap as map;
 ghost use Rattle.qs_ranges.specs.Numbers.{MAX_VARINT, MissesRange, covers};
 ghost use Rattle.qs_recv.specs.Lawful.{IsLawful};
 ghost use Rattle.qs_recv.specs.Sound.{CodeFits};
 ghost use Rattle.qs_recv.specs.News.{is_readable, tells_something};
-ghost use Rattle.qs_recv.specs.Lane.{highest, highest_after, noted, taken, state, check_stream, check_bytes, take_stream, check_reset, take_reset, is_whole, breaks_final_size, read_answer, bytes_read, after_read, stop, raise, raise_answer};
+ghost use Rattle.qs_recv.specs.Lane.{highest, highest_after, noted, taken, state, check_stream, check_bytes, take_stream, check_reset, take_reset, is_whole, breaks_final_size, read_answer, bytes_read, after_read, stop, stop_and_forget, raise, raise_answer};
 ghost use Rattle.qs_recv.specs.Changes.{stream_changes};
+ghost use Rattle.qs_recv.specs.Peek.{IsPeek};
 
-use crate::assembly::{Assembly, Skipping};
+use crate::assembly::{Assembly, Peeking, Skipping};
 use crate::credit::{Share, next_limit};
-use crate::half::{Highest, Read, RecvFault, RecvState};
+use crate::half::{Highest, Peek, Read, RecvFault, RecvState};
 use crate::rest::{Rest, given};
 use crate::window::Window;
 use std::alloc::Global;
@@ -68,7 +69,7 @@ impl<A: Assembly> LiveHalf<A> {
         }
     }
 
-    /// The same half at rest, where a reader was told of its end and every offset below the largest that came came.
+    /// The same half at rest, where nothing more is told of it and every offset below the largest that came came.
     pub(crate) fn rested(&self) -> Option<Rest>
         ensures { IfSome result (λ rest. rest ≡ self.now) }
     {
@@ -259,6 +260,15 @@ impl<A: Assembly> LiveHalf<A> {
         }
     }
 
+    pub(crate) fn stop_and_forget(&mut self, code: u64)
+        requires { code ≤ MAX_VARINT }
+        ensures after { self.new ≡ stop_and_forget self.old code }
+        ensures same_highest { highest self.new ≡ highest self.old }
+    {
+        self.stop(code);
+        self.told = true;
+    }
+
     pub(crate) fn raise(&mut self) -> Option<u64>
         ensures answer { result ≡ raise_answer self.old }
         ensures after { self.new ≡ raise self.old }
@@ -310,7 +320,26 @@ impl<A: Assembly> LiveHalf<A> {
         ensures within { result ≤ highest self.now }
     {
         self.is_lawful();
-        if self.told || self.reset_code.is_some() {
+        if self.reset_code.is_some() {
+            return 0;
+        }
+        if self.told {
+            return self.noted_still();
+        }
+        self.assembly.received().count() as u64
+    }
+
+    // How many runs are noted of a half that wasn't reset and of which all was told: none once all came. It is seldom called, and apart so
+    // that the other is small.
+    #[inline(never)]
+    fn noted_still(&self) -> u64
+        requires told { self.now.told ≡ true }
+        requires open { self.now.reset_code ≡ None }
+        ensures value { result ≡ noted self.now }
+        ensures within { result ≤ highest self.now }
+    {
+        self.is_lawful();
+        if self.is_whole() {
             return 0;
         }
         self.assembly.received().count() as u64
@@ -320,6 +349,12 @@ impl<A: Assembly> LiveHalf<A> {
         ensures { result ≡ self.now.final_size }
     {
         self.final_size
+    }
+
+    pub(crate) fn is_told(&self) -> bool
+        ensures { result ≡ self.now.told }
+    {
+        self.told
     }
 
     pub(crate) fn state(&self) -> RecvState
@@ -422,6 +457,30 @@ impl<A: Assembly> LiveHalf<A> {
             Some(size) => (len > 0 && size < end) || (fin && end != size),
             None => fin && end < self.highest(),
         }
+    }
+}
+
+impl<A: Peeking> LiveHalf<A> {
+    pub(crate) fn peek(&self) -> Peek<'_>
+        ensures { IsPeek self.now result }
+    {
+        if let Some(code) = self.reset_code {
+            return Peek::Reset(code);
+        }
+        if self.stop_code.is_some() {
+            if self.is_whole() {
+                return Peek::End;
+            }
+            return Peek::Wait;
+        }
+        if self.final_size == Some(self.read_count) {
+            return Peek::End;
+        }
+        if !self.assembly.received().has(self.read_count) {
+            return Peek::Wait;
+        }
+        let (front, back) = self.assembly.front();
+        Peek::Bytes(front, back)
     }
 }
 

@@ -1,14 +1,15 @@
 //! A receiving half that stores nothing, in few bytes.
-ghost use Rattle.std.specs.Prelude.{◌≡◌, ℕ, ◌+◌, ◌-◌, ◌≤◌, [], length, true, false, None, IsOk, IsTrue, IfSome, IfNone, is_some};
+ghost use Rattle.std.specs.Prelude.{◌≡◌, ℕ, ◌+◌, ◌-◌, ◌≤◌, [], length, true, false, None, IsOk, IsTrue, IfSome, IfNone, is_some, ◌&&◌, ◌||◌};
 ghost use Rattle.std.specs.FinMap as map;
 ghost use Rattle.qs_ranges.specs.Numbers.{MAX_VARINT, MissesRange, covers};
 ghost use Rattle.qs_recv.specs.Lawful.{IsLawful};
 ghost use Rattle.qs_recv.specs.Rest.{EndsAt, given};
+ghost use Rattle.qs_recv.specs.Peek.{IsPeek};
 ghost use Rattle.qs_recv.specs.Sound.{CodeFits};
-ghost use Rattle.qs_recv.specs.Lane.{new_lane, highest, highest_after, noted, taken, is_whole, check_stream, check_reset, take_stream, take_reset, read_answer, bytes_read, after_read, stop, raise, raise_answer, MAX_WINDOW};
+ghost use Rattle.qs_recv.specs.Lane.{new_lane, highest, highest_after, noted, taken, is_whole, check_stream, check_reset, take_stream, take_reset, read_answer, bytes_read, after_read, stop, stop_and_forget, raise, raise_answer, MAX_WINDOW};
 
 use crate::credit::{Share, next_limit};
-use crate::half::Read;
+use crate::half::{Peek, Read};
 use crate::window::Window;
 use std::marker::Model;
 
@@ -128,6 +129,27 @@ impl Rest {
         Read::Wait
     }
 
+    /// What a look tells: bytes never are.
+    pub(crate) fn peek(&self) -> Peek<'_>
+        ensures { IsPeek self.now result }
+    {
+        if self.is_reset {
+            return Peek::Reset(self.reset);
+        }
+        let is_over = if self.is_stopped {
+            self.is_whole()
+        } else {
+            self.is_sized && self.size == self.read_count
+        };
+        if is_over { Peek::End } else { Peek::Wait }
+    }
+
+    pub(crate) fn is_told(&self) -> bool
+        ensures { result ≡ self.now.told }
+    {
+        self.told
+    }
+
     /// Notes a stop: the first code stays.
     pub(crate) fn stop(&mut self, code: u64)
         requires { code ≤ MAX_VARINT }
@@ -138,6 +160,16 @@ impl Rest {
             self.is_stopped = true;
             self.stop = code;
         }
+    }
+
+    /// Notes a stop, and tells nothing more.
+    pub(crate) fn stop_and_forget(&mut self, code: u64)
+        requires { code ≤ MAX_VARINT }
+        ensures after { self.new ≡ stop_and_forget self.old code }
+        ensures same_highest { highest self.new ≡ highest self.old }
+    {
+        self.stop(code);
+        self.told = true;
     }
 
     /// Raises the limit, and answers the new one where it rose.
@@ -205,7 +237,7 @@ impl Rest {
         ensures value { result ≡ noted self.now }
         ensures within { result ≤ highest self.now }
     {
-        if self.told || self.is_reset {
+        if self.keeps_none() {
             return 0;
         }
         if self.received_end > 0 { 1 } else { 0 }
@@ -269,6 +301,13 @@ impl Rest {
             return Some(end);
         }
         None
+    }
+
+    // Whether nothing is noted of the offsets that came.
+    fn keeps_none(&self) -> bool
+        ensures { result ≡ ((self.now.told && is_whole self.now) || is_some self.now.reset_code) }
+    {
+        (self.told && self.is_whole()) || self.is_reset
     }
 
     // Whether the final size is known and every offset below it came.

@@ -92,6 +92,26 @@ impl Ring {
         write_at(into, front.len(), back);
     }
 
+    /// The bytes of the offsets from `at` on, at most so many, in two pieces where their places wrap: as far as they were written, and
+    /// one at least.
+    pub(crate) fn front(&self, at: u64, count: usize) -> (&[u8], &[u8])
+        requires small { at ≤ 2 ^ 62 }
+        requires wanted { 0 < count }
+        requires fits { count ≤ length self.now }
+        ensures some { 0 < length (result.0.now ++ result.1.now) }
+        ensures within { length (result.0.now ++ result.1.now) ≤ count }
+        ensures there { AreAt self.now at (result.0.now ++ result.1.now) }
+    {
+        let place = place_of(at + self.turn as u64, self.size);
+        let end = self.bytes.len();
+        if place >= end {
+            return (&[0], &[]);
+        }
+        let kept = if end < self.size { end - place } else { count };
+        let shown = count.min(kept);
+        pieces(&self.bytes, self.size, place, shown)
+    }
+
     /// Whether bytes are the ones at the places of the offsets from `at` on, in two pieces where these wrap.
     pub(crate) fn are_at(&self, at: u64, bytes: &[u8]) -> bool
         requires small { at ≤ 2 ^ 62 }
@@ -311,7 +331,7 @@ fn write_over(into: &mut Vec<u8>, place: usize, bytes: &[u8])
 }
 
 // Writes bytes from a place on.
-fn write_at(into: &mut [u8], place: usize, bytes: &[u8])
+pub(crate) fn write_at(into: &mut [u8], place: usize, bytes: &[u8])
     requires { place + length bytes.now ≤ length into.old }
     ensures same_len { length into.new ≡ length into.old }
     ensures written { (k : ℕ) → slice_index into.new k
@@ -321,7 +341,7 @@ fn write_at(into: &mut [u8], place: usize, bytes: &[u8])
 }
 
 // Whether those bytes stand from a place on, where what was never written is zero.
-fn is_at(kept: &[u8], place: usize, bytes: &[u8]) -> bool
+pub(crate) fn is_at(kept: &[u8], place: usize, bytes: &[u8]) -> bool
     requires { place + length bytes.now < 2 ^ 63 }
     ensures { IsTrue result ↔ ((k : ℕ) → k < length bytes.now → slice_index bytes.now k ≡ slice_index kept.now (place + k)) }
 {

@@ -1,12 +1,15 @@
-//! An assembly that keeps what came in one ring: the byte of an offset stands at the offset modulo the ring's size.
+//! An assembly that keeps what came in one ring: the byte of an offset stands at the offset modulo the ring's size. What lies
+//! far past it stands apart.
 ghost use Rattle.std.specs.Prelude.{◌≡◌, ◌==◌, if◌then◌else◌, ℕ, ◌+◌, ◌-◌, ◌*◌, ◌<◌, ◌≤◌, ◌^◌, ◌⊎◌, max, length, true, false, IsTrue, ◌↔◌, OnOk, OnErr, IfOk};
 ghost use Rattle.std.specs.FinSet as set;
 ghost use Rattle.qs_ranges.specs.Numbers.{EndsBefore, MAX_VARINT, MissesRange, covers, numbers};
 ghost use Rattle.qs_recv.specs.Assembled.{put};
-ghost use Rattle.qs_recv.specs.Ring.{IsFilled, IsInRing, IsMoved, IsNextGap, IsNextRun, IsReach, IsSizeFor, missing_count};
+ghost use Rattle.qs_recv.specs.Pages.{AreWhole, IsFilledApart, has_page, is_used, page_byte};
+ghost use Rattle.qs_recv.specs.Ring.{AreKept, IsFilled, IsMoved, IsNextGap, IsNextRun, IsReach, IsSizeFor, byte_of, missing_count};
 ghost use Rattle.qs_recv.specs.Lane.{MAX_WINDOW};
 
-use crate::assembly::{Assembly, Skipping};
+use crate::assembly::{Assembly, Peeking, Skipping};
+use crate::pages::{PAGE, Pages};
 use crate::ring::Ring;
 use qs_ranges::{NoMemory, RangeSet};
 use std::alloc::Global;
@@ -18,12 +21,19 @@ const LEAST_SIZE: u64 = 64;
 // One of no more is kept where little or nothing is stored, so that a steady flow takes no memory anew.
 const IDLE_SIZE: u64 = 4096;
 
+// Bytes stand apart that begin so far past the ring's, or further.
+const APART: u64 = 65536;
+
 /// A ring beside the set of every offset that came. As bytes are stored that lie past it, it grows to reach from what was
 /// read to the last of them: to a power of two, less than twice as far or 64 bytes, and never past the window. What is stored
 /// keeps its place in memory that grows, unless it goes around the ring's end; where its offsets can't be noted, the ring shrinks
 /// again. As bytes are read and it is larger than 4,096 bytes and than three times as far, it shrinks in place, to half more
 /// at least. It is given back where bytes are thrown away, and where nothing is stored: at once if it is larger than 4,096
 /// bytes, else once that is asked for.
+///
+/// Bytes that begin 64 KiB or more past the ring's, and past its end, stand apart in pages of 16 KiB. As others come before them
+/// the ring reaches over the pages that follow without a gap, and these move into it: so what is next to be read stands in the
+/// ring.
 ///
 /// A put searches the set once for each gap that it fills, and once behind the last if more came there, but not for bytes past
 /// all that came; it copies the bytes of each gap, and notes the offsets by one insert. A take is one search and one copy. A
@@ -33,8 +43,11 @@ const IDLE_SIZE: u64 = 4096;
 pub struct RingAssembly {
     alloc: Global,
     ring: Ring,
+    apart: Pages,
     received: RangeSet,
     read_count: u64,
+    // What lies from here on stands apart.
+    near: u64,
     // One more than the largest offset that came, until bytes are thrown away.
     end: u64,
     stored: u64,
@@ -43,33 +56,36 @@ pub struct RingAssembly {
 }
 
 impl Model for RingAssembly {
-    ghost use Rattle.std.specs.Prelude.{ℕ, length};
+    ghost use Rattle.std.specs.Prelude.{ℕ, ◌+◌, ◌*◌, length};
     ghost use Rattle.std.specs.Coded.{coded×, coded_ℕ};
     ghost use Rattle.qs_recv.specs.Assembled.{Assembled};
     ghost use Rattle.qs_recv.specs.Codes.{assembled_code};
-    ghost use Rattle.qs_recv.specs.Ring.{stored_in_ring, IsRing, IsSized};
+    ghost use Rattle.std.specs.BTreeMap.{btree_map_len};
+    ghost use Rattle.qs_recv.specs.Ring.{byte_of, stored_in_ring, IsRing, IsSized};
 
-    // What it holds, and how long the ring is.
-    ghost Value = { Assembled × ℕ };
+    // What it holds, how long the ring and the pages are, and where what stands apart begins.
+    ghost Value = { Assembled × (ℕ × ℕ) };
 
-    ghost coded = { coded× assembled_code coded_ℕ };
+    ghost coded = { coded× assembled_code (coded× coded_ℕ coded_ℕ) };
 
-    ghost view = { λ a. (record { stored = stored_in_ring a.received a.ring (length a.ring) a.read_count a.discarding; received = a.received; read_count = a.read_count; window = a.window; discarding = a.discarding }, length a.ring) };
+    ghost view = { λ a. (record { stored = stored_in_ring a.received (byte_of a.ring a.near a.apart.pages) a.window a.read_count a.discarding; received = a.received; read_count = a.read_count; window = a.window; discarding = a.discarding }, (length a.ring + btree_map_len a.apart.pages * 16384, a.near)) };
 
-    ghost invariant = { λ a. IsRing a.ring a.received (length a.ring) a.read_count a.stored a.discarding × IsSized a.received (length a.ring) a.read_count a.end a.stored a.window a.discarding };
+    ghost invariant = { λ a. IsRing (byte_of a.ring a.near a.apart.pages) a.received a.window a.read_count a.stored a.discarding × IsSized a.ring a.apart.pages a.received a.read_count a.near a.end a.window a.discarding };
 }
 
 impl Assembly for RingAssembly {
     ghost holds = { λ a. a.0 };
 
-    ghost size = { λ a. a.1 };
+    ghost size = { λ a. a.1.0 };
 
     fn new(alloc: Global, window: u64) -> Self {
         RingAssembly {
             alloc,
             ring: Ring::none(alloc),
+            apart: Pages::none(alloc),
             received: RangeSet::new(alloc),
             read_count: 0,
+            near: 0,
             end: 0,
             stored: 0,
             window,
@@ -81,8 +97,10 @@ impl Assembly for RingAssembly {
         RingAssembly {
             alloc,
             ring: Ring::none(alloc),
+            apart: Pages::none(alloc),
             received: RangeSet::below(alloc, end),
             read_count,
+            near: read_count,
             end,
             stored: 0,
             window,
@@ -103,12 +121,8 @@ impl Assembly for RingAssembly {
             → MissesRange self.old.0.received (offset - 1) (offset + length bytes.now + 1)) }
 
         // What is taken to store some changes only for a byte that is new and stored.
-        ensures still { (self.new.1 ≡ self.old.1) ⊎ ((self.old.0.discarding ≡ false)
+        ensures still { (self.new.1.0 ≡ self.old.1.0) ⊎ ((self.old.0.discarding ≡ false)
             × (covers self.old.0.received offset (offset + length bytes.now) ≡ false)) }
-
-        // A ring in which a byte is stored reaches as far as that.
-        ensures ring { OnErr result ((q : ℕ) → self.old.0.read_count ≤ q → offset + length bytes.now ≤ q + 1 → set.contains self.old.0.received q ≡ true
-            → MissesRange self.old.0.received (offset - 1) (offset + length bytes.now + 1)) }
     {
         let end = offset + bytes.len() as u64;
         if offset == end {
@@ -122,35 +136,21 @@ impl Assembly for RingAssembly {
         if first >= end {
             return Ok(());
         }
-        let from = self.read_count;
-        let kept = self.end - from;
-        let span = end - from;
-        reach(
-            self.alloc,
-            &mut self.ring,
-            front_of(kept, first, from),
-            kept,
-            span,
-            self.window,
-        )?;
-        match store(
+        if !self.apart.is_empty() || (self.ring.len() as u64) < end - self.read_count {
+            return self.put_beyond(first, stop, offset, bytes);
+        }
+        let count = store(
             &mut self.ring,
             &mut self.received,
             first,
             stop,
             offset,
             bytes,
-        ) {
-            Ok(count) => {
-                self.stored += count;
-                self.end = self.end.max(end);
-                Ok(())
-            }
-            Err(refused) => {
-                shed(self.alloc, &mut self.ring, from, kept, self.window);
-                Err(refused)
-            }
-        }
+        )?;
+        self.stored += count;
+        self.near = self.near.max(end);
+        self.end = self.end.max(end);
+        Ok(())
     }
 
     fn take(&mut self, into: &mut [u8]) -> usize {
@@ -162,7 +162,7 @@ impl Assembly for RingAssembly {
         self.ring.copy_out(self.read_count, &mut into[..count]);
         self.read_count += count as u64;
         self.stored -= count as u64;
-        let span = self.end - self.read_count;
+        let span = self.near - self.read_count;
         shed(
             self.alloc,
             &mut self.ring,
@@ -175,6 +175,7 @@ impl Assembly for RingAssembly {
 
     fn discard(&mut self) {
         self.ring = Ring::none(self.alloc);
+        self.apart = Pages::none(self.alloc);
         self.stored = 0;
         self.discarding = true;
     }
@@ -190,7 +191,18 @@ impl Assembly for RingAssembly {
             return true;
         }
         let start = offset.max(self.read_count);
-        is_in_ring(&self.ring, &self.received, start, self.end, offset, bytes)
+        if self.end <= start {
+            return true;
+        }
+        is_kept(
+            &self.ring,
+            &self.apart,
+            self.near,
+            &self.received,
+            start,
+            offset,
+            bytes,
+        )
     }
 
     fn stored(&self) -> u64 {
@@ -198,11 +210,133 @@ impl Assembly for RingAssembly {
     }
 
     fn held(&self) -> u64 {
-        self.ring.len() as u64
+        self.ring.len() as u64 + self.apart.count() * PAGE
     }
 
     fn received(&self) -> &RangeSet {
         &self.received
+    }
+}
+
+impl RingAssembly {
+    // Stores bytes beside some that stand apart, or past the ring's end. The first offsets that didn't come are those from
+    // `first` on and below `stop`.
+    #[inline(never)]
+    fn put_beyond(
+        &mut self,
+        first: u64,
+        stop: u64,
+        offset: u64,
+        bytes: &[u8],
+    ) -> Result<(), NoMemory>
+        requires in_range { offset + length bytes.now ≤ MAX_VARINT }
+        requires in_window { offset + length bytes.now ≤ self.old.0.read_count + self.old.0.window }
+        requires on { self.old.0.discarding ≡ false }
+        requires gap { IsNextGap self.old.0.received (max offset self.old.0.read_count) (offset + length bytes.now) first stop }
+        requires some { first < offset + length bytes.now }
+        ensures ok { OnOk result (self.new.0 ≡ put self.old.0 offset bytes.now) }
+        ensures err { OnErr result (self.new.0 ≡ self.old.0) }
+    {
+        if self.near + APART <= first {
+            return self.put_apart(first, stop, offset, bytes);
+        }
+        let end = offset + bytes.len() as u64;
+        self.draw(end)?;
+        let from = self.read_count;
+        let kept = self.near - from;
+        reach(
+            self.alloc,
+            &mut self.ring,
+            front_of(kept, first, from),
+            kept,
+            end - from,
+            self.window,
+        )?;
+        match store(
+            &mut self.ring,
+            &mut self.received,
+            first,
+            stop,
+            offset,
+            bytes,
+        ) {
+            Ok(count) => {
+                self.stored += count;
+                self.near = self.near.max(end);
+                self.end = self.end.max(end);
+                Ok(())
+            }
+            Err(refused) => {
+                shed(self.alloc, &mut self.ring, from, kept, self.window);
+                Err(refused)
+            }
+        }
+    }
+
+    // Stores bytes that lie far past the ring's apart.
+    fn put_apart(
+        &mut self,
+        first: u64,
+        stop: u64,
+        offset: u64,
+        bytes: &[u8],
+    ) -> Result<(), NoMemory>
+        requires in_range { offset + length bytes.now ≤ MAX_VARINT }
+        requires in_window { offset + length bytes.now ≤ self.old.0.read_count + self.old.0.window }
+        requires on { self.old.0.discarding ≡ false }
+        requires gap { IsNextGap self.old.0.received (max offset self.old.0.read_count) (offset + length bytes.now) first stop }
+        requires some { first < offset + length bytes.now }
+        requires far { self.old.1.1 + 65536 ≤ first }
+        ensures ok { OnOk result (self.new.0 ≡ put self.old.0 offset bytes.now) }
+        ensures err { OnErr result (self.new.0 ≡ self.old.0) }
+    {
+        let end = offset + bytes.len() as u64;
+        match store_apart(
+            self.alloc,
+            &mut self.apart,
+            &mut self.received,
+            first,
+            stop,
+            offset,
+            bytes,
+        ) {
+            Ok(count) => {
+                self.stored += count;
+                self.end = self.end.max(end);
+                Ok(())
+            }
+            Err(refused) => {
+                self.apart.give_back(self.end, end);
+                Err(refused)
+            }
+        }
+    }
+
+    // Moves what stands apart into the ring, up to the first page past `end` that isn't in use.
+    fn draw(&mut self, end: u64) -> Result<(), NoMemory>
+        requires in_range { end ≤ MAX_VARINT }
+        requires in_window { end ≤ self.old.0.read_count + self.old.0.window }
+        requires on { self.old.0.discarding ≡ false }
+        ensures same { self.new.0 ≡ self.old.0 }
+        ensures near { OnOk result ((q : ℕ) → self.new.1.1 ≤ q → set.contains self.new.0.received q ≡ true → end ≤ self.new.1.1) }
+    {
+        if self.apart.is_empty() {
+            return Ok(());
+        }
+        let from = self.read_count;
+        let near = self.near;
+        let next = self.apart.gap_past(near.max(end), self.end);
+        reach(
+            self.alloc,
+            &mut self.ring,
+            from,
+            near - from,
+            next - from,
+            self.window,
+        )?;
+        self.apart.move_into(&mut self.ring, near, next);
+        self.near = next;
+        Ok(())
     }
 }
 
@@ -215,7 +349,7 @@ impl Skipping for RingAssembly {
         let count = (next - self.read_count).min(most as u64) as usize;
         self.read_count += count as u64;
         self.stored -= count as u64;
-        let span = self.end - self.read_count;
+        let span = self.near - self.read_count;
         shed(
             self.alloc,
             &mut self.ring,
@@ -224,6 +358,20 @@ impl Skipping for RingAssembly {
             self.window,
         );
         count
+    }
+}
+
+impl Peeking for RingAssembly {
+    fn front(&self) -> (&[u8], &[u8]) {
+        if self.discarding {
+            return (&[], &[]);
+        }
+        let next = self.received.first_missing(self.read_count);
+        let count = (next - self.read_count) as usize;
+        if count == 0 {
+            return (&[], &[]);
+        }
+        self.ring.front(self.read_count, count)
     }
 }
 
@@ -298,6 +446,7 @@ fn shed(alloc: Global, ring: &mut Ring, from: u64, span: u64, window: u64)
 
 // Stores the bytes at offsets that didn't come before, notes the offsets, and answers how many are new. The first such
 // offsets are those from `first` on and below `stop`.
+#[inline(always)]
 fn store(
     ring: &mut Ring,
     received: &mut RangeSet,
@@ -327,6 +476,7 @@ fn store(
 
 // Writes the bytes at offsets that didn't come before to their places, and answers how many these are. The first such
 // offsets are those from `first` on and below `stop`.
+#[inline(always)]
 fn fill_gaps(
     ring: &mut Ring,
     received: &RangeSet,
@@ -358,6 +508,76 @@ fn fill_gaps(
     let mut count = 0;
     while at < end {
         ring.write(at, &bytes[(at - offset) as usize..(to - offset) as usize]);
+        count += to - at;
+        let (next, after) = next_gap(received, to, end);
+        at = next;
+        to = after;
+    }
+    count
+}
+
+// The same, apart from the ring. Where memory is refused, what was taken of it may stay.
+fn store_apart(
+    alloc: Global,
+    apart: &mut Pages,
+    received: &mut RangeSet,
+    first: u64,
+    stop: u64,
+    offset: u64,
+    bytes: &[u8],
+) -> Result<u64, NoMemory>
+    requires in_range { offset + length bytes.now ≤ MAX_VARINT }
+    requires whole { AreWhole apart.old.pages }
+    requires missing { MissesRange received.old first stop }
+    requires begins { offset ≤ first }
+    requires some { first < stop }
+    requires ends { stop ≤ offset + length bytes.now }
+    ensures whole { AreWhole apart.new.pages }
+    ensures stay { (n : ℕ) → is_used apart.old.pages n ≡ true → is_used apart.new.pages n ≡ true }
+    ensures only { (n : ℕ) → is_used apart.new.pages n ≡ true
+        → (is_used apart.old.pages n ≡ true) ⊎ ((first < n * 16384 + 16384) × (n * 16384 < offset + length bytes.now)) }
+    ensures made { OnOk result ((q : ℕ) → first ≤ q → q < offset + length bytes.now → has_page apart.new.pages q ≡ true) }
+    ensures filled { OnOk result (IsFilledApart received.old first (offset + length bytes.now) offset bytes.now apart.old.pages apart.new.pages) }
+    ensures seen { (q : ℕ) → set.contains received.old q ≡ true → page_byte apart.new.pages q ≡ page_byte apart.old.pages q }
+    ensures count { IfOk result (λ n. n ≡ missing_count received.old first (offset + length bytes.now - first)) }
+    ensures noted { OnOk result (received.new ≡ set.union received.old (numbers offset (offset + length bytes.now))) }
+    ensures err { OnErr result (received.new ≡ received.old) }
+{
+    let end = offset + bytes.len() as u64;
+    apart.make(alloc, first, end)?;
+    let count = fill_apart(apart, received, first, stop, offset, bytes);
+    received.insert(offset, end)?;
+    Ok(count)
+}
+
+// Writes the bytes at offsets that didn't come before to their pages, and answers how many these are. The first such
+// offsets are those from `first` on and below `stop`.
+fn fill_apart(
+    apart: &mut Pages,
+    received: &RangeSet,
+    first: u64,
+    stop: u64,
+    offset: u64,
+    bytes: &[u8],
+) -> u64
+    requires in_range { offset + length bytes.now ≤ MAX_VARINT }
+    requires whole { AreWhole apart.old.pages }
+    requires had { (q : ℕ) → first ≤ q → q < offset + length bytes.now → has_page apart.old.pages q ≡ true }
+    requires missing { MissesRange received.now first stop }
+    requires begins { offset ≤ first }
+    requires some { first < stop }
+    requires ends { stop ≤ offset + length bytes.now }
+    ensures whole { AreWhole apart.new.pages }
+    ensures stay { (n : ℕ) → is_used apart.new.pages n ≡ is_used apart.old.pages n }
+    ensures count { result ≡ missing_count received.now first (offset + length bytes.now - first) }
+    ensures filled { IsFilledApart received.now first (offset + length bytes.now) offset bytes.now apart.old.pages apart.new.pages }
+{
+    let end = offset + bytes.len() as u64;
+    let mut at = first;
+    let mut to = stop;
+    let mut count = 0;
+    while at < end {
+        apart.write(at, &bytes[(at - offset) as usize..(to - offset) as usize]);
         count += to - at;
         let (next, after) = next_gap(received, to, end);
         at = next;
@@ -402,30 +622,36 @@ fn next_run(received: &RangeSet, at: u64, end: u64) -> (u64, u64)
     }
 }
 
-// Whether the bytes at those offsets from `start` on that came are the ones at their places. From `last` on none came.
-fn is_in_ring(
+// Whether the bytes at those offsets from `start` on that came are the ones that are kept.
+#[inline(never)]
+fn is_kept(
     ring: &Ring,
+    apart: &Pages,
+    near: u64,
     received: &RangeSet,
     start: u64,
-    last: u64,
     offset: u64,
     bytes: &[u8],
 ) -> bool
     requires in_range { offset + length bytes.now ≤ MAX_VARINT }
     requires begins { offset ≤ start }
-    requires ends { EndsBefore received.now last }
-    requires fits { (q : ℕ) → start ≤ q → set.contains received.now q ≡ true → q < start + length ring.now }
-    ensures { IsTrue result ↔ IsInRing received.now ring.now start offset bytes.now }
+    requires whole { AreWhole apart.now.pages }
+    requires missing { set.contains received.now near ≡ false }
+    requires fits { near ≤ start + length ring.now }
+    requires had { (q : ℕ) → near ≤ q → set.contains received.now q ≡ true → has_page apart.now.pages q ≡ true }
+    ensures { IsTrue result ↔ AreKept received.now (byte_of ring.now near apart.now.pages) start offset bytes.now }
 {
-    let end = last.min(offset + bytes.len() as u64);
+    let end = offset + bytes.len() as u64;
     let mut at = start;
     while at < end {
         let (from, to) = next_run(received, at, end);
-        if from == end {
-            return true;
-        }
         let run = &bytes[(from - offset) as usize..(to - offset) as usize];
-        if !ring.are_at(from, run) {
+        let there = if from < near {
+            ring.are_at(from, run)
+        } else {
+            apart.are_at(from, run)
+        };
+        if !there {
             return false;
         }
         at = to;

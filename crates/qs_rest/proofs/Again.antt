@@ -7,7 +7,7 @@ use Rattle.qs_wire.specs.Layout.{FrameValue}
 use Rattle.qs_wire.specs.Grammar.{Fits}
 use Rattle.qs_wire.specs.declared.stream_id.Dir.TheVariants.{Bidi, Uni}
 use Rattle.qs_recv.specs.Lane.{RecvLane, raise}
-use Rattle.qs_send.specs.Lane.{SendLane, new_lane as new_send_lane, write_lane, finish_lane, reset_lane, reset_refusal, sent_lane, blocked_lane, unacked_from, is_whole}
+use Rattle.qs_send.specs.Lane.{SendLane, new_lane as new_send_lane, write_lane, finish_lane, buffer_lane, reset_lane, reset_refusal, sent_lane, blocked_lane, unacked_from, is_whole}
 use Rattle.qs_send.specs.declared.piece.Item.TheVariants.{MaxData, MaxStreamData, MaxStreams, ResetStream, StopSending, DataBlocked, StreamDataBlocked, StreamsBlocked}
 use Rattle.qs_calls.specs.declared.token.Taken.{Taken}
 use Rattle.qs_calls.specs.declared.token.TakeFault.{TakeFault}
@@ -24,7 +24,8 @@ use Rattle.qs_machine.specs.Alone.{is_ours, TakesOne, TakesEach, after_one}
 use Rattle.qs_machine.specs.Standing.{IsSound, IsInCredit}
 use Rattle.qs_machine.specs.Repeats.{SentWasWritten}
 use Rattle.qs_machine.specs.EndStep.{Call, Answer, EndStep}
-use Rattle.qs_machine.proofs.EveryCall.{Change, changed, Comes, each_call, Wanted, Opened, Written, Finished, WasReset, Raised, Took as WasTaken, Acked, Put}
+use Rattle.qs_machine.specs.Setting.{Grant, SendBuffer}
+use Rattle.qs_machine.proofs.EveryCall.{Change, changed, Comes, each_call, Wanted, Opened, Written, Finished, WasReset, Raised, WasSet, Took as WasTaken, Acked, Put}
 use Rattle.qs_machine.proofs.TablesAfter.{KeptIn, kept_same, kept_twice, kept_updated, kept_open, kept_each, still_open}
 use Rattle.qs_machine.proofs.Raised.{kept_raised}
 use Rattle.qs_machine.proofs.EndsAfter.{IsAfter, after_same, after_twice, after_frame, after_acks, all_take, named_written}
@@ -91,10 +92,12 @@ keeps_changed old call (Written n bytes l) e comes sound sent = keeps_send n (λ
 keeps_changed old call (Finished n) e comes sound sent = keeps_send n finish_lane e (λ l is. is)
 keeps_changed old call (WasReset n code) e comes sound sent = keeps_send n (λ m. reset_lane m code) e (code_reset code)
 keeps_changed old call (Raised p) e comes sound sent = (refl, kept_raised CodeStays code_same code_twice (λ limit l is. is) p e)
+keeps_changed old call (WasSet (SendBuffer n size)) e comes sound sent = keeps_send n (λ m. buffer_lane m size) e (λ l is. is)
 keeps_changed old call (WasTaken f) e comes sound sent = keeps_after e (frame_taken f e) (after_frame f e comes sound sent)
 keeps_changed old call (Acked count ranges) e comes sound sent =
     keeps_after e (acks (take count (named e ranges)) e) (after_acks (take count (named e ranges)) e (all_take e.sends count (named e ranges) (named_written e ranges sent)))
 keeps_changed old call (Put f) e comes sound sent = keeps_put f e
+keeps_changed old call (WasSet (Grant Uni n)) e comes sound sent = keeps_same e
 keeps_changed old call c e comes sound sent = keeps_same e
 
 keeps_call : (old : End) → IsSound old → SentWasWritten old → (call : Call) (answer : Answer call) (new : End) → EndStep old call answer new → Keeps old new

@@ -1,13 +1,11 @@
 -- At rest no limit holds a stream back, and what was written was read.
 use Rattle.std.proofs.Common.{◌≡◌, ℕ, ◌<◌, ◌≤◌, true, false, length, Option, Some, None, refl, sym, ap, ◌∙◌, subst, arith, inl, inr}
 use Rattle.std.proofs.lemmas.Bool.{cases_lt, cond_both}
-use Rattle.std.proofs.lemmas.Bool.Decides.{nat_tests}
 use Rattle.qs_ranges.specs.Numbers.{MAX_VARINT}
 use Rattle.qs_wire.specs.declared.stream_id.Role.{Role}
 use Rattle.qs_recv.specs.Lane.{RecvLane, taken, next_limit}
 use Rattle.qs_send.specs.Lane.{SendLane}
 use Rattle.qs_calls.specs.declared.settings.Settings.{Settings}
-use Rattle.qs_calls.specs.Settings.{are_in_wide_range}
 use Rattle.qs_calls.specs.declared.event.Side.{Side}
 use Rattle.qs_machine.specs.Ends.{is_uni, is_own_by, window_by, window}
 use Rattle.qs_machine.specs.Credit.{all_sent, all_taken}
@@ -34,9 +32,6 @@ some_window role s n h =
     cond_both (is_uni n) s.uni _ (λ x. 1 ≤ x) (λ _. h.uni.0) (λ _.
     cond_both (is_own_by role n) s.bidi_local s.bidi_remote (λ x. 1 ≤ x) (λ _. h.local.0) (λ _. h.remote.0))
 
-some_conn_window : (s : Settings) → are_in_wide_range s ≡ true → 1 ≤ s.conn_window
-some_conn_window s h = grind (arith, nat_tests, h)
-
 module _ (a b : Settings) (h : History) (w : World) (ok : WorldOk a b h w) (keeps : (s : Side) → RestOk (past s h) (end_of w s)) (rest : (s : Side) → AtRest (end_of w s)) (s : Side) (told : KnowsFirstLimits w s) where
   -- the connection's limit isn't used up
   has_credit : HasRoom w s → all_sent (end_of w s) < (end_of w s).known_data
@@ -48,18 +43,18 @@ module _ (a b : Settings) (h : History) (w : World) (ok : WorldOk a b h w) (keep
             let within : all_sent (end_of w s) ≤ (end_of w s).known_data = (ok.ends s).credit.sent_known in
             let paid : all_taken (end_of w (other s)) ≡ all_sent (end_of w s) = all_was_taken a b h w ok keeps rest s in
             let same : all_taken (end_of w (other s)) ≡ (end_of w (other s)).granted = omega (arith, le, grants, within, paid) in
-            let settled : next_limit (end_of w (other s)).granted (end_of w (other s)).granted (end_of w (other s)).settings.conn_window (end_of w (other s)).tuning.credit_step ≡ (end_of w (other s)).granted =
-            subst (λ t. next_limit (end_of w (other s)).granted t (end_of w (other s)).settings.conn_window (end_of w (other s)).tuning.credit_step ≡ (end_of w (other s)).granted) same (keeps (other s)).limits.connection in
-            let top : MAX_VARINT ≤ (end_of w (other s)).granted = full (end_of w (other s)).granted (end_of w (other s)).settings.conn_window (end_of w (other s)).tuning.credit_step (some_conn_window (end_of w (other s)).settings (ok.sound (other s)).0.settings) settled in
+            let settled : next_limit (end_of w (other s)).granted (end_of w (other s)).granted (end_of w (other s)).present.conn_window (end_of w (other s)).tuning.credit_step ≡ (end_of w (other s)).granted =
+            subst (λ t. next_limit (end_of w (other s)).granted t (end_of w (other s)).present.conn_window (end_of w (other s)).tuning.credit_step ≡ (end_of w (other s)).granted) same (keeps (other s)).limits.connection in
+            let top : MAX_VARINT ≤ (end_of w (other s)).granted = full (end_of w (other s)).granted (end_of w (other s)).present.conn_window (end_of w (other s)).tuning.credit_step (ok.sound (other s)).0.present.some settled in
             absurd (omega (arith, room, le, grants, within, top)))
       ]
 
   -- the sender has credit ahead
-  conn_ahead : IsAhead (all_sent (end_of w s)) (end_of w s).known_data (end_of w (other s)).settings.conn_window (end_of w (other s)).tuning.credit_step
+  conn_ahead : IsAhead (all_sent (end_of w s)) (end_of w s).known_data (end_of w (other s)).present.conn_window (end_of w (other s)).tuning.credit_step
   conn_ahead =
       let grants : (end_of w s).known_data ≡ (end_of w (other s)).granted = (limits_known a b h w ok keeps rest s told).connection in
       let paid : all_taken (end_of w (other s)) ≡ all_sent (end_of w s) = all_was_taken a b h w ok keeps rest s in
-      elim (ahead (end_of w (other s)).granted (all_taken (end_of w (other s))) (end_of w (other s)).settings.conn_window (end_of w (other s)).tuning.credit_step (keeps (other s)).limits.connection) [
+      elim (ahead (end_of w (other s)).granted (all_taken (end_of w (other s))) (end_of w (other s)).present.conn_window (end_of w (other s)).tuning.credit_step (keeps (other s)).limits.connection) [
         | inl more ↦ inl (omega (arith, more, grants, paid))
         | inr top ↦ inr (omega (arith, top, grants))
       ]

@@ -5,9 +5,9 @@ use Rattle.std.proofs.lemmas.List.{length-take}
 use Rattle.qs_ranges.specs.Numbers.{MAX_VARINT}
 use Rattle.qs_wire.specs.declared.stream_id.Dir.{Dir}
 use Rattle.qs_wire.specs.declared.stream_id.Dir.TheVariants.{Uni}
-use Rattle.qs_recv.specs.Lane.{after_read, stop}
+use Rattle.qs_recv.specs.Lane.{after_read, stop, stop_and_forget}
 use Rattle.qs_recv.specs.declared.half.Read.{Read}
-use Rattle.qs_send.specs.Lane.{SendLane, refusal, reset_refusal, accepted, write_lane, finish_lane, reset_lane}
+use Rattle.qs_send.specs.Lane.{SendLane, refusal, reset_refusal, accepted, write_lane, finish_lane, reset_lane, buffer_lane}
 use Rattle.qs_send.specs.declared.piece.Piece.{Piece}
 use Rattle.qs_calls.specs.declared.making.MakeFault.{MakeFault}
 use Rattle.qs_calls.specs.declared.making.MakeFault.TheVariants as making
@@ -19,9 +19,11 @@ use Rattle.qs_machine.specs.Credit.{settle, credit_for}
 use Rattle.qs_machine.specs.Due.{known_count}
 use Rattle.qs_machine.specs.Seen.{Seen, seen_all}
 use Rattle.qs_machine.specs.Lawful.{Fills}
-use Rattle.qs_machine.specs.Owner.{OpenStep, AcceptStep, ReadBy, recv_refusal, is_read_no_more, with_wanted, refuse_if, IsBlocked, IsOpened, GivesNone, GivesBidi, GivesUni, AcceptOpen, peer_type, next_stream, send_refusal, accepted_by}
+use Rattle.qs_machine.specs.Owner.{OpenStep, AcceptStep, ReadBy, ConsumeStep, recv_refusal, is_read_no_more, with_wanted, refuse_if, IsBlocked, IsOpened, GivesNone, GivesBidi, GivesUni, AcceptOpen, peer_type, next_stream, send_refusal, accepted_by, StopAndForgetStep}
 use Rattle.qs_machine.specs.Making.{MakeAt, make_refusal, LoseStep, losses, claim_refusal, lose_refusal}
-use Rattle.qs_machine.specs.EndStep.{Answer, EndStep, Open, Accept, Write, Lose}
+use Rattle.qs_machine.specs.EndStep.{Answer, EndStep, Open, Accept, Write, Consume, Lose}
+use Rattle.qs_calls.specs.declared.settings.SetFault.{SetFault}
+use Rattle.qs_machine.specs.Setting.{Setting, SendBuffer, SetStep, set_refusal}
 use Rattle.qs_calls.specs.declared.event.Act.{Act}
 use Rattle.qs_calls.specs.declared.event.Act.TheVariants as acts
 use Rattle.qs_calls.specs.declared.answer.Answer.{Answer as Answered}
@@ -52,7 +54,9 @@ pub record Edits (P : End → Type 0) (old : End) : Type 0 where
   pub finishes : (n : ℕ) → P (on_send n finish_lane old)
   pub resets : (n code : ℕ) → P (on_send n (λ m. reset_lane m code) old)
   pub stops : (n code : ℕ) → P (on_recv n (λ m. stop m code) old)
+  pub forgets : (n code : ℕ) → P (on_recv n (λ m. stop_and_forget m code) old)
   pub reads : (n size : ℕ) → P (on_recv n (λ m. after_read m size) old)
+  pub reads_again : (n first next : ℕ) → P (on_recv n (λ m. after_read m next) (on_recv n (λ m. after_read m first) old))
   pub fills : (frames : List Seen) (mid : End) → Fills old old frames mid → P (record mid { next = old.next + 1 })
   pub loses : (k : ℕ) (ps : List Piece) → P (losses k ps old)
 
@@ -83,6 +87,11 @@ module _ (P : End → Type 0) (old : End) (edits : Edits P old) where
   read_by : (r : Option UseFault) (n size : ℕ) (answer : Result Read UseFault) (bytes : List ℕ) (new : End) → ReadBy r old n size answer bytes new → P new
   read_by (Some fault) n size answer bytes new step = becomes new step.2
   read_by None n size answer bytes new (l, is, told, given, after) = settled (on_recv n (λ m. after_read m size) old) new (edits.reads n size) after
+
+  pub consume_by : (n most : ℕ) (answer : Answer (Consume n most)) (new : End) → ConsumeStep old n most answer new → P new
+  consume_by n most answer new step =
+      by_refusal (P new) (recv_refusal (is_read_no_more old) old n) old answer new _ step (becomes new)
+      (λ (l, is, told, after). settled (on_recv n (λ m. after_read m 0) (on_recv n (λ m. after_read m most) old)) new (edits.reads_again n most 0) after)
 
   pub make_by : (r : Option MakeFault) (first delay room : ℕ) (answer : Result (Option Made) MakeFault) (text : List ℕ) (new : End) → MakeAt r old first delay room answer text new → P new
   make_by (Some fault) first delay room answer text new step = becomes new step.2
@@ -118,6 +127,10 @@ module _ (P : End → Type 0) (old : End) (edits : Edits P old) where
             settled (on_send n (λ m. write_lane m (take (accepted_by old l (length bytes)) bytes)) old) new
             (edits.writes n (take (accepted_by old l (length bytes)) bytes) l is (half_allowed (is_some old.closed) (is_some (recv_lane old n)) (send_lane old n) allowed l is) (few_taken old l bytes)) done.1
       ])
+
+  pub forget_by : (n code : ℕ) (answer : Result (Unit {0}) UseFault) (new : End) → StopAndForgetStep old n code answer new → P new
+  forget_by n code answer new step =
+      by_refusal (P new) (recv_refusal (is_some old.closed) old n) old answer new _ step (becomes new) (λ done. settled (on_recv n (λ m. stop_and_forget m code) old) new (edits.forgets n code) done.1)
 
   -- what an owner does
   pub each_own : (act : Act) (answer : Answered) (new : End) → OwnStep old act answer new → P new

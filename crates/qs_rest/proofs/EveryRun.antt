@@ -2,16 +2,18 @@
 use Rattle.std.proofs.Common.{◌≡◌, ℕ, ◌/◌, ◌%◌, zero, suc, List, [], ◌∷◌, map, None, Some, Result, Ok, false, slice_get, inl, inr, refl, sym, ap, ◌∙◌, subst, arith, nat_cmp}
 use Rattle.std.proofs.lemmas.Option.{none-some}
 use Rattle.std.proofs.lemmas.Bool.{false≢true}
+use Rattle.std.specs.Global.{Vec}
 use Rattle.std.specs.FinSet as set
 use Rattle.std.specs.FinMap as fmap
-use Rattle.qs_wire.specs.Grammar.{frames_of}
-use Rattle.qs_wire.specs.Reading.{reading_of}
 use Rattle.qs_wire.specs.declared.stream_id.Role.{Role}
 use Rattle.qs_wire.specs.declared.stream_id.Role.TheVariants.{Client, Server}
 use Rattle.qs_calls.specs.declared.settings.Settings.{Settings}
 use Rattle.qs_calls.specs.declared.settings.Tuning.{Tuning}
 use Rattle.qs_calls.specs.declared.settings.PeerLimits.{PeerLimits}
 use Rattle.qs_calls.specs.declared.settings.RaiseFault.{RaiseFault}
+use Rattle.qs_calls.specs.declared.reading.Consumed.{Consumed}
+use Rattle.qs_calls.specs.declared.uses.UseFault.{UseFault}
+use Rattle.qs_calls.specs.declared.settings.SetFault.{SetFault}
 use Rattle.qs_calls.specs.declared.token.Token.{Token}
 use Rattle.qs_calls.specs.declared.token.Taken.{Taken}
 use Rattle.qs_calls.specs.declared.token.TakeFault.{TakeFault}
@@ -20,6 +22,7 @@ use Rattle.qs_calls.specs.declared.closing.Closing.{Closing}
 use Rattle.qs_calls.specs.declared.closing.Received.{Received}
 use Rattle.qs_calls.specs.declared.event.Side.{Side}
 use Rattle.qs_calls.specs.declared.event.Side.TheVariants.{A, B}
+use Rattle.qs_calls.specs.declared.uses.UseFault.{UseFault}
 use Rattle.qs_calls.specs.declared.event.Act.{Act}
 use Rattle.qs_calls.specs.declared.event.Act.TheVariants as acts
 use Rattle.qs_calls.specs.declared.answer.Answer.{Answer}
@@ -29,24 +32,29 @@ use Rattle.qs_machine.specs.Tables.{table, lookup, no_streams}
 use Rattle.qs_machine.specs.Ends.{End, new_end, wide_end_made}
 use Rattle.qs_machine.specs.Receiving.{ReceiveStep}
 use Rattle.qs_machine.specs.Alone.{TokenAckedStep, TokenLostStep}
+use Rattle.qs_machine.specs.Owner.{StopAndForgetStep}
 use Rattle.qs_machine.specs.EndStep.{Call, Answer as CallAnswer, EndStep, TakeFrame, TakeFrames}
 use Rattle.qs_machine.specs.Raising.{RaiseStep}
+use Rattle.qs_machine.specs.Setting.{Setting, SetStep}
 use Rattle.qs_machine.proofs.Plains.{plain_nothing}
 use Rattle.qs_machine.proofs.SettledLimits.{new_ends_settled}
 use Rattle.qs_machine.proofs.Bounds.{no_lane, new_ends_settled as new_counts_settled}
-use Rattle.qs_runs.specs.Logs.{Happening, Did, MadeAck, FilledIn, AckedToken, LostToken, RaisedLimits, CameWith, CameAlone, History, other, is_delivery, texts_of, payload, processed, took, own_calls}
-use Rattle.qs_runs.specs.Worlds.{World, Begins, end_of, OwnStep, DeliverStep, ComeWithStep, ComeAloneStep, EventStep, WorldStep}
+use Rattle.qs_runs.specs.Logs.{Part, Happening, Did, MadeAck, FilledIn, ConsumedUpTo, AckedToken, LostToken, RaisedLimits, CameWith, CameAlone, History, other, is_delivery, reads_of, texts_of, payload, processed, took, own_calls, HasSet, Forgot}
+use Rattle.qs_runs.specs.Worlds.{World, Begins, end_of, OwnStep, TakesBytes, DeliverStep, ComeWithStep, ComeAloneStep, EventStep, WorldStep}
+use Rattle.qs_calls.specs.declared.settings.SetFault.{SetFault}
+use Rattle.qs_machine.specs.Setting.{Setting, SetStep}
 use Rattle.qs_runs.specs.Agree.{frames_in}
 use Rattle.qs_runs.specs.Pasts.{Past, packets_of, past, seen_by}
 use Rattle.qs_runs.specs.Invariant.{WorldOk}
-use Rattle.qs_runs.proofs.Histories.{past_own, past_peer, past_sender, past_receiver, Makes, past_makes, past_peer_makes, makes_ack, makes_fill, makes_none, past_raised, past_came, past_came_from, past_came_to, past_token, past_peer_token, did, theirs_mine, payload_seen}
+use Rattle.qs_runs.proofs.Histories.{past_own, past_peer, past_sender, past_receiver, Makes, past_makes, past_peer_makes, makes_ack, makes_fill, makes_none, past_consumed, past_peer_consumed, past_raised, past_came, past_came_from, past_came_to, past_token, past_peer_token, did, theirs_mine, payload_seen, makes_set, past_forgot}
 use Rattle.qs_runs.proofs.Packing.{Packs, ack_packs, fill_packs}
 use Rattle.qs_runs.proofs.NewEnds.{first_world, made_first, ends_made}
 use Rattle.qs_runs.proofs.Runs.{two_sides, run_keeps, is_open_end, moved}
 use Rattle.qs_runs.proofs.Alone.{with_took}
+use Rattle.qs_runs.proofs.Parts.{parts_held}
 use Rattle.qs_rest.specs.Invariant.{RestOk}
 use Rattle.qs_rest.specs.Rest.{EveryRunKeeps}
-use Rattle.qs_rest.proofs.Runs.{own_rests, packs_rest, lost_rests, token_rests, alone_rests, raise_rests, due_rests, receive_rests, peer_rests}
+use Rattle.qs_rest.proofs.Runs.{own_rests, consume_rests, packs_rest, lost_rests, token_rests, alone_rests, raise_rests, due_rests, receive_rests, peer_rests, set_rests, forget_rests, same_rests}
 
 no_table : (k : ℕ) → table (no_streams {X = SendLane}) k ≡ []
 no_table zero = refl
@@ -119,11 +127,36 @@ module _ (a b : Settings) (h : History) (v w : World) (s : Side) (ok : WorldOk a
       (moved (λ p. RestOk p (end_of w s)) _ _ (past_makes s x [] h makes) (lost_rests (past s h) (end_of v s) (end_of w s) (ok.sound s) (ok.sent s) (rests s) token result step))
       (made_there x [] makes same)
 
+  -- bytes are taken without a copy
+  consumed_step : (n most : ℕ) (result : Result Consumed UseFault) (bytes : Vec ℕ) → TakesBytes (end_of v s) n most result bytes.items (end_of w s) → end_of w (other s) ≡ end_of v (other s) → (t : Side) → RestOk (past t (ConsumedUpTo s n most result bytes ∷ h)) (end_of w t)
+  consumed_step n most result bytes step same =
+      both (ConsumedUpTo s n most result bytes)
+      (moved (λ p. RestOk p (end_of w s)) _ _ (past_consumed s n most result bytes h) (consume_rests (past s h) (reads_of n most result bytes) (end_of v s) (end_of w s) (ok.sound s) (ok.sent s) (rests s) n most result step.0))
+      (moved (λ p. RestOk p (end_of w (other s))) _ _ (past_peer_consumed s n most result bytes h) (moved (RestOk _) _ _ same (rests (other s))))
+
+  -- a window or a grant is set anew
+  set_step : (setting : Setting) (result : Result (Unit {0}) SetFault) → SetStep (end_of v s) setting result (end_of w s) → end_of w (other s) ≡ end_of v (other s) → (t : Side) → RestOk (past t (HasSet s setting result ∷ h)) (end_of w t)
+  set_step setting result step same =
+      let x = HasSet s setting result in
+      let makes = makes_set s setting result in
+      both x
+      (moved (λ p. RestOk p (end_of w s)) _ _ (past_makes s x [] h makes) (set_rests (past s h) (end_of v s) (end_of w s) (ok.sound s) (ok.sent s) (rests s) setting result step))
+      (made_there x [] makes same)
+
   raise_step : (limits : PeerLimits) (result : Result (Unit {0}) RaiseFault) → RaiseStep (end_of v s) limits result (end_of w s) → end_of w (other s) ≡ end_of v (other s) → (t : Side) → RestOk (past t (RaisedLimits s limits result ∷ h)) (end_of w t)
   raise_step limits result step same =
       both (RaisedLimits s limits result)
       (moved (λ p. RestOk p (end_of w s)) _ _ (past_raised s s limits result h) (raise_rests (past s h) (end_of v s) (end_of w s) limits result (ok.sound s) (ok.sent s) (rests s) step))
       (moved (λ p. RestOk p (end_of w (other s))) _ _ (past_raised (other s) s limits result h) (moved (RestOk _) _ _ same (rests (other s))))
+
+  -- a stream is stopped and forgotten
+  forget_step : (n code : ℕ) (result : Result (Unit {0}) UseFault) → StopAndForgetStep (end_of v s) n code result (end_of w s) → end_of w (other s) ≡ end_of v (other s) → (t : Side) → RestOk (past t (Forgot s n code result ∷ h)) (end_of w t)
+  forget_step n code result step same =
+      let act : Act = acts.Stop n code in
+      let answer : Answer = answers.Stop result in
+      both (Forgot s n code result)
+      (moved (λ p. RestOk p (end_of w s)) _ _ (past_forgot s s n code result h ∙ past_own s act answer h refl) (forget_rests (past s h) (end_of v s) (end_of w s) (ok.sound s) (ok.sent s) (rests s) n code result step))
+      (moved (λ p. RestOk p (end_of w (other s))) _ _ (past_forgot (other s) s n code result h ∙ past_peer s act answer h refl) (moved (RestOk _) _ _ same (peer_rests (past (other s) h) (seen_by act answer) (end_of v (other s)) (rests (other s)))))
 
   received : (k : ℕ) (text : List ℕ) (result : Result Received Closing) (new : End) → payload s k h ≡ Some text → ReceiveStep (end_of v (other s)) k text result new → RestOk (past (other s) (did s (acts.Deliver k) (answers.Deliver result) ∷ h)) new
   received k text result new is step =
@@ -152,17 +185,16 @@ module _ (a b : Settings) (h : History) (v w : World) (s : Side) (ok : WorldOk a
       (moved (λ p. RestOk p (end_of w s)) _ _ (past_token s token result h) (token_rests (past s h) (end_of v s) (end_of w s) (ok.sound s) (ok.sent s) (ok.ends s) (rests s) token result step))
       (moved (λ p. RestOk p (end_of w (other s))) _ _ (past_peer_token s token result h) (moved (RestOk _) _ _ same (rests (other s))))
 
-  -- frames come without their packet
-  alone_step : (k : ℕ) (places : List ℕ) (result : Result Taken TakeFault) → ComeAloneStep h v s k places result w → (t : Side) → RestOk (past t (CameAlone s k places result ∷ h)) (end_of w t)
-  alone_step k places result (fs, (text, is, stand), handed, same) =
-      both (CameAlone s k places result)
-      (moved (λ p. RestOk p (end_of w s)) _ _ (past_came_from s k places result h) (moved (RestOk _) _ _ same (rests s)))
-      (moved (λ p. RestOk p (end_of w (other s))) _ _ (past_came_to s k places result h) (elim handed [ inl several ↦ came (TakeFrames fs) result several | inr (f, this, one) ↦ came (TakeFrame f) result one ]))
+  -- frames come without their packets
+  alone_step : (parts : List Part) (result : Result Taken TakeFault) → ComeAloneStep h v s parts result w → (t : Side) → RestOk (past t (CameAlone s parts result ∷ h)) (end_of w t)
+  alone_step parts result (fs, are, handed, same) =
+      both (CameAlone s parts result)
+      (moved (λ p. RestOk p (end_of w s)) _ _ (past_came_from s parts result h) (moved (RestOk _) _ _ same (rests s)))
+      (moved (λ p. RestOk p (end_of w (other s))) _ _ (past_came_to s parts result h) (elim handed [ inl several ↦ came (TakeFrames fs) result several | inr (f, this, one) ↦ came (TakeFrame f) result one ]))
     where
-      came : (call : Call) (given : CallAnswer call) → EndStep (end_of v (other s)) call given (end_of w (other s)) → RestOk (with_took (past (other s) h) k places result) (end_of w (other s))
+      came : (call : Call) (given : CallAnswer call) → EndStep (end_of v (other s)) call given (end_of w (other s)) → RestOk (with_took (past (other s) h) parts result) (end_of w (other s))
       came call given step =
-          alone_rests (past (other s) h) (end_of v (other s)) (end_of w (other s)) k places fs (frames_of (reading_of text).left) result (ok.ends (other s)) (is_open_end a b h v ok (other s)) (rests (other s))
-          (ap (λ x. slice_get x k) (theirs_mine s h) ∙ payload_seen s k h text is) stand handed call given step
+          alone_rests (past (other s) h) (end_of v (other s)) (end_of w (other s)) parts fs result (ok.ends (other s)) (is_open_end a b h v ok (other s)) (rests (other s)) (parts_held h s parts fs are) handed call given step
 
   event_step : (act : Act) (answer : Answer) → EventStep h v s act answer w → (t : Side) → RestOk (past t (did s act answer ∷ h)) (end_of w t)
   event_step (acts.Deliver k) answer step = deliver_step k answer step
@@ -174,11 +206,14 @@ step_rests a b h v w (MadeAck s room result text) ok rests ((delay, step), same)
     packet_step a b h v w s ok rests _ (texts_of result text) (makes_ack s room result text) (ack_packs (end_of v s) (end_of w s) delay room result text step) same
 step_rests a b h v w (FilledIn s want room result text) ok rests (step, same) =
     packet_step a b h v w s ok rests _ (texts_of result text) (makes_fill s want room result text) (fill_packs (end_of v s) (end_of w s) want room result text step) same
+step_rests a b h v w (ConsumedUpTo s n most result bytes) ok rests (step, same) = consumed_step a b h v w s ok rests n most result bytes step same
 step_rests a b h v w (LostToken s token result) ok rests (step, same) = lost_step a b h v w s ok rests token result step same
 step_rests a b h v w (AckedToken s token result) ok rests ((landed, step), same) = token_step a b h v w s ok rests token result step same
 step_rests a b h v w (RaisedLimits s limits result) ok rests ((granted, step), same) = raise_step a b h v w s ok rests limits result step same
+step_rests a b h v w (HasSet s setting result) ok rests (step, same) = set_step a b h v w s ok rests setting result step same
+step_rests a b h v w (Forgot s n code result) ok rests (step, same) = forget_step a b h v w s ok rests n code result step same
 step_rests a b h v w (CameWith s k bytes result) ok rests step = came_step a b h v w s ok rests k bytes result step
-step_rests a b h v w (CameAlone s k places result) ok rests step = alone_step a b h v w s ok rests k places result step
+step_rests a b h v w (CameAlone s parts result) ok rests step = alone_step a b h v w s ok rests parts result step
 
 pub every_run_keeps : EveryRunKeeps
 every_run_keeps a b [] w begins = first_ends a b w begins

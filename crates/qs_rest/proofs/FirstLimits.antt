@@ -15,12 +15,14 @@ use Rattle.qs_calls.specs.declared.answer.Answer.TheVariants as answers
 use Rattle.qs_machine.specs.Ends.{End}
 use Rattle.qs_machine.specs.Receiving.{ReceiveStep}
 use Rattle.qs_machine.specs.Raising.{RaiseStep, raise_refusal, greater_limits}
+use Rattle.qs_machine.specs.Setting.{Grant}
 use Rattle.qs_machine.specs.FrameStep.{named, acks, frame_taken}
 use Rattle.qs_machine.specs.Lawful.{frame_put}
-use Rattle.qs_machine.specs.EndStep.{Call, Answer as CallAnswer, EndStep, Receive, TakeFrame, TakeFrames, TokenAcked, TokenLost, MakeAck, FillIn, RaiseLimits}
+use Rattle.qs_machine.specs.EndStep.{Call, Answer as CallAnswer, EndStep, Consume, Receive, TakeFrame, TakeFrames, TokenAcked, TokenLost, MakeAck, FillIn, RaiseLimits, Set, StopAndForget}
 use Rattle.qs_machine.proofs.Leaves.{acks_leave, put_leaves, frame_leaves}
-use Rattle.qs_machine.proofs.EveryCall.{Change, changed, Comes, relates, Wanted, Took, Acked, Put, Raised}
-use Rattle.qs_runs.specs.Logs.{Happening, Did, MadeAck, FilledIn, AckedToken, LostToken, RaisedLimits, CameWith, CameAlone, History, happened, other}
+use Rattle.qs_machine.proofs.EveryCall.{Change, changed, Comes, relates, Wanted, Took, Acked, Put, Raised, WasSet}
+use Rattle.qs_runs.specs.Logs.{Happening, Did, MadeAck, FilledIn, ConsumedUpTo, AckedToken, LostToken, RaisedLimits, CameWith, CameAlone, History, happened, other, HasSet, Forgot}
+use Rattle.qs_machine.specs.Setting.{SendBuffer}
 use Rattle.qs_runs.specs.Worlds.{World, AreGranted, end_of, EventStep, WorldStep, Run}
 use Rattle.qs_runs.specs.Invariant.{WorldOk}
 use Rattle.qs_runs.proofs.Standing.{certain_cases}
@@ -79,7 +81,9 @@ change_rises old call (Wanted Uni count) e comes = rises_same e.peer
 change_rises old call (Took f) e comes = same_peer e (frame_taken f e) (ap (λ (x : End). x.peer) (frame_leaves f e))
 change_rises old call (Acked count ranges) e comes = same_peer e (acks (take count (named e ranges)) e) (ap (λ (x : End). x.peer) (acks_leave (take count (named e ranges)) e))
 change_rises old call (Put f) e comes = same_peer e (frame_put f e) (ap (λ (x : End). x.peer) (put_leaves f e))
+change_rises old call (WasSet (SendBuffer n size)) e comes = rises_same e.peer
 change_rises old call (Raised limits) e comes = rises_more e.peer limits
+change_rises old call (WasSet (Grant Uni n)) e comes = rises_same e.peer
 change_rises old call c e comes = rises_same e.peer
 
 call_rises : (old : End) (call : Call) (answer : CallAnswer call) (new : End) → EndStep old call answer new → Rises old.peer new.peer
@@ -108,12 +112,15 @@ step_rises : (h : History) (v w : World) (x : Happening) → WorldStep h v x w �
 step_rises h v w (Did event answer) step = event_rises v w event.end h event.act answer step
 step_rises h v w (MadeAck s room result text) ((delay, step), same) = alone_rises v w s (MakeAck delay room) (result, text) step same
 step_rises h v w (FilledIn s want room result text) (step, same) = alone_rises v w s (FillIn want room) (result, text) step same
+step_rises h v w (ConsumedUpTo s n most result bytes) ((step, taken), same) = alone_rises v w s (Consume n most) result step same
 step_rises h v w (LostToken s token result) (step, same) = alone_rises v w s (TokenLost token) result step same
 step_rises h v w (AckedToken s token result) ((landed, step), same) = alone_rises v w s (TokenAcked token) result step same
 step_rises h v w (RaisedLimits s limits result) ((granted, step), same) = alone_rises v w s (RaiseLimits limits) result step same
+step_rises h v w (HasSet s setting result) (step, same) = alone_rises v w s (Set setting) result step same
+step_rises h v w (Forgot s n code result) (step, same) = alone_rises v w s (StopAndForget n code) result step same
 step_rises h v w (CameWith s k bytes result) (text, is, differ, step, same) = comes_rises v w s k bytes result step same
-step_rises h v w (CameAlone s k places result) (fs, there, inl step, same) = there_rises v w s (TakeFrames fs) result step same
-step_rises h v w (CameAlone s k places result) (fs, there, inr (f, is, step), same) = there_rises v w s (TakeFrame f) result step same
+step_rises h v w (CameAlone s parts result) (fs, there, inl step, same) = there_rises v w s (TakeFrames fs) result step same
+step_rises h v w (CameAlone s parts result) (fs, there, inr (f, is, step), same) = there_rises v w s (TakeFrame f) result step same
 
 -- an end that was told limits no lower than the true ones of its peer
 told_true : (a b : Settings) (h : History) (v w : World) (x : Happening) → Run a b h v → WorldStep h v x w → (s : Side) → Rises (limits_of (end_of v (other s)).settings) (end_of w s).peer → KnowsFirstLimits w s

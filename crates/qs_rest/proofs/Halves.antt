@@ -4,7 +4,7 @@ use Rattle.std.specs.Prelude.{cond}
 use Rattle.std.proofs.lemmas.Option.{none-some}
 use Rattle.std.proofs.lemmas.Bool.{cond_both, or_left, false≢true}
 use Rattle.qs_ranges.specs.Numbers.{MAX_VARINT}
-use Rattle.qs_send.specs.Lane.{SendLane, refusal, reset_refusal, write_lane, finish_lane, reset_lane, stopped_lane, sent_lane, blocked_lane, allow_lane, acked_lane, reset_acked_lane}
+use Rattle.qs_send.specs.Lane.{SendLane, refusal, reset_refusal, write_lane, finish_lane, buffer_lane, reset_lane, stopped_lane, sent_lane, blocked_lane, allow_lane, acked_lane, reset_acked_lane}
 use Rattle.qs_send.specs.declared.parts.Chunk.{Chunk}
 use Rattle.qs_send.specs.declared.parts.SendFault.TheVariants.{Finished, WasReset}
 use Rattle.qs_runs.specs.Pasts.{Past}
@@ -37,6 +37,9 @@ write_lasts l bytes none = record { limit = omega arith; reset = λ is. is; whol
 
 pub finish_lasts : (l : SendLane) → Lasts l (finish_lane l)
 finish_lasts l = record { limit = omega arith; reset = λ is. is; whole = λ h. record { finished = refl; end = h.end; offsets = h.offsets } }
+
+pub buffer_lasts : (l : SendLane) (size : ℕ) → Lasts l (buffer_lane l size)
+buffer_lasts l size = record { limit = omega arith; reset = λ is. is; whole = λ h. record { finished = h.finished; end = h.end; offsets = h.offsets } }
 
 pub reset_lasts : (code : ℕ) (l : SendLane) → Lasts l (reset_lane l code)
 reset_lasts code l =
@@ -79,6 +82,9 @@ module _ (p : Past) (n first : ℕ) (l : SendLane) (h : HalfTrue p n first l) wh
 
   pub finish_true : HalfTrue p n first (finish_lane l)
   finish_true = record { first_limit = h.first_limit; small = h.small; reset_told = h.reset_told }
+
+  pub buffer_true : (size : ℕ) → HalfTrue p n first (buffer_lane l size)
+  buffer_true size = record { first_limit = h.first_limit; small = h.small; reset_told = h.reset_told }
 
   pub reset_true : (code : ℕ) → HalfTrue p n first (reset_lane l code)
   reset_true code =

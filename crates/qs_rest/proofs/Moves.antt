@@ -8,13 +8,15 @@ use Rattle.std.specs.FinMap as fmap
 use Rattle.qs_wire.specs.declared.stream_id.Dir.{Dir}
 use Rattle.qs_wire.specs.declared.stream_id.Dir.TheVariants.{Bidi, Uni}
 use Rattle.qs_ranges.specs.Numbers.{MAX_VARINT}
-use Rattle.qs_send.specs.Lane.{SendLane, new_lane as new_send_lane, refusal, write_lane, finish_lane, reset_lane, stopped_lane, sent_lane, blocked_lane, allow_lane, acked_lane, reset_acked_lane}
+use Rattle.qs_send.specs.Lane.{SendLane, new_lane as new_send_lane, refusal, write_lane, finish_lane, buffer_lane, reset_lane, stopped_lane, sent_lane, blocked_lane, allow_lane, acked_lane, reset_acked_lane}
 use Rattle.qs_send.specs.declared.piece.Item.{Item}
 use Rattle.qs_send.specs.declared.piece.Item.TheVariants.{MaxData, MaxStreamData, MaxStreams, ResetStream, StopSending, DataBlocked, StreamDataBlocked, StreamsBlocked}
 use Rattle.qs_send.specs.declared.piece.Piece.{Piece}
 use Rattle.qs_send.specs.declared.piece.Piece.TheVariants.{Data, Told}
 use Rattle.qs_machine.specs.Tables.{Tables, lookup, updated, open_to}
 use Rattle.qs_machine.specs.Ends.{End, AckedItems, on_send, is_own, is_uni, opens, opened_by_peer, first_send_limit}
+use Rattle.qs_machine.specs.Credit.{settle}
+use Rattle.qs_machine.specs.Setting.{Setting, ConnWindow, Grant, SendBuffer, with_setting}
 use Rattle.qs_machine.specs.Seen.{Seen, Ack, Stream, Control, Close, Plain}
 use Rattle.qs_machine.specs.FrameStep.{AckedPiece, frame_taken, item_taken, piece_acked, item_acked, acks, without_piece, first_acked, named, greatest, or_zero}
 use Rattle.qs_machine.specs.Lawful.{Fills, frame_put, item_put, chunk_of}
@@ -26,7 +28,7 @@ use Rattle.qs_runs.specs.Pasts.{Past}
 use Rattle.qs_runs.proofs.Members.{insert-cases, get-inserted}
 use Rattle.qs_runs.proofs.Acking.{WasAcked}
 use Rattle.qs_rest.specs.Invariant.{WasTold, AckedTrue, HalfTrue}
-use Rattle.qs_rest.proofs.Halves.{Lasts, lasts_same, lasts_twice, write_lasts, finish_lasts, reset_lasts, stopped_lasts, sent_lasts, blocked_lasts, allow_lasts, acked_lasts, reset_acked_lasts, write_true, finish_true, reset_true, stopped_true, sent_true, blocked_true, allow_true, acked_true, reset_acked_true}
+use Rattle.qs_rest.proofs.Halves.{Lasts, lasts_same, lasts_twice, write_lasts, finish_lasts, buffer_lasts, reset_lasts, stopped_lasts, sent_lasts, blocked_lasts, allow_lasts, acked_lasts, reset_acked_lasts, write_true, finish_true, buffer_true, reset_true, stopped_true, sent_true, blocked_true, allow_true, acked_true, reset_acked_true}
 use Rattle.qs_rest.proofs.EachCall.{Edits}
 
 -- what holds of a sending half that is open
@@ -161,6 +163,15 @@ module _ (p : Past) where
   wanted_moved Bidi count e all acked = record { role = refl; peer = refl; conn = omega arith; bidi = omega arith; uni = omega arith; sends = kept_all e.sends; halves = all; acked = acked }
   wanted_moved Uni count e all acked = record { role = refl; peer = refl; conn = omega arith; bidi = omega arith; uni = omega arith; sends = kept_all e.sends; halves = all; acked = acked }
 
+  -- what is set anew leaves what is known of the peer, and of sending halves all but a buffer
+  pub set_moved : (e : End) → AllTrue p e → AckedTrue p e.acked → (x : Setting) → Moved p e (settle (with_setting x e))
+  set_moved e all acked (ConnWindow w) = record { role = refl; peer = refl; conn = omega arith; bidi = omega arith; uni = omega arith; sends = kept_all e.sends; halves = all; acked = acked }
+  set_moved e all acked (Grant Bidi n) = record { role = refl; peer = refl; conn = omega arith; bidi = omega arith; uni = omega arith; sends = kept_all e.sends; halves = all; acked = acked }
+  set_moved e all acked (Grant Uni n) = record { role = refl; peer = refl; conn = omega arith; bidi = omega arith; uni = omega arith; sends = kept_all e.sends; halves = all; acked = acked }
+  set_moved e all acked (SendBuffer n size) =
+      let h = half_moved e n (λ m. buffer_lane m size) all acked (λ l is. buffer_lasts l size) (λ l is h. buffer_true p n _ l h size) in
+      record { role = h.role; peer = h.peer; conn = h.conn; bidi = h.bidi; uni = h.uni; sends = h.sends; halves = h.halves; acked = h.acked }
+
   -- each call of an owner
   pub moved_edits : (old : End) → AllTrue p old → AckedTrue p old.acked → Edits (Moved p old) old
   moved_edits old all acked =
@@ -176,7 +187,9 @@ module _ (p : Past) where
         finishes = λ n. half_moved old n finish_lane all acked (λ l is. finish_lasts l) (λ l is h. finish_true p n _ l h);
         resets = λ n code. half_moved old n (λ m. reset_lane m code) all acked (λ l is. reset_lasts code l) (λ l is h. reset_true p n _ l h code);
         stops = λ n code. record { role = refl; peer = refl; conn = omega arith; bidi = omega arith; uni = omega arith; sends = kept_all old.sends; halves = all; acked = acked };
+        forgets = λ n code. record { role = refl; peer = refl; conn = omega arith; bidi = omega arith; uni = omega arith; sends = kept_all old.sends; halves = all; acked = acked };
         reads = λ n size. record { role = refl; peer = refl; conn = omega arith; bidi = omega arith; uni = omega arith; sends = kept_all old.sends; halves = all; acked = acked };
+        reads_again = λ n first next. record { role = refl; peer = refl; conn = omega arith; bidi = omega arith; uni = omega arith; sends = kept_all old.sends; halves = all; acked = acked };
         fills = λ frames mid fills.
             let h = fills_moved old old frames mid all acked fills in
             record { role = h.role; peer = h.peer; conn = h.conn; bidi = h.bidi; uni = h.uni; sends = h.sends; halves = h.halves; acked = h.acked };

@@ -1,10 +1,9 @@
 -- In every run what a frame did that was taken stays done, so it changes nothing when it comes again.
-use Rattle.std.proofs.Common.{◌≡◌, ℕ, Bool, true, false, ◌||◌, ◌==◌, List, [], ◌∷◌, ◌++◌, map, Option, Some, None, Result, Ok, Err, slice_get, option_map, refl, sym, ap, ◌∙◌, subst, inl, inr, append-nil}
-use Rattle.std.proofs.lemmas.Option.{same_Some, slice_get-map}
-use Rattle.std.proofs.lemmas.Bool.{false≢true, eq-eqb}
+use Rattle.std.proofs.Common.{◌≡◌, ℕ, Bool, true, false, List, [], ◌∷◌, ◌++◌, map, Option, Some, None, Result, Ok, Err, slice_get, refl, sym, ap, ◌∙◌, subst, inl, inr, append-nil}
+use Rattle.std.proofs.lemmas.Option.{same_Some}
+use Rattle.std.proofs.lemmas.Bool.{false≢true}
 use Rattle.std.specs.List.{AllByRecursion}
-use Rattle.qs_wire.specs.Layout.{FrameValue, PlacedValue}
-use Rattle.qs_wire.specs.Grammar.{frames_of}
+use Rattle.qs_wire.specs.Layout.{PlacedValue}
 use Rattle.qs_wire.specs.Reading.{reading_of}
 use Rattle.qs_wire.specs.declared.fault.WireFault.{WireFault}
 use Rattle.qs_send.specs.Records.{Among}
@@ -29,25 +28,27 @@ use Rattle.qs_machine.specs.Receiving.{ReceiveStep, ReceiveBy, TakesPayload, End
 use Rattle.qs_machine.specs.Alone.{is_ours}
 use Rattle.qs_machine.specs.Standing.{IsSound}
 use Rattle.qs_machine.specs.Repeats.{SentWasWritten}
-use Rattle.qs_machine.specs.EndStep.{Call, Answer as CallAnswer, EndStep, Receive, TakeFrame, TakeFrames, TokenAcked, TokenLost, MakeAck, FillIn, RaiseLimits}
+use Rattle.qs_machine.specs.EndStep.{Call, Answer as CallAnswer, EndStep, Consume, Receive, TakeFrame, TakeFrames, TokenAcked, TokenLost, MakeAck, FillIn, RaiseLimits, Set, StopAndForget}
 use Rattle.qs_machine.proofs.EveryCall.{by_open}
 use Rattle.qs_machine.proofs.Prefix.{seen_in, takes_prefix}
 use Rattle.qs_machine.proofs.Plains.{plain_nothing}
 use Rattle.qs_machine.proofs.TablesAfter.{kept_same}
 use Rattle.qs_machine.proofs.LanesAgain.{LaneAfter, lane_same}
 use Rattle.qs_machine.proofs.Again.{all_done}
-use Rattle.qs_runs.specs.Logs.{Happening, Did, MadeAck, FilledIn, AckedToken, LostToken, RaisedLimits, CameWith, CameAlone, History, other, is_delivery, is_done, is_among, is_taken, StandAt, texts_of, payload, processed, took, own_calls}
+use Rattle.qs_runs.specs.Logs.{Part, Happening, Did, MadeAck, FilledIn, ConsumedUpTo, AckedToken, LostToken, RaisedLimits, CameWith, CameAlone, History, other, is_delivery, reads_of, is_done, is_taken, texts_of, payload, processed, took, own_calls, HasSet, Forgot}
 use Rattle.qs_runs.specs.Worlds.{World, end_of, OwnStep, EventStep, ComeAloneStep, WorldStep, Run}
 use Rattle.qs_runs.specs.Agree.{frames_in}
-use Rattle.qs_runs.specs.Pasts.{Past, Packets, packets_of, past, seen_by, EachTaken}
+use Rattle.qs_runs.specs.Pasts.{Past, Packets, Tells, packets_of, past, seen_by, EachTaken}
 use Rattle.qs_runs.specs.Clauses.{HasArrived}
 use Rattle.qs_runs.specs.Invariant.{WorldOk}
 use Rattle.qs_runs.proofs.Past.{EachTaken-more, each_taken}
 use Rattle.qs_runs.proofs.Receives.{with_received}
-use Rattle.qs_runs.proofs.Alone.{with_took, handed, taken_came, took_each, stand_among, stand_fit, stand_holds}
+use Rattle.qs_runs.proofs.OwnMoves.{with_uses}
+use Rattle.qs_runs.proofs.Alone.{with_took, AreHeldAt, held_told, held_holds, held_all, handed, taken_came, took_each}
 use Rattle.qs_runs.proofs.Landing.{at_among}
+use Rattle.qs_runs.proofs.Parts.{parts_held, parts_fit}
 use Rattle.qs_runs.proofs.Lists.{All_at}
-use Rattle.qs_runs.proofs.Histories.{past_own, past_peer, past_sender, past_receiver, Makes, past_makes, past_peer_makes, makes_ack, makes_fill, makes_none, past_raised, past_came, past_came_from, past_came_to, past_token, past_peer_token, did, theirs_mine, payload_seen, faultless_at}
+use Rattle.qs_runs.proofs.Histories.{past_own, past_peer, past_sender, past_receiver, Makes, past_makes, past_peer_makes, makes_ack, makes_fill, makes_none, past_consumed, past_peer_consumed, past_raised, past_came, past_came_from, past_came_to, past_token, past_peer_token, did, theirs_mine, payload_seen, makes_set, past_forgot}
 use Rattle.qs_runs.proofs.Granting.{own_call}
 use Rattle.qs_runs.proofs.Claims.{run_settled}
 use Rattle.qs_runs.proofs.Runs.{two_sides, run_keeps, is_open_end, ends_face, moved}
@@ -64,6 +65,10 @@ Still p e = EachTaken p.theirs p.processed p.took (StillDone e)
 
 more_still : (p : Past) (e new : End) → ((f : Seen) → StillDone e f → StillDone new f) → Still p e → Still p new
 more_still p e new more h = each_taken p.theirs p.processed p.took (StillDone e) (StillDone new) more h
+
+uses_still : (p : Past) (calls : List (Act × Answer)) (e : End) → Still p e → Still (with_uses p calls) e
+uses_still p [] e h = h
+uses_still p (c ∷ calls) e h = uses_still p calls e h
 
 -- A payload
 
@@ -162,12 +167,12 @@ module _ (a b : Settings) (h : History) (v w : World) (s : Side) (ok : WorldOk a
   event_still (acts.Deliver k) answer step = absurd step
   event_still act answer step = own_still act answer refl step.0 step.1
 
-  -- frames come without their packet
-  alone_still : (k : ℕ) (places : List ℕ) (result : Result Taken TakeFault) → ComeAloneStep h v s k places result w → AllStill (CameAlone s k places result)
-  alone_still k places result (fs, (text, is, stand), step, same) =
-      both (CameAlone s k places result)
-      (moved (λ p. Still p (end_of w s)) _ _ (past_came_from s k places result h) (same_still s same))
-      (moved (λ p. Still p (end_of w (other s))) _ _ (past_came_to s k places result h) came)
+  -- frames come without their packets
+  alone_still : (parts : List Part) (result : Result Taken TakeFault) → ComeAloneStep h v s parts result w → AllStill (CameAlone s parts result)
+  alone_still parts result (fs, are, step, same) =
+      both (CameAlone s parts result)
+      (moved (λ p. Still p (end_of w s)) _ _ (past_came_from s parts result h) (same_still s same))
+      (moved (λ p. Still p (end_of w (other s))) _ _ (past_came_to s parts result h) came)
     where
       old : Still (past (other s) h) (end_of w (other s))
       old = elim step [ inl several ↦ called (other s) (TakeFrames fs) result several | inr (f, this, one) ↦ called (other s) (TakeFrame f) result one ]
@@ -182,16 +187,20 @@ module _ (a b : Settings) (h : History) (v w : World) (s : Side) (ok : WorldOk a
           all_settled : (mid : End) (gs : List Seen) → AllByRecursion (StillDone mid) gs → AllByRecursion (StillDone (settle mid)) gs
           all_settled mid gs all = all_among (StillDone (settle mid)) gs (λ g at. settled_still mid g (All_at (StillDone mid) gs g all at))
 
-      came : Still (with_took (past (other s) h) k places result) (end_of w (other s))
+      came : Still (with_took (past (other s) h) parts result) (end_of w (other s))
       came =
-          took_each (past (other s) h) k places result (StillDone (end_of w (other s))) old (λ i among taken. (
-          let (f, at, holds) = stand_holds (StillDone (end_of w (other s))) (frames_of (reading_of text).left) places fs stand (now taken) i among in
-          (f, (frames_in text, ap (λ x. slice_get x k) (theirs_mine s h) ∙ payload_seen s k h text is, at), holds)))
+          took_each (past (other s) h) parts result (StillDone (end_of w (other s))) old
+          (λ k i among taken. held_holds (StillDone (end_of w (other s))) (past (other s) h).theirs parts fs (parts_held h s parts fs are) (now taken) k i among)
 
 step_still : (a b : Settings) (h : History) (v w : World) (x : Happening) → WorldOk a b h v → ((t : Side) → Still (past t h) (end_of v t)) → WorldStep h v x w → (t : Side) → Still (past t (x ∷ h)) (end_of w t)
 step_still a b h v w (Did event answer) ok still step = event_still a b h v w event.end ok still event.act answer step
 step_still a b h v w (MadeAck s room result text) ok still ((delay, step), same) = packet_still a b h v w s ok still _ (texts_of result text) (makes_ack s room result text) (MakeAck delay room) (result, text) step same
 step_still a b h v w (FilledIn s want room result text) ok still (step, same) = packet_still a b h v w s ok still _ (texts_of result text) (makes_fill s want room result text) (FillIn want room) (result, text) step same
+step_still a b h v w (ConsumedUpTo s n most result bytes) ok still ((step, taken), same) =
+    both a b h v w s ok still (ConsumedUpTo s n most result bytes)
+    (moved (λ p. Still p (end_of w s)) _ _ (past_consumed s n most result bytes h) (uses_still (past s h) (reads_of n most result bytes) (end_of w s) (called a b h v w s ok still s (Consume n most) result step)))
+    (moved (λ p. Still p (end_of w (other s))) _ _ (past_peer_consumed s n most result bytes h) (same_still a b h v w s ok still (other s) same))
+step_still a b h v w (HasSet s setting result) ok still (step, same) = packet_still a b h v w s ok still _ [] (makes_set s setting result) (Set setting) result step same
 step_still a b h v w (LostToken s token result) ok still (step, same) = packet_still a b h v w s ok still _ [] (makes_none s token result) (TokenLost token) result step same
 step_still a b h v w (AckedToken s token result) ok still ((landed, step), same) =
     both a b h v w s ok still (AckedToken s token result)
@@ -201,12 +210,16 @@ step_still a b h v w (RaisedLimits s limits result) ok still ((granted, step), s
     both a b h v w s ok still (RaisedLimits s limits result)
     (moved (λ p. Still p (end_of w s)) _ _ (past_raised s s limits result h) (called a b h v w s ok still s (RaiseLimits limits) result step))
     (moved (λ p. Still p (end_of w (other s))) _ _ (past_raised (other s) s limits result h) (same_still a b h v w s ok still (other s) same))
+step_still a b h v w (Forgot s n code result) ok still (step, same) =
+    both a b h v w s ok still (Forgot s n code result)
+    (moved (λ p. Still p (end_of w s)) _ _ (past_forgot s s n code result h ∙ past_own s (acts.Stop n code) (answers.Stop result) h refl) (called a b h v w s ok still s (StopAndForget n code) result step))
+    (moved (λ p. Still p (end_of w (other s))) _ _ (past_forgot (other s) s n code result h ∙ past_peer s (acts.Stop n code) (answers.Stop result) h refl) (made_there a b h v w s ok still [] same))
 step_still a b h v w (CameWith s k bytes result) ok still (text, is, differ, step, same) =
     let (bare, without, alike) = plain_nothing (end_of v (other s)) (end_of w (other s)) k bytes text result differ step in
     both a b h v w s ok still (CameWith s k bytes result)
     (moved (λ p. Still p (end_of w s)) _ _ (past_came s s k bytes result h ∙ past_sender s k (answers.Deliver result) h) (same_still a b h v w s ok still s same))
     (moved (λ p. Still p (end_of w (other s))) _ _ (past_came (other s) s k bytes result h) (moved (Still (past (other s) (did s (acts.Deliver k) (answers.Deliver result) ∷ h))) _ _ alike (more_still (past (other s) (did s (acts.Deliver k) (answers.Deliver result) ∷ h)) bare (record bare { ack_due = (end_of w (other s)).ack_due }) (still_stays bare (record bare { ack_due = (end_of w (other s)).ack_due }) (keeps_same bare) (kept_same LaneAfter lane_same bare.recvs)) (received a b h v w s ok still k text result bare is without))))
-step_still a b h v w (CameAlone s k places result) ok still step = alone_still a b h v w s ok still k places result step
+step_still a b h v w (CameAlone s parts result) ok still step = alone_still a b h v w s ok still parts result step
 
 none_taken : (t : Side) (e : End) → Still (past t []) e
 unfolding own_calls packets_of processed took
@@ -228,22 +241,10 @@ arrived_has h s P each k i fs f is at (inr alone) =
     let same : gs ≡ fs = same_Some gs fs (sym there ∙ is) in
     subst P (same_Some g f (sym (subst (λ xs. slice_get xs i ≡ Some g) same has_it) ∙ at)) holds
 
--- what holds at each of the places holds of these frames
-stand_all : (P : Seen → Type 0) (all : List FrameValue) (places : List ℕ) (fs : List FrameValue) → StandAt all places fs → ((i : ℕ) (f : FrameValue) → is_among i places ≡ true → slice_get all i ≡ Some f → P (seen f)) → AllByRecursion P (seen_all fs)
-stand_all P all [] [] stand each = tt
-stand_all P all [] (f ∷ fs) stand each = absurd stand
-stand_all P all (i ∷ places) [] stand each = absurd stand
-stand_all P all (i ∷ places) (f ∷ fs) (at, stand) each =
-    (each i f (rw (eq-eqb i i refl) refl) at, stand_all P all places fs stand (λ j g among. each j g (or_right (j == i) (is_among j places) among)))
-  where
-    or_right : (x y : Bool) → y ≡ true → (x || y) ≡ true
-    or_right true y is = refl
-    or_right false y is = is
-
 pub frames_repeat : FramesRepeat
-frames_repeat a b h v w s k places r run arrived (fs, (text, is, stand), step, same) =
+frames_repeat a b h v w s parts r run arrived (fs, are, step, same) =
     elim (handed e fs r (end_of w (other s)) (is_open_end a b h v ok (other s)) step) [
-      | inl (mid, takes, after) ↦ after ∙ ap settle (each_again fs e r mid (stand_fit all places fs stand (faultless_at _ k text (ok.texts s) is).1) fine again takes) ∙ run_settled a b h v run (other s)
+      | inl (mid, takes, after) ↦ after ∙ ap settle (each_again fs e r mid (parts_fit h s (ok.texts s) parts fs are) fine again takes) ∙ run_settled a b h v run (other s)
       | inr (none, unchanged) ↦ unchanged
     ]
   where
@@ -253,20 +254,20 @@ frames_repeat a b h v w s k places r run arrived (fs, (text, is, stand), step, s
     e : End
     e = end_of v (other s)
 
-    all : List FrameValue
-    all = frames_of (reading_of text).left
+    held : AreHeldAt (past (other s) h).theirs parts fs
+    held = parts_held h s parts fs are
 
-    there : slice_get (past (other s) h).theirs k ≡ Some (frames_in text)
-    there = ap (λ x. slice_get x k) (theirs_mine s h) ∙ payload_seen s k h text is
+    -- what the peer made has no fault
+    fine_of : (g : Seen) → Tells (past (other s) h).theirs g → verdict e g ≡ None
+    fine_of g told =
+        told_fine (past (other s) h) (past s h) (theirs_mine s h) refl e (end_of v s) (ends_face a b h v ok s) (ok.ends (other s)) (ok.ends s) g (subst (λ ps. Tells ps g) (theirs_mine s h) told)
 
     fine : AllByRecursion (λ g. verdict e g ≡ None) (seen_all fs)
-    fine = all_among (λ g. verdict e g ≡ None) (seen_all fs) (λ g at.
-        told_fine (past (other s) h) (past s h) (theirs_mine s h) refl e (end_of v s) (ends_face a b h v ok s) (ok.ends (other s)) (ok.ends s) g (k, (frames_in text, payload_seen s k h text is, stand_among all places fs stand g at)))
+    fine = all_among (λ g. verdict e g ≡ None) (seen_all fs) (λ g at. fine_of g (held_told (past (other s) h).theirs parts fs held g at))
 
     again : AllByRecursion (λ g. is_ours g ≡ true → frame_taken g e ≡ e) (seen_all fs)
-    again = stand_all (λ g. is_ours g ≡ true → frame_taken g e ≡ e) all places fs stand (λ i f among at ours. (
-        let here : slice_get (frames_in text) i ≡ Some (seen f) = slice_get-map seen all i ∙ ap (option_map seen) at in
-        taken_again (past (other s) h) e (ok.ends (other s)) (ok.sound (other s)).0 (seen f) ours
-        (told_fine (past (other s) h) (past s h) (theirs_mine s h) refl e (end_of v s) (ends_face a b h v ok s) (ok.ends (other s)) (ok.ends s) (seen f) (k, (frames_in text, payload_seen s k h text is, at_among (frames_in text) i (seen f) here)))
-        (arrived_has h s (ItemTaken e) (every_run_keeps a b h v run (other s)).taken k i (frames_in text) (seen f) there here (arrived i among))
-        (arrived_has h s (StillDone e) (run_still a b h v run (other s)) k i (frames_in text) (seen f) there here (arrived i among))))
+    again = held_all (λ g. is_ours g ≡ true → frame_taken g e ≡ e) (past (other s) h).theirs parts fs held (λ k i f among (all, there, at) ours.
+        taken_again (past (other s) h) e (ok.ends (other s)) (ok.sound (other s)).0 f ours
+        (fine_of f (k, (all, there, at_among all i f at)))
+        (arrived_has h s (ItemTaken e) (every_run_keeps a b h v run (other s)).taken k i all f there at (arrived k i among))
+        (arrived_has h s (StillDone e) (run_still a b h v run (other s)) k i all f there at (arrived k i among)))

@@ -13,7 +13,7 @@ use Rattle.qs_calls.specs.declared.settings.Settings.{Settings}
 use Rattle.qs_calls.specs.declared.event.Side.{Side}
 use Rattle.qs_calls.specs.declared.event.Side.TheVariants.{A, B}
 use Rattle.qs_machine.specs.Ends.{End, first_send_limit, window, is_uni, is_own}
-use Rattle.qs_machine.specs.Credit.{next_count}
+use Rattle.qs_machine.specs.Credit.{granted_streams}
 use Rattle.qs_machine.specs.Due.{known_count}
 use Rattle.qs_machine.specs.Seen.{Control}
 use Rattle.qs_runs.specs.Logs.{History, other}
@@ -98,9 +98,9 @@ module _ (a b : Settings) (h : History) (w : World) (ok : WorldOk a b h w) (keep
           | inr first ↦ (let count = ap (λ x. x.streams_uni) told in omega (arith, first, count, (keeps s).uni))
         ]
 
-    counts_known : (d : Dir) → known_count here d ≡ next_count there d
-    counts_known Bidi = (let same : here.known_bidi ≡ there.granted_bidi = omega (arith, bidi_known, (known_counts a b h w ok s).0) in same ∙ (keeps (other s)).counts Bidi)
-    counts_known Uni = (let same : here.known_uni ≡ there.granted_uni = omega (arith, uni_known, (known_counts a b h w ok s).1) in same ∙ (keeps (other s)).counts Uni)
+    counts_known : (d : Dir) → known_count here d ≡ granted_streams there d
+    counts_known Bidi = omega (arith, bidi_known, (known_counts a b h w ok s).0)
+    counts_known Uni = omega (arith, uni_known, (known_counts a b h w ok s).1)
 
     pub limits_known : KnowsItsLimits h w s
     limits_known =
@@ -108,6 +108,7 @@ module _ (a b : Settings) (h : History) (w : World) (ok : WorldOk a b h w) (keep
           connection = omega (arith, data_known, (known_is_within_granted a b h w ok s).connection);
           streams = λ n l r at is open_end. omega (arith, stream_known n l r at is open_end, (known_is_within_granted a b h w ok s).streams n l r at is);
           counts = counts_known;
+          settled = (keeps (other s)).counts;
         }
 
 pub told_taken : ToldIsTaken

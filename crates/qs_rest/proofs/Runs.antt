@@ -16,13 +16,18 @@ use Rattle.qs_calls.specs.declared.closing.Received.TheVariants.{Duplicate, Belo
 use Rattle.qs_calls.specs.declared.making.Made.{Made}
 use Rattle.qs_calls.specs.declared.making.LostFault.{LostFault}
 use Rattle.qs_calls.specs.declared.making.MakeFault.{MakeFault}
+use Rattle.qs_calls.specs.declared.reading.Consumed.{Consumed}
+use Rattle.qs_calls.specs.declared.uses.UseFault.{UseFault}
 use Rattle.qs_calls.specs.declared.token.Token.{Token}
 use Rattle.qs_calls.specs.declared.token.Taken.{Taken}
 use Rattle.qs_calls.specs.declared.token.TakeFault.{TakeFault}
 use Rattle.qs_calls.specs.declared.token.TokenFault.{TokenFault}
 use Rattle.qs_calls.specs.declared.settings.PeerLimits.{PeerLimits}
 use Rattle.qs_calls.specs.declared.settings.RaiseFault.{RaiseFault}
+use Rattle.qs_calls.specs.declared.settings.SetFault.{SetFault}
+use Rattle.qs_calls.specs.declared.uses.UseFault.{UseFault}
 use Rattle.qs_calls.specs.declared.event.Act.{Act}
+use Rattle.qs_calls.specs.declared.event.Act.TheVariants as acts
 use Rattle.qs_calls.specs.declared.answer.Answer.{Answer}
 use Rattle.qs_calls.specs.declared.answer.Answer.TheVariants as answers
 use Rattle.qs_machine.specs.Tables.{lookup}
@@ -30,28 +35,31 @@ use Rattle.qs_machine.specs.Ends.{End, AckedItems, first_send_limit}
 use Rattle.qs_machine.specs.Receiving.{ReceiveStep, ReceiveBy}
 use Rattle.qs_machine.specs.Credit.{settle}
 use Rattle.qs_machine.specs.Making.{MakeStep, LoseStep, make_refusal}
+use Rattle.qs_machine.specs.Owner.{ConsumeStep}
 use Rattle.qs_machine.proofs.CallsCounts.{sound_end}
 use Rattle.qs_machine.proofs.SentCalls.{keeps_call}
 use Rattle.qs_machine.specs.Alone.{token_refusal, TokenAckedStep, TokenLostStep, LosesEach}
-use Rattle.qs_machine.specs.Seen.{seen_all}
 use Rattle.qs_machine.specs.FrameStep.{AckedPiece, acks, named, frame_taken}
 use Rattle.qs_machine.proofs.Leaves.{acks_leave}
 use Rattle.qs_machine.specs.Raising.{RaiseStep, knows_limits, limits_raised, raise_refusal}
-use Rattle.qs_machine.specs.EndStep.{Call, Answer as CallAnswer, EndStep, Receive, TokenAcked, Make, Lose, RaiseLimits}
+use Rattle.qs_machine.specs.EndStep.{Call, Answer as CallAnswer, EndStep, Consume, Receive, TokenAcked, Make, Lose, RaiseLimits, Set, StopAndForget}
+use Rattle.qs_machine.specs.Setting.{Setting, SetStep, set_refusal}
+use Rattle.qs_machine.specs.Owner.{StopAndForgetStep}
+use Rattle.qs_calls.specs.declared.settings.SetFault.{SetFault}
 use Rattle.qs_machine.specs.SettledLimits.{LimitsAreSettled}
 use Rattle.qs_machine.proofs.Raised.{kept_raised}
 use Rattle.qs_machine.proofs.TablesAfter.{KeptIn}
 use Rattle.qs_machine.proofs.EveryCall.{by_open}
 use Rattle.qs_machine.proofs.SettledLimits.{calls_settle}
 use Rattle.qs_machine.proofs.CallsCounts.{settled_call}
-use Rattle.qs_runs.specs.Logs.{is_done, StandAt, was_told, is_in}
+use Rattle.qs_runs.specs.Logs.{Part, is_done, was_told, is_in}
 use Rattle.qs_runs.specs.Agree.{frames_in}
 use Rattle.qs_runs.specs.Worlds.{OwnStep, HandedIn}
 use Rattle.qs_runs.specs.Pasts.{Packets, Past, seen_by}
 use Rattle.qs_runs.specs.Invariant.{EndOk}
 use Rattle.qs_runs.proofs.Lists.{All_take}
 use Rattle.qs_runs.proofs.Acking.{WasAcked}
-use Rattle.qs_runs.proofs.Alone.{with_took, with_token, stand_among, stand_holds, took_each, token_ok, token_pieces, or_cond}
+use Rattle.qs_runs.proofs.Alone.{with_took, with_token, AreHeldAt, held_told, held_holds, took_each, token_ok, token_pieces, or_cond}
 use Rattle.qs_runs.proofs.Packing.{Packs}
 use Rattle.qs_runs.proofs.Past.{Holds-more, Confirmed-more, EachTaken-more, each_taken}
 use Rattle.qs_runs.proofs.Changes.{AllGrow, all_grow_refl}
@@ -60,17 +68,17 @@ use Rattle.qs_runs.proofs.Granting.{own_call}
 use Rattle.qs_machine.specs.Standing.{IsSound, CountsAreSettled}
 use Rattle.qs_machine.specs.Repeats.{SentWasWritten}
 use Rattle.qs_runs.proofs.Lasting.{call_grows}
-use Rattle.qs_runs.proofs.OwnMoves.{with_call, with_packets}
+use Rattle.qs_runs.proofs.OwnMoves.{with_call, with_uses, with_packets}
 use Rattle.qs_runs.proofs.Raising.{allowed_at}
 use Rattle.qs_runs.proofs.Standing.{certain_cases}
 use Rattle.qs_runs.proofs.PeerMoves.{with_theirs}
 use Rattle.qs_runs.proofs.Receives.{with_received}
 use Rattle.qs_rest.specs.Invariant.{WasTold, AckedTrue, HalfTrue, ItemTaken, RestOk}
 use Rattle.qs_rest.proofs.Halves.{Lasts, lasts_same, lasts_twice, allow_lasts}
-use Rattle.qs_rest.proofs.EachCall.{each_own, make_by, lose_by}
-use Rattle.qs_rest.proofs.Moves.{AllTrue, SlotTrue, Moved, moved_same, moved_edits, acks_moved}
+use Rattle.qs_rest.proofs.EachCall.{each_own, consume_by, make_by, lose_by, forget_by}
+use Rattle.qs_rest.proofs.Moves.{AllTrue, SlotTrue, Moved, moved_same, moved_edits, acks_moved, set_moved}
 use Rattle.qs_rest.proofs.Effects.{item_stays, items_stay}
-use Rattle.qs_rest.proofs.Telling.{AllTold, all_told, told_at, own_told, packet_told, lost_told, told_settles, received_held, receive_told, handed_held}
+use Rattle.qs_rest.proofs.Telling.{AllTold, all_told, told_at, own_told, consume_told, packet_told, lost_told, told_settles, received_held, receive_told, handed_held, set_told, forget_told}
 use Rattle.qs_rest.proofs.Alone.{handed_came}
 use Rattle.qs_rest.proofs.Payloads.{After, takes, settled, not_done}
 
@@ -167,6 +175,27 @@ own_rests p e new sound sent ok act answer step =
     let (call, given, is, own) = own_call e new act answer step in
     call_rests p (with_call p act answer) refl refl refl (told_call p act answer) e new sound sent ok call given is (each_own (Moved p e) e (moved_edits p e (slots p e ok) ok.acked) act answer new step) (own_told e new (all_told e ok.told) act answer step)
 
+-- bytes are taken without a copy: whatever reads count for that
+told_uses : (p : Past) (calls : List (Act × Answer)) (i : Item) → WasTold p i → WasTold (with_uses p calls) i
+told_uses p [] i told = told
+told_uses p (c ∷ calls) i told = told_uses p calls i told
+
+same_uses : (p : Past) (calls : List (Act × Answer)) → ((with_uses p calls).theirs ≡ p.theirs) × ((with_uses p calls).processed ≡ p.processed) × ((with_uses p calls).took ≡ p.took)
+same_uses p [] = (refl, refl, refl)
+same_uses p (c ∷ calls) = same_uses p calls
+
+pub consume_rests : (p : Past) (calls : List (Act × Answer)) (e new : End) → IsSound e → SentWasWritten e → RestOk p e → (n most : ℕ) (result : Result Consumed UseFault) → ConsumeStep e n most result new → RestOk (with_uses p calls) new
+consume_rests p calls e new sound sent ok n most result step =
+    let (theirs, processed, took) = same_uses p calls in
+    call_rests p (with_uses p calls) theirs processed took (told_uses p calls) e new sound sent ok (Consume n most) result step
+    (consume_by (Moved p e) e (moved_edits p e (slots p e ok) ok.acked) n most result new step) (consume_told e new (all_told e ok.told) n most result step)
+
+-- a stream is stopped and forgotten
+pub forget_rests : (p : Past) (e new : End) → IsSound e → SentWasWritten e → RestOk p e → (n code : ℕ) (result : Result (Unit {0}) UseFault) → StopAndForgetStep e n code result new → RestOk (with_call p (acts.Stop n code) (answers.Stop result)) new
+forget_rests p e new sound sent ok n code result step =
+    call_rests p (with_call p (acts.Stop n code) (answers.Stop result)) refl refl refl (told_call p (acts.Stop n code) (answers.Stop result)) e new sound sent ok (StopAndForget n code) result step
+    (forget_by (Moved p e) e (moved_edits p e (slots p e ok) ok.acked) n code result new step) (forget_told e new (all_told e ok.told) n code result step)
+
 told_packets : (p : Past) (packets : Packets) (i : Item) → WasTold p i → WasTold (with_packets p packets) i
 told_packets p packets i (k, holds, ack) = (k, Holds-more p.mine packets k _ holds, ack)
 
@@ -176,7 +205,7 @@ packet_rests p packets e new sound sent ok first delay room result text step =
     (make_by (Moved p e) e (moved_edits p e (slots p e ok) ok.acked) (make_refusal e) first delay room result text new step) (packet_told e new (all_told e ok.told) first delay room result text step)
 
 -- nothing changes but the past
-same_rests : (p : Past) (packets : Packets) (e : End) → RestOk p e → RestOk (with_packets p packets) e
+pub same_rests : (p : Past) (packets : Packets) (e : End) → RestOk p e → RestOk (with_packets p packets) e
 same_rests p packets e ok =
     record {
       conn = ok.conn;
@@ -233,6 +262,17 @@ due_rests p e due ok =
       limits = record { connection = ok.limits.connection; streams = ok.limits.streams };
       counts = ok.counts;
     }
+
+-- a window or a grant is set anew
+pub set_rests : (p : Past) (e new : End) → IsSound e → SentWasWritten e → RestOk p e → (x : Setting) (result : Result (Unit {0}) SetFault) → SetStep e x result new → RestOk (with_packets p []) new
+set_rests p e new sound sent ok x result step =
+    elim (certain_cases (set_refusal e x) e result new _ step) [
+      | inl (fault, is, same) ↦ subst (RestOk (with_packets p [])) (sym same) (same_rests p [] e ok)
+      | inr (allowed, (is, same)) ↦
+          same_rests p [] new
+          (call_rests p p refl refl refl (λ i told. told) e new sound sent ok (Set x) result step
+          (subst (Moved p e) (sym same) (set_moved p e (slots p e ok) ok.acked x)) (subst (λ (y : End). AllTold y.recvs) (sym same) (set_told e (all_told e ok.told) x)))
+    ]
 
 -- Limits of the peer are taken in
 
@@ -325,14 +365,14 @@ receive_rests p e new k text result good ok is step =
       counts = settled_call e (Receive k text) result new ok.counts step;
     }
 
--- Frames of the peer without their packet
+-- Frames of the peer without their packets
 
-pub alone_rests : (p : Past) (e new : End) (k : ℕ) (places : List ℕ) (fs all : List FrameValue) (result : Result Taken TakeFault) → EndOk p e → e.closed ≡ None → RestOk p e → slice_get p.theirs k ≡ Some (seen_all all) → StandAt all places fs → HandedIn fs e result new →
-    (call : Call) (given : CallAnswer call) → EndStep e call given new → RestOk (with_took p k places result) new
-alone_rests p e new k places fs all result good open_end ok is stand step call given called =
-    let c = handed_came p fs e result new good open_end (slots p e ok) ok.acked (λ g a. (k, (seen_all all, is, stand_among all places fs stand g a))) step in
+pub alone_rests : (p : Past) (e new : End) (parts : List Part) (fs : List FrameValue) (result : Result Taken TakeFault) → EndOk p e → e.closed ≡ None → RestOk p e → AreHeldAt p.theirs parts fs → HandedIn fs e result new →
+    (call : Call) (given : CallAnswer call) → EndStep e call given new → RestOk (with_took p parts result) new
+alone_rests p e new parts fs result good open_end ok held step call given called =
+    let c = handed_came p fs e result new good open_end (slots p e ok) ok.acked (held_told p.theirs parts fs held) step in
     let m : Moved p e new = c.moved in
-    let q : Past = with_took p k places result in
+    let q : Past = with_took p parts result in
     record {
       conn = known_conn p e new ok m;
       bidi = known_bidi p e new ok m;
@@ -341,9 +381,8 @@ alone_rests p e new k places fs all result good open_end ok is stand step call g
       acked = acked_more p q (λ i told. told) new.acked m.acked;
       told = told_at new (receive_told e new (handed_held e new fs result open_end step) c.grow (all_told e ok.told));
       taken =
-          took_each p k places result (ItemTaken new) (each_taken p.theirs p.processed p.took (ItemTaken e) (ItemTaken new) (item_stays e new m.conn m.bidi m.uni m.sends c.grow) ok.taken) (λ i among taken. (
-          let (f, at, holds) = stand_holds (ItemTaken new) all places fs stand (c.done taken) i among in
-          (f, (seen_all all, is, at), holds)));
+          took_each p parts result (ItemTaken new) (each_taken p.theirs p.processed p.took (ItemTaken e) (ItemTaken new) (item_stays e new m.conn m.bidi m.uni m.sends c.grow) ok.taken)
+          (λ k i among taken. held_holds (ItemTaken new) p.theirs parts fs held (c.done taken) k i among);
       limits = calls_settle e call given new ok.limits called;
       counts = settled_call e call given new ok.counts called;
     }

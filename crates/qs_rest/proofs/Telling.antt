@@ -10,7 +10,7 @@ use Rattle.qs_wire.specs.Reading.{reading_of}
 use Rattle.qs_wire.specs.declared.fault.WireFault.{WireFault}
 use Rattle.qs_recv.specs.Assembled.{discard, front_of, put, forget}
 use Rattle.qs_recv.specs.News.{is_readable, tells_something}
-use Rattle.qs_recv.specs.Lane.{RecvLane, new_lane as new_recv_lane, is_whole, at_final_size, take_stream, take_reset, read_answer, answer_by, after_answer, after_read, stop, raise}
+use Rattle.qs_recv.specs.Lane.{RecvLane, new_lane as new_recv_lane, is_whole, at_final_size, take_stream, take_reset, read_answer, answer_by, after_answer, after_read, stop, stop_and_forget, raise}
 use Rattle.qs_recv.specs.declared.credit.Share.{Share}
 use Rattle.qs_recv.specs.declared.half.Read.{Read}
 use Rattle.qs_recv.specs.declared.half.Read.TheVariants as reads
@@ -19,7 +19,10 @@ use Rattle.qs_send.specs.declared.piece.Item.TheVariants.{MaxData, MaxStreamData
 use Rattle.qs_calls.specs.declared.making.Made.{Made}
 use Rattle.qs_calls.specs.declared.making.MakeFault.{MakeFault}
 use Rattle.qs_calls.specs.declared.making.LostFault.{LostFault}
+use Rattle.qs_calls.specs.declared.reading.Consumed.{Consumed}
+use Rattle.qs_calls.specs.declared.uses.UseFault.{UseFault}
 use Rattle.qs_machine.specs.Making.{MakeStep, LoseStep, make_refusal}
+use Rattle.qs_machine.specs.Owner.{ConsumeStep}
 use Rattle.qs_calls.specs.declared.closing.Closing.{Closing}
 use Rattle.qs_calls.specs.declared.closing.Received.{Received}
 use Rattle.qs_calls.specs.declared.closing.Closed.{Closed}
@@ -27,16 +30,18 @@ use Rattle.qs_calls.specs.declared.token.Taken.{Taken}
 use Rattle.qs_calls.specs.declared.token.Taken.TheVariants as taken
 use Rattle.qs_calls.specs.declared.token.TakeFault.{TakeFault}
 use Rattle.qs_calls.specs.declared.token.TakeFault.TheVariants as faults
+use Rattle.qs_calls.specs.declared.uses.UseFault.{UseFault}
 use Rattle.qs_calls.specs.declared.event.Act.{Act}
 use Rattle.qs_calls.specs.declared.answer.Answer.{Answer}
 use Rattle.qs_machine.specs.Tables.{Tables, lookup, updated, open_to}
 use Rattle.qs_wire.specs.declared.stream_id.Dir.TheVariants.{Bidi, Uni}
 use Rattle.qs_machine.specs.Ends.{End, on_recv, is_own, is_uni, opens, opened_by_peer, window}
+use Rattle.qs_machine.specs.Setting.{Setting, ConnWindow, Grant, SendBuffer, with_setting}
 use Rattle.qs_machine.specs.Credit.{settle}
 use Rattle.qs_machine.specs.Seen.{Seen, Ack, Stream, Control, Close, Plain, seen, asks_ack}
 use Rattle.qs_machine.specs.FrameStep.{frame_taken, item_taken, named}
+use Rattle.qs_machine.specs.Owner.{StopAndForgetStep}
 use Rattle.qs_machine.specs.Receiving.{Takes, ReceiveBy, ReceiveStep}
-use Rattle.qs_machine.proofs.EndedHalves.{whole_stays}
 use Rattle.qs_machine.proofs.TableLaws.{slots_updated, slots_opened, slots_each}
 use Rattle.qs_machine.specs.Alone.{is_ours, TakesOne, TakesEach, after_one}
 use Rattle.qs_runs.specs.Worlds.{OwnStep, HandedIn}
@@ -46,7 +51,9 @@ use Rattle.qs_machine.proofs.EveryCall.{by_open, closed_same}
 use Rattle.qs_machine.proofs.Leaves.{acks_leave, fills_leave, losses_leave, wanted_leaves, stops_leave, end_leaves}
 use Rattle.qs_rest.specs.Invariant.{IsToldOf, ToldTrue}
 use Rattle.qs_rest.specs.Rest.{TellsNoNews}
-use Rattle.qs_rest.proofs.EachCall.{make_by, lose_by, Edits, each_own}
+use Rattle.qs_rest.proofs.EachCall.{consume_by, make_by, lose_by, Edits, each_own, forget_by}
+use Rattle.qs_calls.specs.declared.settings.SetFault.{SetFault}
+use Rattle.qs_machine.specs.Setting.{Setting, SetStep}
 
 -- One half
 
@@ -66,7 +73,7 @@ end_stands : (size : ℕ) (l : RecvLane) → read_answer l size ≡ reads.End �
 end_stands size l = by_reset l.reset_code refl
   where
     go : (s w a t : Bool) → is_some l.stop_code ≡ s → is_whole l ≡ w → at_final_size l.arrived.read_count l.final_size ≡ a → tells_by s w a t (length (front_of l.arrived size)) ≡ reads.End → IsToldOf l
-    go true true a t es ew ea is = inr (inl (es, ew))
+    go true true a t es ew ea is = inr (inl es)
     go true false a t es ew ea is = absurd (cc is)
     go false w true t es ew ea is = inr (inr (sized l.final_size l.arrived.read_count ea))
     go false w false true es ew ea is = absurd (cc is)
@@ -102,7 +109,7 @@ no_bytes size n l of = by_reset l.reset_code refl
         elim of [
           | inl reset ↦ false≢true (sym none ∙ reset)
           | inr more ↦ elim more [
-            | inl stopped ↦ false≢true (sym es ∙ stopped.0)
+            | inl stopped ↦ false≢true (sym es ∙ stopped)
             | inr at_end ↦ true≢false (sym (ap (at_final_size l.arrived.read_count) at_end ∙ same_size l.arrived.read_count) ∙ ea)
           ]
         ]
@@ -119,7 +126,14 @@ stop_told code l h = go (is_some l.stop_code) refl
   where
     go : (b : Bool) → is_some l.stop_code ≡ b → ToldTrue (cond b l (record l { arrived = discard l.arrived; stop_code = Some code }))
     go true is told = h told
-    go false is told = elim (h told) [ inl reset ↦ inl reset | inr more ↦ elim more [ inl stopped ↦ absurd (false≢true (sym is ∙ stopped.0)) | inr at_end ↦ inr (inr at_end) ] ]
+    go false is told = inr (inl refl)
+
+forget_told_of : (code : ℕ) (l : RecvLane) → ToldTrue (stop_and_forget l code)
+forget_told_of code l told = inr (inl (go (is_some l.stop_code) refl))
+  where
+    go : (b : Bool) → is_some l.stop_code ≡ b → is_some (cond b l (record l { arrived = discard l.arrived; stop_code = Some code })).stop_code ≡ true
+    go true is = is
+    go false is = refl
 
 answer_told : (size : ℕ) (l : RecvLane) → ToldTrue l → ToldTrue (after_read l size)
 answer_told size l h = go (read_answer l size) refl
@@ -141,7 +155,7 @@ held_told l m g h old =
     elim (old h.told) [
       | inl reset ↦ inl (stays m.reset_code refl reset)
       | inr more ↦ elim more [
-        | inl stopped ↦ inr (inl (h.stopped stopped.0, whole_stays l m g.received g.final stopped.1))
+        | inl stopped ↦ inr (inl (h.stopped stopped))
         | inr at_end ↦ inr (inr (g.final l.arrived.read_count at_end ∙ ap Some (sym h.read)))
       ]
     ]
@@ -188,6 +202,13 @@ told_settles e all = slots_each (λ m o. ToldSlot o) raise e.recvs (λ m. go (lo
     go None h = tt
     go (Some l) h = h
 
+-- what is set anew leaves the receiving halves
+pub set_told : (e : End) → AllTold e.recvs → (x : Setting) → AllTold (settle (with_setting x e)).recvs
+set_told e all (ConnWindow w) = told_settles (with_setting (ConnWindow w) e) all
+set_told e all (Grant Bidi n) = told_settles (with_setting (Grant Bidi n) e) all
+set_told e all (Grant Uni n) = told_settles (with_setting (Grant Uni n) e) all
+set_told e all (SendBuffer n size) = told_settles (with_setting (SendBuffer n size) e) all
+
 told_edits : (old : End) → AllTold old.recvs → Edits (λ new. AllTold new.recvs) old
 told_edits old all =
     record {
@@ -200,13 +221,22 @@ told_edits old all =
       finishes = λ n. all;
       resets = λ n code. all;
       stops = λ n code. told_updated old.recvs n (λ m. stop m code) all (stop_told code);
+      forgets = λ n code. told_updated old.recvs n (λ m. stop_and_forget m code) all (λ l was. forget_told_of code l);
       reads = λ n size. told_updated old.recvs n (λ m. after_read m size) all (answer_told size);
+      reads_again = λ n first next.
+          told_updated (on_recv n (λ m. after_read m first) old).recvs n (λ m. after_read m next) (told_updated old.recvs n (λ m. after_read m first) all (answer_told first)) (answer_told next);
       fills = λ frames mid fills. subst AllTold (sym (ap (λ (x : End). x.recvs) (fills_leave old frames old mid fills))) all;
       loses = λ k ps. subst AllTold (sym (ap (λ (x : End). x.recvs) (losses_leave k ps old))) all;
     }
 
 pub own_told : (old new : End) → AllTold old.recvs → (act : Act) (answer : Answer) → OwnStep old act answer new → AllTold new.recvs
 own_told old new all act answer step = each_own (λ mid. AllTold mid.recvs) old (told_edits old all) act answer new step
+
+pub consume_told : (old new : End) → AllTold old.recvs → (n most : ℕ) (answer : Result Consumed UseFault) → ConsumeStep old n most answer new → AllTold new.recvs
+consume_told old new all n most answer step = consume_by (λ mid. AllTold mid.recvs) old (told_edits old all) n most answer new step
+
+pub forget_told : (old new : End) → AllTold old.recvs → (n code : ℕ) (answer : Result (Unit {0}) UseFault) → StopAndForgetStep old n code answer new → AllTold new.recvs
+forget_told old new all n code answer step = forget_by (λ mid. AllTold mid.recvs) old (told_edits old all) n code answer new step
 
 pub packet_told : (old new : End) → AllTold old.recvs → (first delay room : ℕ) (answer : Result (Option Made) MakeFault) (text : List ℕ) → MakeStep old first delay room answer text new → AllTold new.recvs
 packet_told old new all first delay room answer text step = make_by (λ mid. AllTold mid.recvs) old (told_edits old all) (make_refusal old) first delay room answer text new step

@@ -45,12 +45,12 @@ pub record HalfTrue (p : Past) (n first : ℕ) (l : SendLane) : Type 0 where
   pub small : l.written ≤ MAX_VARINT
   pub reset_told : l.reset_acked ≡ true → ResetTold p n
 
--- A half whose reader was told of its end, for good: by a reset, once it stopped by all that came, or by the final size (RFC 9000,
--- sections 3.2 and 3.5).
+-- A half whose reader has no byte to be told of, for good: after a reset, once it stopped, or at the final size (RFC 9000, sections 3.2 and
+-- 3.5).
 abbrev pub IsToldOf : RecvLane → Type 0
-IsToldOf l = (is_some l.reset_code ≡ true) ⊎ ((is_some l.stop_code ≡ true) × (is_whole l ≡ true)) ⊎ (l.final_size ≡ Some l.arrived.read_count)
+IsToldOf l = (is_some l.reset_code ≡ true) ⊎ (is_some l.stop_code ≡ true) ⊎ (l.final_size ≡ Some l.arrived.read_count)
 
--- a reader was told only what stands (RFC 9000, section 3.2)
+-- a reader was told of the end, or wants to be told of nothing, only where that stands (RFC 9000, section 3.2)
 abbrev pub ToldTrue : RecvLane → Type 0
 ToldTrue l = l.told ≡ true → IsToldOf l
 

@@ -14,7 +14,7 @@ use Rattle.qs_calls.specs.Settings.{limits_of}
 use Rattle.qs_calls.specs.declared.settings.Settings.{Settings}
 use Rattle.qs_calls.specs.declared.event.Side.{Side}
 use Rattle.qs_machine.specs.Ends.{End, send_lane, recv_lane}
-use Rattle.qs_machine.specs.Credit.{spent, all_taken, all_stored, all_sent, next_count}
+use Rattle.qs_machine.specs.Credit.{spent, all_taken, all_stored, all_sent, granted_streams, next_count}
 use Rattle.qs_machine.specs.Due.{IsCurrent, IsAcked, known_count}
 use Rattle.qs_machine.specs.Seen.{Control}
 use Rattle.qs_runs.specs.Logs.{Happening, RaisedLimits, History, Log, other, own_calls, stopped_in, written, read}
@@ -62,8 +62,10 @@ pub record KnowsItsLimits (h : History) (w : World) (s : Side) : Type 0 where
   pub connection : (end_of w s).known_data ≡ (end_of w (other s)).granted
   -- the limit of each stream of which no final size came (sections 4.1 and 4.5)
   pub streams : (n : ℕ) (l : SendLane) (r : RecvLane) → send_lane (end_of w s) n ≡ Some l → recv_lane (end_of w (other s)) n ≡ Some r → r.final_size ≡ None → l.limit ≡ r.limit
-  -- the counts of streams: the first, and as many more as ended, in whole steps, up to the lifetime's (section 4.6)
-  pub counts : (d : Dir) → known_count (end_of w s) d ≡ next_count (end_of w (other s)) d
+  -- the counts of streams (section 4.6)
+  pub counts : (d : Dir) → known_count (end_of w s) d ≡ granted_streams (end_of w (other s)) d
+  -- and these are the next ones: the grant at least, and as many more as ended, in whole steps, up to the lifetime's (section 4.6)
+  pub settled : (d : Dir) → granted_streams (end_of w (other s)) d ≡ next_count (end_of w (other s)) d
 
 -- All credit is paid back (RFC 9000, sections 4.1 and 4.2).
 pub record CreditIsWhole (h : History) (w : World) (s : Side) : Type 0 where
@@ -87,7 +89,7 @@ IsAhead sent limit window share = (sent + window < limit + step share window) �
 -- A sender has credit ahead (RFC 9000, sections 4.1 and 4.2).
 pub record HasCreditAhead (h : History) (w : World) (s : Side) : Type 0 where
   -- on the connection (section 4.1)
-  pub connection : IsAhead (all_sent (end_of w s)) (end_of w s).known_data (end_of w (other s)).settings.conn_window (end_of w (other s)).tuning.credit_step
+  pub connection : IsAhead (all_sent (end_of w s)) (end_of w s).known_data (end_of w (other s)).present.conn_window (end_of w (other s)).tuning.credit_step
   -- and on each stream of which no final size came (sections 4.1 and 4.5)
   pub streams : (n : ℕ) (l : SendLane) (r : RecvLane) → send_lane (end_of w s) n ≡ Some l → recv_lane (end_of w (other s)) n ≡ Some r → r.final_size ≡ None → IsAhead l.sent_end l.limit r.arrived.window r.share
 

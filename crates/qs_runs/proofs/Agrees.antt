@@ -2,8 +2,6 @@
 use Rattle.std.proofs.Common.{◌≡◌, ℕ, List, Some, Result, true, sym, subst, refl, ap, ◌∙◌, slice_get}
 use Rattle.std.proofs.lemmas.Option.{same_Some}
 use Rattle.std.specs.List.{AllByRecursion}
-use Rattle.qs_wire.specs.Grammar.{frames_of}
-use Rattle.qs_wire.specs.Reading.{reading_of}
 use Rattle.qs_calls.specs.declared.token.Taken.{Taken}
 use Rattle.qs_calls.specs.declared.token.TakeFault.{TakeFault}
 use Rattle.qs_calls.specs.declared.settings.Settings.{Settings}
@@ -21,14 +19,15 @@ use Rattle.qs_calls.specs.declared.event.Act.{Act}
 use Rattle.qs_calls.specs.declared.event.Act.TheVariants as acts
 use Rattle.qs_calls.specs.declared.answer.Answer.{Answer}
 use Rattle.qs_calls.specs.declared.answer.Answer.TheVariants as answers
-use Rattle.qs_runs.specs.Logs.{Happening, Did, CameWith, CameAlone, History, other, payload, processed, StandAt}
+use Rattle.qs_runs.specs.Logs.{Part, Happening, Did, CameWith, CameAlone, History, other, payload, processed, AreFramesOf}
 use Rattle.qs_runs.specs.Worlds.{World, end_of, DeliverStep, ComeWithStep, ComeAloneStep, EventStep, WorldStep}
 use Rattle.qs_runs.specs.Agree.{Agree, PrefixAgrees, WholeAgrees, FinalSizesAgree, CreditAgrees, StaysOpen, RepeatAgrees, EventAgrees, FramesAgree, StepAgrees, EveryRunAgrees, IsOld, frames_in}
 use Rattle.qs_runs.specs.Invariant.{WorldOk, SendSlot, RecvSlot, FrameTaken}
 use Rattle.qs_runs.proofs.Unharmed.{spent_le}
 use Rattle.qs_runs.proofs.Agreement.{prefix_agrees, whole_agrees, received_agrees, size_agrees, reset_agrees}
 use Rattle.qs_runs.proofs.Repeats.{repeats, spends_nothing, frames_spend}
-use Rattle.qs_runs.proofs.Alone.{stand_among, stand_same}
+use Rattle.qs_runs.proofs.Alone.{held_told}
+use Rattle.qs_runs.proofs.Parts.{parts_held, parts_same}
 use Rattle.qs_runs.specs.Pasts.{past}
 use Rattle.qs_runs.proofs.Histories.{theirs_mine, payload_seen}
 use Rattle.qs_runs.proofs.Landing.{confirmed_taken}
@@ -102,15 +101,16 @@ module _ (a b : Settings) (h : History) (w : World) (ok : WorldOk a b h w) where
         old_news = λ t at all. ap spent alike ∙ old_news_at s k text result bare is received t at all;
       }
 
-  -- frames come without their packet
-  frames_agree : (s : Side) (k : ℕ) (places : List ℕ) (result : Result Taken TakeFault) (new : World) → ComeAloneStep h w s k places result new → FramesAgree h w new (other s) k places
-  frames_agree s k places result new (fs, (text, is, stand), came, same) gs (t, at, stood) all =
-      let this : t ≡ text = same_text s k text t at is in
-      let alike : gs ≡ fs = stand_same (frames_of (reading_of text).left) places gs fs (subst (λ x. StandAt (frames_of (reading_of x).left) places gs) this stood) stand in
-      let there = ap (λ x. slice_get x k) (theirs_mine s h) ∙ payload_seen s k h text is in
+  -- frames come without their packets
+  frames_agree : (s : Side) (parts : List Part) (result : Result Taken TakeFault) (new : World) → ComeAloneStep h w s parts result new → FramesAgree h w new (other s) parts
+  frames_agree s parts result new (fs, are, came, same) gs those all =
       frames_spend (past (other s) h) (end_of w (other s)) (end_of new (other s)) fs result (ok.ends (other s)) (is_open_end a b h w ok (other s))
-      (λ g a. (k, (frames_in text, there, stand_among (frames_of (reading_of text).left) places fs stand g a)))
-      (subst (λ xs. AllByRecursion (IsOld (end_of w (other s))) (seen_all xs)) alike all) came
+      (held_told (past (other s) h).theirs parts fs (parts_held h s parts fs are))
+      (subst (λ xs. AllByRecursion (IsOld (end_of w (other s))) (seen_all xs)) (alike s those are) all) came
+    where
+      alike : (s : Side) → AreFramesOf h (other (other s)) parts gs → AreFramesOf h s parts fs → gs ≡ fs
+      alike A x y = parts_same h A parts gs fs x y
+      alike B x y = parts_same h B parts gs fs x y
 
   event_agrees : (s : Side) (act : Act) (answer : Answer) (new : World) → EventStep h w s act answer new → EventAgrees h w s act new
   event_agrees s (acts.Deliver k) answer new step = repeat_agrees s k answer new step
@@ -119,7 +119,7 @@ module _ (a b : Settings) (h : History) (w : World) (ok : WorldOk a b h w) where
   pub step_agrees : (x : Happening) (new : World) → WorldStep h w x new → StepAgrees h w x new
   step_agrees (Did event answer) new step = event_agrees event.end event.act answer new step
   step_agrees (CameWith s k bytes result) new step = came_agrees s k bytes result new step
-  step_agrees (CameAlone s k places result) new step = frames_agree s k places result new step
+  step_agrees (CameAlone s parts result) new step = frames_agree s parts result new step
   step_agrees x new step = tt
 
 pub every_run_agrees : EveryRunAgrees

@@ -1,7 +1,8 @@
 -- Frames that come without their packet, and tokens that are acknowledged.
-use Rattle.std.proofs.Common.{◌≡◌, ℕ, zero, suc, Bool, true, false, ◌==◌, List, [], ◌∷◌, take, ◌⊎◌, inl, inr, Option, Some, None, Result, Ok, Err, slice_get, refl, sym, ap, ◌∙◌, subst, arith, if◌then◌else◌, MatchBool, nat_le, ◌&&◌}
+use Rattle.std.proofs.Common.{◌≡◌, ℕ, ◌||◌, zero, suc, Bool, true, false, ◌==◌, List, [], ◌∷◌, take, ◌⊎◌, inl, inr, Option, Some, None, Result, Ok, Err, slice_get, refl, sym, ap, ◌∙◌, subst, if◌then◌else◌, MatchBool, ◌&&◌}
 use Rattle.std.proofs.lemmas.Option.{none-some, same_Some}
-use Rattle.std.proofs.lemmas.Bool.{false≢true, or_cases, and_parts, eqb-true, eq-eqb, leb-true}
+use Rattle.std.proofs.lemmas.Bool.{false≢true, or_cases, and_parts, eqb-true, eq-eqb}
+use Rattle.std.specs.Bool.{⊤}
 use Rattle.std.specs.List.{AllByRecursion}
 use Rattle.qs_wire.specs.Layout.{FrameValue}
 use Rattle.qs_wire.specs.Grammar.{Fits}
@@ -22,9 +23,9 @@ use Rattle.qs_machine.specs.Verdicts.{verdict}
 use Rattle.qs_machine.specs.FrameStep.{frame_taken, named, is_named}
 use Rattle.qs_machine.specs.Receiving.{RunsOut}
 use Rattle.qs_machine.specs.Alone.{is_ours, MayTake, TakesOne, TakesEach, TakeBy, TakeAllBy, after_one, token_refusal, TokenAckedStep}
-use Rattle.qs_runs.specs.Logs.{StandAt, is_among, is_taken, is_taken_at, was_told, is_in}
+use Rattle.qs_runs.specs.Logs.{Part, is_among, is_taken, is_taken_at, was_told, is_in}
 use Rattle.qs_runs.specs.Worlds.{HandedIn}
-use Rattle.qs_runs.specs.Pasts.{Past, Tells, WasConfirmed, HoldsAt, EachTaken}
+use Rattle.qs_runs.specs.Pasts.{Packets, Past, Tells, WasConfirmed, HoldsAt, EachTaken}
 use Rattle.qs_runs.specs.Invariant.{EndOk, SendSlot, FrameTaken, standing}
 use Rattle.qs_runs.proofs.Lists.{All_take}
 use Rattle.qs_runs.proofs.Changes.{AllGrow, all_grow_refl, grow_trans, frame_stays, every_stays}
@@ -35,9 +36,9 @@ use Rattle.qs_runs.proofs.Facing.{IsThere, there_taken}
 use Rattle.qs_runs.proofs.OwnMoves.{ended_by}
 use Rattle.qs_runs.proofs.Standing.{certain_cases}
 
--- these frames of the peer's packet came, with this result
-abbrev pub with_took : Past → ℕ → List ℕ → Result Taken TakeFault → Past
-with_took p k places result = record p { took = λ j i. if is_taken_at j i k places result then true else p.took j i }
+-- these frames of the peer's packets came, with this result
+abbrev pub with_took : Past → List Part → Result Taken TakeFault → Past
+with_took p parts result = record p { took = λ k i. if is_taken_at k i parts result then true else p.took k i }
 
 -- this end was told that the token's packets were acknowledged, if it was
 abbrev pub with_token : Past → Token → Bool → Past
@@ -53,56 +54,49 @@ or_cond false x h = h
 
 -- The frames at their places
 
-pub stand_among : (all : List FrameValue) (places : List ℕ) (fs : List FrameValue) → StandAt all places fs → (g : Seen) → Among g (seen_all fs) → Among g (seen_all all)
-stand_among all [] [] stand g a = absurd a
-stand_among all [] (f ∷ fs) stand g a = absurd stand
-stand_among all (i ∷ places) [] stand g a = absurd stand
-stand_among all (i ∷ places) (f ∷ fs) (at, stand) g (inl is) = found all i at
+-- each of these frames stands in its packet
+abbrev pub AreHeldAt : Packets → List Part → List FrameValue → Type 0
+AreHeldAt ps [] [] = ⊤
+AreHeldAt ps (part ∷ parts) (f ∷ fs) = HoldsAt ps part.number part.place (seen f) × AreHeldAt ps parts fs
+AreHeldAt ps parts fs = ⊥
+
+-- so each is told
+pub held_told : (ps : Packets) (parts : List Part) (fs : List FrameValue) → AreHeldAt ps parts fs → (g : Seen) → Among g (seen_all fs) → Tells ps g
+held_told ps [] [] held g a = absurd a
+held_told ps [] (f ∷ fs) held g a = absurd held
+held_told ps (part ∷ parts) [] held g a = absurd held
+held_told ps (part ∷ parts) (f ∷ fs) ((all, there, at), held) g (inl is) = (part.number, (all, there, subst (λ x. Among x all) (sym is) (found all part.place at)))
   where
-    found : (all : List FrameValue) (i : ℕ) → slice_get all i ≡ Some f → Among g (seen_all all)
-    found [] i at = absurd (none-some f at)
-    found (v ∷ all) zero at = inl (is ∙ ap seen (sym (same_Some v f at)))
+    found : (all : List Seen) (i : ℕ) → slice_get all i ≡ Some (seen f) → Among (seen f) all
+    found [] i at = absurd (none-some (seen f) at)
+    found (v ∷ all) zero at = inl (sym (same_Some v (seen f) at))
     found (v ∷ all) (suc i) at = inr (found all i at)
-stand_among all (i ∷ places) (f ∷ fs) (at, stand) g (inr a) = stand_among all places fs stand g a
-
-pub stand_fit : (all : List FrameValue) (places : List ℕ) (fs : List FrameValue) → StandAt all places fs → AllByRecursion Fits all → AllByRecursion Fits fs
-stand_fit all [] [] stand fit = tt
-stand_fit all [] (f ∷ fs) stand fit = absurd stand
-stand_fit all (i ∷ places) [] stand fit = absurd stand
-stand_fit all (i ∷ places) (f ∷ fs) (at, stand) fit = (found all i fit at, stand_fit all places fs stand fit)
-  where
-    found : (all : List FrameValue) (i : ℕ) → AllByRecursion Fits all → slice_get all i ≡ Some f → Fits f
-    found [] i fit at = absurd (none-some f at)
-    found (v ∷ all) zero fit at = subst Fits (same_Some v f at) fit.0
-    found (v ∷ all) (suc i) fit at = found all i fit.1 at
-
--- they are the only ones
-pub stand_same : (all : List FrameValue) (places : List ℕ) (fs gs : List FrameValue) → StandAt all places fs → StandAt all places gs → fs ≡ gs
-stand_same all [] [] [] x y = refl
-stand_same all [] [] (g ∷ gs) x y = absurd y
-stand_same all [] (f ∷ fs) gs x y = absurd x
-stand_same all (i ∷ places) [] gs x y = absurd x
-stand_same all (i ∷ places) (f ∷ fs) [] x y = absurd y
-stand_same all (i ∷ places) (f ∷ fs) (g ∷ gs) x y =
-    let one : f ≡ g = same_Some f g (sym x.0 ∙ y.0) in
-    let more : fs ≡ gs = stand_same all places fs gs x.1 y.1 in
-    λ j. one j ∷ more j
+held_told ps (part ∷ parts) (f ∷ fs) (here, held) g (inr a) = held_told ps parts fs held g a
 
 -- what holds of them holds at each of the places
-pub stand_holds : (P : Seen → Type 0) (all : List FrameValue) (places : List ℕ) (fs : List FrameValue) → StandAt all places fs → AllByRecursion P (seen_all fs) → (i : ℕ) → is_among i places ≡ true →
-    (f : Seen) × (slice_get (seen_all all) i ≡ Some f) × P f
-stand_holds P all [] fs stand taken i is = absurd (false≢true is)
-stand_holds P all (j ∷ places) [] stand taken i is = absurd stand
-stand_holds P all (j ∷ places) (f ∷ fs) (at, stand) taken i is =
-    elim (or_cases (i == j) (is_among i places) is) [
-      | inl this ↦ (seen f, mapped all i (ap (slice_get all) (eqb-true i j this) ∙ at), taken.0)
-      | inr other ↦ stand_holds P all places fs stand taken.1 i other
+pub held_holds : (P : Seen → Type 0) (ps : Packets) (parts : List Part) (fs : List FrameValue) → AreHeldAt ps parts fs → AllByRecursion P (seen_all fs) → (k i : ℕ) → is_among k i parts ≡ true →
+    (f : Seen) × HoldsAt ps k i f × P f
+held_holds P ps [] fs held all k i is = absurd (false≢true is)
+held_holds P ps (part ∷ parts) [] held all k i is = absurd held
+held_holds P ps (part ∷ parts) (f ∷ fs) (here, held) all k i is =
+    elim (or_cases (k == part.number && i == part.place) (is_among k i parts) is) [
+      | inl this ↦ (
+          let (number, place) = and_parts (k == part.number) (i == part.place) this in
+          (seen f, subst (λ x. HoldsAt ps x i (seen f)) (sym (eqb-true k part.number number)) (subst (λ x. HoldsAt ps part.number x (seen f)) (sym (eqb-true i part.place place)) here), all.0))
+      | inr other ↦ held_holds P ps parts fs held all.1 k i other
     ]
+
+-- and what holds at each of the places holds of them
+pub held_all : (P : Seen → Type 0) (ps : Packets) (parts : List Part) (fs : List FrameValue) → AreHeldAt ps parts fs → ((k i : ℕ) (f : Seen) → is_among k i parts ≡ true → HoldsAt ps k i f → P f) → AllByRecursion P (seen_all fs)
+held_all P ps [] [] held each = tt
+held_all P ps [] (f ∷ fs) held each = absurd held
+held_all P ps (part ∷ parts) [] held each = absurd held
+held_all P ps (part ∷ parts) (f ∷ fs) (here, held) each =
+    (each part.number part.place (seen f) (rw (eq-eqb part.number part.number refl, eq-eqb part.place part.place refl) refl) here, held_all P ps parts fs held (λ k i g among at. each k i g (or_right _ (is_among k i parts) among) at))
   where
-    mapped : (all : List FrameValue) (i : ℕ) → slice_get all i ≡ Some f → slice_get (seen_all all) i ≡ Some (seen f)
-    mapped [] i at = absurd (none-some f at)
-    mapped (v ∷ all) zero at = ap (λ x. Some (seen x)) (same_Some v f at)
-    mapped (v ∷ all) (suc i) at = mapped all i at
+    or_right : (x y : Bool) → y ≡ true → (x || y) ≡ true
+    or_right true y is = refl
+    or_right false y is = is
 
 -- Frames, one after the other
 
@@ -216,31 +210,27 @@ module _ (p : Past) (old : End) (fine : (mid : End) → EndOk p mid → IsThere 
       ]
 
 -- what holds of each frame that was taken holds of these too
-pub took_each : (p : Past) (k : ℕ) (places : List ℕ) (result : Result Taken TakeFault) (P : Seen → Type 0) → EachTaken p.theirs p.processed p.took P →
-    ((i : ℕ) → is_among i places ≡ true → is_taken result ≡ true → (f : Seen) × HoldsAt p.theirs k i f × P f) → EachTaken p.theirs p.processed (with_took p k places result).took P
-took_each p k places result P each taken =
+pub took_each : (p : Past) (parts : List Part) (result : Result Taken TakeFault) (P : Seen → Type 0) → EachTaken p.theirs p.processed p.took P →
+    ((k i : ℕ) → is_among k i parts ≡ true → is_taken result ≡ true → (f : Seen) × HoldsAt p.theirs k i f × P f) → EachTaken p.theirs p.processed (with_took p parts result).took P
+took_each p parts result P each taken =
     record {
       packets = each.packets;
-      frames = λ j i is.
-          elim (cond_or (is_taken_at j i k places result) (p.took j i) is) [
-            | inl now ↦ (
-                let parts = and_parts (j == k) _ now in
-                let here = and_parts (is_among i places) _ parts.1 in
-                let (f, holds, done) = taken i here.0 here.1 in
-                (f, subst (λ x. HoldsAt p.theirs x i f) (sym (eqb-true j k parts.0)) holds, done))
-            | inr before ↦ each.frames j i before
+      frames = λ k i is.
+          elim (cond_or (is_taken_at k i parts result) (p.took k i) is) [
+            | inl now ↦ (let (among, came) = and_parts (is_among k i parts) _ now in taken k i among came)
+            | inr before ↦ each.frames k i before
           ];
     }
 
-pub took_ok : (p : Past) (k : ℕ) (places : List ℕ) (result : Result Taken TakeFault) (e : End) → EndOk p e → ((i : ℕ) → is_among i places ≡ true → is_taken result ≡ true → (f : Seen) × HoldsAt p.theirs k i f × FrameTaken e.recvs f) → EndOk (with_took p k places result) e
-took_ok p k places result e ok taken =
+pub took_ok : (p : Past) (parts : List Part) (result : Result Taken TakeFault) (e : End) → EndOk p e → ((k i : ℕ) → is_among k i parts ≡ true → is_taken result ≡ true → (f : Seen) × HoldsAt p.theirs k i f × FrameTaken e.recvs f) → EndOk (with_took p parts result) e
+took_ok p parts result e ok taken =
     record {
       sends = ok.sends;
       recvs = ok.recvs;
       packets = ok.packets;
       credit = ok.credit;
       streams = ok.streams;
-      taken = took_each p k places result (FrameTaken e.recvs) ok.taken taken;
+      taken = took_each p parts result (FrameTaken e.recvs) ok.taken taken;
     }
 
 -- Tokens

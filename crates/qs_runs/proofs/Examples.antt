@@ -3,7 +3,7 @@ use Rattle.std.proofs.Common.{◌≡◌, ℕ, List, ◌++◌, [], take, refl, ap
 use Rattle.std.specs.Global.{Vec}
 use Rattle.qs_machine.specs.SmallEnds.{abc}
 use Rattle.qs_runs.specs.Logs.{own_calls, made, processed, took, was_acked}
-use Rattle.qs_runs.specs.Examples.{StoryIsRead, LogsAreRead, OthersAreRead, TokensAreRead, Examples}
+use Rattle.qs_runs.specs.Examples.{StoryIsRead, LogsAreRead, TakenIsRead, OthersAreRead, TokensAreRead, Examples}
 
 story : (bytes text none : Vec ℕ) → bytes.items ≡ abc → StoryIsRead bytes text none
 unfolding own_calls made processed
@@ -37,13 +37,32 @@ logs bytes none is =
       twice = refl;
       no_end = refl;
       stopped_before = refl;
+      forgotten_before = refl;
       stopped_after = refl;
+    }
+
+takes : (bytes none : Vec ℕ) → bytes.items ≡ abc → TakenIsRead bytes none
+unfolding own_calls made processed
+takes bytes none is =
+    record {
+      taken = is;
+      not_on_another = refl;
+      not_there = refl;
+      once = ap (λ bs. bs ++ []) is;
+      in_order = ap (λ bs. bs ++ bs) is;
+      refused = refl;
+      whole = refl;
+      ended = refl;
+      no_end = refl;
+      stopped_before = refl;
+      none_made = refl;
+      none_processed = refl;
     }
 
 others : (text : List ℕ) → OthersAreRead text
 unfolding made processed
 others text =
-    record { ack = refl; ack_not_there = refl; no_ack = refl; fill = λ want filled. refl; fill_not_there = λ want filled. refl; no_fill = λ want. refl; with_more = refl; not_another = refl; twice = refl; not_there = refl; none_made = refl; none_lost = λ token. refl; none_raised = λ limits. refl }
+    record { ack = refl; ack_not_there = refl; no_ack = refl; fill = λ want filled. refl; fill_not_there = λ want filled. refl; no_fill = λ want. refl; with_more = refl; not_another = refl; twice = refl; not_there = refl; none_made = refl; none_lost = λ token. refl; none_raised = λ limits. refl; none_set = λ setting. refl; none_forgot = refl }
 
 tokens : TokensAreRead
 unfolding made processed took was_acked
@@ -52,6 +71,10 @@ tokens =
       taken = refl;
       unchanged = refl;
       several = refl;
+      joined = refl;
+      joined_later = refl;
+      not_crossed = refl;
+      not_crossed_later = refl;
       not_another = refl;
       not_of_another = refl;
       not_there = refl;
@@ -69,4 +92,4 @@ tokens =
     }
 
 pub examples_hold : Examples
-examples_hold = record { story = story; logs = logs; others = others; tokens = tokens }
+examples_hold = record { story = story; logs = logs; takes = takes; others = others; tokens = tokens }

@@ -3,11 +3,11 @@ use Rattle.std.proofs.Common.{◌≡◌, ℕ, zero, suc, ◌+◌, ◌<◌, ◌�
 use Rattle.std.specs.Global.{Vec}
 use Rattle.std.specs.FinSet as set
 use Rattle.std.proofs.lemmas.Option.{same_Some, none-some}
-use Rattle.std.proofs.lemmas.Bool.{both_ways, false≢true, le-leb}
+use Rattle.std.proofs.lemmas.Bool.{both_ways, false≢true}
 use Rattle.std.proofs.lemmas.Bool.Decides.{nat_tests}
 use Rattle.qs_ranges.specs.Numbers.{contains-numbers, numbers, is_within}
 use Rattle.qs_ranges.proofs.Sets.{end_of-empty, missing_from-of}
-use Rattle.qs_recv.specs.Lane.{RecvLane}
+use Rattle.qs_recv.specs.Lane.{RecvLane, stop_and_forget}
 use Rattle.qs_send.specs.Lane.{SendLane, state, unacked_from, declared_size}
 use Rattle.qs_send.specs.declared.parts.Reset.{Reset}
 use Rattle.qs_send.specs.declared.parts.SendState.TheVariants.{DataRecvd, DataSent}
@@ -22,13 +22,18 @@ use Rattle.qs_machine.specs.Plains.{IsPlain, DifferInPlain}
 use Rattle.qs_calls.specs.Settings.{limits_fault}
 use Rattle.qs_calls.specs.declared.settings.PeerLimits.{PeerLimits}
 use Rattle.qs_calls.specs.declared.settings.RaiseFault.{RaiseFault}
+use Rattle.qs_calls.specs.declared.uses.UseFault.{UseFault}
 use Rattle.qs_calls.specs.declared.settings.RaiseFault.TheVariants as raising
+use Rattle.qs_calls.specs.declared.settings.SetFault.{SetFault}
+use Rattle.qs_calls.specs.declared.settings.SetFault.TheVariants as setting
+use Rattle.qs_machine.specs.Setting.{SendBuffer, SetStep, is_settable, half_fault, with_setting}
 use Rattle.qs_calls.specs.declared.filling.Fill.{Fill}
 use Rattle.qs_calls.specs.declared.filling.Filled.{Filled}
 use Rattle.qs_calls.specs.declared.making.Made.{Made}
 use Rattle.qs_calls.specs.declared.token.TokenFault.{TokenFault}
 use Rattle.qs_calls.specs.declared.token.TokenFault.TheVariants as tokens
 use Rattle.qs_calls.specs.declared.making.MakeFault.{MakeFault}
+use Rattle.qs_calls.specs.declared.reading.Consumed.{Consumed}
 use Rattle.qs_calls.specs.declared.closing.Closed.TheVariants.{ByPeer}
 use Rattle.qs_calls.specs.declared.closing.Received.TheVariants as answered
 use Rattle.qs_calls.specs.declared.token.Taken.{Taken}
@@ -38,9 +43,9 @@ use Rattle.qs_machine.specs.Alone.{TakesOne, TakeAllBy, of_both}
 use Rattle.qs_calls.specs.declared.token.TakeFault.TheVariants.{NoMemory}
 use Rattle.qs_calls.specs.declared.event.Side.TheVariants.{A, B}
 use Rattle.qs_machine.specs.Tables.{lookup, total}
-use Rattle.qs_machine.specs.Ends.{End}
+use Rattle.qs_machine.specs.Ends.{End, recv_lane, on_recv}
 use Rattle.qs_machine.specs.Credit.{spent, settle}
-use Rattle.qs_machine.specs.Owner.{Certain, first_refusal, refuse_if}
+use Rattle.qs_machine.specs.Owner.{Certain, first_refusal, refuse_if, recv_refusal, is_read_no_more, ConsumeStep, StopAndForgetStep}
 use Rattle.qs_machine.specs.Making.{MakeAckAt, make_refusal}
 use Rattle.qs_machine.specs.Filling.{FillAt}
 use Rattle.qs_machine.specs.Raising.{RaiseStep, limits_raised}
@@ -49,11 +54,12 @@ use Rattle.qs_machine.specs.SmallEnds.{server_with, abc, sent, fresh, all_came}
 use Rattle.qs_machine.proofs.Claims.{gave}
 use Rattle.qs_runs.specs.Agree.{RepeatAgrees, IsOld, frames_in}
 use Rattle.std.specs.List.{AllByRecursion}
-use Rattle.qs_runs.specs.Logs.{History, StandAt, HasLanded, is_taken, own_calls, made, payload, processed, took, ping_text}
+use Rattle.qs_runs.specs.Logs.{Part, CameAlone, History, AreFramesOf, HasLanded, is_taken, own_calls, made, payload, processed, took, ping_text}
 use Rattle.qs_runs.specs.Worlds.{World, HandedIn}
-use Rattle.qs_runs.specs.Examples.{story, packet, came, came_alone}
+use Rattle.qs_runs.specs.Examples.{story, packet, came, part, came_alone}
 use Rattle.qs_runs.specs.Exclusions.{ReadIsNoPrefix, WholeIsMissing, SizesDiffer, WorldsDiffer, NewsIsNotOld, RepeatsSpend, NothingHappens, NothingElseHappens, two_frames, NoFrameComes, TokenAcked, NotYetLanded, Differ, OtherBytesCome, LimitsAreAbove, NoneBegin, Exclusions, both, acknowledged, first_of_three}
 use Rattle.qs_runs.proofs.NewEnds.{made_first}
+use Rattle.qs_runs.proofs.Standing.{certain_cases}
 
 prefix : (bytes other none : Vec ℕ) → bytes.items ≡ abc → other.items ≡ 97 ∷ 120 ∷ [] → ReadIsNoPrefix bytes other none
 unfolding own_calls
@@ -62,6 +68,8 @@ prefix bytes other none is differs =
       other_byte = λ h. (let (rest, joined) = h.prefix in second rest (ap (λ bs. bs ++ rest) (sym differs) ∙ joined ∙ ap (take 3) is));
       more = λ h. (let (rest, joined) = h.prefix in too_long rest (ap (λ bs. bs ++ rest) (sym is) ∙ joined ∙ ap (take 2) is));
       less = λ h. (let e : 0 ≡ 3 = ap length (h.ended refl ∙ ap (take 3) is) in omega arith);
+      other_taken = λ h. (let (rest, joined) = h.prefix in second rest (ap (λ bs. bs ++ rest) (sym differs) ∙ joined ∙ ap (take 3) is));
+      less_taken = λ h. (let e : ◌≡◌ {A = ℕ} 3 6 = ap length (sym (ap (λ bs. bs ++ []) is) ∙ h.ended refl ∙ ap (λ bs. take 3 bs ++ take 3 bs) is) in omega arith);
     }
   where
     second : (rest : List ℕ) → 97 ∷ 120 ∷ rest ≡ abc → ⊥
@@ -142,7 +150,7 @@ nothing_spent = rw end_of-empty refl
 repeats : (bytes text none : Vec ℕ) → RepeatsSpend bytes text none
 unfolding made processed reading_from total
 repeats bytes text none =
-    record { again = λ agrees. again agrees; old_news = λ is agrees. news is agrees; again_with = λ agrees. again agrees; old_news_with = λ is agrees. news is agrees; old_news_alone = λ agrees. spends (agrees [] (text.items, refl, tt) tt) }
+    record { again = λ agrees. again agrees; old_news = λ is agrees. news is agrees; again_with = λ agrees. again agrees; old_news_with = λ is agrees. news is agrees; old_news_alone = λ agrees. spends (agrees [] tt tt) }
   where
     spends : ◌≡◌ {A = ℕ} 3 (spent (server_with fresh)) → ⊥
     spends e = (let f : ◌≡◌ {A = ℕ} 3 0 = e ∙ nothing_spent in omega (arith, f))
@@ -203,6 +211,36 @@ refused p e new shut step =
     subst (λ o. Certain (first_refusal (refuse_if (is_some o) raising.Closed) (option_map raising.Refused (limits_fault p))) e (Ok tt) new (◌≡◌ {A = Result (Unit {0}) RaiseFault} (Ok tt) (Ok tt) × (new ≡ settle (limits_raised p e)))) shut step in
     cc (h.0)
 
+-- of a stream that isn't open no bytes are taken
+not_open : (e new : End) (consumed : Consumed) → recv_lane e 0 ≡ None → ConsumeStep e 0 10 (Ok consumed) new → ⊥
+not_open e new consumed none step =
+    elim (certain_cases (recv_refusal (is_read_no_more e) e 0) e (Ok consumed) new _ step) [
+      | inl (fault, is, same) ↦ cc is
+      | inr (allowed, (l, there, is, same)) ↦ none-some l (sym none ∙ there)
+    ]
+
+-- what isn't set is answered with a fault
+set_fault : (f : SetFault) → ◌≡◌ {A = Result (Unit {0}) SetFault} (Ok tt) (Err f) → ⊥
+set_fault f h = cc
+
+not_set : (e new : End) (closed : Bool) (r : Result (Unit {0}) SetFault) (Effect : Type 0) → r ≡ Ok tt → Certain (first_refusal (refuse_if closed setting.Closed) (Some setting.OutOfRange)) e r new Effect → ⊥
+not_set e new true r Effect ok step = set_fault setting.Closed (sym ok ∙ step.0)
+not_set e new false r Effect ok step = set_fault setting.OutOfRange (sym ok ∙ step.0)
+
+-- and forgets no stream
+not_forgotten : (e new : End) → e.closed ≡ Some (ByPeer 0) → StopAndForgetStep e 0 7 (Ok tt) new → ⊥
+not_forgotten e new shut step =
+    let h : Certain (recv_refusal (is_some (Some (ByPeer 0))) e 0) e (Ok tt) new (◌≡◌ {A = Result (Unit {0}) UseFault} (Ok tt) (Ok tt) × (new ≡ settle (on_recv 0 (λ m. stop_and_forget m 7) e))) =
+    subst (λ o. Certain (recv_refusal (is_some o) e 0) e (Ok tt) new (◌≡◌ {A = Result (Unit {0}) UseFault} (Ok tt) (Ok tt) × (new ≡ settle (on_recv 0 (λ m. stop_and_forget m 7) e)))) shut step in
+    cc (h.0)
+
+unset : (size : ℕ) (e new : End) → e.closed ≡ Some (ByPeer 0) → SetStep e (SendBuffer 0 size) (Ok tt) new → ⊥
+unset size e new shut step =
+    let next : Option SetFault = first_refusal (refuse_if (not (is_settable (SendBuffer 0 size))) setting.OutOfRange) (half_fault e (SendBuffer 0 size)) in
+    let h : Certain (first_refusal (refuse_if (is_some (Some (ByPeer 0))) setting.Closed) next) e (Ok tt) new (◌≡◌ {A = Result (Unit {0}) SetFault} (Ok tt) (Ok tt) × (new ≡ settle (with_setting (SendBuffer 0 size) e))) =
+    subst (λ o. Certain (first_refusal (refuse_if (is_some o) setting.Closed) next) e (Ok tt) new (◌≡◌ {A = Result (Unit {0}) SetFault} (Ok tt) (Ok tt) × (new ≡ settle (with_setting (SendBuffer 0 size) e)))) shut step in
+    cc (h.0)
+
 others : (bytes text none : Vec ℕ) → NothingElseHappens bytes text none
 unfolding made
 others bytes text none =
@@ -214,12 +252,21 @@ others bytes text none =
       ack_other = λ v w step changed. changed step.1;
       fill_too_long = λ v w want filled step. fill_fits (make_refusal v.a) v.a w.a want filled step.0;
       fill_other = λ v w want step changed. changed step.1;
+      other_bytes = λ v w l at_end there differs ((step, taken), same). differs (taken l there);
+      refused_bytes = λ v w fault some ((step, taken), same). some taken;
+      unopened = λ v w at_end none (step, same). not_open v.b w.b _ none step.0;
+      taken_other = λ v w at_end step changed. changed step.1;
       not_given = λ v w token le step. none_given v.a w.a (is_some v.a.closed) _ _ _ (inr (is_unmade token.first token.number v.a.next le)) step.0;
       foreign = λ v w token differs step. none_given v.a w.a (is_some v.a.closed) _ _ _ (inl (is_foreign token.epoch v.a.tuning.epoch differs)) step.0;
       lost_other = λ v w token step changed. changed step.1;
       ungranted = λ v w p r refuses ((granted, step), same). refuses granted;
       closed = λ v w p shut ((granted, step), same). refused p v.a w.a shut step;
       raised_other = λ v w p r step changed. changed step.1;
+      no_window = λ v w step. not_set v.a w.a (is_some v.a.closed) (Ok tt) _ refl step.0;
+      set_other = λ v w x r step changed. changed step.1;
+      forgot_closed = λ v w shut step. not_forgotten v.a w.a shut step.0;
+      forgot_other = λ v w r step changed. changed step.1;
+      set_closed = λ v w size shut (step, same). unset size v.a w.a shut step;
     }
 
 -- the limit that the first frame tells
@@ -323,25 +370,35 @@ two_taken e new (inl step) = by e.closed step
     by None (mid, inr (fault, one, is), after) = cc is
 two_taken e new (inr (f, is, step)) = (let none : max_data 6 ∷ [] ≡ [] = ap (drop 1) is in cc none)
 
+-- of a packet that wasn't made there are none
+none_of : (h : History) (one : Part) (parts : List Part) (fs : List FrameValue) → payload A one.number h ≡ None → AreFramesOf h A (one ∷ parts) fs → ⊥
+none_of h one parts [] none are = are
+none_of h one parts (f ∷ fs) none ((bytes, there, at), are) = none-some bytes (sym none ∙ there)
+
 frames : (text : Vec ℕ) → text.items ≡ two_frames → NoFrameComes text
 unfolding made
 frames text is =
     record {
-      unmade = λ v w r (fs, (bytes, there, stand), came, same). none-some bytes there;
-      not_in_it = λ v w r (fs, (bytes, there, stand), came, same). outside fs (subst (λ gs. StandAt gs (2 ∷ []) fs) (read bytes there) stand);
-      sender = λ v w r (fs, stand, came, same) changed. changed same;
-      another = λ stand. five_is_six stand.0;
-      fewer = λ stand. stand.1;
-      more = λ stand. stand.1;
+      unmade = λ v w r (fs, are, came, same). none_of (packet A text ∷ []) (part 1 0) [] fs refl are;
+      unmade_later = λ v w r (fs, are, came, same). later fs are;
+      not_in_it = λ v w r (fs, are, came, same). outside fs are;
+      sender = λ v w r (fs, are, came, same) changed. changed same;
+      another = λ ((bytes, there, at), are). five_is_six (subst (λ gs. slice_get gs 0 ≡ Some (max_data 6)) (read bytes there) at);
+      fewer = λ are. are.1;
+      more = λ are. are.1;
       several = two_taken;
     }
   where
     read : (bytes : List ℕ) → Some text.items ≡ Some bytes → frames_of (reading_of bytes).left ≡ max_data 5 ∷ max_data 6 ∷ []
     read bytes there = ap (λ bs. frames_of (reading_of bs).left) (sym (same_Some text.items bytes there) ∙ is) ∙ read_two
 
-    outside : (fs : List FrameValue) → StandAt (max_data 5 ∷ max_data 6 ∷ []) (2 ∷ []) fs → ⊥
-    outside [] stand = stand
-    outside (f ∷ fs) stand = none-some f stand.0
+    outside : (fs : List FrameValue) → AreFramesOf (packet A text ∷ []) A (part 0 2 ∷ []) fs → ⊥
+    outside [] are = are
+    outside (f ∷ fs) ((bytes, there, at), are) = none-some f (subst (λ gs. slice_get gs 2 ≡ Some f) (read bytes there) at)
+
+    later : (fs : List FrameValue) → AreFramesOf (packet A text ∷ []) A (part 0 0 ∷ part 1 0 ∷ []) fs → ⊥
+    later [] are = are
+    later (f ∷ fs) (is, are) = none_of (packet A text ∷ []) (part 1 0) [] fs refl are
 
 -- of the two frames one wasn't taken, and the packet wasn't processed
 one_left : (text : Vec ℕ) → text.items ≡ two_frames → (h : History) → payload A 0 h ≡ Some text.items → processed B 0 h ≡ false → (took B 0 0 h ≡ false) ⊎ (took B 0 1 h ≡ false) → TokenAcked h → ⊥
@@ -357,11 +414,11 @@ one_left text is h there unprocessed left (v, w, r, ((landed, step), same)) =
     ]
 
 -- both were taken
-both_taken : (text : Vec ℕ) → text.items ≡ two_frames → (h : History) → payload A 0 h ≡ Some text.items → took B 0 0 h ≡ true → took B 0 1 h ≡ true → HasLanded h A 0
-both_taken text is h there first second =
+both_taken : (text : Vec ℕ) → text.items ≡ two_frames → (k : ℕ) (h : History) → payload A k h ≡ Some text.items → took B k 0 h ≡ true → took B k 1 h ≡ true → HasLanded h A k
+both_taken text is k h there first second =
     inr (text.items, there, λ i f at ours. each i f (subst (λ gs. slice_get gs i ≡ Some f) (ap (λ bs. frames_of (reading_of bs).left) is ∙ read_two) at))
   where
-    each : (i : ℕ) (f : FrameValue) → slice_get (max_data 5 ∷ max_data 6 ∷ []) i ≡ Some f → took B 0 i h ≡ true
+    each : (i : ℕ) (f : FrameValue) → slice_get (max_data 5 ∷ max_data 6 ∷ []) i ≡ Some f → took B k i h ≡ true
     each zero f at = first
     each (suc zero) f at = second
     each (suc (suc i)) f at = absurd (none-some f at)
@@ -379,13 +436,24 @@ landing text is =
       no_memory = one_left text is (came_alone 0 (0 ∷ 1 ∷ []) (Err NoMemory) ∷ packet A text ∷ []) refl refl (inl refl);
       not_processed = one_left text is (came A 0 answered.NoMemory ∷ packet A text ∷ []) refl refl (inl refl);
       half = λ v w r ((landed, step), same). elim (landed refl 1 refl) [ inl done ↦ false≢true done | inr (bytes, none, all) ↦ none-some bytes none ];
+      half_joined = λ v w r ((landed, step), same). elim (landed refl 1 refl) [
+        | inl done ↦ false≢true done
+        | inr (bytes, there, all) ↦ (
+            let two : frames_of (reading_of bytes).left ≡ max_data 5 ∷ max_data 6 ∷ [] = ap (λ bs. frames_of (reading_of bs).left) (sym (same_Some text.items bytes there) ∙ is) ∙ read_two in
+            false≢true (all 1 (max_data 6) (ap (λ gs. slice_get gs 1) two) refl))
+      ];
       foreign = λ h v w token differs step. none_given v.a w.a (is_some v.a.closed) _ _ _ (inl (is_foreign token.epoch v.a.tuning.epoch differs)) step.0.1;
       other = λ h v w token r step changed. changed step.1;
-      each = both_taken text is (came_alone 0 (0 ∷ []) (Ok Took) ∷ came_alone 0 (1 ∷ []) (Ok Took) ∷ packet A text ∷ []) refl refl refl;
-      unchanged = both_taken text is (came_alone 0 (0 ∷ []) (Ok Unchanged) ∷ came_alone 0 (1 ∷ []) (Ok Took) ∷ packet A text ∷ []) refl refl refl;
-      together = both_taken text is (came_alone 0 (1 ∷ 0 ∷ []) (Ok Took) ∷ packet A text ∷ []) refl refl refl;
+      each = both_taken text is 0 (came_alone 0 (0 ∷ []) (Ok Took) ∷ came_alone 0 (1 ∷ []) (Ok Took) ∷ packet A text ∷ []) refl refl refl;
+      unchanged = both_taken text is 0 (came_alone 0 (0 ∷ []) (Ok Unchanged) ∷ came_alone 0 (1 ∷ []) (Ok Took) ∷ packet A text ∷ []) refl refl refl;
+      together = both_taken text is 0 (came_alone 0 (1 ∷ 0 ∷ []) (Ok Took) ∷ packet A text ∷ []) refl refl refl;
+      joined = both_taken text is 0 joined_packets refl refl refl;
+      joined_later = both_taken text is 1 joined_packets refl refl refl;
       processed = inl refl;
     }
+  where
+    joined_packets : History
+    joined_packets = CameAlone A (part 1 0 ∷ part 0 1 ∷ part 1 1 ∷ part 0 0 ∷ []) (Ok Took) ∷ packet A text ∷ packet A text ∷ []
 
 begins : NoneBegin
 begins =

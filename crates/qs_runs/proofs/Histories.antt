@@ -1,19 +1,27 @@
 -- What an end lived through, as its history tells.
 use Rattle.std.proofs.Common.{◌≡◌, ℕ, zero, suc, Bool, true, false, ◌&&◌, List, [], ◌∷◌, ◌++◌, map, Option, Some, None, Result, Ok, Err, slice_get, refl, sym, ap, ◌∙◌, if◌then◌else◌, append-nil}
+use Rattle.std.specs.Global.{Vec}
 use Rattle.std.proofs.lemmas.List.{map-append}
 use Rattle.std.proofs.lemmas.Option.{none-some, same_Some, slice_get-map}
 use Rattle.std.specs.List.{AllByRecursion}
 use Rattle.std.proofs.Common.{option_map}
+use Rattle.qs_recv.specs.declared.half.Read.TheVariants as reads
 use Rattle.qs_calls.specs.declared.closing.Closing.{Closing}
 use Rattle.qs_calls.specs.declared.closing.Received.{Received}
 use Rattle.qs_calls.specs.declared.filling.Fill.{Fill}
 use Rattle.qs_calls.specs.declared.filling.Filled.{Filled}
+use Rattle.qs_calls.specs.declared.reading.Consumed.{Consumed}
+use Rattle.qs_calls.specs.declared.uses.UseFault.{UseFault}
 use Rattle.qs_calls.specs.declared.token.Token.{Token}
 use Rattle.qs_calls.specs.declared.token.Taken.{Taken}
 use Rattle.qs_calls.specs.declared.token.TakeFault.{TakeFault}
 use Rattle.qs_calls.specs.declared.token.TokenFault.{TokenFault}
 use Rattle.qs_calls.specs.declared.settings.PeerLimits.{PeerLimits}
+use Rattle.qs_calls.specs.declared.settings.SetFault.{SetFault}
+use Rattle.qs_machine.specs.Setting.{Setting}
 use Rattle.qs_calls.specs.declared.settings.RaiseFault.{RaiseFault}
+use Rattle.qs_calls.specs.declared.settings.SetFault.{SetFault}
+use Rattle.qs_machine.specs.Setting.{Setting}
 use Rattle.qs_calls.specs.declared.making.Made.{Made}
 use Rattle.qs_calls.specs.declared.making.MakeFault.{MakeFault}
 use Rattle.qs_machine.specs.Ends.{End}
@@ -25,12 +33,13 @@ use Rattle.qs_calls.specs.declared.event.Act.TheVariants as acts
 use Rattle.qs_calls.specs.declared.event.Event.{Event}
 use Rattle.qs_calls.specs.declared.answer.Answer.{Answer}
 use Rattle.qs_calls.specs.declared.answer.Answer.TheVariants as answers
-use Rattle.qs_runs.specs.Logs.{Happening, Did, MadeAck, FilledIn, AckedToken, LostToken, RaisedLimits, CameWith, CameAlone, History, other, own_of, own_calls, is_delivery, delivers, is_done, takes_in, processed, takes_frame, took, tells_acked, was_acked, texts_of, made, made_by, made_now, payload, was_told}
+use Rattle.qs_runs.specs.Logs.{Part, Happening, Did, MadeAck, FilledIn, ConsumedUpTo, AckedToken, LostToken, RaisedLimits, CameWith, CameAlone, History, other, own_of, end_read, reads_of, own_calls, is_delivery, delivers, is_done, takes_in, processed, takes_frame, took, tells_acked, was_acked, texts_of, made, made_by, made_now, payload, was_told, HasSet, Forgot}
+use Rattle.qs_calls.specs.declared.uses.UseFault.{UseFault}
 use Rattle.qs_runs.specs.Worlds.{OwnStep}
 use Rattle.qs_runs.specs.Agree.{frames_in}
 use Rattle.qs_runs.specs.Invariant.{HasNoFault}
 use Rattle.qs_runs.specs.Pasts.{seen_by, packets_of, past_of, past}
-use Rattle.qs_runs.proofs.OwnMoves.{with_call, with_packets}
+use Rattle.qs_runs.proofs.OwnMoves.{with_call, with_uses, with_packets}
 use Rattle.qs_runs.proofs.PeerMoves.{with_theirs}
 use Rattle.qs_runs.proofs.Receives.{with_received}
 use Rattle.qs_runs.proofs.Alone.{with_took, with_token}
@@ -114,9 +123,20 @@ makes_fill B want room result text = record { calls = λ t. refl; takes = λ t k
 pub makes_none : (s : Side) (token : Token) (result : Result (Unit {0}) TokenFault) → Makes s (LostToken s token result) []
 makes_none s token result = record { calls = λ t. refl; takes = λ t k. refl; takes_none = λ t k i. refl; tells = λ t k. refl; here = refl; there = refl }
 
+pub makes_set : (s : Side) (x : Setting) (result : Result (Unit {0}) SetFault) → Makes s (HasSet s x result) []
+makes_set s x result = record { calls = λ t. refl; takes = λ t k. refl; takes_none = λ t k i. refl; tells = λ t k. refl; here = refl; there = refl }
+
 pub past_raised : (t s : Side) (limits : PeerLimits) (result : Result (Unit {0}) RaiseFault) (h : History) → past t (RaisedLimits s limits result ∷ h) ≡ past t h
 unfolding own_calls packets_of processed took was_acked
 past_raised t s limits result h = λ i. past_of (own_calls t h) (append-nil (packets_of t h) i) (append-nil (packets_of (other t) h) i) (λ k. processed t k h) (λ k i. took t k i h) (λ k. was_acked t k h)
+
+-- a stream that is forgotten is stopped
+pub past_forgot : (t s : Side) (n code : ℕ) (result : Result (Unit {0}) UseFault) (h : History) → past t (Forgot s n code result ∷ h) ≡ past t (did s (acts.Stop n code) (answers.Stop result) ∷ h)
+unfolding own_calls packets_of processed took was_acked
+past_forgot A A n code result h = refl
+past_forgot A B n code result h = refl
+past_forgot B A n code result h = refl
+past_forgot B B n code result h = refl
 
 -- with whatever frames a packet comes, it comes
 pub past_came : (t s : Side) (k : ℕ) (bytes : List ℕ) (result : Result Received Closing) (h : History) → past t (CameWith s k bytes result ∷ h) ≡ past t (did s (acts.Deliver k) (answers.Deliver result) ∷ h)
@@ -126,16 +146,39 @@ past_came A B k bytes result h = refl
 past_came B A k bytes result h = refl
 past_came B B k bytes result h = refl
 
--- frames come without their packet: to the other side
-pub past_came_from : (s : Side) (k : ℕ) (places : List ℕ) (result : Result Taken TakeFault) (h : History) → past s (CameAlone s k places result ∷ h) ≡ past s h
+-- bytes are taken without a copy
+pub past_consumed : (s : Side) (n most : ℕ) (result : Result Consumed UseFault) (bytes : Vec ℕ) (h : History) → past s (ConsumedUpTo s n most result bytes ∷ h) ≡ with_uses (past s h) (reads_of n most result bytes)
 unfolding own_calls packets_of processed took was_acked
-past_came_from A k places result h = λ i. past_of (own_calls A h) (append-nil (packets_of A h) i) (append-nil (packets_of B h) i) (λ k. processed A k h) (λ k i. took A k i h) (λ k. was_acked A k h)
-past_came_from B k places result h = λ i. past_of (own_calls B h) (append-nil (packets_of B h) i) (append-nil (packets_of A h) i) (λ k. processed B k h) (λ k i. took B k i h) (λ k. was_acked B k h)
+past_consumed A n most (Err fault) bytes h = λ i. past_of (own_calls A h) (append-nil (packets_of A h) i) (append-nil (packets_of B h) i) (λ k. processed A k h) (λ k i. took A k i h) (λ k. was_acked A k h)
+past_consumed B n most (Err fault) bytes h = λ i. past_of (own_calls B h) (append-nil (packets_of B h) i) (append-nil (packets_of A h) i) (λ k. processed B k h) (λ k i. took B k i h) (λ k. was_acked B k h)
+past_consumed A n most (Ok consumed) bytes h = go consumed.at_end
+  where
+    go : (b : Bool) → past_of ((end_read b n bytes ++ (acts.ReadUpTo n most, answers.ReadUpTo (Ok consumed.read) bytes) ∷ []) ++ own_calls A h) (packets_of A h ++ []) (packets_of B h ++ []) (λ k. processed A k h) (λ k i. took A k i h) (λ k. was_acked A k h) ≡
+        with_uses (past A h) (end_read b n bytes ++ (acts.ReadUpTo n most, answers.ReadUpTo (Ok consumed.read) bytes) ∷ [])
+    go true = λ i. past_of ((acts.ReadUpTo n 0, answers.ReadUpTo (Ok reads.End) bytes) ∷ (acts.ReadUpTo n most, answers.ReadUpTo (Ok consumed.read) bytes) ∷ own_calls A h) (append-nil (packets_of A h) i) (append-nil (packets_of B h) i) (λ k. processed A k h) (λ k i. took A k i h) (λ k. was_acked A k h)
+    go false = λ i. past_of ((acts.ReadUpTo n most, answers.ReadUpTo (Ok consumed.read) bytes) ∷ own_calls A h) (append-nil (packets_of A h) i) (append-nil (packets_of B h) i) (λ k. processed A k h) (λ k i. took A k i h) (λ k. was_acked A k h)
+past_consumed B n most (Ok consumed) bytes h = go consumed.at_end
+  where
+    go : (b : Bool) → past_of ((end_read b n bytes ++ (acts.ReadUpTo n most, answers.ReadUpTo (Ok consumed.read) bytes) ∷ []) ++ own_calls B h) (packets_of B h ++ []) (packets_of A h ++ []) (λ k. processed B k h) (λ k i. took B k i h) (λ k. was_acked B k h) ≡
+        with_uses (past B h) (end_read b n bytes ++ (acts.ReadUpTo n most, answers.ReadUpTo (Ok consumed.read) bytes) ∷ [])
+    go true = λ i. past_of ((acts.ReadUpTo n 0, answers.ReadUpTo (Ok reads.End) bytes) ∷ (acts.ReadUpTo n most, answers.ReadUpTo (Ok consumed.read) bytes) ∷ own_calls B h) (append-nil (packets_of B h) i) (append-nil (packets_of A h) i) (λ k. processed B k h) (λ k i. took B k i h) (λ k. was_acked B k h)
+    go false = λ i. past_of ((acts.ReadUpTo n most, answers.ReadUpTo (Ok consumed.read) bytes) ∷ own_calls B h) (append-nil (packets_of B h) i) (append-nil (packets_of A h) i) (λ k. processed B k h) (λ k i. took B k i h) (λ k. was_acked B k h)
 
-pub past_came_to : (s : Side) (k : ℕ) (places : List ℕ) (result : Result Taken TakeFault) (h : History) → past (other s) (CameAlone s k places result ∷ h) ≡ with_took (past (other s) h) k places result
+pub past_peer_consumed : (s : Side) (n most : ℕ) (result : Result Consumed UseFault) (bytes : Vec ℕ) (h : History) → past (other s) (ConsumedUpTo s n most result bytes ∷ h) ≡ past (other s) h
 unfolding own_calls packets_of processed took was_acked
-past_came_to A k places result h = λ i. with_took (past_of (own_calls B h) (append-nil (packets_of B h) i) (append-nil (packets_of A h) i) (λ k. processed B k h) (λ k i. took B k i h) (λ k. was_acked B k h)) k places result
-past_came_to B k places result h = λ i. with_took (past_of (own_calls A h) (append-nil (packets_of A h) i) (append-nil (packets_of B h) i) (λ k. processed A k h) (λ k i. took A k i h) (λ k. was_acked A k h)) k places result
+past_peer_consumed A n most result bytes h = λ i. past_of (own_calls B h) (append-nil (packets_of B h) i) (append-nil (packets_of A h) i) (λ k. processed B k h) (λ k i. took B k i h) (λ k. was_acked B k h)
+past_peer_consumed B n most result bytes h = λ i. past_of (own_calls A h) (append-nil (packets_of A h) i) (append-nil (packets_of B h) i) (λ k. processed A k h) (λ k i. took A k i h) (λ k. was_acked A k h)
+
+-- frames come without their packets: to the other side
+pub past_came_from : (s : Side) (parts : List Part) (result : Result Taken TakeFault) (h : History) → past s (CameAlone s parts result ∷ h) ≡ past s h
+unfolding own_calls packets_of processed took was_acked
+past_came_from A parts result h = λ i. past_of (own_calls A h) (append-nil (packets_of A h) i) (append-nil (packets_of B h) i) (λ k. processed A k h) (λ k i. took A k i h) (λ k. was_acked A k h)
+past_came_from B parts result h = λ i. past_of (own_calls B h) (append-nil (packets_of B h) i) (append-nil (packets_of A h) i) (λ k. processed B k h) (λ k i. took B k i h) (λ k. was_acked B k h)
+
+pub past_came_to : (s : Side) (parts : List Part) (result : Result Taken TakeFault) (h : History) → past (other s) (CameAlone s parts result ∷ h) ≡ with_took (past (other s) h) parts result
+unfolding own_calls packets_of processed took was_acked
+past_came_to A parts result h = λ i. with_took (past_of (own_calls B h) (append-nil (packets_of B h) i) (append-nil (packets_of A h) i) (λ k. processed B k h) (λ k i. took B k i h) (λ k. was_acked B k h)) parts result
+past_came_to B parts result h = λ i. with_took (past_of (own_calls A h) (append-nil (packets_of A h) i) (append-nil (packets_of B h) i) (λ k. processed A k h) (λ k i. took A k i h) (λ k. was_acked A k h)) parts result
 
 -- a token is acknowledged
 pub past_token : (s : Side) (token : Token) (result : Result (Unit {0}) TokenFault) (h : History) → past s (AckedToken s token result ∷ h) ≡ with_token (past s h) token (was_told result)
@@ -171,6 +214,13 @@ made_peer_makes s x texts h m = ap (λ ts. made (other s) h ++ ts) m.there ∙ a
 pub made_raised : (t s : Side) (limits : PeerLimits) (result : Result (Unit {0}) RaiseFault) (h : History) → made t (RaisedLimits s limits result ∷ h) ≡ made t h
 unfolding made
 made_raised t s limits result h = append-nil (made t h)
+
+pub made_forgot : (t s : Side) (n code : ℕ) (result : Result (Unit {0}) UseFault) (h : History) → made t (Forgot s n code result ∷ h) ≡ made t (did s (acts.Stop n code) (answers.Stop result) ∷ h)
+unfolding made
+made_forgot A A n code result h = refl
+made_forgot A B n code result h = refl
+made_forgot B A n code result h = refl
+made_forgot B B n code result h = refl
 
 pub made_came : (t s : Side) (k : ℕ) (bytes : List ℕ) (result : Result Received Closing) (h : History) → made t (CameWith s k bytes result ∷ h) ≡ made t (did s (acts.Deliver k) (answers.Deliver result) ∷ h)
 unfolding made

@@ -1,5 +1,5 @@
 -- What a token told landed, and what landed took effect.
-use Rattle.std.proofs.Common.{◌≡◌, ℕ, zero, suc, Bool, true, false, List, [], ◌∷◌, inl, inr, Option, Some, None, slice_get, option_map, refl, sym, ap, ◌∙◌, subst, if◌then◌else◌, ◌==◌, ◌&&◌, is_some, Result, nat_lt, nat_eq, not, nat_le}
+use Rattle.std.proofs.Common.{◌≡◌, ℕ, zero, suc, Bool, true, false, List, [], ◌∷◌, inl, inr, Option, Some, None, slice_get, option_map, refl, sym, ap, ◌∙◌, subst, if◌then◌else◌, ◌&&◌, is_some, Result, nat_lt, nat_eq, not, nat_le}
 use Rattle.std.proofs.lemmas.Option.{none-some, same_Some, slice_get-map}
 use Rattle.std.proofs.lemmas.Bool.{false≢true, and_parts, eqb-true}
 use Rattle.std.specs.List.{AllByRecursion}
@@ -16,7 +16,7 @@ use Rattle.qs_machine.specs.Ends.{End}
 use Rattle.qs_machine.specs.Seen.{Seen, seen}
 use Rattle.qs_machine.specs.Owner.{Certain, first_refusal, refuse_if}
 use Rattle.qs_machine.specs.Alone.{is_ours, TokenAckedStep}
-use Rattle.qs_runs.specs.Logs.{Happening, Did, MadeAck, FilledIn, AckedToken, LostToken, RaisedLimits, CameWith, CameAlone, History, other, same_side, made, made_now, processed, takes_in, took, takes_frame, was_acked, tells_acked, HasLanded, was_told, is_in}
+use Rattle.qs_runs.specs.Logs.{Happening, Did, MadeAck, FilledIn, ConsumedUpTo, AckedToken, LostToken, RaisedLimits, CameWith, CameAlone, History, other, same_side, made, made_now, processed, takes_in, took, takes_frame, was_acked, tells_acked, HasLanded, was_told, is_in, HasSet, Forgot}
 use Rattle.qs_runs.specs.Worlds.{World, WorldStep, end_of}
 use Rattle.qs_runs.specs.Agree.{frames_in}
 use Rattle.qs_runs.specs.Pasts.{Packets, past, Holds, WasConfirmed, EachTaken, Landed}
@@ -73,10 +73,13 @@ landed_before h v w (AckedToken end token result) ((landed, step), same) s k is 
 landed_before h v w (Did event answer) step s k is = absurd (false≢true is)
 landed_before h v w (MadeAck end room result text) step s k is = absurd (false≢true is)
 landed_before h v w (FilledIn end want room result text) step s k is = absurd (false≢true is)
+landed_before h v w (ConsumedUpTo end n most result bytes) step s k is = absurd (false≢true is)
 landed_before h v w (LostToken end token result) step s k is = absurd (false≢true is)
 landed_before h v w (RaisedLimits end limits result) step s k is = absurd (false≢true is)
+landed_before h v w (HasSet end setting result) step s k is = absurd (false≢true is)
+landed_before h v w (Forgot end n code result) step s k is = absurd (false≢true is)
 landed_before h v w (CameWith end number bytes result) step s k is = absurd (false≢true is)
-landed_before h v w (CameAlone end number places result) step s k is = absurd (false≢true is)
+landed_before h v w (CameAlone end parts result) step s k is = absurd (false≢true is)
 
 pub step_lands : (h : History) (v w : World) (x : Happening) → WorldStep h v x w → ((s : Side) (k : ℕ) → was_acked s k h ≡ true → HasLanded h s k) → (s : Side) (k : ℕ) → was_acked s k (x ∷ h) ≡ true → HasLanded (x ∷ h) s k
 unfolding was_acked

@@ -1,6 +1,7 @@
 pub mod Lists
 pub mod Members
 pub mod Base
+pub mod Parts
 pub mod Past
 pub mod Changes
 pub mod Settling
@@ -15,6 +16,7 @@ pub mod Frames
 pub mod Receives
 pub mod Alone
 pub mod Raising
+pub mod NewSettings
 pub mod Wire
 pub mod Writing
 pub mod Reading

@@ -5,18 +5,20 @@ use Rattle.std.proofs.lemmas.Bool.{eq-eqb, ne_eqb, leb-false}
 use Rattle.std.specs.Global.{Vec}
 use Rattle.qs_wire.specs.declared.stream_id.Dir.{Dir}
 use Rattle.qs_wire.specs.declared.stream_id.Dir.TheVariants.{Bidi, Uni}
-use Rattle.qs_recv.specs.Assembled.{front_of}
-use Rattle.qs_recv.specs.Lane.{RecvLane, read_answer, bytes_of, after_answer, stop}
+use Rattle.qs_recv.specs.Assembled.{front, front_of}
+use Rattle.qs_recv.specs.Lane.{RecvLane, read_answer, bytes_of, bytes_read, after_answer, after_read, stop, stop_and_forget}
 use Rattle.qs_recv.specs.declared.half.Read.{Read}
 use Rattle.qs_recv.specs.declared.half.Read.TheVariants as reads
-use Rattle.qs_send.specs.Lane.{SendLane, refusal, reset_refusal, write_lane, finish_lane, reset_lane}
+use Rattle.qs_send.specs.Lane.{SendLane, refusal, reset_refusal, write_lane, finish_lane, reset_lane, buffer_lane}
 use Rattle.qs_send.specs.declared.parts.SendFault.{SendFault}
 use Rattle.qs_calls.specs.declared.making.Made.{Made}
 use Rattle.qs_calls.specs.declared.making.MakeFault.{MakeFault}
 use Rattle.qs_calls.specs.declared.making.MakeFault.TheVariants as making
 use Rattle.qs_calls.specs.declared.making.LostFault.{LostFault}
+use Rattle.qs_calls.specs.declared.reading.Consumed.{Consumed}
 use Rattle.qs_calls.specs.declared.token.Token.{Token}
 use Rattle.qs_calls.specs.declared.token.TokenFault.{TokenFault}
+use Rattle.qs_calls.specs.declared.settings.SetFault.{SetFault}
 use Rattle.qs_calls.specs.declared.uses.OpenFault.{OpenFault}
 use Rattle.qs_calls.specs.declared.uses.OpenFault.TheVariants as opening
 use Rattle.qs_calls.specs.declared.uses.UseFault.{UseFault}
@@ -26,16 +28,18 @@ use Rattle.qs_machine.specs.Ends.{End, on_send, on_recv, send_lane, first_send_l
 use Rattle.qs_machine.specs.Credit.{settle}
 use Rattle.qs_machine.specs.Seen.{Seen, seen_all}
 use Rattle.qs_machine.specs.Due.{known_count}
-use Rattle.qs_machine.specs.Owner.{first_refusal, refuse_if, send_refusal, recv_refusal, is_read_no_more, half_refusal, no_half, opened_count, own_type, peer_type, with_wanted, OpenStep, IsBlocked, IsOpened, AcceptStep, GivesNone, GivesBidi, GivesUni, AcceptOpen, WriteStep, FinishStep, ResetStep, StopStep, ReadStep, ReadBy, next_stream, accepted_by}
+use Rattle.qs_machine.specs.Owner.{first_refusal, refuse_if, send_refusal, recv_refusal, is_read_no_more, half_refusal, no_half, opened_count, own_type, peer_type, with_wanted, OpenStep, IsBlocked, IsOpened, AcceptStep, GivesNone, GivesBidi, GivesUni, AcceptOpen, WriteStep, FinishStep, ResetStep, StopStep, ReadStep, ReadBy, next_stream, accepted_by, consumed, is_end as is_told_end, Certain, StopAndForgetStep}
 use Rattle.qs_machine.specs.Making.{MakeStep, MakeAt, make_refusal, IsMade, LoseStep, lose_refusal, ClaimStep, claim_refusal}
+use Rattle.qs_machine.specs.Setting.{Setting, SendBuffer, SetStep, set_refusal}
 use Rattle.qs_machine.specs.Alone.{token_refusal, TokenLostStep, LosesEach}
 use Rattle.qs_calls.specs.declared.event.Act.{Act}
 use Rattle.qs_calls.specs.declared.event.Act.TheVariants as acts
 use Rattle.qs_calls.specs.declared.answer.Answer.{Answer}
 use Rattle.qs_calls.specs.declared.answer.Answer.TheVariants as answers
-use Rattle.qs_runs.specs.Logs.{texts_of, wrote_by, read_by, is_stop, is_end}
-use Rattle.qs_runs.specs.Worlds.{OwnStep}
+use Rattle.qs_runs.specs.Logs.{texts_of, wrote_by, read_by, end_read, reads_of, is_stop, is_end}
+use Rattle.qs_runs.specs.Worlds.{OwnStep, AreTaken, TakesBytes}
 use Rattle.qs_runs.specs.Agree.{frames_in}
+use Rattle.qs_machine.proofs.TableLaws.{lookup_same}
 use Rattle.qs_runs.proofs.Lists.{Among_take}
 use Rattle.qs_runs.specs.Pasts.{Packets, seen_by, Past, TellsEnd}
 use Rattle.qs_runs.specs.Invariant.{EndOk, RecvTrue, RecvSlot, RecvOk}
@@ -46,8 +50,8 @@ use Rattle.qs_runs.proofs.Losing.{losses_ok}
 use Rattle.qs_runs.proofs.Making.{made_ok, claimed_ok}
 use Rattle.qs_runs.proofs.Standing.{certain_cases, uncertain_cases}
 use Rattle.qs_runs.proofs.Wire.{text_seen, ping_seen}
-use Rattle.qs_runs.proofs.Writing.{write_allowed, finish_ok, wrote_ok, with_bytes}
-use Rattle.qs_runs.proofs.Reading.{not_at_end, end_by_fin, read_bytes_ok, read_told_ok, stop_ok, stop_grows, recv_view}
+use Rattle.qs_runs.proofs.Writing.{write_allowed, finish_ok, wrote_ok, with_bytes, buffer_ok}
+use Rattle.qs_runs.proofs.Reading.{not_at_end, end_by_fin, read_bytes_ok, read_told_ok, told_true, told_grows, stop_ok, stop_grows, recv_view}
 use Rattle.qs_runs.proofs.OwnStreams.{next_own, next_below, own_opened}
 
 -- what an end lived through, with one more call
@@ -65,6 +69,33 @@ with_call p act answer =
 abbrev pub with_packets : Past → Packets → Past
 with_packets p packets = record p { mine = p.mine ++ packets }
 
+-- what it lived through, with one more call that makes no packet
+abbrev pub with_use : Past → Act → Answer → Past
+with_use p act answer =
+    record p {
+      bytes = λ n. p.bytes n ++ wrote_by n act answer;
+      gave = λ n. p.gave n ++ read_by n act answer;
+      stopped = λ n. if is_stop n act answer then true else p.stopped n;
+      ended = λ n. if is_end n act answer && not (p.stopped n) then true else p.ended n;
+    }
+
+-- and with these, the newest first
+abbrev pub with_uses : Past → List (Act × Answer) → Past
+with_uses p [] = p
+with_uses p (c ∷ cs) = with_use (with_uses p cs) c.0 c.1
+
+-- they make nothing
+pub uses_made : (p : Past) (calls : List (Act × Answer)) → (with_uses p calls).mine ≡ p.mine
+uses_made p [] = refl
+uses_made p (c ∷ cs) = uses_made p cs
+
+-- what a read gave and told
+abbrev pub with_read : Past → ℕ → Read → List ℕ → Past
+with_read p n (reads.Bytes count) given = record p { gave = λ m. p.gave m ++ (if m == n then given else []) }
+with_read p n reads.End given = record p { ended = λ m. if m == n && not (p.stopped m) then true else p.ended m }
+with_read p n (reads.Reset code) given = p
+with_read p n reads.Wait given = p
+
 -- A call that writes, reads, stops and makes nothing leaves it as it was.
 quiet : (p : Past) (act : Act) (answer : Answer) → seen_by act answer ≡ [] → ((n : ℕ) → wrote_by n act answer ≡ []) → ((n : ℕ) → read_by n act answer ≡ []) →
     ((n : ℕ) → is_stop n act answer ≡ false) → ((n : ℕ) → is_end n act answer ≡ false) → with_call p act answer ≡ p
@@ -80,6 +111,16 @@ quiet p act answer a b c d f =
       took = p.took;
       tokens = p.tokens;
     }
+
+-- a read is what it gave and told
+read_use : (p : Past) (n size : ℕ) (a : Read) (bytes : Vec ℕ) → with_use p (acts.ReadUpTo n size) (answers.ReadUpTo (Ok a) bytes) ≡ with_read p n a bytes.items
+read_use p n size (reads.Bytes count) bytes = λ i. record p { bytes = λ m. append-nil (p.bytes m) i; gave = λ m. p.gave m ++ (if m == n then bytes.items else []) }
+read_use p n size reads.End bytes = λ i. record p { bytes = λ m. append-nil (p.bytes m) i; gave = λ m. append-nil (p.gave m) i; ended = λ m. if m == n && not (p.stopped m) then true else p.ended m }
+read_use p n size (reads.Reset code) bytes = λ i. record p { bytes = λ m. append-nil (p.bytes m) i; gave = λ m. append-nil (p.gave m) i }
+read_use p n size reads.Wait bytes = λ i. record p { bytes = λ m. append-nil (p.bytes m) i; gave = λ m. append-nil (p.gave m) i }
+
+read_call : (p : Past) (n size : ℕ) (a : Read) (bytes : Vec ℕ) → with_call p (acts.ReadUpTo n size) (answers.ReadUpTo (Ok a) bytes) ≡ with_read p n a bytes.items
+read_call p n size a bytes = (λ i. record (with_use p (acts.ReadUpTo n size) (answers.ReadUpTo (Ok a) bytes)) { mine = append-nil p.mine i }) ∙ read_use p n size a bytes
 
 -- What speaks against a call
 
@@ -191,76 +232,101 @@ module _ (p : Past) (e new : End) (ok : EndOk p e) where
   -- Receiving
 
   -- the half that a call speaks of
+  half_changed : (q : Past) (n : ℕ) (f : RecvLane → RecvLane) (l : RecvLane) → lookup e.recvs n ≡ Some l → (given : ℕ → List ℕ) (stopped ended : ℕ → Bool) →
+      q ≡ record p { gave = given; stopped = stopped; ended = ended } → ((j : ℕ) → j ≢ n → (given j ≡ p.gave j) × (stopped j ≡ p.stopped j) × (ended j ≡ p.ended j)) →
+      RecvTrue p.mine p.theirs (given n) (stopped n) (ended n) n (window e n) (f l) → Grows l (f l) → EndOk q (on_recv n f e)
+  half_changed q n f l there given stopped ended view same this g =
+      let e_same : record e { recvs = update e.recvs n (f l) } ≡ on_recv n f e = ap (λ o. record e { recvs = updated e.recvs n f o }) (sym there) in
+      subst (λ x. EndOk x (on_recv n f e)) (sym view) (subst (EndOk _) e_same (recv_view p e n ok given stopped ended l (f l) same there this g))
+
+  -- and then the limits move
   changed_half : (q : Past) (n : ℕ) (f : RecvLane → RecvLane) (l : RecvLane) → lookup e.recvs n ≡ Some l → (given : ℕ → List ℕ) (stopped ended : ℕ → Bool) →
       q ≡ record p { gave = given; stopped = stopped; ended = ended } → ((j : ℕ) → j ≢ n → (given j ≡ p.gave j) × (stopped j ≡ p.stopped j) × (ended j ≡ p.ended j)) →
       RecvTrue p.mine p.theirs (given n) (stopped n) (ended n) n (window e n) (f l) → Grows l (f l) → new ≡ settle (on_recv n f e) → EndOk q new
-  changed_half q n f l there given stopped ended view same this g is =
-      let moved = settle_ok _ _ (recv_view p e n ok given stopped ended l (f l) same there this g) in
-      let e_same : record e { recvs = update e.recvs n (f l) } ≡ on_recv n f e = ap (λ o. record e { recvs = updated e.recvs n f o }) (sym there) in
-      subst (λ x. EndOk x new) (sym view) (ended_by _ _ new (is ∙ ap settle (sym e_same)) moved)
+  changed_half q n f l there given stopped ended view same this g is = ended_by _ _ new is (settle_ok _ _ (half_changed q n f l there given stopped ended view same this g))
 
-  stop_moves : (n code : ℕ) (answer : Result (Unit {0}) UseFault) → StopStep e n code answer new → EndOk (with_call p (acts.Stop n code) (answers.Stop answer)) new
-  stop_moves n code answer step =
+  -- a half is stopped by such a change
+  stops_by : (n code : ℕ) (f : RecvLane → RecvLane) (answer : Result (Unit {0}) UseFault) → Certain (recv_refusal (is_some e.closed) e n) e answer new ((answer ≡ Ok tt) × (new ≡ settle (on_recv n f e)))
+      → ((l : RecvLane) → RecvOk p n (window e n) l → RecvTrue p.mine p.theirs (p.gave n) true (p.ended n) n (window e n) (f l) × Grows l (f l)) → EndOk (with_call p (acts.Stop n code) (answers.Stop answer)) new
+  stops_by n code f answer step stops =
       elim (certain_cases (recv_refusal (is_some e.closed) e n) e answer new _ step) [
         | inl (fault, is, same) ↦ subst (λ a. EndOk (with_call p (acts.Stop n code) (answers.Stop a)) new) (sym is)
             (quiet_moves (acts.Stop n code) (answers.Stop (Err fault)) (quiet p (acts.Stop n code) (answers.Stop (Err fault)) refl (λ m. refl) (λ m. refl) (λ m. refl) (λ m. refl)) (ended_by p e new same ok))
         | inr (allowed, (is, same)) ↦ subst (λ a. EndOk (with_call p (acts.Stop n code) (answers.Stop a)) new) (sym is) (go allowed (lookup e.recvs n) refl same)
       ]
     where
-      go : recv_refusal (is_some e.closed) e n ≡ None → (o : Option RecvLane) → lookup e.recvs n ≡ o → new ≡ settle (on_recv n (λ m. stop m code) e) → EndOk (with_call p (acts.Stop n code) (answers.Stop (Ok tt))) new
+      go : recv_refusal (is_some e.closed) e n ≡ None → (o : Option RecvLane) → lookup e.recvs n ≡ o → new ≡ settle (on_recv n f e) → EndOk (with_call p (acts.Stop n code) (answers.Stop (Ok tt))) new
       go allowed None there same = absurd (none-some _ (sym (no_refusal (refuse_if (is_some e.closed) Closed) (Some (no_half (is_some (send_lane e n)))) (rw there at allowed)).1))
       go allowed (Some l) there same =
           let h : RecvOk p n (window e n) l = subst (RecvSlot p n (window e n)) there (ok.recvs n) in
-          changed_half _ n (λ m. stop m code) l there p.gave (λ m. if m == n then true else p.stopped m) p.ended
+          let (stopped, grows) = stops l h in
+          changed_half _ n f l there p.gave (λ m. if m == n then true else p.stopped m) p.ended
           (λ i. record { mine = append-nil p.mine i; theirs = p.theirs; bytes = λ m. append-nil (p.bytes m) i; gave = λ m. append-nil (p.gave m) i; stopped = λ m. if m == n then true else p.stopped m; ended = p.ended; processed = p.processed; took = p.took; tokens = p.tokens })
           (λ j ne. (refl, rw (ne_eqb j n ne) refl, refl))
-          (subst (λ b. RecvTrue p.mine p.theirs (p.gave n) (if b then true else p.stopped n) (p.ended n) n (window e n) (stop l code)) (sym (eq-eqb n n refl)) (stop_ok p n (window e n) l h code (is_some l.stop_code)))
-          (stop_grows p n (window e n) l h code (is_some l.stop_code)) same
+          (subst (λ b. RecvTrue p.mine p.theirs (p.gave n) (if b then true else p.stopped n) (p.ended n) n (window e n) (f l)) (sym (eq-eqb n n refl)) stopped)
+          grows same
+
+  stop_moves : (n code : ℕ) (answer : Result (Unit {0}) UseFault) → StopStep e n code answer new → EndOk (with_call p (acts.Stop n code) (answers.Stop answer)) new
+  stop_moves n code answer step =
+      stops_by n code (λ m. stop m code) answer step (λ l h. (stop_ok p n (window e n) l h code (is_some l.stop_code), stop_grows p n (window e n) l h code (is_some l.stop_code)))
+
+  pub forget_moves : (n code : ℕ) (answer : Result (Unit {0}) UseFault) → StopAndForgetStep e n code answer new → EndOk (with_call p (acts.Stop n code) (answers.Stop answer)) new
+  forget_moves n code answer step =
+      stops_by n code (λ m. stop_and_forget m code) answer step (λ l h. (
+        told_true _ _ _ _ _ _ _ _ (stop_ok p n (window e n) l h code (is_some l.stop_code)),
+        told_grows l _ (stop_grows p n (window e n) l h code (is_some l.stop_code)),
+      ))
+
+  -- a half is read
+  pub half_read : (n size : ℕ) (l : RecvLane) → lookup e.recvs n ≡ Some l → (a : Read) → read_answer l size ≡ a → EndOk (with_read p n a (bytes_of a l size)) (on_recv n (λ m. after_read m size) e)
+  half_read n size l there a at =
+      let h : RecvOk p n (window e n) l = subst (RecvSlot p n (window e n)) there (ok.recvs n) in
+      go h a at
+    where
+      -- what is told leaves all that is known
+      none_lost : (a : Read) → read_answer l size ≡ a → Grows l (after_answer a l size) → Grows l (after_read l size)
+      none_lost a at g = subst (λ x. Grows l (after_answer x l size)) (sym at) g
+
+      ended_now : RecvOk p n (window e n) l → read_answer l size ≡ reads.End → (if n == n && not (p.stopped n) then true else p.ended n) ≡ true → (end : ℕ) × (l.arrived.read_count ≡ end) × (l.final_size ≡ Some end) × TellsEnd p.theirs n end
+      ended_now h at is = split (p.stopped n) refl is
+        where
+          split : (b : Bool) → p.stopped n ≡ b → (if n == n && not b then true else p.ended n) ≡ true → (end : ℕ) × (l.arrived.read_count ≡ end) × (l.final_size ≡ Some end) × TellsEnd p.theirs n end
+          split false unstopped is = end_by_fin p n (window e n) l h size at (h.not_stopped unstopped)
+          split true stopped is = (let was : p.ended n ≡ true = rw (eq-eqb n n refl) at is in h.ended was)
+
+      go : RecvOk p n (window e n) l → (a : Read) → read_answer l size ≡ a → EndOk (with_read p n a (bytes_of a l size)) (on_recv n (λ m. after_read m size) e)
+      go h (reads.Bytes count) at =
+          half_changed _ n (λ m. after_read m size) l there (λ m. p.gave m ++ (if m == n then front_of l.arrived size else [])) p.stopped p.ended refl
+          (λ j ne. (rw (ne_eqb j n ne) (append-nil (p.gave j)), refl, refl))
+          (subst (λ b. RecvTrue p.mine p.theirs (p.gave n ++ (if b then front_of l.arrived size else [])) (p.stopped n) (p.ended n) n (window e n) (after_read l size)) (sym (eq-eqb n n refl))
+          (subst (λ a. RecvTrue p.mine p.theirs (p.gave n ++ front_of l.arrived size) (p.stopped n) (p.ended n) n (window e n) (after_answer a l size)) (sym at)
+          (read_bytes_ok p n (window e n) l h size count (not_at_end l size count at))))
+          (none_lost (reads.Bytes count) at (record { received = λ q is. is; final = λ x is. is; reset = λ none. none }))
+      go h reads.End at =
+          half_changed _ n (λ m. after_read m size) l there p.gave p.stopped (λ m. if m == n && not (p.stopped m) then true else p.ended m) refl
+          (λ j ne. (refl, refl, rw (ne_eqb j n ne) refl))
+          (subst (λ a. RecvTrue p.mine p.theirs (p.gave n) (p.stopped n) (if n == n && not (p.stopped n) then true else p.ended n) n (window e n) (after_answer a l size)) (sym at)
+          (read_told_ok p n (window e n) l h _ (λ is. ended_now h at is)))
+          (none_lost reads.End at (record { received = λ q is. is; final = λ x is. is; reset = λ none. none }))
+      go h (reads.Reset c) at =
+          half_changed _ n (λ m. after_read m size) l there p.gave p.stopped p.ended refl (λ j ne. (refl, refl, refl))
+          (subst (λ a. RecvTrue p.mine p.theirs (p.gave n) (p.stopped n) (p.ended n) n (window e n) (after_answer a l size)) (sym at) (read_told_ok p n (window e n) l h (p.ended n) h.ended))
+          (none_lost (reads.Reset c) at (record { received = λ q is. is; final = λ x is. is; reset = λ none. none }))
+      go h reads.Wait at =
+          half_changed _ n (λ m. after_read m size) l there p.gave p.stopped p.ended refl (λ j ne. (refl, refl, refl))
+          (subst (λ a. RecvTrue p.mine p.theirs (p.gave n) (p.stopped n) (p.ended n) n (window e n) (after_answer a l size)) (sym at) h)
+          (none_lost reads.Wait at (Grows_refl l))
 
   read_moves : (n size : ℕ) (answer : Result Read UseFault) (bytes : Vec ℕ) → ReadStep e n size answer bytes.items new → EndOk (with_call p (acts.ReadUpTo n size) (answers.ReadUpTo answer bytes)) new
   read_moves n size answer bytes step = by (recv_refusal (is_read_no_more e) e n) step
     where
-      go : (l : RecvLane) → lookup e.recvs n ≡ Some l → (a : Read) → read_answer l size ≡ a → bytes.items ≡ bytes_of a l size → new ≡ settle (on_recv n (λ m. after_answer (read_answer m size) m size) e) → EndOk (with_call p (acts.ReadUpTo n size) (answers.ReadUpTo (Ok a) bytes)) new
-      go l there (reads.Bytes count) at given same =
-          let h : RecvOk p n (window e n) l = subst (RecvSlot p n (window e n)) there (ok.recvs n) in
-          changed_half _ n (λ m. after_answer (read_answer m size) m size) l there (λ m. p.gave m ++ (if m == n then bytes.items else [])) p.stopped p.ended
-          (λ i. record { mine = append-nil p.mine i; theirs = p.theirs; bytes = λ m. append-nil (p.bytes m) i; gave = λ m. p.gave m ++ (if m == n then bytes.items else []); stopped = p.stopped; ended = p.ended; processed = p.processed; took = p.took; tokens = p.tokens })
-          (λ j ne. (rw (ne_eqb j n ne) (append-nil (p.gave j)), refl, refl))
-          (subst (λ b. RecvTrue p.mine p.theirs (p.gave n ++ (if b then bytes.items else [])) (p.stopped n) (p.ended n) n (window e n) (after_answer (read_answer l size) l size)) (sym (eq-eqb n n refl))
-          (subst (λ x. RecvTrue p.mine p.theirs (p.gave n ++ x) (p.stopped n) (p.ended n) n (window e n) (after_answer (read_answer l size) l size)) (sym given)
-          (subst (λ a. RecvTrue p.mine p.theirs (p.gave n ++ front_of l.arrived size) (p.stopped n) (p.ended n) n (window e n) (after_answer a l size)) (sym at)
-          (read_bytes_ok p n (window e n) l h size count (not_at_end l size count at)))))
-          (subst (λ a. Grows l (after_answer a l size)) (sym at) (record { received = λ q is. is; final = λ x is. is; reset = λ none. none })) same
-      go l there reads.End at given same =
-          let h : RecvOk p n (window e n) l = subst (RecvSlot p n (window e n)) there (ok.recvs n) in
-          changed_half _ n (λ m. after_answer (read_answer m size) m size) l there p.gave p.stopped (λ m. if m == n && not (p.stopped m) then true else p.ended m)
-          (λ i. record { mine = append-nil p.mine i; theirs = p.theirs; bytes = λ m. append-nil (p.bytes m) i; gave = λ m. append-nil (p.gave m) i; stopped = p.stopped; ended = λ m. if m == n && not (p.stopped m) then true else p.ended m; processed = p.processed; took = p.took; tokens = p.tokens })
-          (λ j ne. (refl, refl, rw (ne_eqb j n ne) refl))
-          (subst (λ a. RecvTrue p.mine p.theirs (p.gave n) (p.stopped n) (if n == n && not (p.stopped n) then true else p.ended n) n (window e n) (after_answer a l size)) (sym at)
-          (read_told_ok p n (window e n) l h _ (λ is. ended_now l h at is)))
-          (subst (λ a. Grows l (after_answer a l size)) (sym at) (record { received = λ q is. is; final = λ x is. is; reset = λ none. none })) same
-        where
-          ended_now : (l : RecvLane) (h : RecvOk p n (window e n) l) → read_answer l size ≡ reads.End → (if n == n && not (p.stopped n) then true else p.ended n) ≡ true → (end : ℕ) × (l.arrived.read_count ≡ end) × (l.final_size ≡ Some end) × TellsEnd p.theirs n end
-          ended_now l h at is = split (p.stopped n) refl is
-            where
-              split : (b : Bool) → p.stopped n ≡ b → (if n == n && not b then true else p.ended n) ≡ true → (end : ℕ) × (l.arrived.read_count ≡ end) × (l.final_size ≡ Some end) × TellsEnd p.theirs n end
-              split false unstopped is = end_by_fin p n (window e n) l h size at (h.not_stopped unstopped)
-              split true stopped is = (let was : p.ended n ≡ true = rw (eq-eqb n n refl) at is in h.ended was)
-      go l there (reads.Reset c) at given same =
-          let h : RecvOk p n (window e n) l = subst (RecvSlot p n (window e n)) there (ok.recvs n) in
-          changed_half _ n (λ m. after_answer (read_answer m size) m size) l there p.gave p.stopped p.ended (quiet p (acts.ReadUpTo n size) (answers.ReadUpTo (Ok (reads.Reset c)) bytes) refl (λ m. refl) (λ m. refl) (λ m. refl) (λ m. refl)) (λ j ne. (refl, refl, refl))
-          (subst (λ a. RecvTrue p.mine p.theirs (p.gave n) (p.stopped n) (p.ended n) n (window e n) (after_answer a l size)) (sym at) (read_told_ok p n (window e n) l h (p.ended n) h.ended))
-          (subst (λ a. Grows l (after_answer a l size)) (sym at) (record { received = λ q is. is; final = λ x is. is; reset = λ none. none })) same
-      go l there reads.Wait at given same =
-          let h : RecvOk p n (window e n) l = subst (RecvSlot p n (window e n)) there (ok.recvs n) in
-          changed_half _ n (λ m. after_answer (read_answer m size) m size) l there p.gave p.stopped p.ended (quiet p (acts.ReadUpTo n size) (answers.ReadUpTo (Ok reads.Wait) bytes) refl (λ m. refl) (λ m. refl) (λ m. refl) (λ m. refl)) (λ j ne. (refl, refl, refl))
-          (subst (λ a. RecvTrue p.mine p.theirs (p.gave n) (p.stopped n) (p.ended n) n (window e n) (after_answer a l size)) (sym at) h)
-          (subst (λ a. Grows l (after_answer a l size)) (sym at) (Grows_refl l)) same
-
       by : (o : Option UseFault) → ReadBy o e n size answer bytes.items new → EndOk (with_call p (acts.ReadUpTo n size) (answers.ReadUpTo answer bytes)) new
       by (Some fault) (is, none, same) = subst (λ a. EndOk (with_call p (acts.ReadUpTo n size) (answers.ReadUpTo a bytes)) new) (sym is)
           (quiet_moves (acts.ReadUpTo n size) (answers.ReadUpTo (Err fault) bytes) (quiet p (acts.ReadUpTo n size) (answers.ReadUpTo (Err fault) bytes) refl (λ m. refl) (λ m. refl) (λ m. refl) (λ m. refl)) (ended_by p e new same ok))
-      by None (l, there, is, given, same) = subst (λ a. EndOk (with_call p (acts.ReadUpTo n size) (answers.ReadUpTo a bytes)) new) (sym is) (go l there (read_answer l size) refl given same)
+      by None (l, there, is, given, same) =
+          subst (λ a. EndOk (with_call p (acts.ReadUpTo n size) (answers.ReadUpTo a bytes)) new) (sym is)
+          (subst (λ q. EndOk q new) (ap (with_read p n (read_answer l size)) (sym given) ∙ sym (read_call p n size (read_answer l size) bytes))
+          (ended_by _ _ new same (settle_ok _ _ (half_read n size l there (read_answer l size) refl))))
 
   -- Packets
 
@@ -308,6 +374,54 @@ module _ (p : Past) (e new : End) (ok : EndOk p e) where
             (λ i. record { mine = p.mine ++ sym ping_seen i ∷ []; theirs = p.theirs; bytes = λ m. sym (append-nil (p.bytes m)) i; gave = λ m. sym (append-nil (p.gave m)) i; stopped = p.stopped; ended = p.ended; processed = p.processed; took = p.took; tokens = p.tokens })
             (ended_by _ _ new same (claimed_ok p e ok)))
       ]
+
+-- Bytes are taken without a copy: a read of so many, and one of none.
+
+-- a read of none gives nothing
+none_in_front : (l : RecvLane) → front_of l.arrived 0 ≡ []
+unfolding front
+none_in_front l = refl
+
+none_given : (p : Past) (n count : ℕ) → with_read p n (reads.Bytes count) [] ≡ p
+none_given p n count = λ i. record p { gave = λ m. (ap (λ x. p.gave m ++ x) (none (m == n)) ∙ append-nil (p.gave m)) i }
+  where
+    none : (b : Bool) → ◌≡◌ {A = List ℕ} (if b then [] else []) []
+    none true = refl
+    none false = refl
+
+module _ (p : Past) (e new : End) (ok : EndOk p e) (n most : ℕ) (bytes : Vec ℕ) where
+  abbrev Ended : Result Consumed UseFault → Type 0
+  Ended answer = EndOk (with_uses p (reads_of n most answer bytes)) new
+
+  pub consume_moves : (answer : Result Consumed UseFault) → TakesBytes e n most answer bytes.items new → Ended answer
+  consume_moves answer (step, taken) =
+      elim (certain_cases (recv_refusal (is_read_no_more e) e n) e answer new _ step) [
+        | inl (fault, is, same) ↦ subst Ended (sym is) (ended_by p e new same ok)
+        | inr (allowed, (l, there, is, same)) ↦ subst Ended (sym is) (both l there (subst (λ a. AreTaken e n most a bytes.items) is taken l there) same)
+      ]
+    where
+      once : RecvLane → Past
+      once l = with_use p (acts.ReadUpTo n most) (answers.ReadUpTo (Ok (read_answer l most)) bytes)
+
+      half_there : (l : RecvLane) → lookup e.recvs n ≡ Some l → lookup (on_recv n (λ m. after_read m most) e).recvs n ≡ Some (after_read l most)
+      half_there l there = ap (λ o. lookup (updated e.recvs n (λ m. after_read m most) o) n) there ∙ lookup_same e.recvs n l (after_read l most) there
+
+      both : (l : RecvLane) → lookup e.recvs n ≡ Some l → bytes.items ≡ bytes_read l most → new ≡ settle (on_recv n (λ m. after_read m 0) (on_recv n (λ m. after_read m most) e)) → Ended (Ok (consumed l most))
+      both l there given same =
+          let first : EndOk (once l) (on_recv n (λ m. after_read m most) e) =
+          subst (λ x. EndOk x (on_recv n (λ m. after_read m most) e)) (ap (with_read p n (read_answer l most)) (sym given) ∙ sym (read_use p n most (read_answer l most) bytes)) (half_read p e new ok n most l there (read_answer l most) refl) in
+          let last : Read = read_answer (after_read l most) 0 in
+          ended_by _ _ new same (settle_ok _ _ (second last (half_read (once l) (on_recv n (λ m. after_read m most) e) new first n 0 (after_read l most) (half_there l there) last refl)))
+        where
+          after : End
+          after = on_recv n (λ m. after_read m 0) (on_recv n (λ m. after_read m most) e)
+
+          second : (a : Read) → EndOk (with_read (once l) n a (bytes_of a (after_read l most) 0)) after →
+              EndOk (with_uses p (end_read (is_told_end a) n bytes ++ (acts.ReadUpTo n most, answers.ReadUpTo (Ok (read_answer l most)) bytes) ∷ [])) after
+          second (reads.Bytes count) h = subst (λ x. EndOk x after) (none_given (once l) n count) (subst (λ given. EndOk (with_read (once l) n (reads.Bytes count) given) after) (none_in_front (after_read l most)) h)
+          second reads.End h = subst (λ x. EndOk x after) (sym (read_use (once l) n 0 reads.End bytes)) h
+          second (reads.Reset code) h = h
+          second reads.Wait h = h
 
 lose_each_moves : (p : Past) (count first : ℕ) (e new : End) (answer : Result (Unit {0}) TokenFault) → EndOk p e → LosesEach count first e answer new → EndOk p new
 lose_each_moves p zero first e new answer ok step = ended_by p e new step.1 ok

@@ -12,7 +12,7 @@ use Rattle.qs_machine.specs.Ends.{End as Endpoint, window}
 use Rattle.qs_runs.proofs.Lists.{slice_get-joined}
 use Rattle.qs_runs.proofs.Members.{get-front, get-kept}
 use Rattle.qs_machine.proofs.TableLaws.{slots_updated}
-use Rattle.qs_runs.specs.Pasts.{Past, TellsEnd}
+use Rattle.qs_runs.specs.Pasts.{Packets, Past, TellsEnd}
 use Rattle.qs_runs.specs.Invariant.{EndOk, RecvTrue, RecvSlot, RecvOk, OpenOk, is_open}
 use Rattle.qs_runs.proofs.Changes.{Grows, Grows_refl, open_update, grows_update, taken_stays}
 
@@ -51,6 +51,25 @@ read_end l size is none = go l.reset_code l.final_size refl refl
     go (Some c) f er ef = absurd (cc (rw er at is))
     go None (Some end) er ef = part end er ef _ refl (rw (er, none, ef) at is)
     go None None er ef = absurd (more _ (rw (er, none, ef) at is))
+
+-- a half of which nothing more is told is the same otherwise
+pub told_true : (mine theirs : Packets) (given : List ℕ) (stopped ended : Bool) (n w : ℕ) (l : RecvLane) → RecvTrue mine theirs given stopped ended n w l → RecvTrue mine theirs given stopped ended n w (record l { told = true })
+told_true mine theirs given stopped ended n w l h =
+    record {
+      received = h.received;
+      stored = h.stored;
+      count = h.count;
+      gave = h.gave;
+      final = h.final;
+      reset = h.reset;
+      not_stopped = h.not_stopped;
+      ended = h.ended;
+      window_granted = h.window_granted;
+      limit_told = h.limit_told;
+    }
+
+pub told_grows : (l m : RecvLane) → Grows l m → Grows l (record m { told = true })
+told_grows l m g = record { received = g.received; final = g.final; reset = g.reset }
 
 module _ (p : Past) (n w : ℕ) (l : RecvLane) (h : RecvOk p n w l) where
   pub read_bytes_ok : (size count : ℕ) → ((end : ℕ) → l.final_size ≡ Some end → l.arrived.read_count ≢ end) →

@@ -1,10 +1,9 @@
 -- Every run keeps the invariant of both ends.
 use Rattle.std.proofs.Common.{◌≡◌, ◌≤◌, ℕ, Bool, true, List, [], ◌∷◌, ◌++◌, map, ◌⊎◌, inl, inr, None, Some, Result, Ok, false, not, arith, sym, subst, refl, ap, ◌∙◌, slice_get, append-nil}
 use Rattle.std.proofs.lemmas.Bool.{false≢true}
+use Rattle.std.specs.Global.{Vec}
 use Rattle.std.specs.List.{AllByRecursion}
 use Rattle.qs_wire.specs.Layout.{FrameValue}
-use Rattle.qs_wire.specs.Grammar.{frames_of}
-use Rattle.qs_wire.specs.Reading.{reading_of}
 use Rattle.qs_wire.specs.declared.stream_id.Dir.{Dir}
 use Rattle.qs_wire.specs.declared.stream_id.Dir.TheVariants.{Bidi, Uni}
 use Rattle.qs_wire.specs.declared.stream_id.Role.{Role}
@@ -17,8 +16,10 @@ use Rattle.qs_machine.specs.Credit.{first_grant, granted_streams, settle}
 use Rattle.qs_machine.specs.Receiving.{ReceiveStep}
 use Rattle.qs_machine.specs.Seen.{seen_all}
 use Rattle.qs_machine.specs.Alone.{TokenAckedStep, TokenLostStep}
+use Rattle.qs_machine.specs.Owner.{StopAndForgetStep}
 use Rattle.qs_machine.specs.Raising.{RaiseStep, greater_limits, limits_raised, raise_refusal}
-use Rattle.qs_machine.specs.EndStep.{Call, Answer as CallAnswer, EndStep, Receive, TakeFrame, TakeFrames, TokenAcked, TokenLost, MakeAck, FillIn, RaiseLimits}
+use Rattle.qs_machine.specs.EndStep.{Call, Answer as CallAnswer, EndStep, Consume, Receive, TakeFrame, TakeFrames, TokenAcked, TokenLost, MakeAck, FillIn, RaiseLimits, Set, StopAndForget}
+use Rattle.qs_machine.specs.Setting.{Setting, SetStep}
 use Rattle.qs_machine.specs.Standing.{IsSound}
 use Rattle.qs_machine.specs.Repeats.{SentWasWritten}
 use Rattle.qs_machine.proofs.Bounds.{new_ends_sound}
@@ -32,15 +33,21 @@ use Rattle.qs_calls.specs.declared.answer.Answer.{Answer}
 use Rattle.qs_calls.specs.declared.answer.Answer.TheVariants as answers
 use Rattle.qs_calls.specs.declared.closing.Closing.{Closing}
 use Rattle.qs_calls.specs.declared.closing.Received.{Received}
+use Rattle.qs_calls.specs.declared.reading.Consumed.{Consumed}
+use Rattle.qs_calls.specs.declared.uses.UseFault.{UseFault}
 use Rattle.qs_calls.specs.declared.token.Token.{Token}
 use Rattle.qs_calls.specs.declared.token.Taken.{Taken}
 use Rattle.qs_calls.specs.declared.token.TakeFault.{TakeFault}
 use Rattle.qs_calls.specs.declared.token.TokenFault.{TokenFault}
+use Rattle.qs_calls.specs.declared.settings.SetFault.{SetFault}
+use Rattle.qs_machine.specs.Setting.{Setting, SetStep}
 use Rattle.qs_calls.specs.declared.settings.RaiseFault.{RaiseFault}
+use Rattle.qs_calls.specs.declared.settings.SetFault.{SetFault}
 use Rattle.qs_machine.proofs.EveryCall.{MovesStanding}
 use Rattle.qs_machine.proofs.Plains.{plain_nothing}
-use Rattle.qs_runs.specs.Logs.{Happening, Did, MadeAck, FilledIn, AckedToken, LostToken, RaisedLimits, CameWith, CameAlone, History, Log, happened, other, own_calls, processed, took, was_acked, is_taken, is_delivery, texts_of, made, made_by, payload, StandAt, HasLanded}
-use Rattle.qs_runs.specs.Worlds.{World, AreGranted, Begins, end_of, OwnStep, DeliverStep, ComeWithStep, HandedIn, ComeAloneStep, EventStep, WorldStep, Run, EventRun}
+use Rattle.qs_runs.specs.Logs.{Part, Happening, Did, MadeAck, FilledIn, ConsumedUpTo, AckedToken, LostToken, RaisedLimits, CameWith, CameAlone, History, Log, happened, other, own_calls, processed, took, was_acked, is_taken, is_delivery, reads_of, texts_of, made, made_by, payload, AreFramesOf, HasLanded, HasSet, Forgot}
+use Rattle.qs_runs.specs.Worlds.{World, AreGranted, Begins, end_of, OwnStep, TakesBytes, DeliverStep, ComeWithStep, HandedIn, ComeAloneStep, EventStep, WorldStep, Run, EventRun}
+use Rattle.qs_calls.specs.declared.uses.UseFault.{UseFault}
 use Rattle.qs_runs.specs.Agree.{frames_in}
 use Rattle.qs_runs.proofs.Lists.{All_append}
 use Rattle.qs_runs.specs.Pasts.{Past, packets_of, past}
@@ -48,14 +55,16 @@ use Rattle.qs_runs.specs.Invariant.{EndOk, FrameTaken, CountsTrue, CountsOk, Wor
 use Rattle.qs_runs.proofs.Unharmed.{Facing}
 use Rattle.qs_runs.specs.Invariant.{standing}
 use Rattle.qs_runs.proofs.Receives.{receives}
-use Rattle.qs_runs.proofs.OwnMoves.{own_moves, with_call, with_packets, nothing_made, token_lost_moves}
+use Rattle.qs_runs.proofs.OwnMoves.{own_moves, with_call, with_packets, uses_made, consume_moves, nothing_made, token_lost_moves, forget_moves}
 use Rattle.qs_runs.proofs.Standing.{call_stands, certain_cases, IsRefused}
 use Rattle.qs_runs.proofs.PeerMoves.{with_theirs, peer_moves}
 use Rattle.qs_runs.proofs.Raising.{raise_moves}
+use Rattle.qs_runs.proofs.NewSettings.{set_moves}
 use Rattle.qs_runs.proofs.Facing.{facing, opposite_roles, receive_stands, fine_now}
-use Rattle.qs_runs.proofs.Alone.{with_took, stand_among, stand_fit, stand_holds, handed_came, took_ok, token_acked_moves}
+use Rattle.qs_runs.proofs.Alone.{with_took, AreHeldAt, held_told, held_holds, handed_came, took_ok, token_acked_moves}
 use Rattle.qs_runs.proofs.Landing.{step_lands}
-use Rattle.qs_runs.proofs.Histories.{past_own, past_peer, past_sender, past_receiver, Makes, past_makes, past_peer_makes, makes_ack, makes_fill, makes_none, past_raised, past_came, past_came_from, past_came_to, past_token, past_peer_token, made_none, made_own, made_peer, made_makes, made_peer_makes, made_raised, made_came, did, theirs_mine, mine_theirs, payload_seen, AreFaultless, faultless_at, own_faultless}
+use Rattle.qs_runs.proofs.Parts.{parts_held, parts_fit}
+use Rattle.qs_runs.proofs.Histories.{past_own, past_peer, past_sender, past_receiver, Makes, past_makes, past_peer_makes, makes_ack, makes_fill, makes_none, past_consumed, past_peer_consumed, past_raised, past_came, past_came_from, past_came_to, past_token, past_peer_token, made_none, made_own, made_peer, made_makes, made_peer_makes, made_raised, made_came, did, theirs_mine, mine_theirs, payload_seen, AreFaultless, faultless_at, own_faultless, makes_set, past_forgot, made_forgot}
 use Rattle.qs_runs.proofs.Packing.{Packs, ack_packs, fill_packs, packs_faultless, packs_counts, packs_ok}
 use Rattle.qs_runs.proofs.NewEnds.{first_world, made_first, ends_made, begins_true, tells_nothing, new_ok}
 use Rattle.qs_runs.proofs.Granting.{TellCounts, own_call, own_counts, counts_told, counts_stay, known_within}
@@ -321,6 +330,30 @@ module _ (a b : Settings) (h : History) (v w : World) (s : Side) (ok : WorldOk a
       call_step x [] (with_packets (past s h) []) (past_makes s x [] h makes) refl (past_peer_makes s x [] h makes) (made_makes s x [] h makes) (made_peer_makes s x [] h makes) tt (λ d count t. absurd (tells_nothing _ _ refl t))
       (nothing_made (past s h) (end_of w s) (token_lost_moves (past s h) (end_of v s) (end_of w s) here.ok token result step)) (TokenLost token) result step (λ no. no) same
 
+  -- bytes are taken without a copy
+  consumed_step : (n most : ℕ) (result : Result Consumed UseFault) (bytes : Vec ℕ) → TakesBytes (end_of v s) n most result bytes.items (end_of w s) → end_of w (other s) ≡ end_of v (other s) → Sides (ConsumedUpTo s n most result bytes)
+  consumed_step n most result bytes step same =
+      let x = ConsumedUpTo s n most result bytes in
+      let stays = call_stands (end_of v s) (Consume n most) (λ no. no) result (end_of w s) step.0 in
+      let rise = counts_call (end_of v s) here.sound here.sent (Consume n most) result (end_of w s) step.0 in
+      let counts = counts_stay (past s h).mine (end_of v s) (end_of w s) here.counts (ap (λ y. y.settings) stays) rise in
+      both x
+      (call_side a b h s x (end_of v s) (end_of w s) here [] (made_none s x h refl ∙ sym (append-nil (made s h))) tt
+      (moved (λ p. EndOk p (end_of w s)) _ _ (past_consumed s n most result bytes h) (consume_moves (past s h) (end_of v s) (end_of w s) here.ok n most bytes result step))
+      (moved (λ p. CountsOk p (end_of w s)) _ _ (past_consumed s n most result bytes h) (subst (λ ps. CountsTrue ps (end_of w s).settings (granted_streams (end_of w s))) (sym (uses_made (past s h) (reads_of n most result bytes))) counts))
+      (Consume n most) result step.0 (stands_on a b s (end_of v s) (end_of w s) stays here.stand) (granted_on _ (end_of v s) (end_of w s) stays here.peer))
+      (idle_side a b h (other s) x (end_of v (other s)) (end_of w (other s)) there (past_peer_consumed s n most result bytes h) (made_none (other s) x h refl) same)
+
+  -- a window or a grant is set anew
+  set_step : (setting : Setting) (result : Result (Unit {0}) SetFault) → SetStep (end_of v s) setting result (end_of w s) → end_of w (other s) ≡ end_of v (other s) → Sides (HasSet s setting result)
+  set_step setting result step same =
+      let x = HasSet s setting result in
+      let makes = makes_set s setting result in
+      call_step x [] (with_packets (past s h) []) (past_makes s x [] h makes) refl (past_peer_makes s x [] h makes) (made_makes s x [] h makes) (made_peer_makes s x [] h makes) tt (λ d count t. absurd (tells_nothing _ _ refl t))
+      (nothing_made (past s h) (end_of w s) (set_moves (past s h) (end_of v s) (end_of w s) setting result here.ok step)) (Set setting) result step (λ no. no) same
+
+  -- its owner sets something anew
+
   -- limits are taken in that the peer grants
   raise_step : (limits : PeerLimits) (result : Result (Unit {0}) RaiseFault) → AreGranted limits (end_of v (other s)).settings → RaiseStep (end_of v s) limits result (end_of w s) → end_of w (other s) ≡ end_of v (other s) → Sides (RaisedLimits s limits result)
   raise_step limits result granted step same =
@@ -328,6 +361,15 @@ module _ (a b : Settings) (h : History) (v w : World) (s : Side) (ok : WorldOk a
       both x
       (raise_side a b h s x (end_of v s) (end_of w s) here limits result (past_raised s s limits result h) (made_raised s s limits result h) (subst (AreGranted limits) (ap (λ y. y.settings) there.stand) granted) step)
       (idle_side a b h (other s) x (end_of v (other s)) (end_of w (other s)) there (past_raised (other s) s limits result h) (made_raised (other s) s limits result h) same)
+
+  -- a stream is forgotten
+  forget_step : (n code : ℕ) (result : Result (Unit {0}) UseFault) → StopAndForgetStep (end_of v s) n code result (end_of w s) → end_of w (other s) ≡ end_of v (other s) → Sides (Forgot s n code result)
+  forget_step n code result step same =
+      let act : Act = acts.Stop n code in
+      let answer : Answer = answers.Stop result in
+      call_step (Forgot s n code result) [] (with_call (past s h) act answer) (past_forgot s s n code result h ∙ past_own s act answer h refl) refl (past_forgot (other s) s n code result h ∙ past_peer s act answer h refl)
+      (made_forgot s s n code result h ∙ made_own s act answer h) (made_forgot (other s) s n code result h ∙ made_peer s act answer h) tt (λ d count t. absurd (tells_nothing _ _ refl t))
+      (forget_moves (past s h) (end_of v s) (end_of w s) here.ok n code result step) (StopAndForget n code) result step (λ no. no) same
 
   -- a payload comes to the other end
   received_side : (k : ℕ) (text : List ℕ) (result : Result Received Closing) (new : End) → payload s k h ≡ Some text → ReceiveStep (end_of v (other s)) k text result new → SideOk a b (other s) (did s (acts.Deliver k) (answers.Deliver result) ∷ h) new
@@ -374,11 +416,10 @@ module _ (a b : Settings) (h : History) (v w : World) (s : Side) (ok : WorldOk a
       (TokenAcked token) result step (stands_on a b s (end_of v s) (end_of w s) stays here.stand) (granted_on _ (end_of v s) (end_of w s) stays here.peer))
       (idle_side a b h (other s) x (end_of v (other s)) (end_of w (other s)) there (past_peer_token s token result h) (made_none (other s) x h refl) same)
 
-  -- frames come without their packet
-  module _ (k : ℕ) (places : List ℕ) (result : Result Taken TakeFault) (fs : List FrameValue) (text : List ℕ) (is : payload s k h ≡ Some text) (stand : StandAt (frames_of (reading_of text).left) places fs)
-      (handed : HandedIn fs (end_of v (other s)) result (end_of w (other s))) where
-    seen_there : slice_get (past (other s) h).theirs k ≡ Some (frames_in text)
-    seen_there = ap (λ ps. slice_get ps k) (theirs_mine s h) ∙ payload_seen s k h text is
+  -- frames come without their packets
+  module _ (parts : List Part) (result : Result Taken TakeFault) (fs : List FrameValue) (are : AreFramesOf h s parts fs) (handed : HandedIn fs (end_of v (other s)) result (end_of w (other s))) where
+    held : AreHeldAt (past (other s) h).theirs parts fs
+    held = parts_held h s parts fs are
 
     came : EndOk (past (other s) h) (end_of w (other s)) × (standing (end_of w (other s)) ≡ standing (end_of v (other s))) × (is_taken result ≡ true → AllByRecursion (FrameTaken (end_of w (other s)).recvs) (seen_all fs))
     came =
@@ -386,33 +427,31 @@ module _ (a b : Settings) (h : History) (v w : World) (s : Side) (ok : WorldOk a
         handed_came (past (other s) h) (end_of v (other s))
         (fine_now (past (other s) h) (past s h) (end_of v (other s)) (end_of v s) here.ok (theirs_mine s h) (mine_theirs s h) (opposite a b h v ok s) (granted_limits a b h v ok s) known.0 known.1)
         fs (end_of v (other s)) result (end_of w (other s)) (is_open_end a b h v ok (other s)) there.ok (refl, refl, refl)
-        (λ g a. (k, (frames_in text, seen_there, stand_among (frames_of (reading_of text).left) places fs stand g a)))
-        (stand_fit (frames_of (reading_of text).left) places fs stand (faultless_at (made s h) k text here.texts is).1) handed
+        (held_told (past (other s) h).theirs parts fs held) (parts_fit h s here.texts parts fs are) handed
 
-    came_ok : EndOk (with_took (past (other s) h) k places result) (end_of w (other s))
+    came_ok : EndOk (with_took (past (other s) h) parts result) (end_of w (other s))
     came_ok =
-        took_ok (past (other s) h) k places result (end_of w (other s)) came.0 (λ i among taken. (
-        let (f, at, holds) = stand_holds (FrameTaken (end_of w (other s)).recvs) (frames_of (reading_of text).left) places fs stand (came.2 taken) i among in
-        (f, (frames_in text, seen_there, at), holds)))
+        took_ok (past (other s) h) parts result (end_of w (other s)) came.0
+        (λ k i among taken. held_holds (FrameTaken (end_of w (other s)).recvs) (past (other s) h).theirs parts fs held (came.2 taken) k i among)
 
-    handed_side : (call : Call) (given : CallAnswer call) → EndStep (end_of v (other s)) call given (end_of w (other s)) → SideOk a b (other s) (CameAlone s k places result ∷ h) (end_of w (other s))
+    handed_side : (call : Call) (given : CallAnswer call) → EndStep (end_of v (other s)) call given (end_of w (other s)) → SideOk a b (other s) (CameAlone s parts result ∷ h) (end_of w (other s))
     handed_side call given step =
-        let x = CameAlone s k places result in
+        let x = CameAlone s parts result in
         let rise = counts_call (end_of v (other s)) there.sound there.sent call given (end_of w (other s)) step in
         call_side a b h (other s) x (end_of v (other s)) (end_of w (other s)) there [] (made_none (other s) x h refl ∙ sym (append-nil (made (other s) h))) tt
-        (moved (λ p. EndOk p (end_of w (other s))) _ _ (past_came_to s k places result h) came_ok)
-        (moved (λ p. CountsOk p (end_of w (other s))) _ _ (past_came_to s k places result h) (counts_stay (past (other s) h).mine (end_of v (other s)) (end_of w (other s)) there.counts (ap (λ y. y.settings) came.1) rise))
+        (moved (λ p. EndOk p (end_of w (other s))) _ _ (past_came_to s parts result h) came_ok)
+        (moved (λ p. CountsOk p (end_of w (other s))) _ _ (past_came_to s parts result h) (counts_stay (past (other s) h).mine (end_of v (other s)) (end_of w (other s)) there.counts (ap (λ y. y.settings) came.1) rise))
         call given step (stands_on a b (other s) (end_of v (other s)) (end_of w (other s)) came.1 there.stand) (granted_on _ (end_of v (other s)) (end_of w (other s)) came.1 there.peer)
 
-    came_there : SideOk a b (other s) (CameAlone s k places result ∷ h) (end_of w (other s))
+    came_there : SideOk a b (other s) (CameAlone s parts result ∷ h) (end_of w (other s))
     came_there = elim handed [ inl several ↦ handed_side (TakeFrames fs) result several | inr (f, this, one) ↦ handed_side (TakeFrame f) result one ]
 
-  alone_step : (k : ℕ) (places : List ℕ) (result : Result Taken TakeFault) → ComeAloneStep h v s k places result w → Sides (CameAlone s k places result)
-  alone_step k places result (fs, (text, is, stand), handed, same) =
-      let x = CameAlone s k places result in
+  alone_step : (parts : List Part) (result : Result Taken TakeFault) → ComeAloneStep h v s parts result w → Sides (CameAlone s parts result)
+  alone_step parts result (fs, are, handed, same) =
+      let x = CameAlone s parts result in
       both x
-      (idle_side a b h s x (end_of v s) (end_of w s) here (past_came_from s k places result h) (made_none s x h refl) same)
-      (came_there k places result fs text is stand handed)
+      (idle_side a b h s x (end_of v s) (end_of w s) here (past_came_from s parts result h) (made_none s x h refl) same)
+      (came_there parts result fs are handed)
 
   event_step : (act : Act) (answer : Answer) → EventStep h v s act answer w → Sides (did s act answer)
   event_step (acts.Deliver k) answer step = deliver_step k answer step
@@ -425,11 +464,14 @@ sides_keep a b h v w (MadeAck s room result text) ok ((delay, step), same) =
     packet_step a b h v w s ok _ (texts_of result text) (makes_ack s room result text) (ack_packs (end_of v s) (end_of w s) delay room result text step) (MakeAck delay room) (result, text) step (λ no. no) same
 sides_keep a b h v w (FilledIn s want room result text) ok (step, same) =
     packet_step a b h v w s ok _ (texts_of result text) (makes_fill s want room result text) (fill_packs (end_of v s) (end_of w s) want room result text step) (FillIn want room) (result, text) step (λ no. no) same
+sides_keep a b h v w (ConsumedUpTo s n most result bytes) ok (step, same) = consumed_step a b h v w s ok n most result bytes step same
 sides_keep a b h v w (LostToken s token result) ok (step, same) = lost_step a b h v w s ok token result step same
 sides_keep a b h v w (AckedToken s token result) ok ((landed, step), same) = token_step a b h v w s ok token result step same
 sides_keep a b h v w (RaisedLimits s limits result) ok ((granted, step), same) = raise_step a b h v w s ok limits result granted step same
+sides_keep a b h v w (HasSet s setting result) ok (step, same) = set_step a b h v w s ok setting result step same
+sides_keep a b h v w (Forgot s n code result) ok (step, same) = forget_step a b h v w s ok n code result step same
 sides_keep a b h v w (CameWith s k bytes result) ok step = came_step a b h v w s ok k bytes result step
-sides_keep a b h v w (CameAlone s k places result) ok step = alone_step a b h v w s ok k places result step
+sides_keep a b h v w (CameAlone s parts result) ok step = alone_step a b h v w s ok parts result step
 
 -- and so the invariant
 pub step_keeps : (a b : Settings) (h : History) (v w : World) (x : Happening) → WorldOk a b h v → WorldStep h v x w → WorldOk a b (x ∷ h) w

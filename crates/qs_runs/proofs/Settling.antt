@@ -64,8 +64,8 @@ module _ (p : Past) (e : End) (ok : EndOk p e) where
         credit = record {
           sent_known = ok.credit.sent_known;
           known_told = ok.credit.known_told;
-          window_granted = omega (arith, ok.credit.window_granted, next_limit_grows e.granted (all_taken e) e.settings.conn_window e.tuning.credit_step);
-          granted_told = λ limit t. omega (arith, ok.credit.granted_told limit t, next_limit_grows e.granted (all_taken e) e.settings.conn_window e.tuning.credit_step);
+          window_granted = omega (arith, ok.credit.window_granted, next_limit_grows e.granted (all_taken e) e.present.conn_window e.tuning.credit_step);
+          granted_told = λ limit t. omega (arith, ok.credit.granted_told limit t, next_limit_grows e.granted (all_taken e) e.present.conn_window e.tuning.credit_step);
         };
         streams = subst (λ r. OpenOk p e.role e.peer.streams_bidi e.peer.streams_uni e.known_bidi e.known_uni (is_open e.sends) r) (sym (open_each raise e.recvs)) ok.streams;
       }

@@ -8,12 +8,12 @@ use Rattle.qs_calls.specs.declared.event.Act.{Act}
 use Rattle.qs_calls.specs.declared.event.Act.TheVariants as acts
 use Rattle.qs_calls.specs.declared.answer.Answer.{Answer}
 use Rattle.qs_calls.specs.declared.answer.Answer.TheVariants as answers
-use Rattle.qs_runs.specs.Logs.{Happening, Did, MadeAck, FilledIn, AckedToken, LostToken, RaisedLimits, CameWith, CameAlone, History, other}
+use Rattle.qs_runs.specs.Logs.{Happening, Did, MadeAck, FilledIn, ConsumedUpTo, AckedToken, LostToken, RaisedLimits, CameWith, CameAlone, History, other, HasSet, Forgot}
 use Rattle.qs_runs.specs.Worlds.{World, end_of, OwnStep, EventStep, WorldStep}
 use Rattle.qs_runs.specs.Invariant.{WorldOk}
 use Rattle.qs_runs.specs.Laws.{WhatIsKnownStays}
 use Rattle.qs_machine.specs.Receiving.{ReceiveStep}
-use Rattle.qs_machine.specs.EndStep.{Call, Answer as CallAnswer, EndStep, Receive, TakeFrame, TakeFrames, TokenAcked, TokenLost, MakeAck, FillIn, RaiseLimits}
+use Rattle.qs_machine.specs.EndStep.{Call, Answer as CallAnswer, EndStep, Consume, Receive, TakeFrame, TakeFrames, TokenAcked, TokenLost, MakeAck, FillIn, RaiseLimits, Set, StopAndForget}
 use Rattle.qs_machine.proofs.TablesAfter.{KeptIn, kept_same}
 use Rattle.qs_machine.proofs.LanesAgain.{LaneAfter, lane_same}
 use Rattle.qs_machine.proofs.CallsCounts.{lanes_call}
@@ -54,12 +54,15 @@ all_keep : (a b : Settings) (h : History) (v w : World) → WorldOk a b h v → 
 all_keep a b h v w ok (Did event answer) step = event_keeps a b h v w event.end ok event.act answer step
 all_keep a b h v w ok (MadeAck s room result text) ((delay, step), same) = call_alone a b h v w s ok (MakeAck delay room) (result, text) step same
 all_keep a b h v w ok (FilledIn s want room result text) (step, same) = call_alone a b h v w s ok (FillIn want room) (result, text) step same
+all_keep a b h v w ok (ConsumedUpTo s n most result bytes) ((step, taken), same) = call_alone a b h v w s ok (Consume n most) result step same
 all_keep a b h v w ok (LostToken s token result) (step, same) = call_alone a b h v w s ok (TokenLost token) result step same
 all_keep a b h v w ok (AckedToken s token result) ((landed, step), same) = call_alone a b h v w s ok (TokenAcked token) result step same
 all_keep a b h v w ok (RaisedLimits s limits result) ((granted, step), same) = call_alone a b h v w s ok (RaiseLimits limits) result step same
+all_keep a b h v w ok (HasSet s setting result) (step, same) = call_alone a b h v w s ok (Set setting) result step same
+all_keep a b h v w ok (Forgot s n code result) (step, same) = call_alone a b h v w s ok (StopAndForget n code) result step same
 all_keep a b h v w ok (CameWith s k bytes result) (text, is, differ, step, same) = comes_keeps a b h v w s ok k bytes result step same
-all_keep a b h v w ok (CameAlone s k places result) (fs, there, inl step, same) = call_there a b h v w s ok (TakeFrames fs) result step same
-all_keep a b h v w ok (CameAlone s k places result) (fs, there, inr (f, is, step), same) = call_there a b h v w s ok (TakeFrame f) result step same
+all_keep a b h v w ok (CameAlone s parts result) (fs, there, inl step, same) = call_there a b h v w s ok (TakeFrames fs) result step same
+all_keep a b h v w ok (CameAlone s parts result) (fs, there, inr (f, is, step), same) = call_there a b h v w s ok (TakeFrame f) result step same
 
 pub what_is_known_stays : WhatIsKnownStays
 what_is_known_stays a b h v w x ok step s n r is =

@@ -3,7 +3,7 @@ use Rattle.std.proofs.Common.{◌≡◌, ◌≢◌, ℕ, ◌+◌, ◌<◌, ◌�
 use Rattle.std.proofs.lemmas.Option.{none-some}
 use Rattle.std.proofs.lemmas.Bool.{true≢false, eq-eqb, ne_eqb}
 use Rattle.std.specs.FinSet as set
-use Rattle.qs_send.specs.Lane.{SendLane, write_lane, finish_lane, unacked_from, refusal}
+use Rattle.qs_send.specs.Lane.{SendLane, write_lane, finish_lane, buffer_lane, unacked_from, refusal}
 use Rattle.qs_send.specs.declared.parts.SendFault.TheVariants as sends
 use Rattle.qs_send.specs.declared.parts.Reset.{Reset}
 use Rattle.qs_machine.specs.Tables.{lookup, update}
@@ -32,6 +32,22 @@ finish_ok mine theirs tokens all n limit l h =
       sent_written = h.sent_written;
       sent_limit = h.sent_limit;
       end = λ is. (refl, (h.end is).1);
+      reset_size = h.reset_size;
+      told = h.told;
+      told_reset = h.told_reset;
+      acked = h.acked;
+      end_acked = h.end_acked;
+      limit_told = h.limit_told;
+    }
+
+pub buffer_ok : (mine theirs : Packets) (tokens : ℕ → Bool) (all : List ℕ) (n limit : ℕ) (l : SendLane) → SendTrue mine theirs tokens all n limit l → (size : ℕ) → SendTrue mine theirs tokens all n limit (buffer_lane l size)
+buffer_ok mine theirs tokens all n limit l h size =
+    record {
+      count = h.count;
+      kept = h.kept;
+      sent_written = h.sent_written;
+      sent_limit = h.sent_limit;
+      end = h.end;
       reset_size = h.reset_size;
       told = h.told;
       told_reset = h.told_reset;

@@ -17,7 +17,7 @@ use Rattle.qs_machine.specs.Seen.{Seen, Stream, Control, seen_all}
 use Rattle.qs_calls.specs.declared.event.Side.{Side}
 use Rattle.qs_calls.specs.declared.event.Act.{Act}
 use Rattle.qs_calls.specs.declared.event.Act.TheVariants as acts
-use Rattle.qs_runs.specs.Logs.{Happening, Did, CameWith, CameAlone, History, other, written, read, payload, processed, read_whole, AreFramesOf}
+use Rattle.qs_runs.specs.Logs.{Part, Happening, Did, CameWith, CameAlone, History, other, written, read, payload, processed, read_whole, AreFramesOf}
 use Rattle.qs_runs.specs.Worlds.{World, end_of, WorldStep, Run}
 
 -- xs is how ys begins (RFC 9000, section 2.2)
@@ -89,11 +89,11 @@ pub record RepeatAgrees (h : History) (old new : World) (s : Side) (k : ℕ) : T
   -- one that tells nothing new spends nothing
   pub old_news : (text : List ℕ) → payload (other s) k h ≡ Some text → AllByRecursion (IsOld (end_of old s)) (frames_in text) → spent (end_of new s) ≡ spent (end_of old s)
 
--- Frames of the peer's packet k come to side s without it, those at these places: where they tell nothing new they spend nothing (RFC 9000,
--- sections 2.2 and 4.1).
-abbrev pub FramesAgree : History → (old new : World) → Side → ℕ → List ℕ → Type 0
-FramesAgree h old new s k places =
-    (fs : List FrameValue) → AreFramesOf h (other s) k places fs → AllByRecursion (IsOld (end_of old s)) (seen_all fs) → spent (end_of new s) ≡ spent (end_of old s)
+-- These frames of the peer's packets come to side s without them: where they tell nothing new they spend nothing (RFC 9000, sections 2.2
+-- and 4.1).
+abbrev pub FramesAgree : History → (old new : World) → Side → List Part → Type 0
+FramesAgree h old new s parts =
+    (fs : List FrameValue) → AreFramesOf h (other s) parts fs → AllByRecursion (IsOld (end_of old s)) (seen_all fs) → spent (end_of new s) ≡ spent (end_of old s)
 
 -- a delivery spends no credit again; of other steps nothing is said (RFC 9000, sections 4.1 and 12.3)
 abbrev pub EventAgrees : History → World → Side → Act → World → Type 0
@@ -104,7 +104,7 @@ EventAgrees h old s act new = ⊤
 abbrev pub StepAgrees : History → World → Happening → World → Type 0
 StepAgrees h old (Did event answer) new = EventAgrees h old event.end event.act new
 StepAgrees h old (CameWith s k bytes r) new = RepeatAgrees h old new (other s) k
-StepAgrees h old (CameAlone s k places r) new = FramesAgree h old new (other s) k places
+StepAgrees h old (CameAlone s parts r) new = FramesAgree h old new (other s) parts
 StepAgrees h old x new = ⊤
 
 -- every world of a run agrees, and so does every step

@@ -1,6 +1,6 @@
 -- Of laws.
 -- What is read off a small log.
-use Rattle.std.specs.Prelude.{◌≡◌, ℕ, true, false, List, [], ◌∷◌, None, Some, Result, Ok, Err}
+use Rattle.std.specs.Prelude.{◌≡◌, ℕ, Bool, true, false, List, [], ◌∷◌, map, None, Some, Result, Ok, Err}
 use Rattle.std.specs.Global.{Vec}
 use Rattle.qs_recv.specs.declared.half.Read.TheVariants.{Bytes, End}
 use Rattle.qs_calls.specs.declared.settings.PeerLimits.{PeerLimits}
@@ -15,6 +15,7 @@ use Rattle.qs_calls.specs.declared.token.TakeFault.{TakeFault}
 use Rattle.qs_calls.specs.declared.token.TakeFault.TheVariants.{NoMemory}
 use Rattle.qs_calls.specs.declared.token.TokenFault.TheVariants.{NotGiven}
 use Rattle.qs_calls.specs.declared.token.Taken.{Taken}
+use Rattle.qs_calls.specs.declared.uses.UseFault.TheVariants.{NoSuchStream}
 use Rattle.qs_calls.specs.declared.event.Side.{Side}
 use Rattle.qs_calls.specs.declared.event.Side.TheVariants.{A, B}
 use Rattle.qs_calls.specs.declared.event.Act.{Act}
@@ -22,7 +23,8 @@ use Rattle.qs_calls.specs.declared.event.Act.TheVariants.{Write, Stop, ReadUpTo,
 use Rattle.qs_calls.specs.declared.event.Event.{Event}
 use Rattle.qs_calls.specs.declared.answer.Answer.TheVariants as answers
 use Rattle.qs_machine.specs.SmallEnds.{abc}
-use Rattle.qs_runs.specs.Logs.{Happening, Did, MadeAck, FilledIn, AckedToken, LostToken, RaisedLimits, CameWith, CameAlone, History, written, read, made, payload, processed, took, was_acked, read_whole}
+use Rattle.qs_runs.specs.Logs.{Part, Happening, Did, MadeAck, FilledIn, ConsumedUpTo, AckedToken, LostToken, RaisedLimits, CameWith, CameAlone, History, written, read, made, payload, processed, took, was_acked, read_whole, HasSet, Forgot}
+use Rattle.qs_machine.specs.Setting.{Setting}
 
 abbrev pub at : Side → Act → Event
 at side act = record { end = side; act = act }
@@ -101,8 +103,37 @@ pub record LogsAreRead (bytes none : Vec ℕ) : Type 0 where
   pub no_end : read_whole B 0 (got B bytes ∷ []) ≡ false
   -- nor was one that had stopped before
   pub stopped_before : read_whole B 0 (told_end B none ∷ Did (at B (Stop 0 7)) (answers.Stop (Ok tt)) ∷ []) ≡ false
+  -- or forgotten it
+  pub forgotten_before : read_whole B 0 (told_end B none ∷ Forgot B 0 7 (Ok tt) ∷ []) ≡ false
   -- one that stopped afterwards was
   pub stopped_after : read_whole B 0 (Did (at B (Stop 0 7)) (answers.Stop (Ok tt)) ∷ told_end B none ∷ []) ≡ true
+
+-- `consume` took these three bytes of stream 0 at B, and was told whether the end follows
+abbrev pub took_out : Vec ℕ → Bool → Happening
+took_out bytes at_end = ConsumedUpTo B 0 10 (Ok (record { read = Bytes 3; at_end = at_end })) bytes
+
+-- Bytes that are taken without a copy
+pub record TakenIsRead (bytes none : Vec ℕ) : Type 0 where
+  -- they count as read, of that stream and at that end
+  pub taken : read B 0 (took_out bytes false ∷ []) ≡ abc
+  pub not_on_another : read B 4 (took_out bytes false ∷ []) ≡ []
+  pub not_there : read A 0 (took_out bytes false ∷ []) ≡ []
+  -- once, where the end follows
+  pub once : read B 0 (took_out bytes true ∷ []) ≡ abc
+  -- in order with what was read
+  pub in_order : read B 0 (took_out bytes false ∷ got B bytes ∷ []) ≡ 97 ∷ 98 ∷ 99 ∷ 97 ∷ 98 ∷ 99 ∷ []
+  -- none of a call that was refused
+  pub refused : read B 0 (ConsumedUpTo B 0 10 (Err NoSuchStream) bytes ∷ []) ≡ []
+  -- where the end follows, the reader was told the whole
+  pub whole : read_whole B 0 (took_out bytes true ∷ []) ≡ true
+  -- or where it had come already
+  pub ended : read_whole B 0 (ConsumedUpTo B 0 10 (Ok (record { read = End; at_end = true })) none ∷ []) ≡ true
+  -- else it wasn't, nor one that had stopped before
+  pub no_end : read_whole B 0 (took_out bytes false ∷ []) ≡ false
+  pub stopped_before : read_whole B 0 (took_out bytes true ∷ Did (at B (Stop 0 7)) (answers.Stop (Ok tt)) ∷ []) ≡ false
+  -- nothing is made by it, nor processed
+  pub none_made : made B (took_out bytes true ∷ []) ≡ []
+  pub none_processed : processed B 0 (took_out bytes true ∷ []) ≡ false
 
 -- What scripts don't have
 pub record OthersAreRead (text : List ℕ) : Type 0 where
@@ -124,14 +155,25 @@ pub record OthersAreRead (text : List ℕ) : Type 0 where
   pub not_another : processed B 1 (came_with A 0 text Done ∷ []) ≡ false
   pub twice : processed B 0 (came_with A 0 text Duplicate ∷ []) ≡ false
   pub not_there : processed A 0 (came_with A 0 text Done ∷ []) ≡ false
-  -- nothing is made by it, nor by a token that is lost, nor by limits that are taken in
+  -- nothing is made by it, nor by a token that is lost, by limits that are taken in or by what is set
   pub none_made : made A (came_with A 0 text Done ∷ []) ≡ []
   pub none_lost : (token : Token) → made A (LostToken A token (Ok tt) ∷ []) ≡ []
   pub none_raised : (limits : PeerLimits) → made A (RaisedLimits A limits (Ok tt) ∷ []) ≡ []
+  pub none_set : (setting : Setting) → made A (HasSet A setting (Ok tt) ∷ []) ≡ []
+  -- nor by a stream that is forgotten
+  pub none_forgot : made A (Forgot A 0 7 (Ok tt) ∷ []) ≡ []
+
+-- the frame at a place of a packet
+abbrev pub part : (number place : ℕ) → Part
+part number place = record { number = number; place = place }
 
 -- frames of A's packet come to B without it, with this answer
 abbrev pub came_alone : ℕ → List ℕ → Result Taken TakeFault → Happening
-came_alone number places answer = CameAlone A number places answer
+came_alone number places answer = CameAlone A (map (part number) places) answer
+
+-- the first frame of packet 0 and the second of packet 1 come together
+abbrev pub came_joined : Happening
+came_joined = CameAlone A (part 0 0 ∷ part 1 1 ∷ []) (Ok Took)
 
 -- A is told that the packet of this token was acknowledged
 abbrev pub token_acked : ℕ → Happening
@@ -145,6 +187,12 @@ pub record TokensAreRead : Type 0 where
   pub unchanged : took B 0 1 (came_alone 0 (1 ∷ []) (Ok Unchanged) ∷ []) ≡ true
   -- and so was each of several
   pub several : took B 0 2 (came_alone 0 (0 ∷ 2 ∷ []) (Ok Took) ∷ []) ≡ true
+  -- of one packet, or of several
+  pub joined : took B 0 0 (came_joined ∷ []) ≡ true
+  pub joined_later : took B 1 1 (came_joined ∷ []) ≡ true
+  -- each at its place in its own packet
+  pub not_crossed : took B 0 1 (came_joined ∷ []) ≡ false
+  pub not_crossed_later : took B 1 0 (came_joined ∷ []) ≡ false
   -- that one alone, of that packet, and not by its sender
   pub not_another : took B 0 0 (came_alone 0 (1 ∷ []) (Ok Took) ∷ []) ≡ false
   pub not_of_another : took B 1 1 (came_alone 0 (1 ∷ []) (Ok Took) ∷ []) ≡ false
@@ -168,5 +216,6 @@ pub record TokensAreRead : Type 0 where
 pub record Examples : Type 0 where
   pub story : (bytes text none : Vec ℕ) → bytes.items ≡ abc → StoryIsRead bytes text none
   pub logs : (bytes none : Vec ℕ) → bytes.items ≡ abc → LogsAreRead bytes none
+  pub takes : (bytes none : Vec ℕ) → bytes.items ≡ abc → TakenIsRead bytes none
   pub others : (text : List ℕ) → OthersAreRead text
   pub tokens : TokensAreRead

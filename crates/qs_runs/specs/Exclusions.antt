@@ -1,9 +1,9 @@
 -- Of laws.
 -- What two ends that agree exclude: beside each clause a small history, and a world, that lacks it (RFC 9000, sections 2.2, 3 and 4).
-use Rattle.std.specs.Prelude.{◌≡◌, ℕ, ◌+◌, ◌≤◌, true, false, List, [], ◌∷◌, None, Some, Result, Ok, Err}
+use Rattle.std.specs.Prelude.{◌≡◌, ℕ, ◌+◌, ◌≤◌, Bool, true, false, List, [], ◌∷◌, None, Some, Result, Ok, Err}
 use Rattle.std.specs.Global.{Vec}
 use Rattle.qs_ranges.specs.Numbers.{numbers}
-use Rattle.qs_recv.specs.Lane.{RecvLane}
+use Rattle.qs_recv.specs.Lane.{RecvLane, bytes_read}
 use Rattle.qs_send.specs.Lane.{SendLane}
 use Rattle.qs_send.specs.declared.piece.Item.TheVariants.{MaxData, ResetStream}
 use Rattle.qs_wire.specs.Layout.{max_data}
@@ -12,6 +12,8 @@ use Rattle.qs_wire.specs.declared.fault.WireFault.{WireFault}
 use Rattle.qs_calls.specs.Settings.{limits_of}
 use Rattle.qs_calls.specs.declared.settings.PeerLimits.{PeerLimits}
 use Rattle.qs_calls.specs.declared.settings.RaiseFault.{RaiseFault}
+use Rattle.qs_calls.specs.declared.settings.SetFault.{SetFault}
+use Rattle.qs_calls.specs.declared.uses.UseFault.{UseFault}
 use Rattle.qs_calls.specs.declared.filling.Fill.{Fill}
 use Rattle.qs_calls.specs.declared.filling.Filled.{Filled}
 use Rattle.qs_calls.specs.declared.making.Made.{Made}
@@ -26,19 +28,23 @@ use Rattle.qs_calls.specs.declared.closing.Closed.TheVariants.{ByPeer}
 use Rattle.qs_calls.specs.declared.closing.Received.{Received}
 use Rattle.qs_calls.specs.declared.closing.Received.TheVariants.{Done}
 use Rattle.qs_calls.specs.declared.closing.Received.TheVariants as received
+use Rattle.qs_calls.specs.declared.uses.UseFault.{UseFault}
 use Rattle.qs_calls.specs.declared.event.Side.TheVariants.{A, B}
 use Rattle.qs_calls.specs.declared.event.Act.TheVariants.{Accept, Claim}
 use Rattle.qs_calls.specs.declared.answer.Answer.TheVariants as answers
-use Rattle.qs_machine.specs.Ends.{End}
+use Rattle.qs_machine.specs.Ends.{End, recv_lane}
 use Rattle.qs_machine.specs.Seen.{Seen, Stream, Control, Plain}
 use Rattle.qs_machine.specs.Alone.{token_of}
 use Rattle.qs_machine.specs.Plains.{DifferInPlain}
 use Rattle.qs_machine.specs.Examples.{standard, server, client_of}
+use Rattle.qs_machine.specs.Setting.{Setting, ConnWindow}
 use Rattle.qs_machine.specs.SmallEnds.{client_with, server_with, abc, wrote as wrote_half, sent, fresh, all_came}
-use Rattle.qs_runs.specs.Logs.{Did, MadeAck, FilledIn, AckedToken, LostToken, RaisedLimits, CameWith, History, StandAt, HasLanded, ping_text}
+use Rattle.qs_runs.specs.Logs.{Did, MadeAck, FilledIn, ConsumedUpTo, AckedToken, LostToken, RaisedLimits, CameWith, CameAlone, History, AreFramesOf, HasLanded, ping_text, HasSet, Forgot}
+use Rattle.qs_calls.specs.declared.settings.SetFault.{SetFault}
+use Rattle.qs_machine.specs.Setting.{Setting, SendBuffer}
 use Rattle.qs_runs.specs.Worlds.{World, AreGranted, HandedIn, WorldStep, Begins}
 use Rattle.qs_runs.specs.Agree.{PrefixAgrees, WholeAgrees, FinalSizesAgree, Agree, IsOld, StepAgrees, frames_in}
-use Rattle.qs_runs.specs.Examples.{at, wrote, got, told_end, story, packet, came, came_with, came_alone}
+use Rattle.qs_runs.specs.Examples.{at, wrote, got, told_end, took_out, story, packet, came, came_with, part, came_alone}
 
 -- It doesn't agree (section 2.2) that what was read
 pub record ReadIsNoPrefix (bytes other none : Vec ℕ) : Type 0 where
@@ -48,6 +54,10 @@ pub record ReadIsNoPrefix (bytes other none : Vec ℕ) : Type 0 where
   pub more : PrefixAgrees (got B bytes ∷ wrote A bytes 2 ∷ []) A 0 → ⊥
   -- is less, once the end was told
   pub less : PrefixAgrees (told_end B none ∷ wrote A bytes 3 ∷ []) A 0 → ⊥
+  -- nor what was taken without a copy, where it has another byte
+  pub other_taken : PrefixAgrees (took_out other false ∷ wrote A bytes 3 ∷ []) A 0 → ⊥
+  -- or is less, once the end was told
+  pub less_taken : PrefixAgrees (took_out bytes true ∷ wrote A bytes 3 ∷ wrote A bytes 3 ∷ []) A 0 → ⊥
 
 abbrev pub both : End → End → World
 both a b = record { a = a; b = b }
@@ -150,6 +160,14 @@ pub record NothingElseHappens (bytes text none : Vec ℕ) : Type 0 where
   pub fill_too_long : (v w : World) (want : Fill) (filled : Filled) → WorldStep [] v (FilledIn A want 0 (Ok (Some filled)) (1 ∷ [])) w → ⊥
   -- or the other end changes
   pub fill_other : (v w : World) (want : Fill) → WorldStep [] v (FilledIn A want 1200 (Ok None) []) w → (w.b ≡ v.b → ⊥) → ⊥
+  -- other bytes are taken than a read gives (section 2.2)
+  pub other_bytes : (v w : World) (l : RecvLane) (at_end : Bool) → recv_lane v.b 0 ≡ Some l → (bytes.items ≡ bytes_read l 10 → ⊥) → WorldStep [] v (took_out bytes at_end) w → ⊥
+  -- or some by a call that was refused
+  pub refused_bytes : (v w : World) (fault : UseFault) → (bytes.items ≡ [] → ⊥) → WorldStep [] v (ConsumedUpTo B 0 10 (Err fault) bytes) w → ⊥
+  -- or of a stream that isn't open
+  pub unopened : (v w : World) (at_end : Bool) → recv_lane v.b 0 ≡ None → WorldStep [] v (took_out bytes at_end) w → ⊥
+  -- or the other end changes
+  pub taken_other : (v w : World) (at_end : Bool) → WorldStep [] v (took_out bytes at_end) w → (w.a ≡ v.a → ⊥) → ⊥
   -- a token is lost that wasn't given
   pub not_given : (v w : World) (token : Token) → v.a.next ≤ token.number → WorldStep [] v (LostToken A token (Ok tt)) w → ⊥
   -- or that another end gave
@@ -162,6 +180,16 @@ pub record NothingElseHappens (bytes text none : Vec ℕ) : Type 0 where
   pub closed : (v w : World) (p : PeerLimits) → v.a.closed ≡ Some (ByPeer 0) → WorldStep [] v (RaisedLimits A p (Ok tt)) w → ⊥
   -- or the other end changes
   pub raised_other : (v w : World) (p : PeerLimits) (r : Result (Unit {0}) RaiseFault) → WorldStep [] v (RaisedLimits A p r) w → (w.b ≡ v.b → ⊥) → ⊥
+  -- a window of no byte is set
+  pub no_window : (v w : World) → WorldStep [] v (HasSet A (ConnWindow 0) (Ok tt)) w → ⊥
+  -- or the other end changes as one is set
+  pub set_other : (v w : World) (x : Setting) (r : Result (Unit {0}) SetFault) → WorldStep [] v (HasSet A x r) w → (w.b ≡ v.b → ⊥) → ⊥
+  -- a stream is forgotten by an end that closed
+  pub forgot_closed : (v w : World) → v.a.closed ≡ Some (ByPeer 0) → WorldStep [] v (Forgot A 0 7 (Ok tt)) w → ⊥
+  -- or the other end changes
+  pub forgot_other : (v w : World) (r : Result (Unit {0}) UseFault) → WorldStep [] v (Forgot A 0 7 r) w → (w.b ≡ v.b → ⊥) → ⊥
+  -- a buffer is set at an end that closed
+  pub set_closed : (v w : World) (size : ℕ) → v.a.closed ≡ Some (ByPeer 0) → WorldStep [] v (HasSet A (SendBuffer 0 size) (Ok tt)) w → ⊥
 
 -- a packet of two frames, a MAX_DATA of 5 and one of 6 (RFC 9000, section 19.9)
 abbrev pub two_frames : List ℕ
@@ -171,15 +199,17 @@ two_frames = 0x10 ∷ 5 ∷ 0x10 ∷ 6 ∷ []
 pub record NoFrameComes (text : Vec ℕ) : Type 0 where
   -- of a packet that wasn't made
   pub unmade : (v w : World) (r : Result Taken TakeFault) → WorldStep (packet A text ∷ []) v (came_alone 1 (0 ∷ []) r) w → ⊥
+  -- be it together with one of a packet that was
+  pub unmade_later : (v w : World) (r : Result Taken TakeFault) → WorldStep (packet A text ∷ []) v (CameAlone A (part 0 0 ∷ part 1 0 ∷ []) r) w → ⊥
   -- that it doesn't have
   pub not_in_it : (v w : World) (r : Result Taken TakeFault) → WorldStep (packet A text ∷ []) v (came_alone 0 (2 ∷ []) r) w → ⊥
   -- to the other end, so that their sender changes
   pub sender : (v w : World) (r : Result Taken TakeFault) → WorldStep (packet A text ∷ []) v (came_alone 0 (0 ∷ []) r) w → (w.a ≡ v.a → ⊥) → ⊥
   -- with another value than they have there
-  pub another : StandAt (max_data 5 ∷ max_data 6 ∷ []) (0 ∷ []) (max_data 6 ∷ []) → ⊥
+  pub another : AreFramesOf (packet A text ∷ []) A (part 0 0 ∷ []) (max_data 6 ∷ []) → ⊥
   -- fewer than came, or more
-  pub fewer : StandAt (max_data 5 ∷ max_data 6 ∷ []) (0 ∷ 1 ∷ []) (max_data 5 ∷ []) → ⊥
-  pub more : StandAt (max_data 5 ∷ max_data 6 ∷ []) (0 ∷ []) (max_data 5 ∷ max_data 6 ∷ []) → ⊥
+  pub fewer : AreFramesOf (packet A text ∷ []) A (part 0 0 ∷ part 0 1 ∷ []) (max_data 5 ∷ []) → ⊥
+  pub more : AreFramesOf (packet A text ∷ []) A (part 0 0 ∷ []) (max_data 5 ∷ max_data 6 ∷ []) → ⊥
   -- several as one of another kind
   pub several : (e new : End) → HandedIn (max_data 5 ∷ max_data 6 ∷ []) e (Ok NotOurs) new → ⊥
 
@@ -207,6 +237,8 @@ pub record NotYetLanded (text : Vec ℕ) : Type 0 where
   pub not_processed : TokenAcked (came A 0 received.NoMemory ∷ packet A text ∷ []) → ⊥
   -- of two packets once the first one landed, and the other wasn't made
   pub half : (v w : World) (r : Result (Unit {0}) TokenFault) → WorldStep (came A 0 Done ∷ packet A text ∷ []) v (AckedToken A (record (token_of v.a 0) { number = 1 }) r) w → ⊥
+  -- nor once the frames of the first one came together with one of the other
+  pub half_joined : (v w : World) (r : Result (Unit {0}) TokenFault) → WorldStep (CameAlone A (part 0 0 ∷ part 0 1 ∷ part 1 0 ∷ []) (Ok Took) ∷ packet A text ∷ packet A text ∷ []) v (AckedToken A (record (token_of v.a 0) { number = 1 }) r) w → ⊥
   -- one of another end isn't taken, and changes nothing
   pub foreign : (h : History) (v w : World) (token : Token) → (token.epoch ≡ v.a.tuning.epoch → ⊥) → WorldStep h v (AckedToken A token (Ok tt)) w → ⊥
   -- nor does the other end change
@@ -217,6 +249,9 @@ pub record NotYetLanded (text : Vec ℕ) : Type 0 where
   pub unchanged : HasLanded (came_alone 0 (0 ∷ []) (Ok Unchanged) ∷ came_alone 0 (1 ∷ []) (Ok Took) ∷ packet A text ∷ []) A 0
   -- or several together
   pub together : HasLanded (came_alone 0 (1 ∷ 0 ∷ []) (Ok Took) ∷ packet A text ∷ []) A 0
+  -- or with those of another packet between them
+  pub joined : HasLanded (CameAlone A (part 1 0 ∷ part 0 1 ∷ part 1 1 ∷ part 0 0 ∷ []) (Ok Took) ∷ packet A text ∷ packet A text ∷ []) A 0
+  pub joined_later : HasLanded (CameAlone A (part 1 0 ∷ part 0 1 ∷ part 1 1 ∷ part 0 0 ∷ []) (Ok Took) ∷ packet A text ∷ packet A text ∷ []) A 1
   -- or once it was processed
   pub processed : HasLanded (came A 0 Done ∷ packet A text ∷ []) A 0
 

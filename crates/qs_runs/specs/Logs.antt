@@ -1,6 +1,7 @@
 -- Trusted.
 -- What happened to two ends, and what can be read off it: what was written, read, made and processed. The whole file is ours:
 -- RFC 9000 has no log.
+use Rattle.std.specs.Global.{Vec}
 use Rattle.std.specs.Prelude.{◌≡◌, ℕ, Bool, true, false, not, ◌&&◌, ◌||◌, ◌==◌, List, [], ◌∷◌, ◌++◌, map, take, ◌⊎◌, ⊤, Option, None, Some, Result, Ok, Err, slice_get, if◌then◌else◌, nat_le}
 use Rattle.qs_wire.specs.Layout.{FrameValue}
 use Rattle.qs_wire.specs.Grammar.{frames_of}
@@ -12,16 +13,21 @@ use Rattle.qs_calls.specs.declared.filling.Fill.{Fill}
 use Rattle.qs_calls.specs.declared.filling.Filled.{Filled}
 use Rattle.qs_calls.specs.declared.making.Made.{Made}
 use Rattle.qs_calls.specs.declared.making.MakeFault.{MakeFault}
+use Rattle.qs_calls.specs.declared.reading.Consumed.{Consumed}
 use Rattle.qs_calls.specs.declared.settings.PeerLimits.{PeerLimits}
 use Rattle.qs_calls.specs.declared.settings.RaiseFault.{RaiseFault}
+use Rattle.qs_calls.specs.declared.settings.SetFault.{SetFault}
 use Rattle.qs_calls.specs.declared.token.Token.{Token}
 use Rattle.qs_calls.specs.declared.token.Taken.{Taken}
 use Rattle.qs_calls.specs.declared.token.Taken.TheVariants.{Took, Unchanged}
 use Rattle.qs_calls.specs.declared.token.TakeFault.{TakeFault}
 use Rattle.qs_calls.specs.declared.token.TokenFault.{TokenFault}
+use Rattle.qs_calls.specs.declared.uses.UseFault.{UseFault}
 use Rattle.qs_calls.specs.declared.token.TokenFault.TheVariants as tokens
+use Rattle.qs_calls.specs.declared.uses.UseFault.{UseFault}
 use Rattle.qs_machine.specs.Seen.{seen}
 use Rattle.qs_machine.specs.Alone.{is_ours}
+use Rattle.qs_machine.specs.Setting.{Setting}
 use Rattle.qs_recv.specs.declared.half.Read.TheVariants.{Bytes, End}
 use Rattle.qs_calls.specs.declared.event.Side.{Side}
 use Rattle.qs_calls.specs.declared.event.Side.TheVariants.{A, B}
@@ -31,18 +37,28 @@ use Rattle.qs_calls.specs.declared.event.Event.{Event}
 use Rattle.qs_calls.specs.declared.answer.Answer.{Answer}
 use Rattle.qs_calls.specs.declared.answer.Answer.TheVariants as answers
 
+-- a frame of a packet: the packet's number, and the place of the frame among those of its payload
+pub record Part : Type 0 where
+  pub number : ℕ
+  pub place : ℕ
+
 -- One thing that happens, with its answer: an event as scripts have them; or, of what they don't have, a payload with an ACK alone is
--- made, frames are filled into a packet of the stack's own, a token's packet is acknowledged or declared lost, limits of the handshake
--- are taken in, an end's packet comes to the other end in these bytes, with frames of the layer beneath, or frames of it come without it.
+-- made, frames are filled into a packet of the stack's own, these bytes are taken without a copy, a stream is stopped and forgotten, a
+-- token's packet is acknowledged or declared lost, limits of the handshake are taken in, an owner sets a window, a buffer or a grant anew,
+-- an end's owner sets something anew, an end's packet comes to the other end in these bytes, with frames of the layer
+-- beneath, or frames of it come without it.
 pub data Happening : Type 0 where
   Did : (event : Event) (answer : Answer) → Happening
   MadeAck : (end : Side) (room : ℕ) (result : Result (Option Made) MakeFault) (text : List ℕ) → Happening
   FilledIn : (end : Side) (want : Fill) (room : ℕ) (result : Result (Option Filled) MakeFault) (text : List ℕ) → Happening
+  ConsumedUpTo : (end : Side) (stream most : ℕ) (result : Result Consumed UseFault) (bytes : Vec ℕ) → Happening
   AckedToken : (end : Side) (token : Token) (result : Result (Unit {0}) TokenFault) → Happening
   LostToken : (end : Side) (token : Token) (result : Result (Unit {0}) TokenFault) → Happening
   RaisedLimits : (end : Side) (limits : PeerLimits) (result : Result (Unit {0}) RaiseFault) → Happening
+  HasSet : (end : Side) (setting : Setting) (result : Result (Unit {0}) SetFault) → Happening
+  Forgot : (end : Side) (stream code : ℕ) (result : Result (Unit {0}) UseFault) → Happening
   CameWith : (end : Side) (number : ℕ) (bytes : List ℕ) (result : Result Received Closing) → Happening
-  CameAlone : (end : Side) (number : ℕ) (places : List ℕ) (result : Result Taken TakeFault) → Happening
+  CameAlone : (end : Side) (parts : List Part) (result : Result Taken TakeFault) → Happening
 
 -- what happened, the newest first
 abbrev pub History : Type 0
@@ -70,9 +86,21 @@ abbrev pub is_delivery : Act → Bool
 is_delivery (acts.Deliver k) = true
 is_delivery act = false
 
--- a call that the owner of one end made of those that scripts have, with its answer
+-- where the end follows what was taken, a read of none that is told so
+abbrev pub end_read : Bool → ℕ → Vec ℕ → List (Act × Answer)
+end_read true n bytes = (acts.ReadUpTo n 0, answers.ReadUpTo (Ok End) bytes) ∷ []
+end_read false n bytes = []
+
+-- bytes that are taken without a copy as the reads that these are (RFC 9000, section 2.2)
+abbrev pub reads_of : (stream most : ℕ) → Result Consumed UseFault → Vec ℕ → List (Act × Answer)
+reads_of n most (Ok consumed) bytes = end_read consumed.at_end n bytes ++ (acts.ReadUpTo n most, answers.ReadUpTo (Ok consumed.read) bytes) ∷ []
+reads_of n most (Err fault) bytes = []
+
+-- a call that the owner of one end made of those that scripts have, with its answer, or the reads that a call is; a stream that is forgotten is stopped
 abbrev pub own_of : Side → Happening → List (Act × Answer)
 own_of s (Did event answer) = if same_side s event.end && not (is_delivery event.act) then (event.act, answer) ∷ [] else []
+own_of s (ConsumedUpTo end n most result bytes) = if same_side s end then reads_of n most result bytes else []
+own_of s (Forgot end n code result) = if same_side s end then (acts.Stop n code, answers.Stop result) ∷ [] else []
 own_of s x = []
 
 -- all of them, the newest first
@@ -125,7 +153,7 @@ gave n (c ∷ cs) = gave n cs ++ read_by n c.0 c.1
 abbrev pub written : Side → ℕ → History → List ℕ
 written s n h = wrote n (own_calls s h)
 
--- the bytes of a stream that `read` gave at one end, joined
+-- the bytes of a stream that `read` gave at one end, and `consume` took, joined
 abbrev pub read : Side → ℕ → History → List ℕ
 read s n h = gave n (own_calls s h)
 
@@ -157,15 +185,15 @@ unfoldable pub processed : Side → ℕ → History → Bool
 processed s k [] = false
 processed s k (x ∷ h) = if takes_in s k x then true else processed s k h
 
--- the frames at these places
-abbrev pub StandAt : List FrameValue → List ℕ → List FrameValue → Type 0
-StandAt all [] [] = ⊤
-StandAt all (i ∷ places) (f ∷ fs) = (slice_get all i ≡ Some f) × StandAt all places fs
-StandAt all places fs = ⊥
+-- the frame of one end's packet
+abbrev pub IsFrameOf : History → Side → Part → FrameValue → Type 0
+IsFrameOf h s part f = (text : List ℕ) × (payload s part.number h ≡ Some text) × (slice_get (frames_of (reading_of text).left) part.place ≡ Some f)
 
--- the frames at these places of one end's packet
-abbrev pub AreFramesOf : History → Side → ℕ → (places : List ℕ) → List FrameValue → Type 0
-AreFramesOf h s k places fs = (text : List ℕ) × (payload s k h ≡ Some text) × StandAt (frames_of (reading_of text).left) places fs
+-- each of these frames of one end's packets
+abbrev pub AreFramesOf : History → Side → List Part → List FrameValue → Type 0
+AreFramesOf h s [] [] = ⊤
+AreFramesOf h s (part ∷ parts) (f ∷ fs) = IsFrameOf h s part f × AreFramesOf h s parts fs
+AreFramesOf h s parts fs = ⊥
 
 -- frames were handed in, and took effect, be it that they changed nothing
 abbrev pub is_taken : Result Taken TakeFault → Bool
@@ -173,18 +201,18 @@ is_taken (Ok Took) = true
 is_taken (Ok Unchanged) = true
 is_taken answer = false
 
--- it is one of these places
-abbrev pub is_among : ℕ → List ℕ → Bool
-is_among i [] = false
-is_among i (j ∷ places) = i == j || is_among i places
+-- frame i of packet k is one of these
+abbrev pub is_among : (k i : ℕ) → List Part → Bool
+is_among k i [] = false
+is_among k i (part ∷ parts) = (k == part.number && i == part.place) || is_among k i parts
 
--- frame i of packet k is among those that came of a packet, and were taken
-abbrev pub is_taken_at : (k i number : ℕ) (places : List ℕ) → Result Taken TakeFault → Bool
-is_taken_at k i number places result = k == number && (is_among i places && is_taken result)
+-- frame i of packet k is among those that came, and were taken
+abbrev pub is_taken_at : (k i : ℕ) → List Part → Result Taken TakeFault → Bool
+is_taken_at k i parts result = is_among k i parts && is_taken result
 
 -- frame i of the peer's packet k comes to one end without it, and is taken
 abbrev pub takes_frame : Side → (k i : ℕ) → Happening → Bool
-takes_frame s k i (CameAlone end number places result) = same_side (other s) end && is_taken_at k i number places result
+takes_frame s k i (CameAlone end parts result) = same_side (other s) end && is_taken_at k i parts result
 takes_frame s k i x = false
 
 -- it came so

@@ -2,8 +2,11 @@
 -- Two ends, each of which was told limits that the other grants, and what may happen to them. The whole file is ours, but that an
 -- end is the client, the other the server, and each knows limits of the other (RFC 9000, sections 2.1, 7.4.1 and 18.2).
 use Rattle.std.specs.Prelude.{◌≡◌, ℕ, ◌≤◌, List, [], ◌∷◌, ◌⊎◌, Some, Result, Ok, Err, true}
+use Rattle.qs_recv.specs.Lane.{RecvLane, bytes_read}
 use Rattle.qs_wire.specs.declared.stream_id.Role.TheVariants.{Client, Server}
 use Rattle.qs_wire.specs.Layout.{FrameValue}
+use Rattle.qs_calls.specs.declared.reading.Consumed.{Consumed}
+use Rattle.qs_calls.specs.declared.uses.UseFault.{UseFault}
 use Rattle.qs_calls.specs.declared.token.Taken.{Taken}
 use Rattle.qs_calls.specs.declared.token.TakeFault.{TakeFault}
 use Rattle.qs_calls.specs.declared.closing.Closing.{Closing}
@@ -13,21 +16,22 @@ use Rattle.qs_calls.specs.declared.settings.Tuning.{Tuning}
 use Rattle.qs_calls.specs.declared.settings.PeerLimits.{PeerLimits}
 use Rattle.qs_calls.specs.declared.settings.SetupFault.{SetupFault}
 use Rattle.qs_calls.specs.Settings.{limits_of}
-use Rattle.qs_machine.specs.Ends.{End, end_made, wide_end_made}
+use Rattle.qs_machine.specs.Ends.{End, recv_lane, end_made, wide_end_made}
 use Rattle.qs_machine.specs.Plains.{DifferInPlain}
-use Rattle.qs_machine.specs.Owner.{OpenStep, AcceptStep, WriteStep, FinishStep, ResetStep, StopStep, ReadStep}
+use Rattle.qs_machine.specs.Owner.{OpenStep, AcceptStep, WriteStep, FinishStep, ResetStep, StopStep, ReadStep, ConsumeStep, StopAndForgetStep}
 use Rattle.qs_machine.specs.Receiving.{ReceiveStep}
 use Rattle.qs_machine.specs.Making.{MakeStep, MakeAckStep, LoseStep, ClaimStep}
 use Rattle.qs_machine.specs.Filling.{FillStep}
 use Rattle.qs_machine.specs.Alone.{TakeFrameStep, TakeFramesStep, TokenAckedStep, TokenLostStep}
 use Rattle.qs_machine.specs.Raising.{RaiseStep}
+use Rattle.qs_machine.specs.Setting.{SetStep}
 use Rattle.qs_calls.specs.declared.event.Side.{Side}
 use Rattle.qs_calls.specs.declared.event.Side.TheVariants.{A, B}
 use Rattle.qs_calls.specs.declared.event.Act.{Act}
 use Rattle.qs_calls.specs.declared.event.Act.TheVariants as acts
 use Rattle.qs_calls.specs.declared.answer.Answer.{Answer}
 use Rattle.qs_calls.specs.declared.answer.Answer.TheVariants as answers
-use Rattle.qs_runs.specs.Logs.{Happening, Did, MadeAck, FilledIn, AckedToken, LostToken, RaisedLimits, CameWith, CameAlone, History, Log, happened, other, payload, AreFramesOf, HasLanded, is_in}
+use Rattle.qs_runs.specs.Logs.{Part, Happening, Did, MadeAck, FilledIn, ConsumedUpTo, AckedToken, LostToken, RaisedLimits, CameWith, CameAlone, History, Log, happened, other, payload, AreFramesOf, HasLanded, is_in, HasSet, Forgot}
 
 pub record World : Type 0 where
   pub a : End
@@ -90,6 +94,15 @@ abbrev pub EventStep : History → World → Side → Act → Answer → World �
 EventStep h old s (acts.Deliver k) answer new = DeliverStep h old s k answer new
 EventStep h old s act answer new = OwnCall old s new (OwnStep (end_of old s) act answer (end_of new s))
 
+-- the bytes that are taken without a copy are those that a read of so many would have given (RFC 9000, section 2.2)
+abbrev pub AreTaken : End → (stream most : ℕ) → Result Consumed UseFault → List ℕ → Type 0
+AreTaken e n most (Ok consumed) bytes = (l : RecvLane) → recv_lane e n ≡ Some l → bytes ≡ bytes_read l most
+AreTaken e n most (Err fault) bytes = bytes ≡ []
+
+-- `consume`, with the bytes that it takes (RFC 9000, section 2.2)
+abbrev pub TakesBytes : End → (stream most : ℕ) → Result Consumed UseFault → List ℕ → End → Type 0
+TakesBytes old n most r bytes new = ConsumeStep old n most r new × AreTaken old n most r bytes
+
 -- a payload comes to the other end with plain frames of the layer beneath behind it, or in the place of the PING of a claimed number
 -- (RFC 9000, sections 13.2.1 and 19)
 abbrev pub ComeWithStep : History → World → Side → ℕ → List ℕ → Result Received Closing → World → Type 0
@@ -102,10 +115,11 @@ ComeWithStep h old s k bytes r new =
 abbrev pub HandedIn : List FrameValue → End → Result Taken TakeFault → End → Type 0
 HandedIn fs old r new = TakeFramesStep old fs r new ⊎ ((f : FrameValue) × (fs ≡ f ∷ []) × TakeFrameStep old f r new)
 
--- frames of one end's packet come to the other end without it: each whole and as it was put in, any of them, in any order
-abbrev pub ComeAloneStep : History → World → Side → ℕ → List ℕ → Result Taken TakeFault → World → Type 0
-ComeAloneStep h old s k places r new =
-    (fs : List FrameValue) × AreFramesOf h s k places fs
+-- frames of one end's packets come to the other end without them: each whole and as it was put in, any of them, in any order, of one
+-- packet or of several
+abbrev pub ComeAloneStep : History → World → Side → List Part → Result Taken TakeFault → World → Type 0
+ComeAloneStep h old s parts r new =
+    (fs : List FrameValue) × AreFramesOf h s parts fs
     × HandedIn fs (end_of old (other s)) r (end_of new (other s))
     × (end_of new s ≡ end_of old s)
 
@@ -115,11 +129,14 @@ abbrev pub WorldStep : History → World → Happening → World → Type 0
 WorldStep h old (Did event answer) new = EventStep h old event.end event.act answer new
 WorldStep h old (MadeAck s room r text) new = OwnCall old s new ((delay : ℕ) × MakeAckStep (end_of old s) delay room r text (end_of new s))
 WorldStep h old (FilledIn s want room r text) new = OwnCall old s new (FillStep (end_of old s) want room r text (end_of new s))
+WorldStep h old (ConsumedUpTo s n most r bytes) new = OwnCall old s new (TakesBytes (end_of old s) n most r bytes.items (end_of new s))
 WorldStep h old (AckedToken s token r) new = OwnCall old s new ((token.epoch ≡ (end_of old s).tuning.epoch → (k : ℕ) → is_in token k ≡ true → HasLanded h s k) × TokenAckedStep (end_of old s) token r (end_of new s))
 WorldStep h old (LostToken s token r) new = OwnCall old s new (TokenLostStep (end_of old s) token r (end_of new s))
 WorldStep h old (RaisedLimits s p r) new = OwnCall old s new (AreGranted p (end_of old (other s)).settings × RaiseStep (end_of old s) p r (end_of new s))
+WorldStep h old (HasSet s x r) new = OwnCall old s new (SetStep (end_of old s) x r (end_of new s))
+WorldStep h old (Forgot s n code r) new = OwnCall old s new (StopAndForgetStep (end_of old s) n code r (end_of new s))
 WorldStep h old (CameWith s k bytes r) new = ComeWithStep h old s k bytes r new
-WorldStep h old (CameAlone s k places r) new = ComeAloneStep h old s k places r new
+WorldStep h old (CameAlone s parts r) new = ComeAloneStep h old s parts r new
 
 -- Two ends were made, tuned as their owners like, each told limits that the other grants: the true ones, or lower ones that it remembers from a connection before
 -- (RFC 9000, section 7.4.1).

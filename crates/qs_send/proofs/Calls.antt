@@ -11,7 +11,7 @@ use Rattle.qs_send.specs.declared.parts.SendFault.TheVariants.{Finished, WasRese
 use Rattle.qs_send.specs.Lane.{Sending, SendLane, refusal, reset_refusal, is_whole, size_of, declared_size, finish_lane, lost_due, after_write, after_reset, after_stopped}
 use Rattle.qs_send.specs.Chunks.{IsDueChunk, WasSent}
 use Rattle.qs_send.specs.Sound.{IsLawful, IsEnded}
-use Rattle.qs_send.specs.Calls.{writes, finishes, resets, stops, acks_reset, blocks, allows, sends, acks, loses}
+use Rattle.qs_send.specs.Calls.{writes, finishes, resets, stops, acks_reset, blocks, allows, buffers, sends, acks, loses}
 use Rattle.qs_send.specs.Laws.{CallsKeepLawful, DeclaredSizeIsSentEnd, DeclaredSizeStays, OnlyNewBytesSpend}
 use Rattle.qs_send.proofs.Steps.{lawful_write, lawful_reset, lawful_sent, lawful_acked, lawful_lost, due_within, none_due, reset_size-is}
 
@@ -40,7 +40,7 @@ lawful_finish : (s : Sending) → IsLawful s → is_some s.lane.was_reset ≡ fa
 lawful_finish s h open_lane not_yet =
     let ends : IsEnded s.lane.written s.lane.sent_end true s.lane.fin_sent s.lane.fin_acked true (is_some s.lane.was_reset) =
     rw open_lane (ends_finish _ _ _ _ _ _ not_yet (rw open_lane at h.ends)) in
-    record { order = record { small_id = h.order.small_id; small = h.order.small; small_limit = h.order.small_limit; sent_written = h.order.sent_written; sent_limit = h.order.sent_limit; reset_size = h.order.reset_size }; bytes = record { from = h.bytes.from; let_go = h.bytes.let_go; buffered = h.bytes.buffered }; parts = h.parts; ends = ends }
+    record { order = record { small_id = h.order.small_id; small = h.order.small; small_limit = h.order.small_limit; sent_written = h.order.sent_written; sent_limit = h.order.sent_limit; reset_size = h.order.reset_size }; bytes = record { from = h.bytes.from; let_go = h.bytes.let_go; buffered = h.bytes.buffered; widest = h.bytes.widest }; parts = h.parts; ends = ends }
 
 finish_by : (s : Sending) (r : Option SendFault) → IsLawful s → (r ≡ None → IsLawful (record { lane = finish_lane s.lane; due = record { offsets = s.due.offsets; fin = true } })) → IsLawful (if is_some r then s else record { lane = finish_lane s.lane; due = record { offsets = s.due.offsets; fin = true } })
 finish_by s None h then_ok = then_ok refl
@@ -60,7 +60,7 @@ lost_by s c false e sent h = lawful_lost s c e sent h
 -- the code of a STOP_SENDING is all that it keeps beside what a reset does
 pub lawful_stopped : (s : Sending) (code : ℕ) → IsLawful (after_reset s code) → IsLawful (after_stopped s code)
 lawful_stopped s code h =
-    record { order = record { small_id = h.order.small_id; small = h.order.small; small_limit = h.order.small_limit; sent_written = h.order.sent_written; sent_limit = h.order.sent_limit; reset_size = h.order.reset_size }; bytes = record { from = h.bytes.from; let_go = h.bytes.let_go; buffered = h.bytes.buffered }; parts = h.parts; ends = h.ends }
+    record { order = record { small_id = h.order.small_id; small = h.order.small; small_limit = h.order.small_limit; sent_written = h.order.sent_written; sent_limit = h.order.sent_limit; reset_size = h.order.reset_size }; bytes = record { from = h.bytes.from; let_go = h.bytes.let_go; buffered = h.bytes.buffered; widest = h.bytes.widest }; parts = h.parts; ends = h.ends }
 
 pub calls_keep_lawful : CallsKeepLawful
 calls_keep_lawful s (writes bytes) h may =
@@ -68,19 +68,23 @@ calls_keep_lawful s (writes bytes) h may =
     let le = may.1 in
     let small = h.order.small in
     let buffered = h.bytes.buffered in
-    lawful_write s bytes free.0 free.1 (omega (arith, le, small)) (omega (arith, le, buffered)) h
+    let widest = h.bytes.widest in
+    lawful_write s bytes free.0 free.1 (omega (arith, le, small)) (omega (arith, le, buffered, widest)) h
 calls_keep_lawful s finishes h may =
     finish_by s (refusal s.lane) h (λ none. let free = not_refused _ _ none in lawful_finish s h free.0 free.1)
 calls_keep_lawful s (resets code) h may = reset_by s code (is_some (reset_refusal s.lane)) h
 calls_keep_lawful s (stops code) h may = lawful_stopped s code (reset_by s code (is_some (reset_refusal s.lane)) h)
 calls_keep_lawful s acks_reset h may =
-    record { order = record { small_id = h.order.small_id; small = h.order.small; small_limit = h.order.small_limit; sent_written = h.order.sent_written; sent_limit = h.order.sent_limit; reset_size = h.order.reset_size }; bytes = record { from = h.bytes.from; let_go = h.bytes.let_go; buffered = h.bytes.buffered }; parts = h.parts; ends = h.ends }
+    record { order = record { small_id = h.order.small_id; small = h.order.small; small_limit = h.order.small_limit; sent_written = h.order.sent_written; sent_limit = h.order.sent_limit; reset_size = h.order.reset_size }; bytes = record { from = h.bytes.from; let_go = h.bytes.let_go; buffered = h.bytes.buffered; widest = h.bytes.widest }; parts = h.parts; ends = h.ends }
 calls_keep_lawful s blocks h may =
-    record { order = record { small_id = h.order.small_id; small = h.order.small; small_limit = h.order.small_limit; sent_written = h.order.sent_written; sent_limit = h.order.sent_limit; reset_size = h.order.reset_size }; bytes = record { from = h.bytes.from; let_go = h.bytes.let_go; buffered = h.bytes.buffered }; parts = h.parts; ends = h.ends }
+    record { order = record { small_id = h.order.small_id; small = h.order.small; small_limit = h.order.small_limit; sent_written = h.order.sent_written; sent_limit = h.order.sent_limit; reset_size = h.order.reset_size }; bytes = record { from = h.bytes.from; let_go = h.bytes.let_go; buffered = h.bytes.buffered; widest = h.bytes.widest }; parts = h.parts; ends = h.ends }
 calls_keep_lawful s (allows limit) h may =
     let small = h.order.small_limit in
     let sent = h.order.sent_limit in
-    record { order = record { small_id = h.order.small_id; small = h.order.small; small_limit = omega (arith, small, may); sent_written = h.order.sent_written; sent_limit = omega (arith, sent); reset_size = h.order.reset_size }; bytes = record { from = h.bytes.from; let_go = h.bytes.let_go; buffered = h.bytes.buffered }; parts = h.parts; ends = h.ends }
+    record { order = record { small_id = h.order.small_id; small = h.order.small; small_limit = omega (arith, small, may); sent_written = h.order.sent_written; sent_limit = omega (arith, sent); reset_size = h.order.reset_size }; bytes = record { from = h.bytes.from; let_go = h.bytes.let_go; buffered = h.bytes.buffered; widest = h.bytes.widest }; parts = h.parts; ends = h.ends }
+calls_keep_lawful s (buffers size) h may =
+    let buffered = h.bytes.buffered in
+    record { order = record { small_id = h.order.small_id; small = h.order.small; small_limit = h.order.small_limit; sent_written = h.order.sent_written; sent_limit = h.order.sent_limit; reset_size = h.order.reset_size }; bytes = record { from = h.bytes.from; let_go = h.bytes.let_go; buffered = omega (arith, buffered); widest = omega arith }; parts = h.parts; ends = h.ends }
 calls_keep_lawful s (sends chunk) h may = lawful_sent s chunk may h
 calls_keep_lawful s (acks chunk) h may = lawful_acked s chunk may h
 calls_keep_lawful s (loses chunk) h may = lost_by s chunk (is_some s.lane.was_reset) refl may h
@@ -154,6 +158,7 @@ declared_size_stays s (stops code) size h may is = reset_keeps s.lane code size 
 declared_size_stays s acks_reset size h may is = is
 declared_size_stays s blocks size h may is = is
 declared_size_stays s (allows limit) size h may is = is
+declared_size_stays s (buffers width) size h may is = is
 declared_size_stays s (sends chunk) size h may is = sent_keeps s chunk size h may is
 declared_size_stays s (acks chunk) size h may is = is
 declared_size_stays s (loses chunk) size h may is = lost_keeps s chunk (is_some s.lane.was_reset) size is
@@ -195,6 +200,7 @@ only_new_bytes_spend s (stops code) h may = nothing_new _ _ _ (reset_sends s.lan
 only_new_bytes_spend s acks_reset h may = nothing_new _ _ _ refl
 only_new_bytes_spend s blocks h may = nothing_new _ _ _ refl
 only_new_bytes_spend s (allows limit) h may = nothing_new _ _ _ refl
+only_new_bytes_spend s (buffers size) h may = nothing_new _ _ _ refl
 only_new_bytes_spend s (sends chunk) h may = (omega arith, new_bytes chunk.offset (chunk.offset + chunk.len) s.lane.sent_end (starts_by s chunk may h))
 only_new_bytes_spend s (acks chunk) h may = nothing_new _ _ _ refl
 only_new_bytes_spend s (loses chunk) h may = nothing_new _ _ _ (lost_sends s chunk (is_some s.lane.was_reset))

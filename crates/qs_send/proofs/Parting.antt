@@ -9,7 +9,7 @@ use Rattle.qs_send.specs.declared.parts.Chunk.{Chunk}
 use Rattle.qs_send.specs.declared.parts.Reset.{Reset}
 use Rattle.qs_send.specs.Lane.{Sending, after_reset, refusal, reset_refusal, finish_lane, lost_due}
 use Rattle.qs_send.specs.Sound.{IsLawful}
-use Rattle.qs_send.specs.Calls.{writes, finishes, resets, stops, acks_reset, blocks, allows, sends, acks, loses}
+use Rattle.qs_send.specs.Calls.{writes, finishes, resets, stops, acks_reset, blocks, allows, buffers, sends, acks, loses}
 use Rattle.qs_send.specs.Parts.{bit, MovesParts}
 use Rattle.qs_send.specs.Laws.{EachOffsetIsInOnePart, InFlightWasSent, CallsMoveParts}
 use Rattle.qs_send.proofs.Runs.{contains-due}
@@ -107,6 +107,7 @@ calls_move_parts s (stops code) h none may =
 calls_move_parts s acks_reset h none may = record { acked = refl; due = refl; in_flight = refl }
 calls_move_parts s blocks h none may = record { acked = refl; due = refl; in_flight = refl }
 calls_move_parts s (allows limit) h none may = record { acked = refl; due = refl; in_flight = refl }
+calls_move_parts s (buffers size) h none may = record { acked = refl; due = refl; in_flight = refl }
 calls_move_parts s (sends chunk) h none may =
     record { acked = refl; due = refl; in_flight = rest-sent s.lane.written chunk.offset (chunk.offset + chunk.len) s.lane.acked s.due.offsets h.parts.due_written h.parts.apart may.due }
 calls_move_parts s (acks chunk) h none may = record { acked = refl; due = refl; in_flight = rest-acked s.lane.written chunk.offset (chunk.offset + chunk.len) s.lane.acked s.due.offsets }

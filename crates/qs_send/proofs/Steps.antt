@@ -22,7 +22,7 @@ pub lawful_new : (id limit buffer : ℕ) → id ≤ MAX_VARINT → limit ≤ MAX
 lawful_new id limit buffer small_id small_limit =
     record {
       order = record { small_id = small_id; small = omega arith; small_limit = small_limit; sent_written = omega arith; sent_limit = omega arith; reset_size = λ r e. absurd (cc) };
-      bytes = record { from = λ _. omega (arith, unacked-empty); let_go = λ _. refl; buffered = omega arith };
+      bytes = record { from = λ _. omega (arith, unacked-empty); let_go = λ _. refl; buffered = omega arith; widest = omega arith };
       parts = record {
         acked_sent = empty_below 0;
         due_written = empty_below 0;
@@ -79,14 +79,14 @@ write_nothing s =
     let no_more : s.lane.written + 0 ≡ s.lane.written = omega arith in
     rw (append-nil s.lane.kept, no_more, due-nothing s.due.offsets s.lane.written) refl
 
-pub lawful_write : (s : Sending) (bytes : List ℕ) → is_some s.lane.was_reset ≡ false → s.lane.finished ≡ false → s.lane.written + length bytes ≤ MAX_VARINT → length s.lane.kept + length bytes ≤ s.lane.buffer → IsLawful s → IsLawful (after_write s bytes)
+pub lawful_write : (s : Sending) (bytes : List ℕ) → is_some s.lane.was_reset ≡ false → s.lane.finished ≡ false → s.lane.written + length bytes ≤ MAX_VARINT → length s.lane.kept + length bytes ≤ s.lane.widest → IsLawful s → IsLawful (after_write s bytes)
 lawful_write s bytes open_lane not_yet small fits h =
     let sent = h.order.sent_written in
     let from = h.bytes.from open_lane in
     let len = length-append s.lane.kept bytes in
     record {
       order = record { small_id = h.order.small_id; small = small; small_limit = h.order.small_limit; sent_written = omega (arith, sent); sent_limit = h.order.sent_limit; reset_size = h.order.reset_size };
-      bytes = record { from = λ _. omega (arith, len, from); let_go = λ is. absurd (both_ways _ open_lane is); buffered = omega (arith, len, fits) };
+      bytes = record { from = λ _. omega (arith, len, from); let_go = λ is. absurd (both_ways _ open_lane is); buffered = omega (arith, len, fits); widest = h.bytes.widest };
       parts = parts_write _ _ _ _ _ _ open_lane sent h.parts;
       ends = ends_write _ _ _ _ _ _ _ _ not_yet h.ends;
     }
@@ -108,7 +108,7 @@ pub lawful_reset : (s : Sending) (r : Reset) → r.size ≡ s.lane.sent_end → 
 lawful_reset s r size h =
     record {
       order = record { small_id = h.order.small_id; small = h.order.small; small_limit = h.order.small_limit; sent_written = h.order.sent_written; sent_limit = h.order.sent_limit; reset_size = λ t e. rw (← one_reset r t e) size };
-      bytes = record { from = λ is. absurd (both_ways true is refl); let_go = λ _. refl; buffered = omega arith };
+      bytes = record { from = λ is. absurd (both_ways true is refl); let_go = λ _. refl; buffered = omega arith; widest = h.bytes.widest };
       parts = record {
         acked_sent = h.parts.acked_sent;
         due_written = empty_below s.lane.written;
@@ -205,7 +205,7 @@ lawful_sent s c due h =
     let within = due_within s c due h in
     record {
       order = record { small_id = h.order.small_id; small = h.order.small; small_limit = h.order.small_limit; sent_written = omega (arith, sent, within); sent_limit = omega (arith, limit, fits); reset_size = λ t e. absurd (reset_then _ t (none_due s c due h) e) };
-      bytes = record { from = h.bytes.from; let_go = h.bytes.let_go; buffered = h.bytes.buffered };
+      bytes = record { from = h.bytes.from; let_go = h.bytes.let_go; buffered = h.bytes.buffered; widest = h.bytes.widest };
       parts = parts_sent _ _ _ _ _ _ _ sent within due.lowest h.parts;
       ends = ends_sent _ _ _ _ _ _ _ _ _ due.fin within sent h.ends;
     }
@@ -273,6 +273,7 @@ lawful_acked s c sent h =
             let none : length s.lane.kept ≡ 0 = ap length (h.bytes.let_go is) in
             drop_all (missing_from (set.union s.lane.acked (numbers c.offset (c.offset + c.len))) 0 - unacked_from s.lane) s.lane.kept (omega (arith, none));
         buffered = omega (arith, len, fits);
+        widest = h.bytes.widest;
       };
       parts = parts_acked _ _ _ _ _ _ _ sent.offsets h.parts;
       ends = ends_acked _ _ _ _ _ _ _ _ sent.end h.ends;

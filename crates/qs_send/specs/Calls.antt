@@ -4,7 +4,7 @@ use Rattle.std.specs.Prelude.{◌≡◌, ℕ, ◌≤◌, List, length, None}
 use Rattle.qs_ranges.specs.Numbers.{MAX_VARINT}
 use Rattle.qs_send.specs.declared.parts.Chunk.{Chunk}
 use Rattle.qs_send.specs.declared.parts.SendState.TheVariants.{ResetSent}
-use Rattle.qs_send.specs.Lane.{Sending, accepted, refusal, state, after_write, after_finish, after_reset, after_stopped, after_reset_acked, after_blocked, after_allow, after_sent, after_acked, after_lost}
+use Rattle.qs_send.specs.Lane.{Sending, accepted, refusal, state, after_write, after_finish, after_reset, after_stopped, after_reset_acked, after_blocked, after_allow, after_buffer, after_sent, after_acked, after_lost}
 use Rattle.qs_send.specs.Chunks.{IsDueChunk, WasSent}
 
 -- a call that isn't refused, with what it was given; of a write the bytes that were accepted
@@ -16,6 +16,7 @@ pub data Call : Type 0 where
   acks_reset : Call
   blocks : Call
   allows : (limit : ℕ) → Call
+  buffers : (size : ℕ) → Call
   sends : (chunk : Chunk) → Call
   acks : (chunk : Chunk) → Call
   loses : (chunk : Chunk) → Call
@@ -29,6 +30,7 @@ MayCall s (stops code) = Unit {0}
 MayCall s acks_reset = state s.lane ≡ ResetSent
 MayCall s blocks = Unit {0}
 MayCall s (allows limit) = limit ≤ MAX_VARINT
+MayCall s (buffers size) = Unit {0}
 MayCall s (sends chunk) = IsDueChunk s chunk
 MayCall s (acks chunk) = WasSent s.lane chunk
 MayCall s (loses chunk) = WasSent s.lane chunk
@@ -42,6 +44,7 @@ after_call s (stops code) = after_stopped s code
 after_call s acks_reset = after_reset_acked s
 after_call s blocks = after_blocked s
 after_call s (allows limit) = after_allow s limit
+after_call s (buffers size) = after_buffer s size
 after_call s (sends chunk) = after_sent s chunk
 after_call s (acks chunk) = after_acked s chunk
 after_call s (loses chunk) = after_lost s chunk

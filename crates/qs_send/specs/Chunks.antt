@@ -1,6 +1,6 @@
 -- Of public contracts.
 -- Which chunks a lane may send (RFC 9000, sections 2.2 and 19.8).
-use Rattle.std.specs.Prelude.{◌≡◌, ℕ, ◌+◌, ◌≤◌, ◌<◌, true, false, is_some, IsTrue, if◌then◌else◌, ◌&&◌, ◌||◌, ◌==◌, nat_lt}
+use Rattle.std.specs.Prelude.{◌≡◌, ℕ, ◌+◌, ◌≤◌, ◌<◌, Bool, true, false, not, min, is_some, IsTrue, if◌then◌else◌, ◌&&◌, ◌||◌, ◌==◌, nat_lt}
 use Rattle.qs_ranges.specs.Numbers.{ContainsRange, MissesRange}
 use Rattle.qs_send.specs.declared.parts.Chunk.{Chunk}
 use Rattle.qs_wire.specs.Varint.{short_len}
@@ -41,6 +41,10 @@ pub record IsNextChunk (s : Sending) (room fresh : ℕ) (c : Chunk) : Type 0 whe
 -- no chunk is allowed
 abbrev pub HasNoChunk : Sending → ℕ → ℕ → Type 0
 HasNoChunk s room fresh = (c : Chunk) → IsAllowed s room fresh c → ⊥
+
+-- bytes that were never sent lie below the lane's own limit; after a reset none do (RFC 9000, sections 3.1 and 4.1)
+abbrev pub has_unsent : SendLane → Bool
+has_unsent lane = not (is_some lane.was_reset) && nat_lt lane.sent_end (min lane.written lane.limit)
 
 -- a chunk is held back by the room alone
 pub record IsHeldByRoom (s : Sending) (room fresh : ℕ) : Type 0 where

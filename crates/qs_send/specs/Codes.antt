@@ -16,10 +16,10 @@ reset_code = code_by (ℕ × ℕ) (coded× coded_ℕ coded_ℕ) (λ r. (r.code, 
 
 abbrev pub lane_code : Coded SendLane
 lane_code =
-    code_by (ℕ × (ℕ × (List ℕ × (NumberSet × (ℕ × (Bool × (Bool × (Bool × (Bool × (Option Reset × (Bool × (ℕ × (ℕ × Option ℕ)))))))))))))
-    (coded× coded_ℕ (coded× coded_ℕ (coded× (coded_list coded_ℕ) (coded× (set.code coded_ℕ) (coded× coded_ℕ (coded× coded_bool (coded× coded_bool (coded× coded_bool (coded× coded_bool (coded× (coded_option reset_code) (coded× coded_bool (coded× coded_ℕ (coded× coded_ℕ (coded_option coded_ℕ))))))))))))))
-    (λ l. (l.id, (l.written, (l.kept, (l.acked, (l.sent_end, (l.finished, (l.fin_sent, (l.fin_acked, (l.blocked_sent, (l.was_reset, (l.reset_acked, (l.limit, (l.buffer, l.stopped))))))))))))))
-    (λ p. record { id = p.0; written = p.1.0; kept = p.1.1.0; acked = p.1.1.1.0; sent_end = p.1.1.1.1.0; finished = p.1.1.1.1.1.0; fin_sent = p.1.1.1.1.1.1.0; fin_acked = p.1.1.1.1.1.1.1.0; blocked_sent = p.1.1.1.1.1.1.1.1.0; was_reset = p.1.1.1.1.1.1.1.1.1.0; reset_acked = p.1.1.1.1.1.1.1.1.1.1.0; limit = p.1.1.1.1.1.1.1.1.1.1.1.0; buffer = p.1.1.1.1.1.1.1.1.1.1.1.1.0; stopped = p.1.1.1.1.1.1.1.1.1.1.1.1.1 })
+    code_by (ℕ × (ℕ × (List ℕ × (NumberSet × (ℕ × (Bool × (Bool × (Bool × (Bool × (Option Reset × (Bool × (ℕ × (ℕ × (ℕ × Option ℕ))))))))))))))
+    (coded× coded_ℕ (coded× coded_ℕ (coded× (coded_list coded_ℕ) (coded× (set.code coded_ℕ) (coded× coded_ℕ (coded× coded_bool (coded× coded_bool (coded× coded_bool (coded× coded_bool (coded× (coded_option reset_code) (coded× coded_bool (coded× coded_ℕ (coded× coded_ℕ (coded× coded_ℕ (coded_option coded_ℕ)))))))))))))))
+    (λ l. (l.id, (l.written, (l.kept, (l.acked, (l.sent_end, (l.finished, (l.fin_sent, (l.fin_acked, (l.blocked_sent, (l.was_reset, (l.reset_acked, (l.limit, (l.buffer, (l.widest, l.stopped)))))))))))))))
+    (λ p. record { id = p.0; written = p.1.0; kept = p.1.1.0; acked = p.1.1.1.0; sent_end = p.1.1.1.1.0; finished = p.1.1.1.1.1.0; fin_sent = p.1.1.1.1.1.1.0; fin_acked = p.1.1.1.1.1.1.1.0; blocked_sent = p.1.1.1.1.1.1.1.1.0; was_reset = p.1.1.1.1.1.1.1.1.1.0; reset_acked = p.1.1.1.1.1.1.1.1.1.1.0; limit = p.1.1.1.1.1.1.1.1.1.1.1.0; buffer = p.1.1.1.1.1.1.1.1.1.1.1.1.0; widest = p.1.1.1.1.1.1.1.1.1.1.1.1.1.0; stopped = p.1.1.1.1.1.1.1.1.1.1.1.1.1.1 })
     (λ _. refl)
 
 abbrev pub due_code : Coded Due

@@ -13,7 +13,7 @@ use Rattle.qs_send.specs.declared.parts.SendState.TheVariants.{Ready, Send, Data
 -- The sending lane (RFC 9000, section 3.1). `kept` are the bytes from the lowest offset not acknowledged on, and none after a reset;
 -- `sent_end` is the number after the largest offset sent (0 where none was), `blocked_sent` tells that a STREAM_DATA_BLOCKED was sent, and
 -- the offsets that may be sent are those below `limit` (RFC 9000, section 4.1). `fin` is the end, and `stopped` the code of the first
--- STOP_SENDING that came (section 3.5).
+-- STOP_SENDING that came (section 3.5). `widest` is the greatest buffer that was set.
 pub record SendLane : Type 0 where
   pub id : ℕ
   pub written : ℕ
@@ -28,6 +28,7 @@ pub record SendLane : Type 0 where
   pub reset_acked : Bool
   pub limit : ℕ
   pub buffer : ℕ
+  pub widest : ℕ
   pub stopped : Option ℕ
 
 -- what is to go out, once or again: offsets, and the end (RFC 9000, section 13.3)
@@ -47,7 +48,7 @@ unacked_from lane = missing_from lane.acked 0
 -- a lane as it begins: nothing was written (RFC 9000, section 3.1)
 abbrev pub new_lane : ℕ → ℕ → ℕ → SendLane
 new_lane id limit buffer =
-    record { id = id; written = 0; kept = []; acked = set.empty; sent_end = 0; finished = false; fin_sent = false; fin_acked = false; blocked_sent = false; was_reset = None; reset_acked = false; limit = limit; buffer = buffer; stopped = None }
+    record { id = id; written = 0; kept = []; acked = set.empty; sent_end = 0; finished = false; fin_sent = false; fin_acked = false; blocked_sent = false; was_reset = None; reset_acked = false; limit = limit; buffer = buffer; widest = buffer; stopped = None }
 
 -- a half as it begins: nothing is due
 abbrev pub new_sending : ℕ → ℕ → ℕ → Sending
@@ -78,7 +79,7 @@ declared_size lane = size_of lane.was_reset (if lane.fin_sent then Some lane.wri
 
 -- Writing
 
--- how many bytes the buffer can take (ours: RFC 9000 leaves the buffer open)
+-- how many bytes the buffer can take: none while more are kept than it is set to (ours: RFC 9000 leaves the buffer open)
 abbrev pub free_room : SendLane → ℕ
 free_room lane = lane.buffer - length lane.kept
 
@@ -169,6 +170,13 @@ allow_lane lane limit = record lane { limit = max lane.limit limit }
 
 abbrev pub after_allow : Sending → ℕ → Sending
 after_allow s limit = record s { lane = allow_lane s.lane limit }
+
+-- the buffer is set to another size: what is kept stays (ours)
+abbrev pub buffer_lane : SendLane → ℕ → SendLane
+buffer_lane lane size = record lane { buffer = size; widest = max lane.widest size }
+
+abbrev pub after_buffer : Sending → ℕ → Sending
+after_buffer s size = record s { lane = buffer_lane s.lane size }
 
 -- Chunks
 

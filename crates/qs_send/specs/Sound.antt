@@ -16,10 +16,12 @@ pub record AreInOrder (l : SendLane) : Type 0 where
   pub reset_size : (r : Reset) → l.was_reset ≡ Some r → r.size ≡ l.sent_end
 
 -- the bytes from the lowest offset not acknowledged on are kept, but after a reset none is (RFC 9000, section 13.3); and they fit
+-- the greatest buffer
 pub record IsKept (l : SendLane) : Type 0 where
   pub from : is_some l.was_reset ≡ false → unacked_from l + length l.kept ≡ l.written
   pub let_go : is_some l.was_reset ≡ true → l.kept ≡ []
-  pub buffered : length l.kept ≤ l.buffer
+  pub buffered : length l.kept ≤ l.widest
+  pub widest : l.buffer ≤ l.widest
 
 -- no offset is due and acknowledged; the acknowledged ones were sent; those that weren't are due
 pub record ArePartsOf (written sent_end : ℕ) (acked due : NumberSet) (reset : Bool) : Type 0 where

@@ -6,7 +6,7 @@ ghost use Rattle.qs_send.specs.Sound.{IsLawful};
 ghost use Rattle.qs_send.specs.declared.parts.Reset.{Reset};
 ghost use Rattle.qs_send.specs.Changes.{stop_changes};
 ghost use Rattle.qs_send.specs.Writable.{is_writable};
-ghost use Rattle.qs_send.specs.Lane.{new_sending, free_room, unacked_from, accepted, refusal, answer_of, reset_refusal, is_whole, state, declared_size, after_write, after_finish, after_reset, after_stopped, after_reset_acked, after_blocked, after_allow, after_sent, after_acked, after_lost};
+ghost use Rattle.qs_send.specs.Lane.{new_sending, free_room, unacked_from, accepted, refusal, answer_of, reset_refusal, is_whole, state, declared_size, after_write, after_finish, after_reset, after_stopped, after_reset_acked, after_blocked, after_allow, after_buffer, after_sent, after_acked, after_lost};
 
 use crate::offsets::Offsets;
 use crate::parts::{Chunk, SendFault, SendState};
@@ -31,6 +31,8 @@ pub struct SendHalf {
     offsets: Offsets,
     limit: u64,
     buffer: usize,
+    // The greatest buffer so far.
+    widest: usize,
     // The code of the reset, whose size is the sent end.
     reset_code: MaybeNumber,
     // The code of the first STOP_SENDING that came.
@@ -56,14 +58,14 @@ impl Model for SendHalf {
     ghost coded = { sending_code };
 
     ghost view = { λ h. record {
-      lane = record { id = h.id; written = h.offsets.parts.written; kept = h.offsets.parts.kept; acked = h.offsets.parts.acked; sent_end = h.offsets.parts.sent_end; finished = h.finished; fin_sent = h.fin_sent; fin_acked = h.fin_acked; blocked_sent = h.blocked_sent; was_reset = reset_at h.offsets.parts.sent_end h.reset_code; reset_acked = h.reset_acked; limit = h.limit; buffer = h.buffer; stopped = h.stop_code };
+      lane = record { id = h.id; written = h.offsets.parts.written; kept = h.offsets.parts.kept; acked = h.offsets.parts.acked; sent_end = h.offsets.parts.sent_end; finished = h.finished; fin_sent = h.fin_sent; fin_acked = h.fin_acked; blocked_sent = h.blocked_sent; was_reset = reset_at h.offsets.parts.sent_end h.reset_code; reset_acked = h.reset_acked; limit = h.limit; buffer = h.buffer; widest = h.widest; stopped = h.stop_code };
       due = record { offsets = h.offsets.parts.due; fin = h.fin_noted && not h.fin_acked };
     } };
 
     ghost invariant = { λ h. IsLawful (record {
-      lane = record { id = h.id; written = h.offsets.parts.written; kept = h.offsets.parts.kept; acked = h.offsets.parts.acked; sent_end = h.offsets.parts.sent_end; finished = h.finished; fin_sent = h.fin_sent; fin_acked = h.fin_acked; blocked_sent = h.blocked_sent; was_reset = reset_at h.offsets.parts.sent_end h.reset_code; reset_acked = h.reset_acked; limit = h.limit; buffer = h.buffer; stopped = h.stop_code };
+      lane = record { id = h.id; written = h.offsets.parts.written; kept = h.offsets.parts.kept; acked = h.offsets.parts.acked; sent_end = h.offsets.parts.sent_end; finished = h.finished; fin_sent = h.fin_sent; fin_acked = h.fin_acked; blocked_sent = h.blocked_sent; was_reset = reset_at h.offsets.parts.sent_end h.reset_code; reset_acked = h.reset_acked; limit = h.limit; buffer = h.buffer; widest = h.widest; stopped = h.stop_code };
       due = record { offsets = h.offsets.parts.due; fin = h.fin_noted && not h.fin_acked };
-    }) × (h.offsets.room ≤ 2 * h.buffer) × IsFreed (reset_at h.offsets.parts.sent_end h.reset_code) h.fin_acked h.offsets.parts.kept h.offsets.room };
+    }) × (h.offsets.room ≤ 2 * h.widest) × IsFreed (reset_at h.offsets.parts.sent_end h.reset_code) h.fin_acked h.offsets.parts.kept h.offsets.room };
 }
 
 impl SendHalf {
@@ -79,6 +81,7 @@ impl SendHalf {
             offsets: Offsets::new(alloc),
             limit,
             buffer,
+            widest: buffer,
             reset_code: MaybeNumber::none(),
             stop_code: MaybeNumber::none(),
             finished: false,
@@ -117,7 +120,7 @@ impl SendHalf {
             return Ok(0);
         }
         let (taken, _) = bytes.split_at(len);
-        if let Err(_) = self.offsets.write(taken, self.buffer) {
+        if let Err(_) = self.offsets.write(taken, self.widest) {
             return Err(SendFault::NoMemory);
         }
         Ok(len)
@@ -199,6 +202,15 @@ impl SendHalf {
         ensures { self.new ≡ after_allow self.old limit }
     {
         self.limit = self.limit.max(limit);
+    }
+
+    /// Keeps at most so many bytes from now on. What is kept stays: where it is more, no byte is accepted until enough of it is
+    /// acknowledged.
+    pub fn set_buffer(&mut self, size: usize)
+        ensures { self.new ≡ after_buffer self.old size }
+    {
+        self.buffer = size;
+        self.widest = self.widest.max(size);
     }
 
     /// Takes in that a STREAM_DATA_BLOCKED was sent.
@@ -304,6 +316,13 @@ impl SendHalf {
         self.reset_code.get()
     }
 
+    /// How many bytes are kept until they are acknowledged.
+    pub fn kept_len(&self) -> usize
+        ensures { result ≡ length self.now.lane.kept }
+    {
+        self.offsets.kept_len()
+    }
+
     /// How many bytes were written.
     pub fn written(&self) -> u64
         ensures exact { result ≡ self.now.lane.written }
@@ -335,18 +354,18 @@ impl SendHalf {
         self.limit
     }
 
-    /// How many bytes the buffer can take.
+    /// How many bytes the buffer can take: none while more are kept than it is set to.
     pub fn room(&self) -> usize
         ensures { result ≡ free_room self.now.lane }
     {
-        self.buffer - self.offsets.kept_len()
+        self.buffer.saturating_sub(self.offsets.kept_len())
     }
 
-    /// How many bytes of memory the buffer takes: at least those that are kept. While some are it takes up to twice what it is
-    /// set to, since it grows by doubling; else no more than 4,096, and nothing after a reset and in Data Recvd.
+    /// How many bytes of memory the buffer takes: at least those that are kept. While some are it takes up to twice the most that it
+    /// was set to, since it grows by doubling; else no more than 4,096, and nothing after a reset and in Data Recvd.
     pub fn held(&self) -> u64
         ensures kept { length self.now.lane.kept ≤ result }
-        ensures bound { result ≤ 2 * self.now.lane.buffer }
+        ensures bound { result ≤ 2 * self.now.lane.widest }
         ensures idle { length self.now.lane.kept ≡ 0 → result ≤ 4096 }
         ensures reset { is_some self.now.lane.was_reset ≡ true → result ≡ 0 }
         ensures whole { is_whole self.now.lane ≡ true → result ≡ 0 }

@@ -6,7 +6,7 @@ use crate::proved::qs_c::frame::{GvFault, GvFrame};
 use crate::proved::qs_c::handle::Handle;
 use crate::proved::qs_c::lane::GvLane;
 use crate::proved::qs_c::structs::{
-    GvClosing, GvFilled, GvLimits, GvMade, GvRequest, GvSettings, GvTuning,
+    GvClosing, GvFilled, GvLimits, GvMade, GvRequest, GvSettings, GvToken, GvTuning,
 };
 use crate::shim::alloc::Global;
 use core::slice;
@@ -60,10 +60,15 @@ exports! {
         = (Global, end, frame, read!(bytes, len), taken);
     gvp_fill(end: &mut Handle, want: &GvRequest, out: *mut u8, room: usize, filled: &mut GvFilled)
         = (Global, end, want, write!(out, room), filled);
-    gvp_token_acked(end: &mut Handle, token: u64) = (Global, end, token);
-    gvp_token_lost(end: &mut Handle, token: u64) = (Global, end, token);
+    gvp_token_of(end: &mut Handle, number: u64, token: &mut GvToken) = (Global, end, number, token);
+    gvp_token_and(token: &GvToken, next: &GvToken, both: &mut GvToken) = (token, next, both);
+    gvp_token_acked(end: &mut Handle, token: &GvToken) = (Global, end, token);
+    gvp_token_lost(end: &mut Handle, token: &GvToken) = (Global, end, token);
     gvp_claim_number(end: &mut Handle, number: &mut u64) = (Global, end, number);
     gvp_raise_limits(end: &mut Handle, limits: &GvLimits) = (Global, end, limits);
+    gvp_set_conn_window(end: &mut Handle, window: u64) = (Global, end, window);
+    gvp_set_grant(end: &mut Handle, dir: u32, streams: u64) = (Global, end, dir, streams);
+    gvp_set_send_buffer(end: &mut Handle, stream: u64, size: usize) = (Global, end, stream, size);
 
     gvp_open(end: &mut Handle, dir: u32, number: &mut u64) = (Global, end, dir, number);
     gvp_accept(end: &mut Handle, stream: &mut u64) = (Global, end, stream);
@@ -73,6 +78,7 @@ exports! {
     gvp_finish(end: &mut Handle, stream: u64) = (Global, end, stream);
     gvp_reset(end: &mut Handle, stream: u64, code: u64) = (Global, end, stream, code);
     gvp_stop(end: &mut Handle, stream: u64, code: u64) = (Global, end, stream, code);
+    gvp_stop_and_forget(end: &mut Handle, stream: u64, code: u64) = (Global, end, stream, code);
     gvp_read(end: &mut Handle, stream: u64, into: *mut u8, size: usize, number: &mut u64)
         = (Global, end, stream, write!(into, size), number);
     gvp_consume(end: &mut Handle, stream: u64, most: usize, number: &mut u64, at_end: &mut bool)
@@ -94,6 +100,7 @@ exports! {
     gvp_room(end: &mut Handle, stream: u64, count: &mut u64) = (Global, end, stream, count);
     gvp_unsent(end: &mut Handle, stream: u64, count: &mut u64) = (Global, end, stream, count);
     gvp_unsent_sum(end: &mut Handle, count: &mut u64) = (Global, end, count);
+    gvp_kept_sum(end: &mut Handle, count: &mut u64) = (Global, end, count);
     gvp_taken(end: &mut Handle, stream: u64, count: &mut u64) = (Global, end, stream, count);
     gvp_taken_sum(end: &mut Handle, count: &mut u64) = (Global, end, count);
     gvp_acked_below(end: &mut Handle, stream: u64, offset: &mut u64) = (Global, end, stream, offset);

@@ -144,6 +144,28 @@ impl<K: Ord, V> BTreeMap<K, V> {
         Some(&self.entries[place].1)
     }
 
+    pub fn get_mut(&mut self, key: &K) -> Option<&mut V> {
+        let place = self.place_of(key).ok()?;
+        Some(&mut self.entries[place].1)
+    }
+
+    pub fn contains_key(&self, key: &K) -> bool {
+        self.place_of(key).is_ok()
+    }
+
+    pub fn len(&self) -> usize {
+        self.entries.len()
+    }
+
+    pub fn is_empty(&self) -> bool {
+        self.entries.is_empty()
+    }
+
+    pub fn remove(&mut self, key: &K) -> Option<V> {
+        let place = self.place_of(key).ok()?;
+        Some(self.entries.remove(place).1)
+    }
+
     /// Puts a value at a key, and answers the one that was there.
     pub fn insert(&mut self, key: K, value: V) -> Result<Option<V>, AllocFailed<(K, V)>> {
         match self.place_of(&key) {

@@ -1,12 +1,13 @@
 //! What an end's owner, and the layer beneath, may ask of it. Nothing changes.
 ghost use Rattle.std.specs.Prelude.{◌≡◌, ◌↔◌, IsTrue, ◌-◌, ◌^◌, min};
 ghost use Rattle.qs_machine.specs.Credit.{all_taken, credit_for};
-ghost use Rattle.qs_machine.specs.Asking.{GoesBesideAck, all_noted, taken, peer_closing, streams_left, open_left, is_blocked, credit_left, room, unsent, acked_below, stopped_with, IsNextOutstanding, all_unsent};
+ghost use Rattle.qs_machine.specs.Asking.{GoesBesideAck, all_noted, taken, peer_closing, streams_left, open_left, is_blocked, credit_left, room, unsent, acked_below, stopped_with, IsNextOutstanding, IsPeeked, all_unsent, all_kept};
 ghost use Rattle.qs_machine.specs.Ends.{send_lane};
 ghost use Rattle.qs_machine.specs.Sums.{or_none};
 
 use super::Endpoint;
-use qs_calls::Closed;
+use qs_calls::{Closed, UseFault};
+use qs_recv::Peek;
 use qs_wire::{Dir, StreamId};
 
 impl Endpoint {
@@ -39,6 +40,21 @@ impl Endpoint {
     {
         let _granted = self.core.limits.granted;
         self.core.recvs.tally().noted
+    }
+
+    /// Tells what a read would, and changes nothing: the bytes of a stream that are next stay where they are, for `consume` to take (RFC 9000,
+    /// section 2.2). They come in two pieces of memory, of which the second may be empty: one byte at least, and as many as stand there in
+    /// a row. What lies behind a gap isn't in.
+    ///
+    /// Refused as `read` is.
+    #[tactic(auto, using(crate::proofs::OwnerSteps::peek_refused, crate::proofs::OwnerSteps::receiver_open))]
+    pub fn peek(&self, stream: StreamId) -> Result<Peek<'_>, UseFault>
+        ensures { IsPeeked self.now stream result }
+    {
+        if let Some(fault) = self.no_reader(stream) {
+            return Err(fault);
+        }
+        Ok(self.core.recvs.peek(stream))
     }
 
     /// How many bytes of a stream count as taken, so that its limit lies a window above them at most: those that were read, or all that came
@@ -122,6 +138,14 @@ impl Endpoint {
         ensures { result ≡ min (all_unsent self.now) (2 ^ 64 - 1) }
     {
         self.core.outbox.unsent_sum()
+    }
+
+    /// How many bytes of all streams are kept until they are acknowledged (RFC 9000, section 13.3): of each those from the lowest offset on
+    /// that isn't, and none after a reset. A sum that is no u64 is the greatest one. It takes constant time.
+    pub fn kept_sum(&self) -> u64
+        ensures { result ≡ min (all_kept self.now) (2 ^ 64 - 1) }
+    {
+        self.core.outbox.kept_sum()
     }
 
     // How many bytes more may be written to a stream that may all be sent at once.

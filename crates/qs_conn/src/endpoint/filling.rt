@@ -8,7 +8,7 @@ ghost use Rattle.qs_conn.specs.Written.{filled_text, KeepsBehind};
 use super::Endpoint;
 use crate::filling::Wish;
 use qs_calls::{Fill, Filled, MAX_VARINT, MakeFault};
-use qs_wire::last_stream;
+use qs_wire::StreamId;
 
 impl Endpoint {
     /// Fills a slice with frames of what is due and asked for, for a packet of a stack that owns its packets: never an ACK, which stays
@@ -44,10 +44,11 @@ impl Endpoint {
         if len == 0 {
             return Ok(None);
         }
+        let near = self.core.outbox.last_stream();
+        let last_stream = self.core.outbox.last_stream();
         self.core.outbox.commit();
         self.settle();
-        let more = self.has_more(want);
-        let last_stream = last_stream(&out[..len]);
+        let more = self.has_more(want, near);
         Ok(Some(Filled {
             token,
             len,
@@ -62,16 +63,16 @@ impl Endpoint {
         ensures order { (old new : End) → NoItemStarves want.now old result new }
         ensures text { (out : List ℕ) → filled_text result out ≡ [] }
     {
-        if self.has_more(want) {
+        if self.has_more(want, None) {
             return Err(MakeFault::NoMemory);
         }
         Ok(None)
     }
 
-    // Whether something that is asked for is due that no limit holds back.
-    fn has_more(&self, want: &Fill) -> bool
+    // Whether something that is asked for is due that no limit holds back. The stream that sent last is asked first.
+    fn has_more(&self, want: &Fill, last: Option<StreamId>) -> bool
         ensures { IsTrue result ↔ WantedGoes want.now self.now }
     {
-        self.core.has_wanted(want)
+        self.core.has_wanted(want, last)
     }
 }

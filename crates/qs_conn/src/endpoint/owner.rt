@@ -7,7 +7,7 @@ ghost use Rattle.qs_machine.specs.Sums.{or_none};
 ghost use Rattle.qs_conn.specs.Sending.{offered};
 ghost use Rattle.qs_recv.specs.declared.credit.Share.TheVariants as shares;
 ghost use Rattle.qs_machine.specs.Verdicts.{or_new};
-ghost use Rattle.qs_machine.specs.Owner.{WriteStep, FinishStep, ResetStep, StopStep, ReadStep, ConsumeStep, is_read_no_more, is_end, no_half, use_fault};
+ghost use Rattle.qs_machine.specs.Owner.{WriteStep, FinishStep, ResetStep, StopStep, StopAndForgetStep, ReadStep, ConsumeStep, is_read_no_more, is_end, no_half, use_fault};
 ghost use Rattle.qs_machine.specs.Reports.{lane_report, own_closing};
 ghost use Rattle.qs_conn.specs.Layers.{no_sender, no_receiver};
 
@@ -185,6 +185,33 @@ impl Endpoint {
         Ok(())
     }
 
+    /// Stops the stream as [`stop`](Endpoint::stop) does, and tells nothing more of it: it counts as read to its end as soon as its last
+    /// byte comes, or a reset, so its owner needn't read on for the peer to be granted another stream (RFC 9000, sections 3.2, 3.5 and
+    /// 4.6). The first code stays; the application's codes lie below 2^62.
+    ///
+    /// Refused, and then unchanged: as `stop` is.
+    ///
+    /// ```text
+    /// end.stop_and_forget(stream, 7)?;
+    /// ```
+    #[tactic(auto, using(crate::proofs::OwnerSteps::forget_ok))]
+    pub fn stop_and_forget(&mut self, stream: StreamId, code: u64) -> Result<(), UseFault>
+        requires { code < 2 ^ 62 }
+        ensures { StopAndForgetStep self.old stream code result self.new }
+    {
+        if let Some(fault) = self.no_receiver(stream) {
+            return Err(fault);
+        }
+        let was = self.core.is_over(stream);
+        self.core.recvs.stop_and_forget(stream, code);
+        let is = self.core.is_over(stream);
+        self.core.ended.recount(stream, was, is);
+        self.core.untold_recvs.set(stream, true);
+        self.is_settled = false;
+        self.settle();
+        Ok(())
+    }
+
     /// How the halves of a stream stand at this end, `None` where it isn't open.
     pub fn lane_report(&self, stream: StreamId) -> Option<LaneReport>
         ensures { result ≡ lane_report self.now stream }
@@ -222,7 +249,7 @@ impl Endpoint {
     }
 
     // Why the stream can't be read.
-    fn no_reader(&self, stream: StreamId) -> Option<UseFault>
+    pub(super) fn no_reader(&self, stream: StreamId) -> Option<UseFault>
         ensures { result ≡ no_receiver (is_read_no_more self.now) self.now stream }
     {
         self.no_receiver_where(self.is_read_no_more(), stream)

@@ -132,7 +132,10 @@ impl Endpoint {
     {
         let _granted = self.core.limits.granted;
         self.open_by_peer(stream)?;
+        let was = self.core.is_over(stream);
         self.core.recvs.take_reset(stream, code, size);
+        let is = self.core.is_over(stream);
+        self.core.ended.recount(stream, was, is);
         self.is_settled = false;
         Ok(())
     }
@@ -157,12 +160,15 @@ impl Endpoint {
         self.core.outbox.are_of_open();
         let recvs = self.core.recvs.count(stream);
         self.open_by_peer(stream)?;
+        let was = self.core.is_over(stream);
         if let Err(refused) = self.core.recvs.take_stream(stream, offset, bytes, fin) {
             self.core.outbox.close_to(stream, sends);
             self.core.recvs.close_to(stream, recvs);
             self.is_settled = false;
             return Err(refused);
         }
+        let is = self.core.is_over(stream);
+        self.core.ended.recount(stream, was, is);
         self.is_settled = false;
         Ok(())
     }

@@ -23,12 +23,13 @@ impl Core {
     }
 
     /// Whether of what is asked for a control item is due, or bytes of a stream or its end may go (RFC 9000, sections 3.1, 3.3 and 4.1).
-    pub(crate) fn has_wanted(&self, want: &Fill) -> bool
+    /// The stream that sent last is asked before others are looked for.
+    pub(crate) fn has_wanted(&self, want: &Fill, last: Option<StreamId>) -> bool
         requires { IsCore self.now }
         ensures { (e : End) → TellsWanted want.now result (end_of self.now e) }
     {
         // Where there is more, it is mostly bytes.
-        if self.has_wanted_stream(want) {
+        if self.has_wanted_stream(want, last) {
             return true;
         }
         self.has_wanted_item(want)
@@ -46,7 +47,7 @@ impl Core {
     }
 
     // Bytes of a stream that is asked for may go, or its end.
-    fn has_wanted_stream(&self, want: &Fill) -> bool
+    fn has_wanted_stream(&self, want: &Fill, last: Option<StreamId>) -> bool
         requires { IsCore self.now }
         ensures { (e : End) → TellsStream want.now result (end_of self.now e) }
     {
@@ -56,6 +57,11 @@ impl Core {
         if want.alone {
             return self.has_bytes(want.first);
         }
+        if let Some(stream) = last {
+            if self.has_bytes(stream) {
+                return true;
+            }
+        }
         self.has_stream()
     }
 
@@ -64,16 +70,16 @@ impl Core {
         requires { IsCore self.now }
         ensures { (e : End) → TellsDue result (end_of self.now e) all_items }
     {
-        let found = self.has_slot(Slot::MaxData, false);
-        let found = self.has_slot(Slot::MaxStreams(Dir::Bidi), found);
-        let found = self.has_slot(Slot::MaxStreams(Dir::Uni), found);
+        let found = self.has_own_slot(Slot::MaxData, false);
+        let found = self.has_own_slot(Slot::MaxStreams(Dir::Bidi), found);
+        let found = self.has_own_slot(Slot::MaxStreams(Dir::Uni), found);
         let found = self.has_kind(Kind::ResetStream, found);
         let found = self.has_kind(Kind::StopSending, found);
         let found = self.has_kind(Kind::MaxStreamData, found);
-        let found = self.has_slot(Slot::DataBlocked, found);
+        let found = self.has_own_slot(Slot::DataBlocked, found);
         let found = self.has_kind(Kind::StreamDataBlocked, found);
-        let found = self.has_slot(Slot::StreamsBlocked(Dir::Bidi), found);
-        self.has_slot(Slot::StreamsBlocked(Dir::Uni), found)
+        let found = self.has_own_slot(Slot::StreamsBlocked(Dir::Bidi), found);
+        self.has_own_slot(Slot::StreamsBlocked(Dir::Uni), found)
     }
 
     // An item of a kind is due, or one was found before.
@@ -91,6 +97,21 @@ impl Core {
             from = stream.value() + 1;
         }
         is_found
+    }
+
+    // The item of a slot of the connection is due, or one was found before. Mostly a look at two numbers tells that none is.
+    #[inline(always)]
+    fn has_own_slot(&self, slot: Slot, is_found: bool) -> bool
+        requires { IsCore self.now }
+        ensures { (e : End) (passed : Passed) → TellsDue is_found (end_of self.now e) passed → TellsDue result (end_of self.now e) (and_slot passed slot) }
+    {
+        if is_found {
+            return true;
+        }
+        if self.limits.has_told(&self.outbox, &slot) {
+            return false;
+        }
+        self.has_slot(slot, false)
     }
 
     // The item of a slot is due, or one was found before.
@@ -133,6 +154,11 @@ impl Core {
             return false;
         }
         let fresh = self.limits.known_data - self.outbox.sent_sum();
+        if fresh > 0 {
+            if self.outbox.has_unsent(stream) {
+                return true;
+            }
+        }
         self.outbox.next_chunk(stream, ENOUGH, fresh).is_some()
     }
 }

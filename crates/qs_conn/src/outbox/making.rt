@@ -1,10 +1,11 @@
 //! Packets are made.
-ghost use Rattle.std.specs.Prelude.{◌≡◌, ◌+◌, ◌-◌, ◌≤◌, ◌<◌, ◌↔◌, ◌++◌, ◌∷◌, [], vec_len, vec_capacity, IsTrue, length, is_some, true, OnOk, OnErr};
+ghost use Rattle.std.specs.Prelude.{◌≡◌, ◌+◌, ◌-◌, ◌≤◌, ◌<◌, ◌↔◌, ◌++◌, ◌∷◌, [], None, vec_len, vec_capacity, IsTrue, length, is_some, true, OnOk, OnErr};
 ghost use Rattle.std.specs.FinMap as fmap;
 ghost use Rattle.qs_ranges.specs.Numbers.{MAX_VARINT};
 ghost use Rattle.qs_send.specs.declared.piece.Piece.TheVariants as pieces;
 ghost use Rattle.qs_send.specs.Lane.{Sending, sent_lane, bytes_of, after_blocked};
-ghost use Rattle.qs_send.specs.Chunks.{IsDueChunk, IsHeldByRoom, HasBytes};
+ghost use Rattle.qs_send.specs.Chunks.{has_unsent, IsDueChunk, IsHeldByRoom, HasBytes};
+ghost use Rattle.qs_conn.specs.Filling.{last_data, pieces_at};
 ghost use Rattle.qs_machine.specs.Tables.{lookup, updated};
 ghost use Rattle.qs_machine.specs.Sums.{or_none, tables_of};
 ghost use Rattle.qs_machine.specs.Outgoing.{on_lane, sent_sum, chunk_put, item_put_out, HasSending, ChunkFound, MayTell, IsCarried, IsIdle, AreBelow, halves_told, with_pending};
@@ -42,6 +43,17 @@ impl Outbox {
         let half = half_of(&self.types, stream);
         half.is_lawful();
         half.next_chunk(room, fresh)
+    }
+
+    /// Whether bytes of an open stream that were never sent may go by its own limit.
+    pub(crate) fn has_unsent(&self, stream: StreamId) -> bool
+        requires { is_some (lookup self.now.sends stream) ≡ true }
+        ensures { (s : Sending) × HasSending self.now stream s × (result ≡ has_unsent s.lane) }
+    {
+        let _next = self.next;
+        let half = half_of(&self.types, stream);
+        half.is_lawful();
+        half.has_unsent()
     }
 
     /// Whether the room alone holds a chunk of an open stream back.
@@ -95,6 +107,13 @@ impl Outbox {
         hold(&mut self.pending, Piece::Told(item));
         self.index.insert(item);
         self.spare -= 1;
+    }
+
+    /// The stream of the last STREAM frame in the packet in the making, if it has one (RFC 9000, section 19.8).
+    pub(crate) fn last_stream(&self) -> Option<StreamId>
+        ensures { result ≡ last_data None (pieces_at self.now.outstanding self.now.next) }
+    {
+        last_data(&self.pending)
     }
 
     /// Whether the packet in the making has a piece.
@@ -155,6 +174,19 @@ fn put_pieces(records: &mut Records, number: u64, pending: &mut Vec<Piece>, room
     if let Some(piece) = pending.pop() {
         records.put_one(number, piece);
     }
+}
+
+// The stream of the last chunk among the pieces.
+fn last_data(pieces: &[Piece]) -> Option<StreamId>
+    ensures { result ≡ last_data None pieces.now }
+{
+    let mut last = None;
+    for piece in pieces {
+        if let Piece::Data { stream, .. } = *piece {
+            last = Some(stream);
+        }
+    }
+    last
 }
 
 // One piece more, for which there is memory.

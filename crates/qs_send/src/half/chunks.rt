@@ -2,7 +2,7 @@
 ghost use Rattle.std.specs.Prelude.{◌≡◌, ◌+◌, ◌≤◌, ◌<◌, ◌↔◌, ◌++◌, IsTrue, ℕ, length, IfSome, IfNone};
 ghost use Rattle.qs_ranges.specs.Numbers.{MAX_VARINT, IsRunFrom, EndsBefore, IsLeastFrom};
 ghost use Rattle.qs_wire.specs.Varint.{short_len};
-ghost use Rattle.qs_send.specs.Chunks.{IsNextChunk, HasNoChunk, IsHeldByRoom, HasBytes, WasSent, offset_len, frame_len};
+ghost use Rattle.qs_send.specs.Chunks.{has_unsent, IsNextChunk, HasNoChunk, IsHeldByRoom, HasBytes, WasSent, offset_len, frame_len};
 ghost use Rattle.qs_send.specs.Lane.{bytes_of};
 
 use super::SendHalf;
@@ -64,6 +64,14 @@ impl SendHalf {
     {
         let (offset, _) = self.due_run()?;
         Some(offset)
+    }
+
+    /// Whether bytes that were never sent may go by the half's own limit.
+    pub fn has_unsent(&self) -> bool
+        ensures { result ≡ has_unsent self.now.lane }
+    {
+        self.is_lawful();
+        self.reset_code().is_none() && self.sent_end() < self.written().min(self.limit())
     }
 
     /// Whether the end is due.

@@ -5,6 +5,8 @@
 #![allow(dead_code, unused_imports)]
 // Forms that clippy would have otherwise: the text stays as it was proved.
 #![allow(
+    clippy::collapsible_if,
+    clippy::collapsible_match,
     clippy::len_zero,
     clippy::manual_map,
     clippy::manual_ok_err,
@@ -14,6 +16,7 @@
     clippy::needless_range_loop,
     clippy::question_mark,
     clippy::redundant_pattern_matching,
+    clippy::single_match,
     clippy::type_complexity
 )]
 

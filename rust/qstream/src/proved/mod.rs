@@ -6,6 +6,8 @@
 // Forms that clippy would have otherwise: the text stays as it was proved.
 #![allow(
     clippy::implicit_saturating_add,
+    clippy::collapsible_if,
+    clippy::collapsible_match,
     clippy::len_zero,
     clippy::manual_map,
     clippy::manual_ok_err,
@@ -15,6 +17,7 @@
     clippy::needless_range_loop,
     clippy::question_mark,
     clippy::redundant_pattern_matching,
+    clippy::single_match,
     clippy::type_complexity,
     clippy::write_with_newline
 )]

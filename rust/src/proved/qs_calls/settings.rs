@@ -93,6 +93,30 @@ impl core::fmt::Display for RaiseFault {
 
 impl core::error::Error for RaiseFault {}
 
+/// Why nothing was set anew.
+#[derive(Clone, Copy, Debug, PartialEq, Eq)]
+pub enum SetFault {
+    Closed,
+    /// The value lies outside the range that a new end has for it.
+    OutOfRange,
+    NoSuchStream,
+    /// The stream has no half of that direction at this end.
+    WrongDirection,
+}
+
+impl core::fmt::Display for SetFault {
+    fn fmt(&self, f: &mut core::fmt::Formatter<'_>) -> core::fmt::Result {
+        match self {
+            Self::Closed => f.write_str("the connection is closed"),
+            Self::OutOfRange => f.write_str("a setting is out of its range"),
+            Self::NoSuchStream => f.write_str("there is no such stream"),
+            Self::WrongDirection => f.write_str("the stream has no such half at this end"),
+        }
+    }
+}
+
+impl core::error::Error for SetFault {}
+
 impl Settings {
     /// What the other end is told of these settings.
     pub fn limits(&self) -> PeerLimits {

@@ -31,6 +31,7 @@ mod owner;
 mod raising;
 mod receiving;
 mod recording;
+mod setting;
 mod taking;
 mod tokens;
 
@@ -94,6 +95,9 @@ impl Endpoint {
                     role,
                     settings,
                     tuning,
+                    conn_window: settings.conn_window,
+                    widest: settings.conn_window,
+                    grants: ByDir::new(settings.grant_bidi, settings.grant_uni),
                     granted: settings.conn_window,
                     known_data: peer.max_data,
                     granted_streams: ByDir::new(settings.grant_bidi, settings.grant_uni),
@@ -124,7 +128,7 @@ impl Endpoint {
 
     /// How much memory the rings of receiving halves take and the buffers of sending halves, by a walk over all streams that were
     /// opened: for a look now and then, and not for each packet. A peer within its credit can't make the rings take more than four
-    /// times the connection's window, and 4,096 bytes for each receiving half that keeps bytes still. A sending half that was reset,
+    /// times the widest window of the connection that was set, and 4,096 bytes for each receiving half that keeps bytes still. A sending half that was reset,
     /// or of which all that was written and the end were acknowledged, takes nothing.
     pub fn held(&self) -> Held {
         let _granted = self.core.limits.granted;
@@ -140,7 +144,7 @@ impl Endpoint {
     }
 
     /// How many streams of a direction the peer may open: the grant, and one more for each of its streams that came to its end, up to
-    /// the lifetime's count (RFC 9000, section 4.6). It takes no memory.
+    /// the lifetime's count, and no fewer than before (RFC 9000, section 4.6). It takes no memory.
     pub fn granted_streams(&self, dir: Dir) -> u64 {
         self.core.limits.granted_streams.of(dir)
     }
@@ -172,19 +176,21 @@ impl Endpoint {
         self.core.limits.granted = next_limit(
             self.core.limits.granted,
             taken,
-            settings.conn_window,
+            self.core.limits.conn_window,
             self.core.limits.tuning.credit_step,
         );
         self.core.limits.granted_streams = ByDir {
             bidi: next_count(
                 step,
-                settings.grant_bidi,
+                self.core.limits.granted_streams.bidi,
+                self.core.limits.grants.bidi,
                 settings.lifetime_bidi,
                 self.core.ended.bidi,
             ),
             uni: next_count(
                 step,
-                settings.grant_uni,
+                self.core.limits.granted_streams.uni,
+                self.core.limits.grants.uni,
                 settings.lifetime_uni,
                 self.core.ended.uni,
             ),
@@ -227,14 +233,14 @@ pub(crate) fn is_uni(stream: StreamId) -> bool {
     type_of(stream) >= 2
 }
 
-// How many streams may be opened, where so many came to their end: as many more of them as make whole steps (RFC 9000, section 4.6).
-fn next_count(step: Option<Share>, grant: u64, lifetime: u64, ended: u64) -> u64 {
-    debug_assert!(grant <= lifetime);
+// How many streams may be opened, where so many came to their end: the grant and as many more of them as make whole steps, and no fewer
+// than were granted (RFC 9000, section 4.6).
+fn next_count(step: Option<Share>, granted: u64, grant: u64, lifetime: u64, ended: u64) -> u64 {
     let more = match step {
         None => ended,
         Some(share) => in_steps(step_of(share, grant), ended),
     };
-    grant.saturating_add(more).min(lifetime)
+    granted.max(grant.saturating_add(more).min(lifetime))
 }
 
 // As many of so many as make whole steps.

@@ -9,7 +9,7 @@ use crate::proved::qs_conn::places::type_of;
 use crate::proved::qs_conn::recv_tables::RecvTables;
 use crate::proved::qs_conn::send_marks::Task;
 use crate::proved::qs_conn::slot::Slot;
-use crate::proved::qs_calls::{Settings, Tuning};
+use crate::proved::qs_calls::{MAX_VARINT, Settings, Tuning};
 use crate::proved::qs_send::Item;
 use crate::proved::qs_wire::{Dir, Role, StreamId};
 
@@ -20,6 +20,10 @@ pub(crate) struct Limits {
     pub role: Role,
     pub settings: Settings,
     pub tuning: Tuning,
+    /// The connection's window and the grants in force, as they were set last, and the widest window so far.
+    pub conn_window: u64,
+    pub widest: u64,
+    pub grants: ByDir<u64>,
     pub granted: u64,
     pub known_data: u64,
     pub granted_streams: ByDir<u64>,
@@ -61,6 +65,43 @@ impl Limits {
         }
         let limit = self.known_data;
         is_covered(outbox, &Item::DataBlocked { limit })
+    }
+
+    /// Sets the connection's window where so much was taken. A greater one moves the limit at once (RFC 9000, section 4.1).
+    pub(crate) fn set_conn_window(&mut self, window: u64, taken: u64) {
+        debug_assert!(taken <= 0x3fff_ffff_ffff_ffff);
+        debug_assert!(window <= 1 << 40);
+        if self.conn_window < window {
+            self.granted = self.granted.max((taken + window).min(MAX_VARINT));
+        }
+        self.conn_window = window;
+        self.widest = self.widest.max(window);
+    }
+
+    /// Sets a direction's grant where so many of its streams ended. A greater one moves the count at once (RFC 9000, section 4.6).
+    pub(crate) fn set_grant(&mut self, dir: Dir, streams: u64, ended: u64) {
+        match dir {
+            Dir::Bidi => {
+                self.granted_streams.bidi = count_with(
+                    self.grants.bidi,
+                    self.granted_streams.bidi,
+                    self.settings.lifetime_bidi,
+                    ended,
+                    streams,
+                );
+                self.grants.bidi = streams;
+            }
+            Dir::Uni => {
+                self.granted_streams.uni = count_with(
+                    self.grants.uni,
+                    self.granted_streams.uni,
+                    self.settings.lifetime_uni,
+                    ended,
+                    streams,
+                );
+                self.grants.uni = streams;
+            }
+        }
     }
 
     // The connection's limit, once it was raised.
@@ -124,6 +165,15 @@ impl Limits {
             Some(blocked) if blocked == count => Some(Item::StreamsBlocked { dir, count }),
             _ => None,
         }
+    }
+}
+
+// The count of streams that a grant leaves where so many ended.
+fn count_with(present: u64, granted: u64, lifetime: u64, ended: u64, grant: u64) -> u64 {
+    if present < grant {
+        granted.max(grant.saturating_add(ended).min(lifetime))
+    } else {
+        granted
     }
 }
 

@@ -142,6 +142,17 @@ impl Outbox {
         unsent as u64
     }
 
+    /// How many bytes of all streams are kept until they are acknowledged. A sum that is no u64 is the greatest one.
+    pub(crate) fn kept_sum(&self) -> u64 {
+        let bidi = self.types[0].kept() + self.types[1].kept();
+        let uni = self.types[2].kept() + self.types[3].kept();
+        let kept = bidi + uni;
+        if kept > u64::MAX as u128 {
+            return u64::MAX;
+        }
+        kept as u64
+    }
+
     /// What the buffers of all streams take, in bytes, by a walk over them. A sum that is no u64 is the greatest one.
     pub(crate) fn held(&self) -> u64 {
         let bidi = self.types[0].held().saturating_add(self.types[1].held());
@@ -167,7 +178,7 @@ impl Outbox {
         lanes.reserve_to(index_of(stream) + 1)
     }
 
-    /// Takes the streams of the type of this one from a count on away. Nothing of them was sent or is to be sent.
+    /// Takes the streams of the type of this one from a count on away. Nothing of them was sent or is to be sent, and they keep nothing.
     pub(crate) fn close_to(&mut self, stream: StreamId, count: usize) {
         let lanes = &mut self.types[type_of(stream)];
         lanes.close_to(count);
@@ -208,6 +219,12 @@ impl Outbox {
         }
         let half = half_of(&self.types, stream);
         half.stop_code()
+    }
+
+    /// Sets how many bytes an open stream keeps at most.
+    pub(crate) fn set_buffer(&mut self, stream: StreamId, size: usize) {
+        let lanes = &mut self.types[type_of(stream)];
+        lanes.set_buffer(index_of(stream), size);
     }
 
     /// Takes in that the peer allows the offsets of an open stream below a limit.

@@ -9,7 +9,7 @@ use crate::proved::qs_conn::untold::Untold;
 use crate::proved::qs_calls::RecvReport;
 use crate::proved::qs_machine::Tally;
 use crate::proved::qs_ranges::NoMemory;
-use crate::proved::qs_recv::{Highest, Read, RecvFault, RecvHalf, RecvState, RingAssembly, Share};
+use crate::proved::qs_recv::{Highest, Peek, Read, RecvFault, RecvHalf, RecvState, RingAssembly, Share};
 use crate::proved::qs_wire::StreamId;
 use crate::shim::alloc::Global;
 
@@ -238,6 +238,12 @@ impl RecvLanes {
         answer
     }
 
+    /// Tells what a read at an open lane would, and changes nothing.
+    pub(crate) fn peek(&self, index: usize) -> Peek<'_> {
+        let half = &self.halves[index];
+        half.peek()
+    }
+
     /// Stops an open lane.
     pub(crate) fn stop(&mut self, index: usize, code: u64) {
         debug_assert!(code <= 0x3fff_ffff_ffff_ffff);
@@ -250,11 +256,26 @@ impl RecvLanes {
         self.touched.touch(index);
     }
 
+    /// Stops an open lane, and tells nothing more of it.
+    pub(crate) fn stop_and_forget(&mut self, index: usize, code: u64) {
+        debug_assert!(code <= 0x3fff_ffff_ffff_ffff);
+        let half = &mut self.halves[index];
+        let was = measure(half);
+        half.stop_and_forget(code);
+        let is = measure(half);
+        self.news.look(index, half);
+        self.tally = moved(self.tally, was, is);
+        self.touched.touch(index);
+    }
+
     /// Whether a lane is in Data Read or Reset Read (RFC 9000, section 3.2).
     pub(crate) fn has_ended(&self, index: usize) -> bool {
         let Some(half) = self.halves.get(index) else {
             return false;
         };
+        if !half.is_told() {
+            return false;
+        }
         matches!(half.state(), RecvState::DataRead | RecvState::ResetRead)
     }
 

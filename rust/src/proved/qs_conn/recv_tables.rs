@@ -9,7 +9,7 @@ use crate::proved::qs_conn::untold::Untold;
 use crate::proved::qs_calls::RecvReport;
 use crate::proved::qs_machine::Tally;
 use crate::proved::qs_ranges::NoMemory;
-use crate::proved::qs_recv::{Highest, Read, RecvFault, Share};
+use crate::proved::qs_recv::{Highest, Peek, Read, RecvFault, Share};
 use crate::proved::qs_wire::StreamId;
 use crate::shim::alloc::Global;
 
@@ -166,11 +166,24 @@ impl RecvTables {
         lanes.skip(index_of(stream), most)
     }
 
+    /// Tells what a read at an open stream would, and changes nothing.
+    pub(crate) fn peek(&self, stream: StreamId) -> Peek<'_> {
+        let lanes = &self.types[type_of(stream)];
+        lanes.peek(index_of(stream))
+    }
+
     /// Stops an open stream.
     pub(crate) fn stop(&mut self, stream: StreamId, code: u64) {
         debug_assert!(code <= 0x3fff_ffff_ffff_ffff);
         let lanes = &mut self.types[type_of(stream)];
         lanes.stop(index_of(stream), code);
+    }
+
+    /// Stops an open stream, and tells nothing more of it.
+    pub(crate) fn stop_and_forget(&mut self, stream: StreamId, code: u64) {
+        debug_assert!(code <= 0x3fff_ffff_ffff_ffff);
+        let lanes = &mut self.types[type_of(stream)];
+        lanes.stop_and_forget(index_of(stream), code);
     }
 
     /// Whether a stream's receiving half is in Data Read or Reset Read (RFC 9000, section 3.2).

@@ -15,6 +15,8 @@ pub(crate) struct SendLanes {
     halves: Vec<SendHalf>,
     // How many bytes of all halves were sent or are still to be sent. A sum over 2^60 halves is no u64.
     promised: u128,
+    // How many bytes of all halves are kept until they are acknowledged.
+    kept: u128,
     // A half without a mark for a task is quiet of it.
     marks: SendMarks,
 }
@@ -25,6 +27,7 @@ impl SendLanes {
             alloc,
             halves: Vec::new(alloc),
             promised: 0,
+            kept: 0,
             marks: SendMarks::new(alloc),
         }
     }
@@ -47,6 +50,11 @@ impl SendLanes {
     /// How many bytes of all halves were sent or are still to be sent for the first time.
     pub(crate) fn promised(&self) -> u128 {
         self.promised
+    }
+
+    /// How many bytes of all halves are kept until they are acknowledged.
+    pub(crate) fn kept(&self) -> u128 {
+        self.kept
     }
 
     /// An open half.
@@ -92,7 +100,7 @@ impl SendLanes {
         }
     }
 
-    /// Takes the halves from a count on away. Nothing of them was sent or is to be sent.
+    /// Takes the halves from a count on away. Nothing of them was sent or is to be sent, and they keep nothing.
     pub(crate) fn close_to(&mut self, count: usize) {
         self.halves.truncate(count);
         self.marks.close_to(count);
@@ -107,7 +115,9 @@ impl SendLanes {
         let half = &mut self.halves[index];
         half.is_lawful();
         let answer = half.write(bytes);
-        self.promised += answer.unwrap_or(0) as u128;
+        let accepted = answer.unwrap_or(0) as u128;
+        self.promised += accepted;
+        self.kept += accepted;
         self.marks.look_written(index, half);
         answer
     }
@@ -124,10 +134,11 @@ impl SendLanes {
     pub(crate) fn reset(&mut self, index: usize, code: u64) -> Result<(), SendFault> {
         debug_assert!(code <= 0x3fff_ffff_ffff_ffff);
         let half = &mut self.halves[index];
-        let before = promised(half);
+        let (before, had) = (promised(half), kept(half));
         let answer = half.reset(code);
-        let after = promised(half);
+        let (after, has) = (promised(half), kept(half));
         self.promised = self.promised - before + after;
+        self.kept = self.kept - had + has;
         self.marks.look(index, half);
         answer
     }
@@ -136,10 +147,11 @@ impl SendLanes {
     pub(crate) fn stopped(&mut self, index: usize, code: u64) {
         debug_assert!(code <= 0x3fff_ffff_ffff_ffff);
         let half = &mut self.halves[index];
-        let before = promised(half);
+        let (before, had) = (promised(half), kept(half));
         half.stopped(code);
-        let after = promised(half);
+        let (after, has) = (promised(half), kept(half));
         self.promised = self.promised - before + after;
+        self.kept = self.kept - had + has;
         self.marks.look(index, half);
     }
 
@@ -148,6 +160,13 @@ impl SendLanes {
         debug_assert!(limit <= 0x3fff_ffff_ffff_ffff);
         let half = &mut self.halves[index];
         half.allow(limit);
+        self.marks.look(index, half);
+    }
+
+    /// Sets how many bytes an open half keeps at most.
+    pub(crate) fn set_buffer(&mut self, index: usize, size: usize) {
+        let half = &mut self.halves[index];
+        half.set_buffer(size);
         self.marks.look(index, half);
     }
 
@@ -176,7 +195,10 @@ impl SendLanes {
     /// Takes in that a chunk is acknowledged, or changes nothing.
     pub(crate) fn acked(&mut self, index: usize, chunk: Chunk) -> Result<(), NoMemory> {
         let half = &mut self.halves[index];
+        let had = kept(half);
         let answer = half.acked(chunk);
+        let has = kept(half);
+        self.kept = self.kept - had + has;
         self.marks.look_acked(index, half);
         answer
     }
@@ -227,6 +249,12 @@ fn promised(half: &SendHalf) -> u128 {
         return half.sent_end() as u128;
     }
     half.written() as u128
+}
+
+// How many bytes of a half are kept until they are acknowledged.
+fn kept(half: &SendHalf) -> u128 {
+    half.is_lawful();
+    half.kept_len() as u128
 }
 
 // A write to a half that has no room: no byte is accepted.

@@ -36,7 +36,7 @@ pub(crate) fn limits_fault(peer: &PeerLimits) -> Option<SetupFault> {
     }
 }
 
-fn is_between(low: u64, high: u64, n: u64) -> bool {
+pub(crate) fn is_between(low: u64, high: u64, n: u64) -> bool {
     low <= n && n <= high
 }
 

@@ -40,6 +40,13 @@ pub trait Assembly {
     fn received(&self) -> &RangeSet;
 }
 
+/// An assembly whose next bytes can be looked at where they stand.
+pub trait Peeking: Skipping {
+    /// The bytes that are next to be read, in two pieces where they stand so: as many as stand there in a row, and one at least where
+    /// one is next.
+    fn front(&self) -> (&[u8], &[u8]);
+}
+
 /// An assembly whose next bytes can be passed over without a copy.
 pub trait Skipping: Assembly {
     /// Takes the bytes that are next to be read, at most so many, and answers how many.

@@ -2,7 +2,7 @@
 //! The receiving half of a stream (RFC 9000, sections 2.2, 3.2, 3.5 and 4).
 use crate::shim::Box;
 
-use crate::proved::qs_recv::assembly::{Assembly, Skipping};
+use crate::proved::qs_recv::assembly::{Assembly, Peeking, Skipping};
 use crate::proved::qs_recv::credit::Share;
 use crate::proved::qs_recv::live::LiveHalf;
 use crate::proved::qs_recv::rest::Rest;
@@ -39,6 +39,16 @@ pub enum Read {
     Wait,
 }
 
+/// What a look at a stream tells, without reading: the bytes that are next, in one piece of memory or two; that all data was read; that
+/// the stream was reset with a code; or that nothing is next.
+#[derive(Debug, Clone, Copy, PartialEq, Eq)]
+pub enum Peek<'a> {
+    Bytes(&'a [u8], &'a [u8]),
+    End,
+    Reset(u64),
+    Wait,
+}
+
 /// The states of the receiving part of a stream (section 3.2).
 #[derive(Debug, Clone, Copy, PartialEq, Eq)]
 pub enum RecvState {
@@ -52,8 +62,8 @@ pub enum RecvState {
 
 /// The receiving half of a stream, over any assembly. Offsets and sizes count bytes from the start of the stream.
 ///
-/// One that never carried a byte, one that was reset, and one of which a reader was told the end, is a record of 56 bytes; the
-/// first byte that is stored takes the box.
+/// One that never carried a byte, one that was reset, and one of which a reader was told the end or that was forgotten, while no
+/// offset is missing, is a record of 56 bytes; the first byte that is stored takes the box.
 pub struct RecvHalf<A: Assembly> {
     alloc: Global,
     parts: Parts<A>,
@@ -121,7 +131,11 @@ impl<A: Assembly> RecvHalf<A> {
                 self.parts = Parts::Live(boxed);
                 Ok(())
             }
-            Parts::Live(live) => live.take_stream(offset, bytes, fin),
+            Parts::Live(live) => {
+                live.take_stream(offset, bytes, fin)?;
+                self.settle();
+                Ok(())
+            }
         }
     }
 
@@ -170,6 +184,17 @@ impl<A: Assembly> RecvHalf<A> {
         }
     }
 
+    /// Stops it, and tells nothing more of it: it counts as read to its end as soon as that comes, or as a reset does
+    /// (sections 3.2 and 3.5).
+    pub fn stop_and_forget(&mut self, code: u64) {
+        debug_assert!(code <= 0x3fff_ffff_ffff_ffff);
+        match &mut self.parts {
+            Parts::Resting(rest) => rest.stop_and_forget(code),
+            Parts::Live(live) => live.stop_and_forget(code),
+        }
+        self.settle();
+    }
+
     /// Raises the limit by what was taken, once that is the half's share of its window or more, and answers the new one where it rose
     /// (section 4.2). Once the final size is known it stays.
     pub fn raise(&mut self) -> Option<u64> {
@@ -212,7 +237,8 @@ impl<A: Assembly> RecvHalf<A> {
     }
 
     /// How many runs the offsets make that came: none where none did, else one, and one more for each gap between them. After a
-    /// reset, and once the reader was told the end, there are none: the half keeps no offset then. It takes constant time.
+    /// reset, and once the reader was told the end, or would be told it had it not forgotten the stream, there are none: the half
+    /// keeps no offset then. It looks at no more than the first run.
     pub fn noted(&self) -> u64 {
         match &self.parts {
             Parts::Resting(rest) => rest.noted(),
@@ -225,6 +251,14 @@ impl<A: Assembly> RecvHalf<A> {
         match &self.parts {
             Parts::Resting(rest) => rest.final_size(),
             Parts::Live(live) => live.final_size(),
+        }
+    }
+
+    /// Whether all is told that is to be: the end or a reset was, or it was stopped and forgotten.
+    pub fn is_told(&self) -> bool {
+        match &self.parts {
+            Parts::Resting(rest) => rest.is_told(),
+            Parts::Live(live) => live.is_told(),
         }
     }
 
@@ -286,7 +320,7 @@ impl<A: Assembly> RecvHalf<A> {
         }
     }
 
-    // A half that is over is kept by its numbers alone from now on.
+    // A half of which nothing more is told is kept by its numbers alone, where no offset is missing.
     fn settle(&mut self) {
         let Parts::Live(live) = &self.parts else {
             return;
@@ -299,6 +333,17 @@ impl<A: Assembly> RecvHalf<A> {
     // A half at rest, with an assembly that stores nothing.
     fn revived(&self, rest: &Rest) -> LiveHalf<A> {
         LiveHalf::revived(self.alloc, rest)
+    }
+}
+
+impl<A: Peeking> RecvHalf<A> {
+    /// Tells what a read would, and changes nothing: the bytes that are next stay where they are, one at least, and as many as stand there
+    /// in a row.
+    pub fn peek(&self) -> Peek<'_> {
+        match &self.parts {
+            Parts::Resting(rest) => rest.peek(),
+            Parts::Live(live) => live.peek(),
+        }
     }
 }
 

@@ -1,9 +1,9 @@
 // Made from crates/qs_recv/src/live.rt by rust/erase; not edited by hand.
 //! A receiving half that may store bytes.
 
-use crate::proved::qs_recv::assembly::{Assembly, Skipping};
+use crate::proved::qs_recv::assembly::{Assembly, Peeking, Skipping};
 use crate::proved::qs_recv::credit::{Share, next_limit};
-use crate::proved::qs_recv::half::{Highest, Read, RecvFault, RecvState};
+use crate::proved::qs_recv::half::{Highest, Peek, Read, RecvFault, RecvState};
 use crate::proved::qs_recv::rest::{Rest, given};
 use crate::proved::qs_recv::window::Window;
 use crate::shim::alloc::Global;
@@ -43,7 +43,7 @@ impl<A: Assembly> LiveHalf<A> {
         }
     }
 
-    /// The same half at rest, where a reader was told of its end and every offset below the largest that came came.
+    /// The same half at rest, where nothing more is told of it and every offset below the largest that came came.
     pub(crate) fn rested(&self) -> Option<Rest> {
         if !self.told || !self.assembly.received().covers(0, self.received_end) {
             return None;
@@ -192,6 +192,12 @@ impl<A: Assembly> LiveHalf<A> {
         }
     }
 
+    pub(crate) fn stop_and_forget(&mut self, code: u64) {
+        debug_assert!(code <= 0x3fff_ffff_ffff_ffff);
+        self.stop(code);
+        self.told = true;
+    }
+
     pub(crate) fn raise(&mut self) -> Option<u64> {
         if self.final_size.is_some() {
             return None;
@@ -226,7 +232,21 @@ impl<A: Assembly> LiveHalf<A> {
 
     pub(crate) fn noted(&self) -> u64 {
         self.is_lawful();
-        if self.told || self.reset_code.is_some() {
+        if self.reset_code.is_some() {
+            return 0;
+        }
+        if self.told {
+            return self.noted_still();
+        }
+        self.assembly.received().count() as u64
+    }
+
+    // How many runs are noted of a half that wasn't reset and of which all was told: none once all came. It is seldom called, and apart so
+    // that the other is small.
+    #[inline(never)]
+    fn noted_still(&self) -> u64 {
+        self.is_lawful();
+        if self.is_whole() {
             return 0;
         }
         self.assembly.received().count() as u64
@@ -234,6 +254,10 @@ impl<A: Assembly> LiveHalf<A> {
 
     pub(crate) fn final_size(&self) -> Option<u64> {
         self.final_size
+    }
+
+    pub(crate) fn is_told(&self) -> bool {
+        self.told
     }
 
     pub(crate) fn state(&self) -> RecvState {
@@ -309,6 +333,28 @@ impl<A: Assembly> LiveHalf<A> {
             Some(size) => (len > 0 && size < end) || (fin && end != size),
             None => fin && end < self.highest(),
         }
+    }
+}
+
+impl<A: Peeking> LiveHalf<A> {
+    pub(crate) fn peek(&self) -> Peek<'_> {
+        if let Some(code) = self.reset_code {
+            return Peek::Reset(code);
+        }
+        if self.stop_code.is_some() {
+            if self.is_whole() {
+                return Peek::End;
+            }
+            return Peek::Wait;
+        }
+        if self.final_size == Some(self.read_count) {
+            return Peek::End;
+        }
+        if !self.assembly.received().has(self.read_count) {
+            return Peek::Wait;
+        }
+        let (front, back) = self.assembly.front();
+        Peek::Bytes(front, back)
     }
 }
 

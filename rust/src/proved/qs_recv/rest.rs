@@ -2,7 +2,7 @@
 //! A receiving half that stores nothing, in few bytes.
 
 use crate::proved::qs_recv::credit::{Share, next_limit};
-use crate::proved::qs_recv::half::Read;
+use crate::proved::qs_recv::half::{Peek, Read};
 use crate::proved::qs_recv::window::Window;
 
 /// A receiving half that stores nothing, and of which the offsets that came are those below `received_end`: one that never
@@ -85,6 +85,23 @@ impl Rest {
         Read::Wait
     }
 
+    /// What a look tells: bytes never are.
+    pub(crate) fn peek(&self) -> Peek<'_> {
+        if self.is_reset {
+            return Peek::Reset(self.reset);
+        }
+        let is_over = if self.is_stopped {
+            self.is_whole()
+        } else {
+            self.is_sized && self.size == self.read_count
+        };
+        if is_over { Peek::End } else { Peek::Wait }
+    }
+
+    pub(crate) fn is_told(&self) -> bool {
+        self.told
+    }
+
     /// Notes a stop: the first code stays.
     pub(crate) fn stop(&mut self, code: u64) {
         debug_assert!(code <= 0x3fff_ffff_ffff_ffff);
@@ -92,6 +109,13 @@ impl Rest {
             self.is_stopped = true;
             self.stop = code;
         }
+    }
+
+    /// Notes a stop, and tells nothing more.
+    pub(crate) fn stop_and_forget(&mut self, code: u64) {
+        debug_assert!(code <= 0x3fff_ffff_ffff_ffff);
+        self.stop(code);
+        self.told = true;
     }
 
     /// Raises the limit, and answers the new one where it rose.
@@ -142,7 +166,7 @@ impl Rest {
 
     /// How many runs the offsets make that came: one at most.
     pub(crate) fn noted(&self) -> u64 {
-        if self.told || self.is_reset {
+        if self.keeps_none() {
             return 0;
         }
         if self.received_end > 0 { 1 } else { 0 }
@@ -185,6 +209,11 @@ impl Rest {
             return Some(end);
         }
         None
+    }
+
+    // Whether nothing is noted of the offsets that came.
+    fn keeps_none(&self) -> bool {
+        (self.told && self.is_whole()) || self.is_reset
     }
 
     // Whether the final size is known and every offset below it came.

@@ -60,6 +60,21 @@ impl Ring {
         write_at(into, front.len(), back);
     }
 
+    /// The bytes of the offsets from `at` on, at most so many, in two pieces where their places wrap: as far as they were written, and
+    /// one at least.
+    pub(crate) fn front(&self, at: u64, count: usize) -> (&[u8], &[u8]) {
+        debug_assert!(at <= 1 << 62);
+        debug_assert!(0 < count);
+        let place = place_of(at + self.turn as u64, self.size);
+        let end = self.bytes.len();
+        if place >= end {
+            return (&[0], &[]);
+        }
+        let kept = if end < self.size { end - place } else { count };
+        let shown = count.min(kept);
+        pieces(&self.bytes, self.size, place, shown)
+    }
+
     /// Whether bytes are the ones at the places of the offsets from `at` on, in two pieces where these wrap.
     pub(crate) fn are_at(&self, at: u64, bytes: &[u8]) -> bool {
         debug_assert!(at <= 1 << 62);
@@ -227,12 +242,12 @@ fn write_over(into: &mut Vec<u8>, place: usize, bytes: &[u8]) {
 }
 
 // Writes bytes from a place on.
-fn write_at(into: &mut [u8], place: usize, bytes: &[u8]) {
+pub(crate) fn write_at(into: &mut [u8], place: usize, bytes: &[u8]) {
     into[place..place + bytes.len()].copy_from_slice(bytes);
 }
 
 // Whether those bytes stand from a place on, where what was never written is zero.
-fn is_at(kept: &[u8], place: usize, bytes: &[u8]) -> bool {
+pub(crate) fn is_at(kept: &[u8], place: usize, bytes: &[u8]) -> bool {
     let end = place + bytes.len();
     if end <= kept.len() {
         return bytes == &kept[place..end];

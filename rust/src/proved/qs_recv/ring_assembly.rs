@@ -1,7 +1,9 @@
 // Made from crates/qs_recv/src/ring_assembly.rt by rust/erase; not edited by hand.
-//! An assembly that keeps what came in one ring: the byte of an offset stands at the offset modulo the ring's size.
+//! An assembly that keeps what came in one ring: the byte of an offset stands at the offset modulo the ring's size. What lies
+//! far past it stands apart.
 
-use crate::proved::qs_recv::assembly::{Assembly, Skipping};
+use crate::proved::qs_recv::assembly::{Assembly, Peeking, Skipping};
+use crate::proved::qs_recv::pages::{PAGE, Pages};
 use crate::proved::qs_recv::ring::Ring;
 use crate::proved::qs_ranges::{NoMemory, RangeSet};
 use crate::shim::alloc::Global;
@@ -12,12 +14,19 @@ const LEAST_SIZE: u64 = 64;
 // One of no more is kept where little or nothing is stored, so that a steady flow takes no memory anew.
 const IDLE_SIZE: u64 = 4096;
 
+// Bytes stand apart that begin so far past the ring's, or further.
+const APART: u64 = 65536;
+
 /// A ring beside the set of every offset that came. As bytes are stored that lie past it, it grows to reach from what was
 /// read to the last of them: to a power of two, less than twice as far or 64 bytes, and never past the window. What is stored
 /// keeps its place in memory that grows, unless it goes around the ring's end; where its offsets can't be noted, the ring shrinks
 /// again. As bytes are read and it is larger than 4,096 bytes and than three times as far, it shrinks in place, to half more
 /// at least. It is given back where bytes are thrown away, and where nothing is stored: at once if it is larger than 4,096
 /// bytes, else once that is asked for.
+///
+/// Bytes that begin 64 KiB or more past the ring's, and past its end, stand apart in pages of 16 KiB. As others come before them
+/// the ring reaches over the pages that follow without a gap, and these move into it: so what is next to be read stands in the
+/// ring.
 ///
 /// A put searches the set once for each gap that it fills, and once behind the last if more came there, but not for bytes past
 /// all that came; it copies the bytes of each gap, and notes the offsets by one insert. A take is one search and one copy. A
@@ -26,8 +35,11 @@ const IDLE_SIZE: u64 = 4096;
 pub struct RingAssembly {
     alloc: Global,
     ring: Ring,
+    apart: Pages,
     received: RangeSet,
     read_count: u64,
+    // What lies from here on stands apart.
+    near: u64,
     // One more than the largest offset that came, until bytes are thrown away.
     end: u64,
     stored: u64,
@@ -40,8 +52,10 @@ impl Assembly for RingAssembly {
         RingAssembly {
             alloc,
             ring: Ring::none(alloc),
+            apart: Pages::none(alloc),
             received: RangeSet::new(alloc),
             read_count: 0,
+            near: 0,
             end: 0,
             stored: 0,
             window,
@@ -53,8 +67,10 @@ impl Assembly for RingAssembly {
         RingAssembly {
             alloc,
             ring: Ring::none(alloc),
+            apart: Pages::none(alloc),
             received: RangeSet::below(alloc, end),
             read_count,
+            near: read_count,
             end,
             stored: 0,
             window,
@@ -75,35 +91,21 @@ impl Assembly for RingAssembly {
         if first >= end {
             return Ok(());
         }
-        let from = self.read_count;
-        let kept = self.end - from;
-        let span = end - from;
-        reach(
-            self.alloc,
-            &mut self.ring,
-            front_of(kept, first, from),
-            kept,
-            span,
-            self.window,
-        )?;
-        match store(
+        if !self.apart.is_empty() || (self.ring.len() as u64) < end - self.read_count {
+            return self.put_beyond(first, stop, offset, bytes);
+        }
+        let count = store(
             &mut self.ring,
             &mut self.received,
             first,
             stop,
             offset,
             bytes,
-        ) {
-            Ok(count) => {
-                self.stored += count;
-                self.end = self.end.max(end);
-                Ok(())
-            }
-            Err(refused) => {
-                shed(self.alloc, &mut self.ring, from, kept, self.window);
-                Err(refused)
-            }
-        }
+        )?;
+        self.stored += count;
+        self.near = self.near.max(end);
+        self.end = self.end.max(end);
+        Ok(())
     }
 
     fn take(&mut self, into: &mut [u8]) -> usize {
@@ -115,7 +117,7 @@ impl Assembly for RingAssembly {
         self.ring.copy_out(self.read_count, &mut into[..count]);
         self.read_count += count as u64;
         self.stored -= count as u64;
-        let span = self.end - self.read_count;
+        let span = self.near - self.read_count;
         shed(
             self.alloc,
             &mut self.ring,
@@ -128,6 +130,7 @@ impl Assembly for RingAssembly {
 
     fn discard(&mut self) {
         self.ring = Ring::none(self.alloc);
+        self.apart = Pages::none(self.alloc);
         self.stored = 0;
         self.discarding = true;
     }
@@ -143,7 +146,18 @@ impl Assembly for RingAssembly {
             return true;
         }
         let start = offset.max(self.read_count);
-        is_in_ring(&self.ring, &self.received, start, self.end, offset, bytes)
+        if self.end <= start {
+            return true;
+        }
+        is_kept(
+            &self.ring,
+            &self.apart,
+            self.near,
+            &self.received,
+            start,
+            offset,
+            bytes,
+        )
     }
 
     fn stored(&self) -> u64 {
@@ -151,11 +165,111 @@ impl Assembly for RingAssembly {
     }
 
     fn held(&self) -> u64 {
-        self.ring.len() as u64
+        self.ring.len() as u64 + self.apart.count() * PAGE
     }
 
     fn received(&self) -> &RangeSet {
         &self.received
+    }
+}
+
+impl RingAssembly {
+    // Stores bytes beside some that stand apart, or past the ring's end. The first offsets that didn't come are those from
+    // `first` on and below `stop`.
+    #[inline(never)]
+    fn put_beyond(
+        &mut self,
+        first: u64,
+        stop: u64,
+        offset: u64,
+        bytes: &[u8],
+    ) -> Result<(), NoMemory> {
+        if self.near + APART <= first {
+            return self.put_apart(first, stop, offset, bytes);
+        }
+        let end = offset + bytes.len() as u64;
+        self.draw(end)?;
+        let from = self.read_count;
+        let kept = self.near - from;
+        reach(
+            self.alloc,
+            &mut self.ring,
+            front_of(kept, first, from),
+            kept,
+            end - from,
+            self.window,
+        )?;
+        match store(
+            &mut self.ring,
+            &mut self.received,
+            first,
+            stop,
+            offset,
+            bytes,
+        ) {
+            Ok(count) => {
+                self.stored += count;
+                self.near = self.near.max(end);
+                self.end = self.end.max(end);
+                Ok(())
+            }
+            Err(refused) => {
+                shed(self.alloc, &mut self.ring, from, kept, self.window);
+                Err(refused)
+            }
+        }
+    }
+
+    // Stores bytes that lie far past the ring's apart.
+    fn put_apart(
+        &mut self,
+        first: u64,
+        stop: u64,
+        offset: u64,
+        bytes: &[u8],
+    ) -> Result<(), NoMemory> {
+        let end = offset + bytes.len() as u64;
+        match store_apart(
+            self.alloc,
+            &mut self.apart,
+            &mut self.received,
+            first,
+            stop,
+            offset,
+            bytes,
+        ) {
+            Ok(count) => {
+                self.stored += count;
+                self.end = self.end.max(end);
+                Ok(())
+            }
+            Err(refused) => {
+                self.apart.give_back(self.end, end);
+                Err(refused)
+            }
+        }
+    }
+
+    // Moves what stands apart into the ring, up to the first page past `end` that isn't in use.
+    fn draw(&mut self, end: u64) -> Result<(), NoMemory> {
+        debug_assert!(end <= 0x3fff_ffff_ffff_ffff);
+        if self.apart.is_empty() {
+            return Ok(());
+        }
+        let from = self.read_count;
+        let near = self.near;
+        let next = self.apart.gap_past(near.max(end), self.end);
+        reach(
+            self.alloc,
+            &mut self.ring,
+            from,
+            near - from,
+            next - from,
+            self.window,
+        )?;
+        self.apart.move_into(&mut self.ring, near, next);
+        self.near = next;
+        Ok(())
     }
 }
 
@@ -168,7 +282,7 @@ impl Skipping for RingAssembly {
         let count = (next - self.read_count).min(most as u64) as usize;
         self.read_count += count as u64;
         self.stored -= count as u64;
-        let span = self.end - self.read_count;
+        let span = self.near - self.read_count;
         shed(
             self.alloc,
             &mut self.ring,
@@ -177,6 +291,20 @@ impl Skipping for RingAssembly {
             self.window,
         );
         count
+    }
+}
+
+impl Peeking for RingAssembly {
+    fn front(&self) -> (&[u8], &[u8]) {
+        if self.discarding {
+            return (&[], &[]);
+        }
+        let next = self.received.first_missing(self.read_count);
+        let count = (next - self.read_count) as usize;
+        if count == 0 {
+            return (&[], &[]);
+        }
+        self.ring.front(self.read_count, count)
     }
 }
 
@@ -234,6 +362,7 @@ fn shed(alloc: Global, ring: &mut Ring, from: u64, span: u64, window: u64) {
 
 // Stores the bytes at offsets that didn't come before, notes the offsets, and answers how many are new. The first such
 // offsets are those from `first` on and below `stop`.
+#[inline(always)]
 fn store(
     ring: &mut Ring,
     received: &mut RangeSet,
@@ -252,6 +381,7 @@ fn store(
 
 // Writes the bytes at offsets that didn't come before to their places, and answers how many these are. The first such
 // offsets are those from `first` on and below `stop`.
+#[inline(always)]
 fn fill_gaps(
     ring: &mut Ring,
     received: &RangeSet,
@@ -275,6 +405,51 @@ fn fill_gaps(
     let mut count = 0;
     while at < end {
         ring.write(at, &bytes[(at - offset) as usize..(to - offset) as usize]);
+        count += to - at;
+        let (next, after) = next_gap(received, to, end);
+        at = next;
+        to = after;
+    }
+    count
+}
+
+// The same, apart from the ring. Where memory is refused, what was taken of it may stay.
+fn store_apart(
+    alloc: Global,
+    apart: &mut Pages,
+    received: &mut RangeSet,
+    first: u64,
+    stop: u64,
+    offset: u64,
+    bytes: &[u8],
+) -> Result<u64, NoMemory> {
+    debug_assert!(offset <= first);
+    debug_assert!(first < stop);
+    let end = offset + bytes.len() as u64;
+    apart.make(alloc, first, end)?;
+    let count = fill_apart(apart, received, first, stop, offset, bytes);
+    received.insert(offset, end)?;
+    Ok(count)
+}
+
+// Writes the bytes at offsets that didn't come before to their pages, and answers how many these are. The first such
+// offsets are those from `first` on and below `stop`.
+fn fill_apart(
+    apart: &mut Pages,
+    received: &RangeSet,
+    first: u64,
+    stop: u64,
+    offset: u64,
+    bytes: &[u8],
+) -> u64 {
+    debug_assert!(offset <= first);
+    debug_assert!(first < stop);
+    let end = offset + bytes.len() as u64;
+    let mut at = first;
+    let mut to = stop;
+    let mut count = 0;
+    while at < end {
+        apart.write(at, &bytes[(at - offset) as usize..(to - offset) as usize]);
         count += to - at;
         let (next, after) = next_gap(received, to, end);
         at = next;
@@ -312,25 +487,29 @@ fn next_run(received: &RangeSet, at: u64, end: u64) -> (u64, u64) {
     }
 }
 
-// Whether the bytes at those offsets from `start` on that came are the ones at their places. From `last` on none came.
-fn is_in_ring(
+// Whether the bytes at those offsets from `start` on that came are the ones that are kept.
+#[inline(never)]
+fn is_kept(
     ring: &Ring,
+    apart: &Pages,
+    near: u64,
     received: &RangeSet,
     start: u64,
-    last: u64,
     offset: u64,
     bytes: &[u8],
 ) -> bool {
     debug_assert!(offset <= start);
-    let end = last.min(offset + bytes.len() as u64);
+    let end = offset + bytes.len() as u64;
     let mut at = start;
     while at < end {
         let (from, to) = next_run(received, at, end);
-        if from == end {
-            return true;
-        }
         let run = &bytes[(from - offset) as usize..(to - offset) as usize];
-        if !ring.are_at(from, run) {
+        let there = if from < near {
+            ring.are_at(from, run)
+        } else {
+            apart.are_at(from, run)
+        };
+        if !there {
             return false;
         }
         at = to;

@@ -22,6 +22,8 @@ pub struct SendHalf {
     offsets: Offsets,
     limit: u64,
     buffer: usize,
+    // The greatest buffer so far.
+    widest: usize,
     // The code of the reset, whose size is the sent end.
     reset_code: MaybeNumber,
     // The code of the first STOP_SENDING that came.
@@ -45,6 +47,7 @@ impl SendHalf {
             offsets: Offsets::new(alloc),
             limit,
             buffer,
+            widest: buffer,
             reset_code: MaybeNumber::none(),
             stop_code: MaybeNumber::none(),
             finished: false,
@@ -75,7 +78,7 @@ impl SendHalf {
             return Ok(0);
         }
         let (taken, _) = bytes.split_at(len);
-        if let Err(_) = self.offsets.write(taken, self.buffer) {
+        if let Err(_) = self.offsets.write(taken, self.widest) {
             return Err(SendFault::NoMemory);
         }
         Ok(len)
@@ -143,6 +146,13 @@ impl SendHalf {
     pub fn allow(&mut self, limit: u64) {
         debug_assert!(limit <= 0x3fff_ffff_ffff_ffff);
         self.limit = self.limit.max(limit);
+    }
+
+    /// Keeps at most so many bytes from now on. What is kept stays: where it is more, no byte is accepted until enough of it is
+    /// acknowledged.
+    pub fn set_buffer(&mut self, size: usize) {
+        self.buffer = size;
+        self.widest = self.widest.max(size);
     }
 
     /// Takes in that a STREAM_DATA_BLOCKED was sent.
@@ -215,6 +225,11 @@ impl SendHalf {
         self.reset_code.get()
     }
 
+    /// How many bytes are kept until they are acknowledged.
+    pub fn kept_len(&self) -> usize {
+        self.offsets.kept_len()
+    }
+
     /// How many bytes were written.
     pub fn written(&self) -> u64 {
         self.offsets.written()
@@ -235,13 +250,13 @@ impl SendHalf {
         self.limit
     }
 
-    /// How many bytes the buffer can take.
+    /// How many bytes the buffer can take: none while more are kept than it is set to.
     pub fn room(&self) -> usize {
-        self.buffer - self.offsets.kept_len()
+        self.buffer.saturating_sub(self.offsets.kept_len())
     }
 
-    /// How many bytes of memory the buffer takes: at least those that are kept. While some are it takes up to twice what it is
-    /// set to, since it grows by doubling; else no more than 4,096, and nothing after a reset and in Data Recvd.
+    /// How many bytes of memory the buffer takes: at least those that are kept. While some are it takes up to twice the most that it
+    /// was set to, since it grows by doubling; else no more than 4,096, and nothing after a reset and in Data Recvd.
     pub fn held(&self) -> u64 {
         self.offsets.held() as u64
     }

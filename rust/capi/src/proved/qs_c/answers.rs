@@ -5,8 +5,8 @@ use crate::proved::qs_c::lane::GvLane;
 use crate::proved::qs_c::structs::{GvClosing, GvFilled, GvMade};
 use crate::proved::qs_calls::{Consumed, Filled, TakeFault, Taken, TokenFault};
 use crate::proved::qs_conn::{
-    Closing, LaneReport, LostFault, Made, MakeFault, OpenFault, RaiseFault, Received, SetupFault,
-    UseFault,
+    Closing, LaneReport, LostFault, Made, MakeFault, OpenFault, RaiseFault, Received, SetFault,
+    SetupFault, UseFault,
 };
 use crate::proved::qs_recv::Read;
 use crate::proved::qs_wire::StreamId;
@@ -286,6 +286,16 @@ pub(crate) fn of_raise(answer: Result<(), RaiseFault>) -> u32 {
         Ok(()) => OK,
         Err(RaiseFault::Closed) => CLOSED,
         Err(RaiseFault::Refused(fault)) => of_setup(fault),
+    }
+}
+
+pub(crate) fn of_set(answer: Result<(), SetFault>) -> u32 {
+    match answer {
+        Ok(()) => OK,
+        Err(SetFault::Closed) => CLOSED,
+        Err(SetFault::OutOfRange) => OUT_OF_RANGE,
+        Err(SetFault::NoSuchStream) => NO_SUCH_STREAM,
+        Err(SetFault::WrongDirection) => WRONG_DIRECTION,
     }
 }
 

@@ -3,7 +3,7 @@
 
 use crate::proved::qs_c::answers::{
     INVALID, of_claim, of_closing, of_count, of_len, of_lost, of_made, of_open, of_raise, of_read,
-    of_received, of_stream, of_token, of_use,
+    of_received, of_stream, of_use,
 };
 use crate::proved::qs_c::structs::{GvClosing, GvLimits, GvMade};
 use crate::proved::qs_c::thing::Thing;
@@ -91,6 +91,16 @@ impl Thing {
         of_use(self.end.stop(id, code))
     }
 
+    pub(crate) fn stop_and_forget(&mut self, stream: u64, code: u64) -> u32 {
+        let Some(id) = StreamId::new(stream) else {
+            return INVALID;
+        };
+        if code >= LIMIT {
+            return INVALID;
+        }
+        of_use(self.end.stop_and_forget(id, code))
+    }
+
     pub(crate) fn read(&mut self, stream: u64, into: &mut [u8], number: &mut u64) -> u32 {
         let Some(id) = StreamId::new(stream) else {
             return INVALID;
@@ -100,16 +110,6 @@ impl Thing {
 
     pub(crate) fn declare_lost(&mut self, number: u64) -> u32 {
         of_lost(self.end.declare_lost(number))
-    }
-
-    pub(crate) fn acked(&mut self, token: u64) -> u32 {
-        let given = self.end.token_of(token);
-        of_token(self.end.acked(given))
-    }
-
-    pub(crate) fn lost(&mut self, token: u64) -> u32 {
-        let given = self.end.token_of(token);
-        of_token(self.end.lost(given))
     }
 
     pub(crate) fn claim_number(&mut self, number: &mut u64) -> u32 {

@@ -16,12 +16,14 @@ pub(crate) mod lane;
 pub(crate) mod loose;
 pub(crate) mod puts;
 pub(crate) mod reads;
+pub(crate) mod setting;
 pub(crate) mod stack;
 pub(crate) mod starts;
 pub(crate) mod structs;
 pub(crate) mod sums;
 pub(crate) mod telling;
 pub(crate) mod thing;
+pub(crate) mod tokens;
 
 use crate::proved::qs_c::acks::GvRange;
 use crate::proved::qs_c::answers::{INVALID, of_stream};
@@ -31,10 +33,12 @@ use crate::proved::qs_c::lane::GvLane;
 use crate::proved::qs_c::structs::{GvClosing, GvLimits, GvMade, GvSettings, GvTuning};
 pub use consuming::gvp_consume;
 use crate::proved::qs_wire::last_stream;
+pub use setting::{gvp_set_conn_window, gvp_set_grant, gvp_set_send_buffer};
 pub use stack::{gvp_fill, gvp_take_frame};
 use crate::shim::alloc::Global;
-pub use sums::{gvp_taken, gvp_taken_sum, gvp_unsent_sum};
+pub use sums::{gvp_kept_sum, gvp_taken, gvp_taken_sum, gvp_unsent_sum};
 pub use telling::gvp_receive_telling;
+pub use tokens::{gvp_token_acked, gvp_token_and, gvp_token_lost, gvp_token_of};
 
 /// Takes the memory for an end: the handle holds one then, which `gvp_new` makes another. A handle that holds one loses it.
 pub fn gvp_reserve(alloc: Global, end: &mut Handle) -> u32 {
@@ -163,6 +167,20 @@ pub fn gvp_stop(alloc: Global, end: &mut Handle, stream: u64, code: u64) -> u32 
     status
 }
 
+pub fn gvp_stop_and_forget(
+    alloc: Global,
+    end: &mut Handle,
+    stream: u64,
+    code: u64,
+) -> u32 {
+    let Some(mut thing) = end.take(alloc) else {
+        return INVALID;
+    };
+    let status = thing.stop_and_forget(stream, code);
+    end.put(thing);
+    status
+}
+
 pub fn gvp_read(
     alloc: Global,
     end: &mut Handle,
@@ -183,24 +201,6 @@ pub fn gvp_declare_lost(alloc: Global, end: &mut Handle, number: u64) -> u32 {
         return INVALID;
     };
     let status = thing.declare_lost(number);
-    end.put(thing);
-    status
-}
-
-pub fn gvp_token_acked(alloc: Global, end: &mut Handle, token: u64) -> u32 {
-    let Some(mut thing) = end.take(alloc) else {
-        return INVALID;
-    };
-    let status = thing.acked(token);
-    end.put(thing);
-    status
-}
-
-pub fn gvp_token_lost(alloc: Global, end: &mut Handle, token: u64) -> u32 {
-    let Some(mut thing) = end.take(alloc) else {
-        return INVALID;
-    };
-    let status = thing.lost(token);
     end.put(thing);
     status
 }

@@ -1,7 +1,7 @@
 // Made from crates/qs_c/src/structs.rt by rust/erase; not edited by hand.
 //! The structs that C passes.
 
-use crate::proved::qs_calls::Filled;
+use crate::proved::qs_calls::{Filled, Token};
 use crate::proved::qs_conn::{Closing, Made, PeerLimits, Settings, Share, Tuning};
 
 /// The greatest number of a part.
@@ -29,6 +29,7 @@ pub struct GvTuning {
     pub count_step: u32,
     pub within_credit: bool,
     pub reads_when_closed: bool,
+    pub epoch: u64,
 }
 
 #[repr(C)]
@@ -72,6 +73,14 @@ pub struct GvFilled {
 
 #[repr(C)]
 #[derive(Clone, Copy)]
+pub struct GvToken {
+    pub epoch: u64,
+    pub first: u64,
+    pub number: u64,
+}
+
+#[repr(C)]
+#[derive(Clone, Copy)]
 pub struct GvClosing {
     pub code: u64,
     pub frame_type: u64,
@@ -99,6 +108,24 @@ impl GvFilled {
                 Some(stream) => stream.value(),
                 None => 0,
             },
+        }
+    }
+}
+
+impl GvToken {
+    pub(crate) fn of(token: Token) -> GvToken {
+        GvToken {
+            epoch: token.epoch,
+            first: token.first,
+            number: token.number,
+        }
+    }
+
+    pub(crate) fn token(&self) -> Token {
+        Token {
+            epoch: self.epoch,
+            first: self.first,
+            number: self.number,
         }
     }
 }
@@ -140,7 +167,7 @@ impl GvTuning {
             count_step: share_of(self.count_step),
             within_credit: self.within_credit,
             reads_when_closed: self.reads_when_closed,
-            epoch: 0,
+            epoch: self.epoch,
         })
     }
 }

@@ -1,5 +1,5 @@
 // Made from crates/qs_c/src/sums.rt by rust/erase; not edited by hand.
-//! The calls of C for what an owner has to know of all streams: what waits to be sent, and what was taken.
+//! The calls of C for what an owner has to know of all streams: what waits to be sent, what is kept, and what was taken.
 
 use crate::proved::qs_c::answers::{INVALID, OK, of_number};
 use crate::proved::qs_c::handle::Handle;
@@ -13,6 +13,16 @@ pub fn gvp_unsent_sum(alloc: Global, end: &mut Handle, count: &mut u64) -> u32 {
         return INVALID;
     };
     let status = thing.unsent_sum(count);
+    end.put(thing);
+    status
+}
+
+/// How many bytes of all streams are kept until they are acknowledged.
+pub fn gvp_kept_sum(alloc: Global, end: &mut Handle, count: &mut u64) -> u32 {
+    let Some(thing) = end.take(alloc) else {
+        return INVALID;
+    };
+    let status = thing.kept_sum(count);
     end.put(thing);
     status
 }
@@ -40,6 +50,11 @@ pub fn gvp_taken_sum(alloc: Global, end: &mut Handle, count: &mut u64) -> u32 {
 impl Thing {
     pub(crate) fn unsent_sum(&self, count: &mut u64) -> u32 {
         *count = self.end.unsent_sum();
+        OK
+    }
+
+    pub(crate) fn kept_sum(&self, count: &mut u64) -> u32 {
+        *count = self.end.kept_sum();
         OK
     }
 

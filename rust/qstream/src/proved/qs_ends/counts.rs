@@ -165,3 +165,53 @@ fn own_streams_count_for_nothing() -> Result<(), Fail> {
           granted_streams uni -> 1",
     )
 }
+
+// A forgotten stream ends with its last byte, with a reset, or at once; nobody reads it, and the first code stays.
+#[test]
+fn forgotten_streams_end_by_themselves() -> Result<(), Fail> {
+    let rt = HostRuntime::new();
+    play_rows(
+        rt.alloc(),
+        b"server grant_uni=1 lifetime_uni=4
+          forget 2 7 -> no-such-stream
+          receive 0 0a0203616263 -> done
+          forget 2 7 -> ok
+          forget 2 9 -> ok
+          stored -> 0
+          granted_streams uni -> 1
+          read 2 16 -> wait
+          receive 1 0f020300 -> done
+          granted_streams uni -> 2
+          read 2 16 -> end
+          receive 2 0b060161 -> done
+          granted_streams uni -> 2
+          forget 6 7 -> ok
+          granted_streams uni -> 3
+          receive 3 0a0a0161 -> done
+          forget 10 7 -> ok
+          receive 4 0e0a0401620a0a0161 -> done
+          granted_streams uni -> 3
+          receive 5 040a0506 -> done
+          granted_streams uni -> 4
+          read 10 16 -> reset 5
+          receive 6 1c000000 -> peer-closed 0
+          forget 10 7 -> closed",
+    )
+}
+
+#[test]
+fn a_forgotten_stream_ends_with_both_halves() -> Result<(), Fail> {
+    let rt = HostRuntime::new();
+    play_rows(
+        rt.alloc(),
+        b"server grant_bidi=1 lifetime_bidi=2
+          receive 0 0b000161 -> done
+          forget 0 7 -> ok
+          granted_streams bidi -> 1
+          finish 0 -> ok
+          make 1200 -> 0 02000000000b0000
+          granted_streams bidi -> 1
+          receive 1 0200000000 -> done
+          granted_streams bidi -> 2",
+    )
+}

@@ -2,6 +2,8 @@
 //! Tests of what no clause says of an endpoint, through its public calls.
 
 #[cfg(test)]
+mod anew;
+#[cfg(test)]
 mod counts;
 #[cfg(test)]
 mod ends;

@@ -134,6 +134,43 @@ fn a_buffer_takes_what_it_has_room_for() -> Result<(), Fail> {
     )
 }
 
+// What is kept stays, and where it is more than the buffer no byte is accepted until it is acknowledged.
+#[test]
+fn a_buffer_is_set_anew() -> Result<(), Fail> {
+    let rt = HostRuntime::new();
+    play_rows(
+        rt.alloc(),
+        b"server send_buffer=4
+          open uni -> 3
+          write 3 616263646566 -> 4
+          set-buffer 3 6 -> ok
+          write 3 65666768 -> 2
+          set-buffer 3 1 -> ok
+          write 3 67 -> 0
+          make 1200 -> 0 0a0306616263646566
+          receive 0 0200000000 -> done
+          write 3 6768 -> 1
+          open uni -> 7
+          write 7 6162636465 -> 4",
+    )
+}
+
+#[test]
+fn a_buffer_is_not_set() -> Result<(), Fail> {
+    let rt = HostRuntime::new();
+    play_rows(
+        rt.alloc(),
+        b"server send_buffer=4
+          receive 0 0a020161 -> done
+          set-buffer 0 4 -> no-such-stream
+          set-buffer 2 4 -> wrong-direction
+          set-buffer 2 0 -> out-of-range
+          set-buffer 2 1073741825 -> out-of-range
+          receive 1 1c070000 -> peer-closed 7
+          set-buffer 2 0 -> closed",
+    )
+}
+
 #[test]
 fn a_slice_without_room_tells_whether_bytes_are_there() -> Result<(), Fail> {
     let rt = HostRuntime::new();

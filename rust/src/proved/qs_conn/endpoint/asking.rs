@@ -2,7 +2,8 @@
 //! What an end's owner, and the layer beneath, may ask of it. Nothing changes.
 
 use super::Endpoint;
-use crate::proved::qs_calls::Closed;
+use crate::proved::qs_calls::{Closed, UseFault};
+use crate::proved::qs_recv::Peek;
 use crate::proved::qs_wire::{Dir, StreamId};
 
 impl Endpoint {
@@ -29,6 +30,18 @@ impl Endpoint {
     pub fn noted(&self) -> u64 {
         let _granted = self.core.limits.granted;
         self.core.recvs.tally().noted
+    }
+
+    /// Tells what a read would, and changes nothing: the bytes of a stream that are next stay where they are, for `consume` to take (RFC 9000,
+    /// section 2.2). They come in two pieces of memory, of which the second may be empty: one byte at least, and as many as stand there in
+    /// a row. What lies behind a gap isn't in.
+    ///
+    /// Refused as `read` is.
+    pub fn peek(&self, stream: StreamId) -> Result<Peek<'_>, UseFault> {
+        if let Some(fault) = self.no_reader(stream) {
+            return Err(fault);
+        }
+        Ok(self.core.recvs.peek(stream))
     }
 
     /// How many bytes of a stream count as taken, so that its limit lies a window above them at most: those that were read, or all that came
@@ -95,6 +108,12 @@ impl Endpoint {
     /// (RFC 9000, sections 2.2 and 3.1). A sum that is no u64 is the greatest one. It takes constant time.
     pub fn unsent_sum(&self) -> u64 {
         self.core.outbox.unsent_sum()
+    }
+
+    /// How many bytes of all streams are kept until they are acknowledged (RFC 9000, section 13.3): of each those from the lowest offset on
+    /// that isn't, and none after a reset. A sum that is no u64 is the greatest one. It takes constant time.
+    pub fn kept_sum(&self) -> u64 {
+        self.core.outbox.kept_sum()
     }
 
     // How many bytes more may be written to a stream that may all be sent at once.

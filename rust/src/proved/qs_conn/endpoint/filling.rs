@@ -4,7 +4,7 @@
 use super::Endpoint;
 use crate::proved::qs_conn::filling::Wish;
 use crate::proved::qs_calls::{Fill, Filled, MAX_VARINT, MakeFault};
-use crate::proved::qs_wire::last_stream;
+use crate::proved::qs_wire::StreamId;
 
 impl Endpoint {
     /// Fills a slice with frames of what is due and asked for, for a packet of a stack that owns its packets: never an ACK, which stays
@@ -36,10 +36,11 @@ impl Endpoint {
         if len == 0 {
             return Ok(None);
         }
+        let near = self.core.outbox.last_stream();
+        let last_stream = self.core.outbox.last_stream();
         self.core.outbox.commit();
         self.settle();
-        let more = self.has_more(want);
-        let last_stream = last_stream(&out[..len]);
+        let more = self.has_more(want, near);
         Ok(Some(Filled {
             token,
             len,
@@ -50,14 +51,14 @@ impl Endpoint {
 
     // What a call answers that found no memory: where nothing that is asked for may go, it needs none.
     fn unfilled(&self, want: &Fill) -> Result<Option<Filled>, MakeFault> {
-        if self.has_more(want) {
+        if self.has_more(want, None) {
             return Err(MakeFault::NoMemory);
         }
         Ok(None)
     }
 
-    // Whether something that is asked for is due that no limit holds back.
-    fn has_more(&self, want: &Fill) -> bool {
-        self.core.has_wanted(want)
+    // Whether something that is asked for is due that no limit holds back. The stream that sent last is asked first.
+    fn has_more(&self, want: &Fill, last: Option<StreamId>) -> bool {
+        self.core.has_wanted(want, last)
     }
 }

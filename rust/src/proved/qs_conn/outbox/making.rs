@@ -31,6 +31,14 @@ impl Outbox {
         half.next_chunk(room, fresh)
     }
 
+    /// Whether bytes of an open stream that were never sent may go by its own limit.
+    pub(crate) fn has_unsent(&self, stream: StreamId) -> bool {
+        let _next = self.next;
+        let half = half_of(&self.types, stream);
+        half.is_lawful();
+        half.has_unsent()
+    }
+
     /// Whether the room alone holds a chunk of an open stream back.
     pub(crate) fn is_held_by_room(&self, stream: StreamId, room: usize, fresh: u64) -> bool {
         let _next = self.next;
@@ -64,6 +72,11 @@ impl Outbox {
         hold(&mut self.pending, Piece::Told(item));
         self.index.insert(item);
         self.spare -= 1;
+    }
+
+    /// The stream of the last STREAM frame in the packet in the making, if it has one (RFC 9000, section 19.8).
+    pub(crate) fn last_stream(&self) -> Option<StreamId> {
+        last_data(&self.pending)
     }
 
     /// Whether the packet in the making has a piece.
@@ -107,6 +120,17 @@ fn put_pieces(records: &mut Records, number: u64, pending: &mut Vec<Piece>, room
     if let Some(piece) = pending.pop() {
         records.put_one(number, piece);
     }
+}
+
+// The stream of the last chunk among the pieces.
+fn last_data(pieces: &[Piece]) -> Option<StreamId> {
+    let mut last = None;
+    for piece in pieces {
+        if let Piece::Data { stream, .. } = *piece {
+            last = Some(stream);
+        }
+    }
+    last
 }
 
 // One piece more, for which there is memory.

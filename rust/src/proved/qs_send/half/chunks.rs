@@ -53,6 +53,12 @@ impl SendHalf {
         Some(offset)
     }
 
+    /// Whether bytes that were never sent may go by the half's own limit.
+    pub fn has_unsent(&self) -> bool {
+        self.is_lawful();
+        self.reset_code().is_none() && self.sent_end() < self.written().min(self.limit())
+    }
+
     /// Whether the end is due.
     pub fn end_due(&self) -> bool {
         self.fin_noted && !self.fin_acked

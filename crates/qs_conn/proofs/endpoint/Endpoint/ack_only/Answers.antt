@@ -1,5 +1,6 @@
 use Rattle.std.proofs.Common.{refl}
 use Rattle.qs_conn.proofs.RangeAcks.{only_ok, only_err}
+use Rattle.qs_conn.specs.Filling.{present_of}
 use Rattle.qs_conn.proofs.Unmoved.{next_recounted}
 use Rattle.qs_conn.proofs.endpoint.Endpoint.ack_only.Goals as goal
 
@@ -23,5 +24,5 @@ invariant_of-self c =
       closing_fits = k.closing_fits;
       few = k.few;
       acks = k.acks;
-      settled = rw (c.ack_range-taken.ensures.streams.limits, c.ack_range-taken.ensures.streams.recvs) (next_recounted core.limits.settings core.limits.tuning core.recvs core.ended _ _ _ c.self.inside.is_settled c.is_same.result c.ack_range-taken.new.self.ended k.settled c.is_same.ensures);
+      settled = rw (c.ack_range-taken.ensures.streams.limits, c.ack_range-taken.ensures.streams.recvs) (next_recounted core.limits.settings core.limits.tuning (present_of core.limits) core.recvs core.ended _ _ _ c.self.inside.is_settled c.is_same.result c.ack_range-taken.new.self.ended k.settled c.is_same.ensures);
     }

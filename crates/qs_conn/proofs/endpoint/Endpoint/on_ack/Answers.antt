@@ -2,6 +2,7 @@ use Rattle.std.proofs.Common.{refl}
 use Rattle.qs_wire.specs.Varint.{numbers_of}
 use Rattle.qs_conn.proofs.AckRuns.{ack_ok, ack_err}
 use Rattle.qs_conn.proofs.NewlyTold.{told_ranges}
+use Rattle.qs_conn.specs.Filling.{present_of}
 use Rattle.qs_conn.proofs.Unmoved.{next_recounted}
 use Rattle.qs_conn.proofs.endpoint.Endpoint.on_ack.Goals as goal
 
@@ -25,7 +26,7 @@ invariant_of-self g c =
       closing_fits = k.closing_fits;
       few = k.few;
       acks = k.acks;
-      settled = rw (c.ack-taken.ensures.streams.limits, c.ack-taken.ensures.streams.recvs) (next_recounted core.limits.settings core.limits.tuning core.recvs core.ended _ _ _ c.self.inside.is_settled c.is_same.result c.ack-taken.new.self.ended k.settled c.is_same.ensures);
+      settled = rw (c.ack-taken.ensures.streams.limits, c.ack-taken.ensures.streams.recvs) (next_recounted core.limits.settings core.limits.tuning (present_of core.limits) core.recvs core.ended _ _ _ c.self.inside.is_settled c.is_same.result c.ack-taken.new.self.ended k.settled c.is_same.ensures);
     }
 
 pub returns-clause-told : goal.returns-clause-told

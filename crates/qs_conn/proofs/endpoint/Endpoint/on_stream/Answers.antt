@@ -9,6 +9,7 @@ use Rattle.qs_machine.specs.Standing.{IsInCredit}
 use Rattle.qs_machine.specs.Sums.{tally_on}
 use Rattle.qs_machine.specs.Outgoing.{Outgoing, AreOfOpen, sent_sum}
 use Rattle.qs_conn.proofs.Counted.{fit_recvs, fit_streamed, closed_counted}
+use Rattle.qs_conn.proofs.Counting.{counted_small, counted_part}
 use Rattle.qs_conn.specs.Ended.{AreAllCounted, IsToldOfEnd}
 use Rattle.qs_conn.proofs.Cores.{kept_moved, rest_recvs}
 use Rattle.qs_conn.proofs.Runs.{idle_with}
@@ -16,6 +17,8 @@ use Rattle.qs_machine.proofs.Taken.{in_there, stream_in, stream_checked, stream_
 use Rattle.qs_conn.proofs.Calm.{told_streamed}
 use Rattle.qs_conn.specs.Untold.{AreTold, TellsAt, SendTells}
 use Rattle.qs_conn.proofs.Untolds.{told_closed}
+use Rattle.qs_machine.specs.Asking.{kept_on}
+use Rattle.qs_conn.specs.Promised.{promised_on}
 use Rattle.qs_conn.proofs.Promised.{peer_unwritten}
 use Rattle.qs_conn.proofs.endpoint.Endpoint.on_stream.Goals as goal
 
@@ -83,11 +86,21 @@ close_to-requires-clause-lost c =
 
 pub close_to-requires-clause-unwritten : goal.close_to-requires-clause-unwritten
 close_to-requires-clause-unwritten c =
-    peer_unwritten c.args.self.now _ c.args.stream c.count-sends.result (c.self-2.view_is ∙ c.in_ok-open_by_peer.ensures.ok) (c.count-sends.ensures ∙ ap (λ (e : End). length (table e.sends (c.args.stream % 4))) c.self.view_is)
+    peer_unwritten promised_on (λ j limit buffer. refl) c.args.self.now _ c.args.stream c.count-sends.result (c.self-2.view_is ∙ c.in_ok-open_by_peer.ensures.ok) (c.count-sends.ensures ∙ ap (λ (e : End). length (table e.sends (c.args.stream % 4))) c.self.view_is)
+
+pub close_to-requires-clause-unkept : goal.close_to-requires-clause-unkept
+close_to-requires-clause-unkept c =
+    peer_unwritten kept_on (λ j limit buffer. refl) c.args.self.now _ c.args.stream c.count-sends.result (c.self-2.view_is ∙ c.in_ok-open_by_peer.ensures.ok) (c.count-sends.ensures ∙ ap (λ (e : End). length (table e.sends (c.args.stream % 4))) c.self.view_is)
 
 pub close_to-requires-clause-unsent : goal.close_to-requires-clause-unsent
 close_to-requires-clause-unsent c =
     peer_unsent c.args.self.now _ c.args.stream c.count-sends.result (c.self-2.view_is ∙ c.in_ok-open_by_peer.ensures.ok) (c.count-sends.ensures ∙ ap (λ (e : End). length (table e.sends (c.args.stream % 4))) c.self.view_is)
+
+pub recount-requires-clause-small : goal.recount-requires-clause-small
+recount-requires-clause-small c = counted_small _ _ _ _ c.self-2.invariant.rest.core.counts.counted c.is_over-was.ensures.few
+
+pub recount-requires-clause-part : goal.recount-requires-clause-part
+recount-requires-clause-part c = counted_part _ _ _ _ _ _ c.self-2.invariant.rest.core.counts.counted c.is_over-was.ensures.value
 
 pub invariant_of-self-2 : goal.invariant_of-self-2
 invariant_of-self-2 c =
@@ -97,10 +110,10 @@ invariant_of-self-2 c =
     let sound : IsInCredit c.args.self.now = subst (λ (k : End). IsInCredit k) c.self.view_is c.self.invariant.rest.core.sound in
     let checked = stream_checked c.args.self.now _ c.args.stream c.args.offset c.args.bytes.now c.args.fin c.requires.passed opened in
     kept_moved _ _ _ _ _ _ c.self-2.invariant _
-    (rest_recvs core h c.take_stream.new.self core.untold_recvs core.ended
+    (rest_recvs core h c.take_stream.new.self core.untold_recvs c.recount.new.self
     (stream_sound c.args.self.now _ c.args.stream c.args.offset c.args.bytes.now c.args.fin c.take_stream.new.self sound c.requires.passed opened c.in_default.ensures.ok)
-    (fit_streamed _ _ _ _ _ _ _ h.core.counts _ h.core.sound _ c.args.stream _ _ _ checked c.in_default.ensures.ok)
-    (told_streamed core.limits.role core.limits.settings core.recvs core.outbox.outstanding core.outbox.acked core.untold_recvs h.core.told_in c.take_stream.new.self c.args.stream _ h.core.sound c.args.offset c.args.bytes.now c.args.fin checked c.in_default.ensures.ok))
+    (fit_streamed _ _ _ _ _ _ _ h.core.counts _ _ h.core.sound _ c.args.stream _ _ _ _ c.is_over-was.result c.is_over-is.result checked c.in_default.ensures.ok c.is_over-was.ensures.value c.is_over-is.ensures.value c.recount.ensures)
+    (told_streamed core.limits.role core.limits.settings core.recvs core.outbox.outstanding core.outbox.acked core.untold_recvs h.core.told_in c.take_stream.new.self c.args.stream _ _ h.core.sound c.args.offset c.args.bytes.now c.args.fin checked c.in_default.ensures.ok))
 
 pub returns-in-Err-clause-asks : goal.returns-in-Err-clause-asks
 returns-in-Err-clause-asks c =

@@ -1,6 +1,8 @@
 use Rattle.std.proofs.Common.{refl, sym, ap, ◌∙◌}
+use Rattle.qs_machine.specs.Asking.{kept_on}
 use Rattle.qs_machine.specs.Ends.{End, window}
 use Rattle.qs_machine.proofs.Taken.{none_back, lost_back, unsent_back, out_back}
+use Rattle.qs_conn.specs.Promised.{promised_on}
 use Rattle.qs_conn.proofs.Cores.{kept_moved, kept_streams, rest_opened, rest_placed, rest_ins_placed}
 use Rattle.qs_conn.proofs.Promised.{unwritten_back}
 use Rattle.qs_conn.proofs.endpoint.Endpoint.open_reserved.Goals as goal
@@ -25,7 +27,10 @@ pub close_to-requires-clause-lost : goal.close_to-requires-clause-lost
 close_to-requires-clause-lost c = lost_back c.self.inside.core.outbox c.open_sends.new.outbox c.args.stream c.count-before.result _ _ _ c.in_ok-open_sends.ensures.ok c.count-before.ensures c.are_of_open.ensures.lost
 
 pub close_to-requires-clause-unwritten : goal.close_to-requires-clause-unwritten
-close_to-requires-clause-unwritten c = unwritten_back c.self.inside.core.outbox c.open_sends.new.outbox c.args.stream c.count-before.result _ _ _ c.in_ok-open_sends.ensures.ok c.count-before.ensures
+close_to-requires-clause-unwritten c = unwritten_back promised_on (λ j limit buffer. refl) c.self.inside.core.outbox c.open_sends.new.outbox c.args.stream c.count-before.result _ _ _ c.in_ok-open_sends.ensures.ok c.count-before.ensures
+
+pub close_to-requires-clause-unkept : goal.close_to-requires-clause-unkept
+close_to-requires-clause-unkept c = unwritten_back kept_on (λ j limit buffer. refl) c.self.inside.core.outbox c.open_sends.new.outbox c.args.stream c.count-before.result _ _ _ c.in_ok-open_sends.ensures.ok c.count-before.ensures
 
 pub close_to-requires-clause-unsent : goal.close_to-requires-clause-unsent
 close_to-requires-clause-unsent c = unsent_back c.self.inside.core.outbox c.open_sends.new.outbox c.args.stream c.count-before.result _ _ _ c.in_ok-open_sends.ensures.ok c.count-before.ensures

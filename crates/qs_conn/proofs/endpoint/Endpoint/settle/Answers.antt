@@ -1,4 +1,5 @@
 use Rattle.std.proofs.Common.{arith, refl, ap, sym, ◌∙◌, ℕ, subst}
+use Rattle.std.specs.Prelude.{max}
 use Rattle.std.proofs.lemmas.Bool.Decides.{nat_tests}
 use Rattle.qs_recv.specs.Lane.{RecvLane, highest, taken, raise, next_limit}
 use Rattle.qs_wire.specs.declared.stream_id.Dir.TheVariants.{Bidi, Uni}
@@ -7,7 +8,8 @@ use Rattle.qs_machine.specs.Tables.{Tables, total}
 use Rattle.qs_machine.specs.Standing.{KeepsCredit}
 use Rattle.qs_machine.proofs.TableLaws.{total_each}
 use Rattle.qs_machine.proofs.Sound.{keeps_settle}
-use Rattle.qs_conn.proofs.Counted.{fit_settled, grants_fit}
+use Rattle.qs_conn.proofs.Counted.{fit_settled}
+use Rattle.qs_conn.specs.Filling.{present_of}
 use Rattle.qs_conn.specs.Untold.{TellsAt}
 use Rattle.qs_conn.proofs.Untolds.{told_each}
 use Rattle.qs_conn.proofs.Unmoved.{next_now, settled_already}
@@ -30,25 +32,25 @@ invariant_of-self c =
     let k = c.self.invariant in
     let h = k.rest.core in
     let paid = c.tally-taken.ensures.taken ∙ ap (total taken) c.raise_all.ensures.after ∙ total_each taken raise core.recvs (λ l. refl) in
-    let limit = c.next_limit-self-inside.ensures.value ∙ ap (λ k. next_limit limits.granted k limits.settings.conn_window limits.tuning.credit_step) paid in
+    let limit = c.next_limit-self-inside.ensures.value ∙ ap (λ k. next_limit limits.granted k limits.conn_window limits.tuning.credit_step) paid in
     let in_range = h.sound.settings in
     record {
       rest = record {
         core = record {
           sound =
-              subst (λ (g : ℕ). KeepsCredit limits.role limits.settings c.raise_all.new.self g) (sym limit)
-              (subst (λ (t : Tables RecvLane). KeepsCredit limits.role limits.settings t (next_limit limits.granted (total taken core.recvs) limits.settings.conn_window limits.tuning.credit_step)) (sym c.raise_all.ensures.after)
-              (keeps_settle limits.role limits.settings core.recvs limits.granted h.sound limits.tuning.credit_step));
+              subst (λ (g : ℕ). KeepsCredit limits.role limits.settings (present_of limits) c.raise_all.new.self g) (sym limit)
+              (subst (λ (t : Tables RecvLane). KeepsCredit limits.role limits.settings (present_of limits) t (next_limit limits.granted (total taken core.recvs) limits.conn_window limits.tuning.credit_step)) (sym c.raise_all.ensures.after)
+              (keeps_settle limits.role limits.settings (present_of limits) core.recvs limits.granted h.sound limits.tuning.credit_step));
           fits = record {
             granted = c.next_limit-self-inside.ensures.in_range;
-            granted_bidi = grind (arith, nat_tests, in_range, c.next_count.ensures);
-            granted_uni = grind (arith, nat_tests, in_range, c.next_count-2.ensures);
+            granted_bidi = grind (arith, nat_tests, in_range, h.fits.granted_bidi, c.next_count.ensures);
+            granted_uni = grind (arith, nat_tests, in_range, h.fits.granted_uni, c.next_count-2.ensures);
             known = h.fits.known;
             bidi = h.fits.bidi;
             uni = h.fits.uni;
           };
           credit = h.credit;
-          counts = fit_settled _ _ _ _ _ _ _ h.counts limits.tuning _ _ _ c.raise_all.ensures.after c.next_count.ensures c.next_count-2.ensures;
+          counts = fit_settled _ _ _ _ _ _ _ h.counts limits.tuning (present_of limits) _ _ _ c.raise_all.ensures.after c.next_count.ensures c.next_count-2.ensures;
           told_in = told_each (TellsAt limits.role limits.settings) core.recvs core.outbox.outstanding core.outbox.acked core.untold_recvs h.told_in raise c.raise_all.new.self c.raise_all.new.untold c.raise_all.ensures.after c.raise_all.ensures.marks c.raise_all.ensures.marked;
           told_out = h.told_out;
         };
@@ -58,23 +60,17 @@ invariant_of-self c =
       closing_fits = k.closing_fits;
       few = k.few;
       acks = k.acks;
-      settled = λ _. next_now limits.settings limits.tuning core.recvs c.raise_all.new.self core.ended limits.granted _ _ _ c.raise_all.ensures.after limit c.next_count.ensures c.next_count-2.ensures;
+      settled = λ _. next_now limits.settings limits.tuning (present_of limits) core.recvs c.raise_all.new.self core.ended limits.granted _ _ _ _ _ c.raise_all.ensures.after limit c.next_count.ensures c.next_count-2.ensures;
     }
 
 pub returns : goal.returns
 returns c =
     let inside = c.self.inside.core in
     let paid = c.tally-taken.ensures.taken ∙ ap (total taken) c.raise_all.ensures.after ∙ total_each taken raise inside.recvs (λ l. refl) in
-    let limit = c.next_limit-self-inside.ensures.value ∙ ap (λ k. next_limit inside.limits.granted k inside.limits.settings.conn_window inside.limits.tuning.credit_step) paid in
-    let bidi = c.next_count.ensures ∙ ap (count_after inside.limits.settings inside.limits.tuning Bidi) c.self.invariant.rest.core.counts.counted.bidi in
-    let uni = c.next_count-2.ensures ∙ ap (count_after inside.limits.settings inside.limits.tuning Uni) c.self.invariant.rest.core.counts.counted.uni in
+    let limit = c.next_limit-self-inside.ensures.value ∙ ap (λ k. next_limit inside.limits.granted k inside.limits.conn_window inside.limits.tuning.credit_step) paid in
+    let bidi = c.next_count.ensures ∙ ap (λ n. max inside.limits.granted_streams.bidi (count_after inside.limits.settings inside.limits.tuning Bidi inside.limits.grants.bidi n)) c.self.invariant.rest.core.counts.counted.bidi in
+    let uni = c.next_count-2.ensures ∙ ap (λ n. max inside.limits.granted_streams.uni (count_after inside.limits.settings inside.limits.tuning Uni inside.limits.grants.uni n)) c.self.invariant.rest.core.counts.counted.uni in
     rw (← c.self.view_is, limit, c.raise_all.ensures.after, bidi, uni) refl
-
-pub next_count-requires : goal.next_count-requires
-next_count-requires c = (grants_fit c.self.inside.core.limits.settings c.self.invariant.rest.core.sound.settings).0
-
-pub next_count-requires-2 : goal.next_count-requires-2
-next_count-requires-2 c = (grants_fit c.self.inside.core.limits.settings c.self.invariant.rest.core.sound.settings).1
 
 pub returns-then-self : goal.returns-then-self
 returns-then-self c = rw (← c.self.view_is) (settled_already _ c.self.inside.core.ended c.self.invariant.rest.core.counts.counted (c.self.invariant.settled c.if-self.true))

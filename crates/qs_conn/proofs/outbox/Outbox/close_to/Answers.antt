@@ -1,17 +1,22 @@
 use Rattle.std.proofs.Common.{ap, ◌∙◌, take, ◌%◌}
 use Rattle.std.proofs.lemmas.List.{length-set}
 use Rattle.qs_machine.specs.Tables.{table, with_table}
+use Rattle.qs_machine.specs.Asking.{kept_on}
 use Rattle.qs_machine.specs.Outgoing.{lanes_of}
 use Rattle.qs_machine.specs.Sums.{tables_of}
 use Rattle.qs_machine.proofs.LaneTables.{lanes_closed}
 use Rattle.qs_machine.proofs.LostSent.{sent_close}
+use Rattle.qs_conn.specs.Promised.{promised_on}
 use Rattle.qs_conn.proofs.Halves.{closed_is}
 use Rattle.qs_conn.proofs.Outboxes.{sends_step, box_closed}
 use Rattle.qs_conn.proofs.Promised.{closes_none}
 use Rattle.qs_conn.proofs.outbox.Outbox.close_to.Goals as goal
 
-pub close_to-requires : goal.close_to-requires
-close_to-requires c = closes_none c.self.inside.types c.args.stream _ c.args.count _ c.self.invariant.3 c.type_of.ensures.value (rw (← c.self.view_is) at c.requires.unwritten)
+pub close_to-requires-clause-unwritten : goal.close_to-requires-clause-unwritten
+close_to-requires-clause-unwritten c = closes_none promised_on c.self.inside.types c.args.stream _ c.args.count _ c.self.invariant.3 c.type_of.ensures.value (rw (← c.self.view_is) at c.requires.unwritten)
+
+pub close_to-requires-clause-unkept : goal.close_to-requires-clause-unkept
+close_to-requires-clause-unkept c = closes_none kept_on c.self.inside.types c.args.stream _ c.args.count _ c.self.invariant.3 c.type_of.ensures.value (rw (← c.self.view_is) at c.requires.unkept)
 
 pub invariant_of-self : goal.invariant_of-self
 invariant_of-self c =

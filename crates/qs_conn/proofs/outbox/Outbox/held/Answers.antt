@@ -1,7 +1,8 @@
 use Rattle.std.proofs.Common.{arith}
 use Rattle.qs_machine.specs.Sums.{tables_of}
 use Rattle.qs_machine.proofs.TableEdits.{total_four}
-use Rattle.qs_conn.specs.Held.{kept_on, most_buffered}
+use Rattle.qs_machine.specs.Asking.{kept_on}
+use Rattle.qs_conn.specs.Held.{most_buffered}
 use Rattle.qs_conn.proofs.Helds.{total_lanes}
 use Rattle.qs_conn.proofs.outbox.Outbox.held.Goals as goal
 

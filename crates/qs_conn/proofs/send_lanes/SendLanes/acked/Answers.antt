@@ -3,7 +3,7 @@ use Rattle.qs_conn.specs.Tasks.{IsQuiet, marks_of}
 use Rattle.qs_conn.proofs.SendEdits.{ok_at, asked_at, acked_again}
 use Rattle.qs_conn.proofs.Marked.{mark_there}
 use Rattle.qs_conn.proofs.Tasks.{all_looked, still_quiet}
-use Rattle.qs_conn.proofs.Promised.{acked_promises, promised_same}
+use Rattle.qs_conn.proofs.Promised.{promised_of, kept_of, acked_promises, sum_same, sum_moved}
 use Rattle.qs_conn.proofs.send_lanes.SendLanes.acked.Goals as goal
 
 pub look_acked-requires-clause-there : goal.look_acked-requires-clause-there
@@ -16,8 +16,11 @@ look_acked-requires-clause-again c =
 
 pub invariant_of-self : goal.invariant_of-self
 invariant_of-self c =
-    all_looked _ _ _ _ _ c.args.index c.acked-answer.new.self c.look_acked.ensures c.self.invariant
-    (promised_same c.self.inside.halves.items c.self.inside.promised c.args.index c.index_mut-half.result.now c.acked-answer.new.self (rw c.self.view_is c.requires.there) c.index_mut-half.ensures.value (acked_promises c.acked-answer.result c.index_mut-half.result.now c.acked-answer.new.self c.args.chunk c.acked-answer.ensures.ok c.acked-answer.ensures.err) c.self.invariant.2)
+    all_looked _ _ _ _ _ _ _ c.args.index c.acked-answer.new.self c.look_acked.ensures c.self.invariant
+    (record {
+      promised = sum_same promised_of c.self.inside.halves.items c.self.inside.promised c.args.index c.index_mut-half.result.now c.acked-answer.new.self (rw c.self.view_is c.requires.there) c.index_mut-half.ensures.value (acked_promises c.acked-answer.result c.index_mut-half.result.now c.acked-answer.new.self c.args.chunk c.acked-answer.ensures.ok c.acked-answer.ensures.err) c.self.invariant.2.promised;
+      kept = sum_moved kept_of c.self.inside.halves.items c.self.inside.kept c.args.index c.kept-had.result c.kept-has.result c.index_mut-half.result.now c.acked-answer.new.self (rw c.self.view_is c.requires.there) c.index_mut-half.ensures.value c.kept-had.ensures.value c.kept-has.ensures.value c.kept-has.ensures.small c.self.invariant.2.kept;
+    })
 
 pub returns-clause-ok : goal.returns-clause-ok
 returns-clause-ok c =

@@ -3,7 +3,7 @@ use Rattle.qs_conn.specs.Tasks.{IsQuiet, marks_of}
 use Rattle.qs_conn.proofs.LaneEdits.{changed_at}
 use Rattle.qs_conn.proofs.Marked.{mark_there}
 use Rattle.qs_conn.proofs.Tasks.{all_looked}
-use Rattle.qs_conn.proofs.Promised.{promised_of, promised_same}
+use Rattle.qs_conn.proofs.Promised.{promised_of, kept_of, sums_same}
 use Rattle.qs_conn.proofs.send_lanes.SendLanes.allow.Goals as goal
 
 pub look-requires : goal.look-requires
@@ -11,8 +11,8 @@ look-requires c = λ t. mark_there (IsQuiet t) c.self.inside.halves.items (marks
 
 pub invariant_of-self : goal.invariant_of-self
 invariant_of-self c =
-    all_looked _ _ _ _ _ c.args.index c.allow.new.self c.look.ensures c.self.invariant
-    (promised_same c.self.inside.halves.items c.self.inside.promised c.args.index c.index_mut-half.result.now c.allow.new.self (rw c.self.view_is c.requires.there) c.index_mut-half.ensures.value (ap promised_of c.allow.ensures) c.self.invariant.2)
+    all_looked _ _ _ _ _ _ _ c.args.index c.allow.new.self c.look.ensures c.self.invariant
+    (sums_same c.self.inside.halves.items c.self.inside.promised c.self.inside.kept c.args.index c.index_mut-half.result.now c.allow.new.self (rw c.self.view_is c.requires.there) c.index_mut-half.ensures.value (ap promised_of c.allow.ensures) (ap kept_of c.allow.ensures) c.self.invariant.2)
 
 pub returns : goal.returns
 returns c =

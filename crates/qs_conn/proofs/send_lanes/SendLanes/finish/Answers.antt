@@ -2,7 +2,7 @@ use Rattle.qs_conn.specs.Tasks.{IsQuiet, marks_of}
 use Rattle.qs_conn.proofs.LaneEdits.{changed_at}
 use Rattle.qs_conn.proofs.Marked.{mark_there}
 use Rattle.qs_conn.proofs.Tasks.{all_looked}
-use Rattle.qs_conn.proofs.Promised.{finish_promises, promised_same}
+use Rattle.qs_conn.proofs.Promised.{finish_promises, finish_keeps, sums_same}
 use Rattle.qs_conn.proofs.send_lanes.SendLanes.finish.Goals as goal
 
 pub look-requires : goal.look-requires
@@ -10,8 +10,8 @@ look-requires c = λ t. mark_there (IsQuiet t) c.self.inside.halves.items (marks
 
 pub invariant_of-self : goal.invariant_of-self
 invariant_of-self c =
-    all_looked _ _ _ _ _ c.args.index c.finish-answer.new.self c.look.ensures c.self.invariant
-    (promised_same c.self.inside.halves.items c.self.inside.promised c.args.index c.index_mut-half.result.now c.finish-answer.new.self (rw c.self.view_is c.requires) c.index_mut-half.ensures.value (finish_promises c.index_mut-half.result.now c.finish-answer.new.self c.finish-answer.ensures.after) c.self.invariant.2)
+    all_looked _ _ _ _ _ _ _ c.args.index c.finish-answer.new.self c.look.ensures c.self.invariant
+    (sums_same c.self.inside.halves.items c.self.inside.promised c.self.inside.kept c.args.index c.index_mut-half.result.now c.finish-answer.new.self (rw c.self.view_is c.requires) c.index_mut-half.ensures.value (finish_promises c.index_mut-half.result.now c.finish-answer.new.self c.finish-answer.ensures.after) (finish_keeps c.index_mut-half.result.now c.finish-answer.new.self c.finish-answer.ensures.after) c.self.invariant.2)
 
 pub returns-clause-after : goal.returns-clause-after
 returns-clause-after c =

@@ -1,6 +1,7 @@
 use Rattle.std.proofs.Common.{◌-◌, ◌≤◌, ◌^◌, min, take}
 use Rattle.std.specs.List.{sum_by}
-use Rattle.qs_conn.specs.Held.{kept_on, most_buffered}
+use Rattle.qs_machine.specs.Asking.{kept_on}
+use Rattle.qs_conn.specs.Held.{most_buffered}
 use Rattle.qs_conn.proofs.send_lanes.SendLanes.held.Given as goal
 
 abbrev pub invariant-loop-index : goal.invariant-loop-index

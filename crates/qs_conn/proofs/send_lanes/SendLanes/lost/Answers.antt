@@ -2,7 +2,7 @@ use Rattle.qs_conn.specs.Tasks.{IsQuiet, marks_of}
 use Rattle.qs_conn.proofs.SendEdits.{ok_at}
 use Rattle.qs_conn.proofs.Marked.{mark_there}
 use Rattle.qs_conn.proofs.Tasks.{all_looked}
-use Rattle.qs_conn.proofs.Promised.{lost_promises, promised_same}
+use Rattle.qs_conn.proofs.Promised.{lost_promises, lost_keeps, sums_same}
 use Rattle.qs_conn.proofs.send_lanes.SendLanes.lost.Goals as goal
 
 pub look-requires : goal.look-requires
@@ -10,8 +10,8 @@ look-requires c = λ t. mark_there (IsQuiet t) c.self.inside.halves.items (marks
 
 pub invariant_of-self : goal.invariant_of-self
 invariant_of-self c =
-    all_looked _ _ _ _ _ c.args.index c.lost-answer.new.self c.look.ensures c.self.invariant
-    (promised_same c.self.inside.halves.items c.self.inside.promised c.args.index c.index_mut-half.result.now c.lost-answer.new.self (rw c.self.view_is c.requires.there) c.index_mut-half.ensures.value (lost_promises c.lost-answer.result c.index_mut-half.result.now c.lost-answer.new.self c.args.chunk c.lost-answer.ensures.ok c.lost-answer.ensures.err) c.self.invariant.2)
+    all_looked _ _ _ _ _ _ _ c.args.index c.lost-answer.new.self c.look.ensures c.self.invariant
+    (sums_same c.self.inside.halves.items c.self.inside.promised c.self.inside.kept c.args.index c.index_mut-half.result.now c.lost-answer.new.self (rw c.self.view_is c.requires.there) c.index_mut-half.ensures.value (lost_promises c.lost-answer.result c.index_mut-half.result.now c.lost-answer.new.self c.args.chunk c.lost-answer.ensures.ok c.lost-answer.ensures.err) (lost_keeps c.lost-answer.result c.index_mut-half.result.now c.lost-answer.new.self c.args.chunk c.lost-answer.ensures.ok c.lost-answer.ensures.err) c.self.invariant.2)
 
 pub returns-clause-ok : goal.returns-clause-ok
 returns-clause-ok c =

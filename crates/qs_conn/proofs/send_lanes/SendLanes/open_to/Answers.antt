@@ -1,6 +1,6 @@
 use Rattle.std.proofs.Common.{ℕ, Some, rules, ap, sym, subst, ◌∙◌, arith, ◌≡◌, ◌+◌, ◌-◌, ◌*◌, ◌++◌, length, take, replicate}
 use Rattle.qs_send.specs.Lane.{new_sending}
-use Rattle.qs_conn.specs.Promised.{ArePromised}
+use Rattle.qs_conn.specs.Promised.{AreSums}
 use Rattle.qs_conn.proofs.LaneEdits.{opened_more, opened_all, opened_back}
 use Rattle.qs_conn.specs.Tasks.{begins, marks_of}
 use Rattle.qs_conn.proofs.Tasks.{all_undone, all_opened}
@@ -13,7 +13,7 @@ loop-opened-preserved c =
     let id = id_is c.new.result c.unwrap-id.result _ is c.new.ensures.some in
     let len : c.len-before.result ≡ length c.self.inside.halves.items = omega (arith, c.len-before.ensures) in
     let at = id ∙ ap (λ k. (k + c.loop-opened.opened) * 4 + c.args.stream_type) len in
-    record { marks = c.loop-opened.invariant.marks; promised = c.loop-opened.invariant.promised; items = c.in_default.ensures.items ∙ opened_more _ _ _ _ _ c.loop-opened.invariant.items (c.new-fresh.ensures ∙ ap (λ k. new_sending k c.args.limit c.args.buffer) at) }
+    record { marks = c.loop-opened.invariant.marks; promised = c.loop-opened.invariant.promised; kept = c.loop-opened.invariant.kept; items = c.in_default.ensures.items ∙ opened_more _ _ _ _ _ c.loop-opened.invariant.items (c.new-fresh.ensures ∙ ap (λ k. new_sending k c.args.limit c.args.buffer) at) }
 
 pub returns-clause-ok : goal.returns-clause-ok
 returns-clause-ok c =
@@ -23,16 +23,16 @@ returns-clause-ok c =
 pub invariant_of-self : goal.invariant_of-self
 invariant_of-self c =
     let len : c.len-before.result ≡ length c.self.inside.halves.items = omega (arith, c.len-before.ensures) in
-    all_undone c.self.inside.halves.items _ c.self.inside.marks _ c.loop-opened.self-inside.promised (c.truncate.ensures.items ∙ ap (take c.len-before.result) c.in-Err.ensures.items ∙ opened_back c.self.inside.halves.items _ _ c.len-before.result c.loop-opened.invariant.items len) (λ t. ap (λ ms. marks_of ms t) c.loop-opened.invariant.marks) (c.self.invariant.0, c.self.invariant.1, subst (λ n. ArePromised c.self.inside.halves.items n) (sym c.loop-opened.invariant.promised) c.self.invariant.2)
+    all_undone c.self.inside.halves.items _ c.self.inside.marks _ c.loop-opened.self-inside.promised c.loop-opened.self-inside.kept (c.truncate.ensures.items ∙ ap (take c.len-before.result) c.in-Err.ensures.items ∙ opened_back c.self.inside.halves.items _ _ c.len-before.result c.loop-opened.invariant.items len) (λ t. ap (λ ms. marks_of ms t) c.loop-opened.invariant.marks) (c.self.invariant.0, c.self.invariant.1, rw (c.loop-opened.invariant.promised, c.loop-opened.invariant.kept) c.self.invariant.2)
 
 pub invariant_of-self-in-Err-open_to : goal.invariant_of-self-in-Err-open_to
 invariant_of-self-in-Err-open_to c =
     let len : c.len-before.result ≡ length c.self.inside.halves.items = omega (arith, c.len-before.ensures) in
-    all_undone c.self.inside.halves.items _ c.self.inside.marks _ c.loop-opened.self-inside.promised (c.truncate-in-Err-open_to.ensures.items ∙ opened_back c.self.inside.halves.items _ _ c.len-before.result c.loop-opened.invariant.items len) (λ t. c.in-Err-open_to.ensures.err t ∙ ap (λ ms. marks_of ms t) c.loop-opened.invariant.marks) (c.self.invariant.0, c.self.invariant.1, subst (λ n. ArePromised c.self.inside.halves.items n) (sym c.loop-opened.invariant.promised) c.self.invariant.2)
+    all_undone c.self.inside.halves.items _ c.self.inside.marks _ c.loop-opened.self-inside.promised c.loop-opened.self-inside.kept (c.truncate-in-Err-open_to.ensures.items ∙ opened_back c.self.inside.halves.items _ _ c.len-before.result c.loop-opened.invariant.items len) (λ t. c.in-Err-open_to.ensures.err t ∙ ap (λ ms. marks_of ms t) c.loop-opened.invariant.marks) (c.self.invariant.0, c.self.invariant.1, rw (c.loop-opened.invariant.promised, c.loop-opened.invariant.kept) c.self.invariant.2)
 
 pub invariant_of-self-in_default-open_to : goal.invariant_of-self-in_default-open_to
 invariant_of-self-in_default-open_to c =
     let len : c.len-before.result ≡ length c.self.inside.halves.items = omega (arith, c.len-before.ensures) in
-    all_opened c.args.stream_type c.args.limit c.args.buffer c.self.inside.halves.items c.loop-opened.self-inside.halves.items c.self.inside.marks c.open_to.new.self c.loop-opened.self-inside.promised c.args.count c.loop-opened.opened c.saturating_sub-missing.result c.requires.count c.loop-opened.invariant.items
+    all_opened c.args.stream_type c.args.limit c.args.buffer c.self.inside.halves.items c.loop-opened.self-inside.halves.items c.self.inside.marks c.open_to.new.self c.loop-opened.self-inside.promised c.loop-opened.self-inside.kept c.args.count c.loop-opened.opened c.saturating_sub-missing.result c.requires.count c.loop-opened.invariant.items
     c.loop-opened.auto.opened-end c.loop-opened-test.false (c.saturating_sub-missing.ensures ∙ ap (λ k. c.args.count - k) len)
-    (λ t. c.in_default-open_to.ensures.ok t ∙ ap (λ ms. marks_of ms t ++ replicate (c.args.count - length (marks_of ms t)) (begins t)) c.loop-opened.invariant.marks) (c.self.invariant.0, c.self.invariant.1, subst (λ n. ArePromised c.self.inside.halves.items n) (sym c.loop-opened.invariant.promised) c.self.invariant.2)
+    (λ t. c.in_default-open_to.ensures.ok t ∙ ap (λ ms. marks_of ms t ++ replicate (c.args.count - length (marks_of ms t)) (begins t)) c.loop-opened.invariant.marks) (c.self.invariant.0, c.self.invariant.1, rw (c.loop-opened.invariant.promised, c.loop-opened.invariant.kept) c.self.invariant.2)

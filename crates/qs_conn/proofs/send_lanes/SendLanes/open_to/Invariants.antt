@@ -9,5 +9,6 @@ invariant-loop-opened l =
     record {
       marks : l.self-inside.marks ≡ l.initial.self-inside.marks;
       promised : l.self-inside.promised ≡ l.initial.self-inside.promised;
+      kept : l.self-inside.kept ≡ l.initial.self-inside.kept;
       items : l.self-inside.halves.items ≡ before ++ map (λ (i : ℕ). new_sending (i * 4 + l.stream_type) l.limit l.buffer) (range_with_len (length before) l.opened);
     }

@@ -1,4 +1,4 @@
-use Rattle.std.proofs.Common.{◌∙◌, sym, subst}
+use Rattle.std.proofs.Common.{ap, ◌∙◌, sym, subst}
 use Rattle.qs_conn.specs.declared.send_marks.Task.TheVariants as tasks
 use Rattle.qs_conn.specs.Tasks.{IsQuiet, marks_of}
 use Rattle.std.proofs.lemmas.List.{get_or_default}
@@ -8,7 +8,7 @@ use Rattle.qs_conn.proofs.LaneEdits.{changed_at}
 use Rattle.qs_conn.proofs.SendEdits.{sent_again}
 use Rattle.qs_conn.proofs.Marked.{mark_there}
 use Rattle.qs_conn.proofs.Tasks.{all_looked, still_quiet}
-use Rattle.qs_conn.proofs.Promised.{promised_same, sent_promises}
+use Rattle.qs_conn.proofs.Promised.{kept_of, sums_same, sent_promises}
 use Rattle.qs_conn.proofs.send_lanes.SendLanes.sent.Goals as goal
 
 pub look_sent-requires-clause-there : goal.look_sent-requires-clause-there
@@ -29,8 +29,8 @@ look_sent-requires-clause-end c =
 
 pub invariant_of-self : goal.invariant_of-self
 invariant_of-self c =
-    all_looked _ _ _ _ _ c.args.index c.sent.new.self c.look_sent.ensures c.self.invariant
-    (promised_same c.self.inside.halves.items c.self.inside.promised c.args.index c.index_mut-half.result.now c.sent.new.self (rw c.self.view_is c.requires.there) c.index_mut-half.ensures.value (sent_promises c.index_mut-half.result.now c.sent.new.self c.args.chunk c.is_lawful.ensures (subst (λ s. IsDueChunk s c.args.chunk) (sym (c.index_mut-half.ensures.value ∙ get_or_default c.self.inside.halves.items c.args.index _ no_sending (rw c.self.view_is c.requires.there))) (rw c.self.view_is c.requires.due)) c.sent.ensures) c.self.invariant.2)
+    all_looked _ _ _ _ _ _ _ c.args.index c.sent.new.self c.look_sent.ensures c.self.invariant
+    (sums_same c.self.inside.halves.items c.self.inside.promised c.self.inside.kept c.args.index c.index_mut-half.result.now c.sent.new.self (rw c.self.view_is c.requires.there) c.index_mut-half.ensures.value (sent_promises c.index_mut-half.result.now c.sent.new.self c.args.chunk c.is_lawful.ensures (subst (λ s. IsDueChunk s c.args.chunk) (sym (c.index_mut-half.ensures.value ∙ get_or_default c.self.inside.halves.items c.args.index _ no_sending (rw c.self.view_is c.requires.there))) (rw c.self.view_is c.requires.due)) c.sent.ensures) (ap kept_of c.sent.ensures) c.self.invariant.2)
 
 pub returns : goal.returns
 returns c =

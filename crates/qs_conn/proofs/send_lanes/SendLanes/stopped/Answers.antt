@@ -2,7 +2,7 @@ use Rattle.qs_conn.specs.Tasks.{IsQuiet, marks_of}
 use Rattle.qs_conn.proofs.LaneEdits.{changed_at}
 use Rattle.qs_conn.proofs.Marked.{mark_there}
 use Rattle.qs_conn.proofs.Tasks.{all_looked}
-use Rattle.qs_conn.proofs.Promised.{promised_moved}
+use Rattle.qs_conn.proofs.Promised.{sums_moved}
 use Rattle.qs_conn.proofs.send_lanes.SendLanes.stopped.Goals as goal
 
 pub look-requires : goal.look-requires
@@ -10,8 +10,8 @@ look-requires c = λ t. mark_there (IsQuiet t) c.self.inside.halves.items (marks
 
 pub invariant_of-self : goal.invariant_of-self
 invariant_of-self c =
-    all_looked _ _ _ _ _ c.args.index c.stopped.new.self c.look.ensures c.self.invariant
-    (promised_moved c.self.inside.halves.items c.self.inside.promised c.args.index c.promised-before.result c.promised-after.result c.index_mut-half.result.now c.stopped.new.self (rw c.self.view_is c.requires.there) c.index_mut-half.ensures.value c.promised-before.ensures.value c.promised-after.ensures.value c.promised-after.ensures.small c.self.invariant.2)
+    all_looked _ _ _ _ _ _ _ c.args.index c.stopped.new.self c.look.ensures c.self.invariant
+    (sums_moved c.self.inside.halves.items c.self.inside.promised c.self.inside.kept c.args.index c.promised-before.result c.promised-after.result c.kept-had.result c.kept-has.result c.index_mut-half.result.now c.stopped.new.self (rw c.self.view_is c.requires.there) c.index_mut-half.ensures.value c.promised-before.ensures.value c.promised-after.ensures.value c.promised-after.ensures.small c.kept-had.ensures.value c.kept-has.ensures.value c.kept-has.ensures.small c.self.invariant.2)
 
 pub returns : goal.returns
 returns c =

@@ -8,7 +8,7 @@ use Rattle.qs_conn.proofs.SendEdits.{wrote_at, wrote_none, wrote_keeps}
 use Rattle.qs_conn.proofs.Marked.{mark_there, unmarked_at}
 use Rattle.qs_conn.proofs.Least.{part_at}
 use Rattle.qs_conn.proofs.Tasks.{all_looked, still_quiet}
-use Rattle.qs_conn.proofs.Promised.{promised_few, promised_wrote, wrote_few}
+use Rattle.qs_conn.proofs.Promised.{promised_of, kept_of, sum_few, sums_wrote, wrote_few}
 use Rattle.qs_conn.proofs.send_lanes.SendLanes.write.Goals as goal
 
 pub may_write-requires : goal.may_write-requires
@@ -35,14 +35,20 @@ look_written-requires-clause-end c =
 
 pub overflow_add-self : goal.overflow_add-self
 overflow_add-self c =
-    let few = promised_few c.self.inside.halves.items c.self.inside.promised c.self.invariant.0 c.self.invariant.2 in
-    let more = wrote_few c.write-answer.result c.index_mut-half.result.now c.write-answer.new.self c.args.bytes.now c.unwrap_or.result c.unwrap_or.ensures c.write-answer.ensures.accepted in
+    let few = sum_few promised_of c.self.inside.halves.items c.self.inside.promised c.self.invariant.0 c.self.invariant.2.promised in
+    let more = wrote_few c.write-answer.result c.index_mut-half.result.now c.write-answer.new.self c.args.bytes.now c.unwrap_or-accepted.result c.unwrap_or-accepted.ensures c.write-answer.ensures.accepted in
+    omega (arith, few, more)
+
+pub overflow_add-self-2 : goal.overflow_add-self-2
+overflow_add-self-2 c =
+    let few = sum_few kept_of c.self.inside.halves.items c.self.inside.kept c.self.invariant.0 c.self.invariant.2.kept in
+    let more = wrote_few c.write-answer.result c.index_mut-half.result.now c.write-answer.new.self c.args.bytes.now c.unwrap_or-accepted.result c.unwrap_or-accepted.ensures c.write-answer.ensures.accepted in
     omega (arith, few, more)
 
 pub invariant_of-self : goal.invariant_of-self
 invariant_of-self c =
-    all_looked _ _ _ _ _ c.args.index c.write-answer.new.self c.look_written.ensures c.self.invariant
-    (promised_wrote c.write-answer.result c.self.inside.halves.items c.self.inside.promised c.args.index c.index_mut-half.result.now c.write-answer.new.self c.args.bytes.now c.unwrap_or.result (rw c.self.view_is c.requires) c.index_mut-half.ensures.value c.is_lawful.ensures c.unwrap_or.ensures c.write-answer.ensures.accepted c.write-answer.ensures.refused c.self.invariant.2)
+    all_looked _ _ _ _ _ _ _ c.args.index c.write-answer.new.self c.look_written.ensures c.self.invariant
+    (sums_wrote c.write-answer.result c.self.inside.halves.items c.self.inside.promised c.self.inside.kept c.args.index c.index_mut-half.result.now c.write-answer.new.self c.args.bytes.now c.unwrap_or-accepted.result (rw c.self.view_is c.requires) c.index_mut-half.ensures.value c.is_lawful.ensures c.unwrap_or-accepted.ensures c.write-answer.ensures.accepted c.write-answer.ensures.refused c.self.invariant.2)
 
 pub returns-clause-accepted : goal.returns-clause-accepted
 returns-clause-accepted c =

@@ -1,26 +1,34 @@
-use Rattle.std.proofs.Common.{sym, refl, arith, length}
+use Rattle.std.proofs.Common.{◌∙◌, sym, refl, arith, length, true}
 use Rattle.std.specs.Ordering.{nat_cmp}
 use Rattle.std.specs.FinMap as map
-use Rattle.qs_ranges.proofs.Sets.{end_of-ends}
+use Rattle.qs_ranges.proofs.Sets.{below-end_of}
+use Rattle.qs_recv.specs.Ring.{byte_of}
+use Rattle.qs_recv.proofs.RingApart.{near_missing}
 use Rattle.qs_recv.proofs.SameLaws.{same_none}
-use Rattle.qs_recv.proofs.SameRing.{ring_fits, same_ring}
+use Rattle.qs_recv.proofs.SameRing.{same_kept}
 use Rattle.qs_recv.proofs.ring_assembly.RingAssemblyAssembly.same.Goals as goal
 
 pub returns-then-self : goal.returns-then-self
 returns-then-self c =
     rw (← c.self.view_is, c.if-self.true) (sym (same_none map.empty c.args.offset c.args.bytes.now (λ q low high. map.get-empty nat_cmp q)))
 
-pub is_in_ring-requires-clause-fits : goal.is_in_ring-requires-clause-fits
-is_in_ring-requires-clause-fits c =
+pub returns-then-self-start : goal.returns-then-self-start
+returns-then-self-start c =
     let s = c.self.inside in
-    (ring_fits s.received s.ring (length s.ring) s.read_count s.stored c.max-start.result (rw c.if-self.false at c.self.invariant.0) (let m = c.max-start.ensures in omega (arith, m)))
+    let a = (rw c.if-self.false at c.self.invariant.1).apart refl in
+    let ends = a.ends in
+    rw (← c.self.view_is, c.if-self.false)
+    (same_kept s.received (byte_of s.ring s.near s.apart.pages) c.args.bytes.now s.window s.read_count s.stored c.max-start.result c.args.offset true (rw c.if-self.false at c.self.invariant.0) c.max-start.ensures
+    (λ _ q low high came. (let below = below-end_of s.received q came in absurd (omega (arith, below, ends, low, c.if-self-start.true))), λ _. refl))
 
-pub is_in_ring-requires-clause-ends : goal.is_in_ring-requires-clause-ends
-is_in_ring-requires-clause-ends c = rw ((rw c.if-self.false at c.self.invariant.1).ends refl) (end_of-ends c.self.inside.received)
+pub is_kept-requires-clause-missing : goal.is_kept-requires-clause-missing
+is_kept-requires-clause-missing c =
+    let s = c.self.inside in
+    near_missing s.ring s.apart.pages s.received s.read_count s.near s.end ((rw c.if-self.false at c.self.invariant.1).apart refl)
 
 pub returns : goal.returns
 returns c =
     let s = c.self.inside in
     rw (← c.self.view_is, c.if-self.false)
-    (same_ring s.received s.ring c.args.bytes.now (length s.ring) s.read_count s.stored c.max-start.result c.args.offset c.is_in_ring.result (rw c.if-self.false at c.self.invariant.0) c.max-start.ensures
-    c.is_in_ring.ensures)
+    (same_kept s.received (byte_of s.ring s.near s.apart.pages) c.args.bytes.now s.window s.read_count s.stored c.max-start.result c.args.offset c.is_kept.result (rw c.if-self.false at c.self.invariant.0) c.max-start.ensures
+    c.is_kept.ensures)

@@ -15,8 +15,9 @@ invariant_of-self-2 c =
     let taken = c.split_at.ensures.front_len in
     let small = h.order.small in
     let buffered = h.bytes.buffered in
+    let widest = h.bytes.widest in
     rw c.in_default-write.ensures.ok
-    (lawful_write _ _ open_lane unfinished (omega (arith, taken, len, most, small)) (omega (arith, taken, len, most, room, buffered)) h, c.in_default-write.ensures.room (omega (arith, taken, len, most, room, buffered)) c.self.invariant.1, freed_open _ _ _ _ h open_lane unfinished)
+    (lawful_write _ _ open_lane unfinished (omega (arith, taken, len, most, small)) (omega (arith, taken, len, most, room, buffered, widest)) h, c.in_default-write.ensures.room (omega (arith, taken, len, most, room, buffered, widest)) c.self.invariant.1, freed_open _ _ _ _ h open_lane unfinished)
 
 pub returns-clause-accepted : goal.returns-clause-accepted
 returns-clause-accepted c =

@@ -4,12 +4,12 @@
 use crate::shim::String;
 use super::RowFault;
 use super::told::{
-    lost_fault, make_fault, tell_bytes, tell_closing, tell_count, tell_number, tell_open_fault,
-    tell_received, tell_receiving, tell_sending, tell_word, use_fault,
+    lost_fault, make_fault, set_fault, tell_bytes, tell_closing, tell_count, tell_number,
+    tell_open_fault, tell_received, tell_receiving, tell_sending, tell_word, use_fault,
 };
 use super::words::{Words, bytes, dir, number, size, stream};
 use crate::proved::qs_ends::ends;
-use crate::proved::qs_conn::{Endpoint, Made, MakeFault, UseFault};
+use crate::proved::qs_conn::{Endpoint, Made, MakeFault, SetFault, UseFault};
 use crate::proved::qs_recv::Read;
 
 /// No bytes of a call are more.
@@ -44,7 +44,24 @@ fn breaking_off(end: &mut Endpoint, words: Words, answer: &mut String) -> Result
         b"finish" => finish(end, words, answer),
         b"reset" => reset(end, words, answer),
         b"stop" => stop(end, words, answer),
+        b"forget" => forget(end, words, answer),
+        _ => setting(end, words, answer),
+    }
+}
+
+fn setting(end: &mut Endpoint, words: Words, answer: &mut String) -> Result<(), RowFault> {
+    match words[0] {
+        b"set-window" => tell_set(answer, end.set_conn_window(number(words[1])?)),
+        b"set-grant" => tell_set(answer, end.set_grant(dir(words[1])?, number(words[2])?)),
+        b"set-buffer" => set_buffer(end, words, answer),
         _ => question(end, words, answer),
+    }
+}
+
+fn tell_set(answer: &mut String, set: Result<(), SetFault>) -> Result<(), RowFault> {
+    match set {
+        Ok(()) => tell_word(answer, "ok"),
+        Err(fault) => tell_word(answer, set_fault(fault)),
     }
 }
 
@@ -216,6 +233,18 @@ fn stop(end: &mut Endpoint, words: Words, answer: &mut String) -> Result<(), Row
     let code = number(words[2])?;
     let done = end.stop(stream(words[1])?, code);
     tell_done(answer, done)
+}
+
+fn forget(end: &mut Endpoint, words: Words, answer: &mut String) -> Result<(), RowFault> {
+    let code = number(words[2])?;
+    let done = end.stop_and_forget(stream(words[1])?, code);
+    tell_done(answer, done)
+}
+
+fn set_buffer(end: &mut Endpoint, words: Words, answer: &mut String) -> Result<(), RowFault> {
+    let size = size(words[2])?;
+    let done = end.set_send_buffer(stream(words[1])?, size);
+    tell_set(answer, done)
 }
 
 fn close(end: &Endpoint, answer: &mut String) -> Result<(), RowFault> {

@@ -4,7 +4,7 @@
 use crate::shim::String;
 use super::RowFault;
 use crate::proved::qs_conn::{
-    Closing, LostFault, MakeFault, OpenFault, Received, RecvReport, SendReport, UseFault,
+    Closing, LostFault, MakeFault, OpenFault, Received, RecvReport, SendReport, SetFault, UseFault,
 };
 use crate::proved::qs_recv::RecvState;
 use crate::proved::qs_send::SendState;
@@ -85,6 +85,15 @@ pub(super) fn use_fault(fault: UseFault) -> &'static str {
         UseFault::WasReset => "was-reset",
         UseFault::Closed => "closed",
         UseFault::NoMemory => "no-memory",
+    }
+}
+
+pub(super) fn set_fault(fault: SetFault) -> &'static str {
+    match fault {
+        SetFault::Closed => "closed",
+        SetFault::OutOfRange => "out-of-range",
+        SetFault::NoSuchStream => "no-such-stream",
+        SetFault::WrongDirection => "wrong-direction",
     }
 }
 

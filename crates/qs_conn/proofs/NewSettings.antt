@@ -1,0 +1,132 @@
+-- What is set anew keeps what holds of an end.
+use Rattle.std.proofs.Common.{◌≡◌, ℕ, ◌≤◌, ◌^◌, Bool, true, false, not, Option, None, refl, sym, subst, arith}
+use Rattle.std.proofs.lemmas.Bool.{true≢false}
+use Rattle.std.proofs.lemmas.Bool.Decides.{nat_tests}
+use Rattle.qs_ranges.specs.Numbers.{MAX_VARINT, NumberSet}
+use Rattle.qs_wire.specs.declared.stream_id.Dir.{Dir}
+use Rattle.qs_wire.specs.declared.stream_id.Dir.TheVariants.{Bidi, Uni}
+use Rattle.qs_recv.specs.Lane.{taken}
+use Rattle.qs_calls.specs.Settings.{MAX_LIFETIME, are_in_wide_range}
+use Rattle.qs_calls.specs.declared.settings.Settings.{Settings}
+use Rattle.qs_calls.specs.declared.settings.PeerLimits.{PeerLimits}
+use Rattle.qs_calls.specs.declared.settings.SetFault.{SetFault}
+use Rattle.qs_calls.specs.declared.settings.SetFault.TheVariants.{OutOfRange}
+use Rattle.qs_calls.specs.declared.closing.Closed.{Closed}
+use Rattle.qs_machine.specs.Tables.{total}
+use Rattle.qs_machine.specs.Owner.{first_refusal, refuse_if}
+use Rattle.qs_machine.specs.Setting.{Setting, ConnWindow, Grant, limit_with, is_settable}
+use Rattle.qs_machine.proofs.CallsSound.{sound_set, grant_within}
+use Rattle.qs_conn.specs.declared.limits.Limits.{Limits}
+use Rattle.qs_conn.specs.declared.middle.Core.{Core}
+use Rattle.qs_conn.specs.Filling.{present_of, with_window, with_grant}
+use Rattle.qs_conn.specs.Middle.{IsKept}
+use Rattle.qs_conn.proofs.Kept.{end_with}
+
+in_range : (b : Bool) → b ≡ true → first_refusal (refuse_if (not b) OutOfRange) None ≡ None
+in_range true h = refl
+in_range false h = absurd (true≢false (sym h))
+
+limit_small : (present granted paid window : ℕ) → granted ≤ MAX_VARINT → limit_with present granted paid window ≤ MAX_VARINT
+limit_small present granted paid window h = grind (arith, nat_tests, h)
+
+few_bidi : (s : Settings) → are_in_wide_range s ≡ true → s.lifetime_bidi ≤ MAX_LIFETIME
+few_bidi s h = grind (arith, nat_tests, h)
+
+few_uni : (s : Settings) → are_in_wide_range s ≡ true → s.lifetime_uni ≤ MAX_LIFETIME
+few_uni s h = grind (arith, nat_tests, h)
+
+module _ (c : Core) (peer : PeerLimits) (done : NumberSet) (is_settled due : Bool) (closed : Option Closed) (k : IsKept c peer done is_settled due closed) where
+  abbrev Keeps : Limits → Type 0
+  Keeps l = IsKept (record c { limits = l }) peer done false due closed
+
+  -- the connection's window
+  pub kept_window : (window paid : ℕ) (l : Limits) → is_settable (ConnWindow window) ≡ true → paid ≡ total taken c.recvs → l ≡ with_window window paid c.limits → Keeps l
+  kept_window window paid l fits all is =
+      subst Keeps (sym is) (subst (λ t. Keeps (with_window window t c.limits)) (sym all)
+      (let core = k.rest.core in
+      record {
+        rest = record {
+          core = record {
+            sound = sound_set (ConnWindow window) (end_with c.limits.role c.limits.settings (present_of c.limits) c.recvs c.limits.granted) (in_range (is_settable (ConnWindow window)) fits) core.sound;
+            fits = record {
+              granted = limit_small c.limits.conn_window c.limits.granted (total taken c.recvs) window core.fits.granted;
+              granted_bidi = core.fits.granted_bidi;
+              granted_uni = core.fits.granted_uni;
+              known = core.fits.known;
+              bidi = core.fits.bidi;
+              uni = core.fits.uni;
+            };
+            credit = core.credit;
+            counts = core.counts;
+            told_in = core.told_in;
+            told_out = core.told_out;
+          };
+          idle = k.rest.idle;
+        };
+        peer_fits = k.peer_fits;
+        closing_fits = k.closing_fits;
+        few = k.few;
+        acks = k.acks;
+        settled = λ on. absurd (true≢false (sym on));
+      }))
+
+  -- a direction's grant
+  pub kept_grant : (dir : Dir) (streams over : ℕ) (l : Limits) → is_settable (Grant dir streams) ≡ true → l ≡ with_grant dir streams over c.limits → Keeps l
+  kept_grant Bidi streams over l fits is =
+      subst Keeps (sym is)
+      (let core = k.rest.core in
+      let within = grant_within c.limits.grants.bidi c.limits.granted_streams.bidi c.limits.settings.lifetime_bidi over streams core.counts.bidi in
+      record {
+        rest = record {
+          core = record {
+            sound = sound_set (Grant Bidi streams) (end_with c.limits.role c.limits.settings (present_of c.limits) c.recvs c.limits.granted) (in_range (is_settable (Grant Bidi streams)) fits) core.sound;
+            fits = record {
+              granted = core.fits.granted;
+              granted_bidi = omega (arith, within, few_bidi c.limits.settings core.sound.settings);
+              granted_uni = core.fits.granted_uni;
+              known = core.fits.known;
+              bidi = core.fits.bidi;
+              uni = core.fits.uni;
+            };
+            credit = core.credit;
+            counts = record { counted = core.counts.counted; told = core.counts.told; bidi = within; uni = core.counts.uni };
+            told_in = core.told_in;
+            told_out = core.told_out;
+          };
+          idle = k.rest.idle;
+        };
+        peer_fits = k.peer_fits;
+        closing_fits = k.closing_fits;
+        few = k.few;
+        acks = k.acks;
+        settled = λ on. absurd (true≢false (sym on));
+      })
+  kept_grant Uni streams over l fits is =
+      subst Keeps (sym is)
+      (let core = k.rest.core in
+      let within = grant_within c.limits.grants.uni c.limits.granted_streams.uni c.limits.settings.lifetime_uni over streams core.counts.uni in
+      record {
+        rest = record {
+          core = record {
+            sound = sound_set (Grant Uni streams) (end_with c.limits.role c.limits.settings (present_of c.limits) c.recvs c.limits.granted) (in_range (is_settable (Grant Uni streams)) fits) core.sound;
+            fits = record {
+              granted = core.fits.granted;
+              granted_bidi = core.fits.granted_bidi;
+              granted_uni = omega (arith, within, few_uni c.limits.settings core.sound.settings);
+              known = core.fits.known;
+              bidi = core.fits.bidi;
+              uni = core.fits.uni;
+            };
+            credit = core.credit;
+            counts = record { counted = core.counts.counted; told = core.counts.told; bidi = core.counts.bidi; uni = within };
+            told_in = core.told_in;
+            told_out = core.told_out;
+          };
+          idle = k.rest.idle;
+        };
+        peer_fits = k.peer_fits;
+        closing_fits = k.closing_fits;
+        few = k.few;
+        acks = k.acks;
+        settled = λ on. absurd (true≢false (sym on));
+      })

@@ -1,0 +1,6 @@
+use Rattle.std.proofs.Common.{sym, ◌∙◌}
+use Rattle.qs_conn.proofs.OwnerSteps.{peek_ok}
+use Rattle.qs_conn.proofs.endpoint.Endpoint.peek.Goals as goal
+
+pub returns : goal.returns
+returns c = peek_ok c.args.self.now c.args.stream c.peek.result (sym c.no_reader.ensures ∙ c.in_default.is) (rw (← c.self.view_is) c.peek.ensures)

@@ -1,0 +1,20 @@
+use Rattle.std.proofs.Common.{ap}
+use Rattle.qs_conn.specs.Tasks.{IsQuiet, marks_of}
+use Rattle.qs_conn.proofs.LaneEdits.{changed_at}
+use Rattle.qs_conn.proofs.Marked.{mark_there}
+use Rattle.qs_conn.proofs.Tasks.{all_looked}
+use Rattle.qs_conn.proofs.Promised.{promised_of, kept_of, sums_same}
+use Rattle.qs_conn.proofs.send_lanes.SendLanes.set_buffer.Goals as goal
+
+pub look-requires : goal.look-requires
+look-requires c = λ t. mark_there (IsQuiet t) c.self.inside.halves.items (marks_of c.self.inside.marks t) c.args.index (c.self.invariant.1 t) (rw c.self.view_is c.requires)
+
+pub invariant_of-self : goal.invariant_of-self
+invariant_of-self c =
+    all_looked _ _ _ _ _ _ _ c.args.index c.set_buffer.new.self c.look.ensures c.self.invariant
+    (sums_same c.self.inside.halves.items c.self.inside.promised c.self.inside.kept c.args.index c.index_mut-half.result.now c.set_buffer.new.self (rw c.self.view_is c.requires) c.index_mut-half.ensures.value (ap promised_of c.set_buffer.ensures) (ap kept_of c.set_buffer.ensures) c.self.invariant.2)
+
+pub returns : goal.returns
+returns c =
+    rw (← c.self.view_is)
+    (changed_at c.self.inside.halves.items c.args.index c.index_mut-half.result.now c.set_buffer.new.self _ (rw c.self.view_is c.requires) c.index_mut-half.ensures.value c.set_buffer.ensures)

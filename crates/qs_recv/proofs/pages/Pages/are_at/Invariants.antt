@@ -1,0 +1,16 @@
+use Rattle.std.proofs.Common.{◌≡◌, ℕ, ◌+◌, ◌-◌, ◌*◌, ◌/◌, ◌%◌, ◌<◌, ◌≤◌, ◌⊎◌, ◌&&◌, if◌then◌else◌, nat_le, nat_lt, max, length, slice_index, true, None}
+use Rattle.std.specs.Ordering.{nat_cmp}
+use Rattle.std.specs.BTreeMap as tree
+use Rattle.qs_ranges.specs.Numbers.{is_within}
+use Rattle.qs_recv.specs.Pages.{AreWhole, has_page, is_used, moved_byte, page_byte}
+use Rattle.qs_recv.proofs.pages.Pages.are_at.Given as goal
+
+abbrev pub invariant-loop-done : goal.invariant-loop-done
+invariant-loop-done l =
+    record {
+      within : l.done ≤ length l.bytes;
+      before : (k : ℕ) → k < l.done → slice_index l.bytes k ≡ page_byte l.self.pages (l.at + k);
+    }
+
+abbrev pub decreases-loop-done : goal.decreases-loop-done
+decreases-loop-done l = length l.bytes - l.done

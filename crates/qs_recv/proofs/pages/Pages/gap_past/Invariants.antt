@@ -1,0 +1,8 @@
+use Rattle.std.proofs.Common.{ℕ, ◌+◌, ◌-◌, ◌*◌, ◌<◌, ◌≤◌, max}
+use Rattle.qs_recv.proofs.pages.Pages.gap_past.Given as goal
+
+abbrev pub invariant-loop-number : goal.invariant-loop-number
+invariant-loop-number l = record { past : l.at < l.number * 16384; small : l.number * 16384 ≤ max l.at l.end + 16384 }
+
+abbrev pub decreases-loop-number : goal.decreases-loop-number
+decreases-loop-number l = l.end - l.number * 16384

@@ -1,0 +1,21 @@
+use Rattle.std.proofs.Common.{◌≡◌, ℕ, ◌+◌, ◌-◌, ◌*◌, ◌/◌, ◌%◌, ◌<◌, ◌≤◌, ◌⊎◌, ◌&&◌, if◌then◌else◌, nat_le, nat_lt, max, length, slice_index, true, None}
+use Rattle.std.specs.Ordering.{nat_cmp}
+use Rattle.std.specs.BTreeMap as tree
+use Rattle.qs_ranges.specs.Numbers.{is_within}
+use Rattle.qs_recv.specs.Pages.{AreWhole, has_page, is_used, moved_byte, page_byte}
+use Rattle.qs_recv.proofs.pages.Pages.make.Given as goal
+
+abbrev pub invariant-loop-number : goal.invariant-loop-number
+invariant-loop-number l =
+    record {
+      begins : l.from / 16384 ≤ l.number;
+      small : l.number * 16384 ≤ max l.from (l.to + 16384);
+      whole : AreWhole l.self.pages;
+      made : (q : ℕ) → l.from ≤ q → q / 16384 < l.number → has_page l.self.pages q ≡ true;
+      same : (q : ℕ) → page_byte l.self.pages q ≡ page_byte l.initial.self.pages q;
+      stay : (n : ℕ) → is_used l.initial.self.pages n ≡ true → is_used l.self.pages n ≡ true;
+      only : (n : ℕ) → is_used l.self.pages n ≡ true → (is_used l.initial.self.pages n ≡ true) ⊎ ((l.from < n * 16384 + 16384) × (n * 16384 < l.to));
+    }
+
+abbrev pub decreases-loop-number : goal.decreases-loop-number
+decreases-loop-number l = l.to - l.number * 16384

@@ -1,0 +1,52 @@
+use Rattle.std.proofs.Common.{◌≡◌, ◌∙◌, ℕ, ◌+◌, ◌*◌, ◌/◌, ◌%◌, ap, sym, refl, arith, length, slice_index}
+use Rattle.std.specs.Ordering.{nat_cmp}
+use Rattle.std.specs.BTreeMap as tree
+use Rattle.qs_recv.proofs.PageLaws.{all_moved, left_next, left_there, piece_moved, piece_passed}
+use Rattle.qs_recv.proofs.pages.Pages.move_into.Goals.{in-Some, in-None}
+use Rattle.qs_recv.proofs.pages.Pages.move_into.Goals as goal
+
+pub loop-number-preserved : goal.loop-number-preserved
+loop-number-preserved c =
+    let inv = c.loop-number.invariant in
+    let init = c.args.self.now.pages in
+    let m = c.loop-number.self.pages in
+    let n = c.remove.new.self in
+    let from = c.args.from in
+    let to = c.args.to in
+    let number = c.loop-number.number in
+    let old = c.args.ring.now in
+    let mid = c.loop-number.ring in
+    let there = left_there init m from to number (inv.left number) in
+    elim c.match-remove.branch [
+      | in-Some w ↦
+          let page = w.in-Some.page in
+          let is = sym w.in-Some.is ∙ c.remove.ensures.value ∙ there in
+          let whole = c.requires.whole number page (sym is) in
+          rw w.ring-is (
+          record {
+            begins = omega (arith, inv.begins);
+            small = omega (arith, c.loop-number-test.true);
+            same_len = w.write.ensures.same_len ∙ inv.same_len;
+            left = λ k. left_next init m n from to number k c.loop-number-test.true inv.begins (inv.left k) (c.remove.ensures.updates.0 k);
+            moved = λ base q low fits at high. piece_moved init from to number base q w.min-count.result page old mid w.write.new.self c.loop-number-test.true inv.begins w.min-count.ensures is whole inv.same_len
+                (rw w.deref.ensures.value at w.write.ensures.written) low fits at high (inv.moved base q low fits at high);
+          }
+          )
+      | in-None w ↦
+          let none = sym w.in-None.is ∙ c.remove.ensures.value ∙ there in
+          rw w.ring-is (
+          record {
+            begins = omega (arith, inv.begins);
+            small = omega (arith, c.loop-number-test.true);
+            same_len = inv.same_len;
+            left = λ k. left_next init m n from to number k c.loop-number-test.true inv.begins (inv.left k) (c.remove.ensures.updates.0 k);
+            moved = λ base q low fits at high. piece_passed init from number q (slice_index mid (q % length old)) (slice_index old (q % length old)) none (inv.moved base q low fits at high);
+          }
+          )
+    ]
+
+pub returns-clause-moved : goal.returns-clause-moved
+returns-clause-moved c =
+    let inv = c.loop-number.invariant in
+    let old = c.args.ring.now in
+    λ base q low fits at high. all_moved c.args.self.now.pages c.args.from c.args.to c.loop-number.number q (slice_index c.loop-number.ring (q % length old)) (slice_index old (q % length old)) (omega (arith, c.loop-number-test.false)) high (inv.moved base q low fits at high)

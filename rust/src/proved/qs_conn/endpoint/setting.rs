@@ -1,0 +1,91 @@
+// Made from crates/qs_conn/src/endpoint/setting.rt by rust/erase; not edited by hand.
+//! What an owner sets anew while the connection lasts.
+
+use super::Endpoint;
+use crate::proved::qs_conn::setup::is_between;
+use crate::proved::qs_calls::SetFault;
+use crate::proved::qs_wire::{Dir, StreamId};
+
+impl Endpoint {
+    /// Sets the connection's window anew (RFC 9000, section 4.1): how far, in bytes, what is received on all streams may run ahead of
+    /// what is taken. A greater window moves the connection's limit at once, be it by less than a step; under a smaller one the limit
+    /// stands until so much was taken that it moves again. No limit falls, and what the peer was told at first stays. In constant time,
+    /// beside what any call looks at; it takes no memory.
+    ///
+    /// Refused, and then unchanged: `Closed`; `OutOfRange` below 1 and above 2^40.
+    pub fn set_conn_window(&mut self, window: u64) -> Result<(), SetFault> {
+        if self.closed.is_some() {
+            return Err(SetFault::Closed);
+        }
+        if !is_between(1, MAX_CONN_WINDOW, window) {
+            return Err(SetFault::OutOfRange);
+        }
+        self.force_window(window);
+        self.settle();
+        Ok(())
+    }
+
+    /// Sets anew how many streams of a direction the peer may have open (RFC 9000, section 4.6). A greater grant moves the count of its
+    /// streams at once, beside those that ended, up to the lifetime's; under a smaller one the count stands until so many ended that it
+    /// moves again. No count falls, and what the peer was told at first stays. In constant time, beside what any call looks at; it takes
+    /// no memory.
+    ///
+    /// Refused, and then unchanged: `Closed`; `OutOfRange` above 2^17.
+    pub fn set_grant(&mut self, dir: Dir, streams: u64) -> Result<(), SetFault> {
+        if self.closed.is_some() {
+            return Err(SetFault::Closed);
+        }
+        if streams > MAX_GRANT {
+            return Err(SetFault::OutOfRange);
+        }
+        self.force_grant(dir, streams);
+        self.settle();
+        Ok(())
+    }
+
+    /// Sets how many bytes that aren't acknowledged the stream's sending half keeps at most, within the range of
+    /// [`Settings::send_buffer`]. A stream that opens later begins with the setting. No byte that is kept goes: where more are kept,
+    /// writes accept none until enough of them are acknowledged. Of a half that was finished or reset it changes the number alone.
+    ///
+    /// Refused, and then unchanged: `Closed`; `OutOfRange`; `NoSuchStream` or `WrongDirection` where the stream has no sending half.
+    pub fn set_send_buffer(&mut self, stream: StreamId, size: usize) -> Result<(), SetFault> {
+        if self.closed.is_some() {
+            return Err(SetFault::Closed);
+        }
+        if !is_between(1, 1 << 30, size as u64) {
+            return Err(SetFault::OutOfRange);
+        }
+        if !self.core.outbox.is_open(stream) {
+            return Err(no_half_to_set(self.core.recvs.is_open(stream)));
+        }
+        self.core.outbox.set_buffer(stream, size);
+        self.settle();
+        Ok(())
+    }
+
+    // The window is in force.
+    fn force_window(&mut self, window: u64) {
+        let taken = self.core.recvs.tally().taken;
+        self.core.limits.set_conn_window(window, taken);
+        self.is_settled = false;
+    }
+
+    // The grant is in force.
+    fn force_grant(&mut self, dir: Dir, streams: u64) {
+        let ended = self.core.ended.of(dir);
+        self.core.limits.set_grant(dir, streams, ended);
+        self.is_settled = false;
+    }
+}
+
+const MAX_CONN_WINDOW: u64 = 1 << 40;
+
+const MAX_GRANT: u64 = 1 << 17;
+
+fn no_half_to_set(other: bool) -> SetFault {
+    if other {
+        SetFault::WrongDirection
+    } else {
+        SetFault::NoSuchStream
+    }
+}

@@ -1,0 +1,131 @@
+// Made from crates/qs_recv/src/pages.rt by rust/erase; not edited by hand.
+//! Bytes that stand apart from a ring, far past it, in pages of their own.
+use crate::shim::Vec;
+
+use crate::proved::qs_recv::ring::{Ring, is_at, write_at};
+use crate::proved::qs_ranges::NoMemory;
+use crate::shim::alloc::Global;
+use crate::shim::collections::BTreeMap;
+
+// A page has the bytes of so many offsets.
+pub(crate) const PAGE: u64 = 16384;
+
+/// The pages that are in use, each by its number: an offset's page has the offset divided by a page's bytes as its number.
+pub(crate) struct Pages {
+    pages: BTreeMap<u64, Vec<u8>>,
+}
+
+impl Pages {
+    pub(crate) fn none(alloc: Global) -> Self {
+        Pages {
+            pages: BTreeMap::new(alloc),
+        }
+    }
+
+    #[inline(always)]
+    pub(crate) fn is_empty(&self) -> bool {
+        self.pages.is_empty()
+    }
+
+    /// How many pages are in use.
+    pub(crate) fn count(&self) -> u64 {
+        self.pages.len() as u64
+    }
+
+    /// Takes each page that the offsets from `from` on and below `to` lie in.
+    pub(crate) fn make(&mut self, alloc: Global, from: u64, to: u64) -> Result<(), NoMemory> {
+        debug_assert!(to <= 0x3fff_ffff_ffff_ffff);
+        let mut number = from / PAGE;
+        while number * PAGE < to {
+            if !self.pages.contains_key(&number) {
+                let page = zeros(alloc)?;
+                self.pages.insert(number, page)?;
+            }
+            number += 1;
+        }
+        Ok(())
+    }
+
+    /// Gives back the pages that begin at `from` or past it and below `to`.
+    pub(crate) fn give_back(&mut self, from: u64, to: u64) {
+        debug_assert!(to <= 0x3fff_ffff_ffff_ffff);
+        let mut number = from / PAGE;
+        while number * PAGE < to {
+            if from <= number * PAGE {
+                let _page = self.pages.remove(&number);
+            }
+            number += 1;
+        }
+    }
+
+    /// Writes bytes to the offsets from `at` on.
+    pub(crate) fn write(&mut self, at: u64, bytes: &[u8]) {
+        let mut done = 0;
+        while done < bytes.len() {
+            let from = at + done as u64;
+            let place = (from % PAGE) as usize;
+            let count = (bytes.len() - done).min(PAGE as usize - place);
+            match self.pages.get_mut(&(from / PAGE)) {
+                Some(page) => write_at(page, place, &bytes[done..done + count]),
+                None => {}
+            }
+            done += count;
+        }
+    }
+
+    /// Whether bytes are those of the offsets from `at` on.
+    pub(crate) fn are_at(&self, at: u64, bytes: &[u8]) -> bool {
+        let mut done = 0;
+        while done < bytes.len() {
+            let from = at + done as u64;
+            let place = (from % PAGE) as usize;
+            let count = (bytes.len() - done).min(PAGE as usize - place);
+            match self.pages.get(&(from / PAGE)) {
+                Some(page) => {
+                    if !is_at(page, place, &bytes[done..done + count]) {
+                        return false;
+                    }
+                }
+                None => {}
+            }
+            done += count;
+        }
+        true
+    }
+
+    /// Where the first page past an offset begins that isn't in use, or the end where that comes first.
+    pub(crate) fn gap_past(&self, at: u64, end: u64) -> u64 {
+        debug_assert!(end <= 0x3fff_ffff_ffff_ffff);
+        debug_assert!(at <= 0x3fff_ffff_ffff_ffff);
+        let mut number = at / PAGE + 1;
+        while number * PAGE < end && self.pages.contains_key(&number) {
+            number += 1;
+        }
+        (number * PAGE).min(end)
+    }
+
+    /// Moves the pages past that of `from` that begin below `to` into a ring, as far as their offsets lie below that.
+    pub(crate) fn move_into(&mut self, ring: &mut Ring, from: u64, to: u64) {
+        debug_assert!(to <= 0x3fff_ffff_ffff_ffff);
+        debug_assert!(from <= to);
+        let mut number = from / PAGE + 1;
+        while number * PAGE < to {
+            match self.pages.remove(&number) {
+                Some(page) => {
+                    let at = number * PAGE;
+                    let count = (to - at).min(PAGE) as usize;
+                    ring.write(at, &page[..count]);
+                }
+                None => {}
+            }
+            number += 1;
+        }
+    }
+}
+
+// A page of zeros.
+fn zeros(alloc: Global) -> Result<Vec<u8>, NoMemory> {
+    let mut page = Vec::with_capacity(alloc, PAGE as usize)?;
+    page.resize(PAGE as usize, 0)?;
+    Ok(page)
+}
