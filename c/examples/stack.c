@@ -25,7 +25,7 @@ struct record {
   bool has_done; /* it has the stack's own HANDSHAKE_DONE */
   bool has_token;
   uint64_t number;
-  uint64_t token; /* of what the end filled in */
+  gv_token token; /* of what the end filled in */
 };
 
 struct stack {
@@ -73,7 +73,8 @@ static void put_new(struct stack *stack, struct packet *packet, struct record *r
     want(status, GV_OK, "fill");
     packet->len += filled.len;
     record->has_token = true;
-    record->token = filled.token;
+    record->token = (gv_token){.size = sizeof record->token};
+    want(gv_token_of(stack->end, filled.token, &record->token), GV_OK, "its token");
   }
   record->number = packet->number;
   record->is_out = record->has_done || record->has_token;
@@ -104,13 +105,13 @@ static bool make(struct stack *stack, struct packet *packet) {
 
 /* A packet is acknowledged: so is what the end put in. */
 static void is_acked(struct stack *stack, struct record *record) {
-  if (record->has_token) want(gv_token_acked(stack->end, record->token), GV_OK, "acked");
+  if (record->has_token) want(gv_token_acked(stack->end, &record->token), GV_OK, "acked");
   record->is_out = false;
 }
 
 /* A packet is lost: each puts in again what it had there. */
 static void is_lost(struct stack *stack, struct record *record) {
-  if (record->has_token) want(gv_token_lost(stack->end, record->token), GV_OK, "lost");
+  if (record->has_token) want(gv_token_lost(stack->end, &record->token), GV_OK, "lost");
   if (record->has_done) stack->owes_done = true;
   record->is_out = false;
 }

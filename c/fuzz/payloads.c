@@ -146,6 +146,13 @@ static void hand_in(gv_endpoint *end, input *in) {
   in->len -= len;
 }
 
+/* A token is told. */
+static void tell(gv_endpoint *end, uint64_t number, gv_status (*call)(gv_endpoint *, const gv_token *)) {
+  gv_token token = {.size = sizeof token};
+  check(gv_token_of(end, number, &token) == GV_OK && token.first == number && token.number == number, "a token");
+  (void)call(end, &token);
+}
+
 static void fill(gv_endpoint *end, input *in) {
   uint8_t out[MOST];
   unsigned wishes = next_byte(in);
@@ -183,8 +190,8 @@ static void use(gv_endpoint *end, unsigned call, input *in) {
     case 9: (void)gv_consume(end, stream, 4 * (size_t)next_byte(in), &count, &ends, &number); break;
     case 10: hand_in(end, in); break;
     case 11: fill(end, in); break;
-    case 12: (void)gv_token_acked(end, stream); break;
-    case 13: (void)gv_token_lost(end, stream); break;
+    case 12: tell(end, stream, gv_token_acked); break;
+    case 13: tell(end, stream, gv_token_lost); break;
     default: close_text(end); break;
   }
 }

@@ -74,7 +74,7 @@ typedef enum gv_status {
   GV_TOO_MANY_STREAMS = 20,  /**< the peer allows more streams than there can be (section 4.6) */
   GV_BAD_FRAME = 21,         /**< no frame stands there (section 12.4) */
   GV_NO_ROOM = 22,           /**< there is no room for it; nothing was written */
-  GV_NOT_GIVEN = 23          /**< no packet was made yet that has the token */
+  GV_NOT_GIVEN = 23          /**< no packet was made yet that has the token, or it is of another epoch */
 } gv_status;
 
 /** Which end it is. */
@@ -170,7 +170,7 @@ typedef enum gv_taken {
 typedef struct gv_endpoint gv_endpoint;
 
 /** The credit that an end grants, and the size of its sending buffers: windows and sizes in bytes, counts in streams. gv_settings_init()
- * sets what stands in parentheses. */
+ * sets what stands in parentheses. An end that runs is set anew by gv_set_conn_window(), gv_set_grant() and gv_set_send_buffer(). */
 typedef struct gv_settings {
   size_t size;            /**< of this struct */
   uint64_t conn_window;   /**< how far all received bytes may run ahead of those taken (section 4.1): 1 to 2^40 (2^20) */
@@ -184,7 +184,8 @@ typedef struct gv_settings {
   uint64_t lifetime_uni;  /**< the same of unidirectional ones (2^21) */
 } gv_settings;
 
-/** How an end goes about what its owner may choose. gv_tuning_init() sets what stands in parentheses. */
+/** How an end goes about what its owner may choose. gv_tuning_init() sets what stands in parentheses. A window or a grant that
+ * gv_set_conn_window() or gv_set_grant() makes greater moves its limit without a wait for a step. */
 typedef struct gv_tuning {
   size_t size;            /**< of this struct */
   gv_share credit_step;   /**< how much of its window has to be taken until a limit on bytes moves (section 4.2): a share
@@ -194,6 +195,8 @@ typedef struct gv_tuning {
   gv_switch within_credit;     /**< whether a write takes no more bytes than may be sent at once, by the stream's limit and the
                                     connection's (GV_OFF) */
   gv_switch reads_when_closed; /**< whether what came in is read on once the end closed (GV_OFF) */
+  uint64_t epoch;              /**< what its tokens have beside their numbers: an end that takes another one's place, as after a
+                                    rejected 0-RTT, takes none of that one's tokens where the epochs differ (0) */
 } gv_tuning;
 
 /** What the peer grants at first, by its transport parameters (section 18.2). local and remote are seen from the peer. */
@@ -244,10 +247,18 @@ typedef struct gv_filled {
   size_t size;          /**< of this struct */
   bool has_last_stream; /**< there is a STREAM frame */
   bool more;            /**< more of what was asked for is due that may go */
-  uint64_t token;       /**< by which it is told to be acknowledged or lost; no packet number of the stack's */
+  uint64_t token;       /**< the number under which the end keeps it, for gv_token_of(); no packet number of the stack's */
   size_t len;           /**< how many bytes it has */
   uint64_t last_stream; /**< where has_last_stream, the stream of the last STREAM frame, else 0; streams that take turns go on behind it */
 } gv_filled;
+
+/** By what a packet is told to be acknowledged or lost. A packet that was filled in parts has several, which gv_token_and() makes one. */
+typedef struct gv_token {
+  size_t size;     /**< of this struct */
+  uint64_t epoch;  /**< of the end that gave it (gv_tuning) */
+  uint64_t first;  /**< the lowest of its numbers */
+  uint64_t number; /**< the highest of them */
+} gv_token;
 
 /** A sending half. */
 typedef struct gv_sending {
@@ -392,6 +403,16 @@ GV_API void gv_endpoint_free(gv_endpoint *end);
  * was made with (section 7.4.1). ::GV_OUT_OF_RANGE, ::GV_TOO_MANY_STREAMS, ::GV_CONNECTION_CLOSED: nothing changed. */
 GV_API gv_status gv_raise_limits(gv_endpoint *end, const gv_limits *peer);
 
+/** Sets the connection's window anew, in bytes: how far all received bytes may run ahead of those taken, 1 to 2^40 (section 4.1). A
+ * greater one moves the connection's limit at once, be it by less than a step; under a smaller one the limit stands until so much was
+ * taken that it moves again. No limit falls. ::GV_OUT_OF_RANGE, ::GV_CONNECTION_CLOSED: nothing changed. */
+GV_API gv_status gv_set_conn_window(gv_endpoint *end, uint64_t window);
+
+/** Sets anew how many streams of a direction the peer may have open: up to 2^17 (section 4.6). A greater grant moves the count of its
+ * streams at once, beside those that are over, up to the lifetime's count; under a smaller one, 0 even, the count stands until so many
+ * are over that it moves again. No count falls. ::GV_OUT_OF_RANGE, ::GV_CONNECTION_CLOSED: nothing changed. */
+GV_API gv_status gv_set_grant(gv_endpoint *end, gv_dir dir, uint64_t streams);
+
 /** @}
  * @name Packets
  * @{ */
@@ -474,15 +495,21 @@ GV_API gv_status gv_take_frame(gv_endpoint *end, const gv_frame *frame, gv_taken
  * ::GV_NO_MEMORY: nothing changed. */
 GV_API gv_status gv_fill(gv_endpoint *end, const gv_fill_request *want, uint8_t *out, size_t room, gv_filled *filled);
 
-/** The peer acknowledged the packet of a token, which gv_fill() told, or which is the number that a packet's making told: this does what
- * an ACK of that packet alone does, in time or late. ::GV_OK, too, where the packet is done: then nothing is told. ::GV_NOT_GIVEN,
- * ::GV_CONNECTION_CLOSED: nothing changed. ::GV_NO_MEMORY: some of what it carried may be acknowledged; call once more (sections 13.2.1
- * and 13.3). */
-GV_API gv_status gv_token_acked(gv_endpoint *end, uint64_t token);
+/** The token of what gv_fill() told this number of, or of the packet that was made under it. ::GV_INVALID: nothing was written. */
+GV_API gv_status gv_token_of(const gv_endpoint *end, uint64_t number, gv_token *token);
 
-/** Declares the packet of a token lost, as gv_declare_lost() does. ::GV_OK, too, where the packet is done: then nothing changed.
+/** Makes of *token one token for what it names and for what *next names, which was filled in next. ::GV_NONE: its numbers don't follow
+ * those of *token, or another end gave it; *token stays as it was. */
+GV_API gv_status gv_token_and(gv_token *token, const gv_token *next);
+
+/** The peer acknowledged the packets of a token: this does what an ACK of these packets alone does, in time or late. ::GV_OK, too, where
+ * they are done: then nothing is told. ::GV_NOT_GIVEN: not all of them were made yet, or the token is of another epoch; nothing changed, as
+ * with ::GV_CONNECTION_CLOSED. ::GV_NO_MEMORY: some of what they carried may be acknowledged; call once more (sections 13.2.1 and 13.3). */
+GV_API gv_status gv_token_acked(gv_endpoint *end, const gv_token *token);
+
+/** Declares the packets of a token lost, each as gv_declare_lost() does. ::GV_OK, too, where they are done: then nothing changed.
  * ::GV_NOT_GIVEN, ::GV_CONNECTION_CLOSED: nothing changed. ::GV_NO_MEMORY: some of it is due again; call once more (section 13.3). */
-GV_API gv_status gv_token_lost(gv_endpoint *end, uint64_t token);
+GV_API gv_status gv_token_lost(gv_endpoint *end, const gv_token *token);
 
 /** @}
  * @name Streams
@@ -503,6 +530,12 @@ GV_API gv_status gv_accept_of(gv_endpoint *end, gv_dir dir, uint64_t *stream);
  * ::GV_WRONG_DIRECTION, ::GV_SENDING_RESET, ::GV_SENDING_FINISHED, ::GV_NO_MEMORY: nothing changed. */
 GV_API gv_status gv_write(gv_endpoint *end, uint64_t stream, const uint8_t *bytes, size_t len, size_t *count);
 
+/** Sets anew how many bytes that aren't acknowledged the stream's sending half keeps at most: 1 to 2^30 (sections 2.2 and 13.3). No byte
+ * that is kept goes: where more are kept, gv_write() accepts none until enough of them are acknowledged. A stream that opens later
+ * begins with the setting of the end (gv_settings). ::GV_CONNECTION_CLOSED, ::GV_OUT_OF_RANGE, ::GV_NO_SUCH_STREAM,
+ * ::GV_WRONG_DIRECTION: nothing changed. */
+GV_API gv_status gv_set_send_buffer(gv_endpoint *end, uint64_t stream, size_t size);
+
 /** Ends the stream after the bytes that were written so far (section 3.1). Refused as gv_write(), but never for memory. */
 GV_API gv_status gv_finish(gv_endpoint *end, uint64_t stream);
 
@@ -513,6 +546,11 @@ GV_API gv_status gv_reset(gv_endpoint *end, uint64_t stream, uint64_t code);
 /** Throws the stream's bytes away, those stored and those to come, and asks the peer to send no more, with the application's code,
  * below 2^62 (section 3.5). ::GV_CONNECTION_CLOSED, ::GV_NO_SUCH_STREAM, ::GV_WRONG_DIRECTION: nothing changed. */
 GV_API gv_status gv_stop(gv_endpoint *end, uint64_t stream, uint64_t code);
+
+/** Stops the stream as gv_stop() does, and tells nothing more of it: it counts as read to its end as soon as its last byte comes, or a
+ * reset, so nothing need be read for the peer to be granted another stream (sections 3.2, 3.5 and 4.6). The first code stays. Refused as
+ * gv_stop() is. */
+GV_API gv_status gv_stop_and_forget(gv_endpoint *end, uint64_t stream, uint64_t code);
 
 /** Reads the bytes that are next (section 2.2). ::GV_OK: *count bytes were written to into. ::GV_NOTHING_YET: none came yet.
  * ::GV_END_OF_STREAM: all was read. ::GV_RESET_BY_PEER: the peer broke the stream off, and *code, where code isn't null, is its code.
@@ -573,6 +611,10 @@ GV_API gv_status gv_acked_below(const gv_endpoint *end, uint64_t stream, uint64_
 /** How many bytes of all streams are still to be sent for the first time (section 2.2). */
 GV_API gv_status gv_unsent_sum(const gv_endpoint *end, uint64_t *count);
 
+/** How many bytes of all streams are kept until they are acknowledged: of each those from the lowest offset on that isn't, and none after
+ * a reset (section 13.3). It takes constant time. */
+GV_API gv_status gv_kept_sum(const gv_endpoint *end, uint64_t *count);
+
 /** How many bytes of a stream count as taken, so that its limit lies a window above them at most: those that were read, or all that came
  * where the stream was stopped or reset (section 4.2). ::GV_NONE: the stream has no receiving half here. */
 GV_API gv_status gv_taken_on(const gv_endpoint *end, uint64_t stream, uint64_t *count);
@@ -590,7 +632,7 @@ GV_API gv_status gv_streams_left(const gv_endpoint *end, gv_dir dir, uint64_t *c
 GV_API gv_status gv_open_left(const gv_endpoint *end, gv_dir dir, uint64_t *count);
 
 /** How many streams of a direction the peer may open by now: the grant, and one more for each of its streams that is over, up to the
- * lifetime's count (section 4.6). */
+ * lifetime's count (section 4.6). It never falls: gv_set_grant() with less lets it stand. */
 GV_API gv_status gv_granted_streams(const gv_endpoint *end, gv_dir dir, uint64_t *count);
 
 /** How many bytes are stored and wait to be read: never more than were granted and aren't taken (section 4.1). */
@@ -603,7 +645,8 @@ GV_API gv_status gv_noted(const gv_endpoint *end, uint64_t *count);
 
 /** How many bytes of memory the rings take in which bytes wait to be read, and the buffers in which bytes wait to be acknowledged, by
  * a walk over all streams that were opened: for a look now and then. A peer can't make the rings take more than four times the
- * connection's window, and 4,096 bytes for each receiving half that wasn't read to its end, reset or stopped (ours). */
+ * widest window of the connection that was set, and 4,096 bytes for each receiving half that wasn't read to its end, reset or stopped; a
+ * buffer takes at most twice the most that it was set to, or 4,096 bytes where nothing is kept (ours). */
 GV_API gv_status gv_held(const gv_endpoint *end, uint64_t *receiving, uint64_t *sending);
 
 /** The limit that the peer was granted on the sum of all streams' highest offsets (section 4.1). */

@@ -20,12 +20,13 @@ struct gv_endpoint {
 /* No later field may stand where a struct of today has nothing. */
 #define ENDS_WITH(type, field) _Static_assert(sizeof(type) == UP_TO(type, field), #type " ends with " #field)
 ENDS_WITH(gv_settings, lifetime_uni);
-ENDS_WITH(gv_tuning, reads_when_closed);
+ENDS_WITH(gv_tuning, epoch);
 ENDS_WITH(gv_limits, streams_uni);
 ENDS_WITH(gv_allocator, release);
 ENDS_WITH(gv_made, len);
 ENDS_WITH(gv_fill_request, first);
 ENDS_WITH(gv_filled, last_stream);
+ENDS_WITH(gv_token, number);
 ENDS_WITH(gv_sending, reset_code);
 ENDS_WITH(gv_receiving, reset_code);
 ENDS_WITH(gv_closing_info, place);
@@ -128,7 +129,7 @@ gv_status gv_settings_init(gv_settings *settings, size_t size) {
   return GV_OK;
 }
 
-static const gv_tuning untuned = {sizeof untuned, GV_SHARE_HALF, GV_SHARE_NONE, GV_OFF, GV_OFF};
+static const gv_tuning untuned = {sizeof untuned, GV_SHARE_HALF, GV_SHARE_NONE, GV_OFF, GV_OFF, 0};
 
 gv_status gv_tuning_init(gv_tuning *tuning, size_t size) {
   if (tuning == NULL || size < UP_TO(gv_tuning, reads_when_closed) || size > MOST_SIZE) return GV_INVALID;
@@ -159,7 +160,7 @@ static bool take_tuning(gvp_tuning *to, const gv_tuning *from) {
   gv_tuning t;
   if (!copy_in(&t, sizeof t, from, UP_TO(gv_tuning, reads_when_closed))) return false;
   if ((unsigned)t.within_credit > GV_ON || (unsigned)t.reads_when_closed > GV_ON) return false;
-  gvp_tuning own = {(uint32_t)t.credit_step, (uint32_t)t.count_step, t.within_credit == GV_ON, t.reads_when_closed == GV_ON};
+  gvp_tuning own = {(uint32_t)t.credit_step, (uint32_t)t.count_step, t.within_credit == GV_ON, t.reads_when_closed == GV_ON, t.epoch};
   *to = own;
   return true;
 }
@@ -233,6 +234,16 @@ gv_status gv_raise_limits(gv_endpoint *end, const gv_limits *peer) {
   gvp_limits limits;
   if (end == NULL || !take_limits(&limits, peer)) return GV_INVALID;
   return leave(end, gvp_raise_limits(enter(end), &limits));
+}
+
+gv_status gv_set_conn_window(gv_endpoint *end, uint64_t window) {
+  if (end == NULL) return GV_INVALID;
+  return leave(end, gvp_set_conn_window(enter(end), window));
+}
+
+gv_status gv_set_grant(gv_endpoint *end, gv_dir dir, uint64_t streams) {
+  if (end == NULL) return GV_INVALID;
+  return leave(end, gvp_set_grant(enter(end), (uint32_t)dir, streams));
 }
 
 /* Packets. */
@@ -341,6 +352,11 @@ gv_status gv_write(gv_endpoint *end, uint64_t stream, const uint8_t *bytes, size
   return status;
 }
 
+gv_status gv_set_send_buffer(gv_endpoint *end, uint64_t stream, size_t size) {
+  if (end == NULL) return GV_INVALID;
+  return leave(end, gvp_set_send_buffer(enter(end), stream, size));
+}
+
 gv_status gv_finish(gv_endpoint *end, uint64_t stream) {
   if (end == NULL) return GV_INVALID;
   return leave(end, gvp_finish(enter(end), stream));
@@ -354,6 +370,11 @@ gv_status gv_reset(gv_endpoint *end, uint64_t stream, uint64_t code) {
 gv_status gv_stop(gv_endpoint *end, uint64_t stream, uint64_t code) {
   if (end == NULL) return GV_INVALID;
   return leave(end, gvp_stop(enter(end), stream, code));
+}
+
+gv_status gv_stop_and_forget(gv_endpoint *end, uint64_t stream, uint64_t code) {
+  if (end == NULL) return GV_INVALID;
+  return leave(end, gvp_stop_and_forget(enter(end), stream, code));
 }
 
 gv_status gv_read(gv_endpoint *end, uint64_t stream, uint8_t *into, size_t size, size_t *count, uint64_t *code) {
@@ -444,6 +465,8 @@ gv_status gv_acked_below(const gv_endpoint *end, uint64_t stream, uint64_t *offs
 /* Credit. */
 
 gv_status gv_unsent_sum(const gv_endpoint *end, uint64_t *count) { return ask(gvp_unsent_sum, end, count); }
+
+gv_status gv_kept_sum(const gv_endpoint *end, uint64_t *count) { return ask(gvp_kept_sum, end, count); }
 
 gv_status gv_taken_on(const gv_endpoint *end, uint64_t stream, uint64_t *count) { return ask_of(gvp_taken, end, stream, count); }
 
@@ -648,12 +671,43 @@ gv_status gv_fill(gv_endpoint *end, const gv_fill_request *want, uint8_t *out, s
   return status;
 }
 
-gv_status gv_token_acked(gv_endpoint *end, uint64_t token) {
-  if (end == NULL) return GV_INVALID;
-  return leave(end, gvp_token_acked(enter(end), token));
+static bool take_token(gvp_token *to, const gv_token *from) {
+  gv_token t;
+  if (!copy_in(&t, sizeof t, from, UP_TO(gv_token, number))) return false;
+  gvp_token own = {t.epoch, t.first, t.number};
+  *to = own;
+  return true;
 }
 
-gv_status gv_token_lost(gv_endpoint *end, uint64_t token) {
-  if (end == NULL) return GV_INVALID;
-  return leave(end, gvp_token_lost(enter(end), token));
+static void tell_token(gv_token *to, const gvp_token *from) {
+  gv_token told = {0, from->epoch, from->first, from->number};
+  copy_out(to, &told, sizeof told);
+}
+
+gv_status gv_token_of(const gv_endpoint *end, uint64_t number, gv_token *token) {
+  gvp_token got = {0, 0, 0};
+  if (end == NULL || !is_sized(token, UP_TO(gv_token, number))) return GV_INVALID;
+  gv_status status = leave(end, gvp_token_of(enter(end), number, &got));
+  if (status == GV_OK) tell_token(token, &got);
+  return status;
+}
+
+gv_status gv_token_and(gv_token *token, const gv_token *next) {
+  gvp_token first, second, both = {0, 0, 0};
+  if (!take_token(&first, token) || !take_token(&second, next)) return GV_INVALID;
+  gv_status status = (gv_status)gvp_token_and(&first, &second, &both);
+  if (status == GV_OK) tell_token(token, &both);
+  return status;
+}
+
+gv_status gv_token_acked(gv_endpoint *end, const gv_token *token) {
+  gvp_token given;
+  if (end == NULL || !take_token(&given, token)) return GV_INVALID;
+  return leave(end, gvp_token_acked(enter(end), &given));
+}
+
+gv_status gv_token_lost(gv_endpoint *end, const gv_token *token) {
+  gvp_token given;
+  if (end == NULL || !take_token(&given, token)) return GV_INVALID;
+  return leave(end, gvp_token_lost(enter(end), &given));
 }

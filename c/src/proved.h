@@ -30,6 +30,7 @@ typedef struct gvp_tuning {
   uint32_t count_step;
   bool within_credit;
   bool reads_when_closed;
+  uint64_t epoch;
 } gvp_tuning;
 
 typedef struct gvp_limits {
@@ -61,6 +62,12 @@ typedef struct gvp_filled {
   size_t len;
   uint64_t last_stream;
 } gvp_filled;
+
+typedef struct gvp_token {
+  uint64_t epoch;
+  uint64_t first;
+  uint64_t number;
+} gvp_token;
 
 typedef struct gvp_closing_info {
   uint64_t code;
@@ -147,13 +154,16 @@ uint32_t gvp_write(gvp_handle *end, uint64_t stream, const uint8_t *bytes, size_
 uint32_t gvp_finish(gvp_handle *end, uint64_t stream);
 uint32_t gvp_reset(gvp_handle *end, uint64_t stream, uint64_t code);
 uint32_t gvp_stop(gvp_handle *end, uint64_t stream, uint64_t code);
+uint32_t gvp_stop_and_forget(gvp_handle *end, uint64_t stream, uint64_t code);
 uint32_t gvp_read(gvp_handle *end, uint64_t stream, uint8_t *into, size_t size, uint64_t *number);
 uint32_t gvp_consume(gvp_handle *end, uint64_t stream, size_t most, uint64_t *number, bool *at_end);
 uint32_t gvp_declare_lost(gvp_handle *end, uint64_t number);
 uint32_t gvp_take_frame(gvp_handle *end, const gvp_frame *frame, const uint8_t *bytes, size_t len, uint32_t *taken);
 uint32_t gvp_fill(gvp_handle *end, const gvp_request *want, uint8_t *out, size_t room, gvp_filled *filled);
-uint32_t gvp_token_acked(gvp_handle *end, uint64_t token);
-uint32_t gvp_token_lost(gvp_handle *end, uint64_t token);
+uint32_t gvp_token_of(gvp_handle *end, uint64_t number, gvp_token *token);
+uint32_t gvp_token_and(const gvp_token *token, const gvp_token *next, gvp_token *both);
+uint32_t gvp_token_acked(gvp_handle *end, const gvp_token *token);
+uint32_t gvp_token_lost(gvp_handle *end, const gvp_token *token);
 uint32_t gvp_closing(gvp_handle *end, gvp_closing_info *closing);
 uint32_t gvp_close_payload(gvp_handle *end, uint8_t *out, size_t room, size_t *len);
 uint32_t gvp_peer_closed(gvp_handle *end, uint64_t *code);
@@ -169,6 +179,7 @@ uint32_t gvp_credit_left(gvp_handle *end, uint64_t *count);
 uint32_t gvp_room(gvp_handle *end, uint64_t stream, uint64_t *count);
 uint32_t gvp_unsent(gvp_handle *end, uint64_t stream, uint64_t *count);
 uint32_t gvp_unsent_sum(gvp_handle *end, uint64_t *count);
+uint32_t gvp_kept_sum(gvp_handle *end, uint64_t *count);
 uint32_t gvp_taken(gvp_handle *end, uint64_t stream, uint64_t *count);
 uint32_t gvp_taken_sum(gvp_handle *end, uint64_t *count);
 uint32_t gvp_acked_below(gvp_handle *end, uint64_t stream, uint64_t *offset);
@@ -181,6 +192,9 @@ uint32_t gvp_held(gvp_handle *end, uint64_t *receiving, uint64_t *sending);
 uint32_t gvp_granted(gvp_handle *end, uint64_t *count);
 uint32_t gvp_spent(gvp_handle *end, uint64_t *count);
 uint32_t gvp_raise_limits(gvp_handle *end, const gvp_limits *limits);
+uint32_t gvp_set_conn_window(gvp_handle *end, uint64_t window);
+uint32_t gvp_set_grant(gvp_handle *end, uint32_t dir, uint64_t streams);
+uint32_t gvp_set_send_buffer(gvp_handle *end, uint64_t stream, size_t size);
 uint32_t gvp_ack_is_due(gvp_handle *end, bool *answer);
 uint32_t gvp_make_ack(gvp_handle *end, uint64_t delay, uint8_t *out, size_t room, gvp_made *made);
 uint32_t gvp_next_number(gvp_handle *end, uint64_t *number);

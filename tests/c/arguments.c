@@ -14,6 +14,14 @@ static void want(gv_status status, gv_status wanted, const char *what) {
   failed = 1;
 }
 
+/* The token of a number. */
+static const gv_token *token_at(const gv_endpoint *end, uint64_t number) {
+  static gv_token token;
+  token = (gv_token){.size = sizeof token};
+  want(gv_token_of(end, number, &token), GV_OK, "a token");
+  return &token;
+}
+
 static void *no_memory(void *context, size_t size, size_t align) {
   (void)context;
   (void)size;
@@ -34,7 +42,7 @@ static void tuned(const gv_settings *settings, const gv_limits *limits) {
   gv_tuning tuning;
   gv_endpoint *end = NULL;
   want(gv_tuning_init(NULL, sizeof tuning), GV_INVALID, "no tuning");
-  want(gv_tuning_init(&tuning, sizeof tuning - 1), GV_INVALID, "small tuning");
+  want(gv_tuning_init(&tuning, sizeof tuning - sizeof tuning.epoch - 1), GV_INVALID, "small tuning");
   want(gv_tuning_init(&tuning, sizeof tuning), GV_OK, "tuning");
   tuning.credit_step = GV_SHARE_NONE;
   want(gv_endpoint_new_tuned(GV_ROLE_CLIENT, settings, &tuning, limits, NULL, &end), GV_INVALID, "no share of a window");
@@ -118,6 +126,94 @@ static void consumed(gv_endpoint *end) {
   want(code == 9 && count == 2 ? GV_OK : GV_INVALID, GV_OK, "with its code");
 }
 
+/* A window and a grant are set anew: a greater one moves the limit at once, under a smaller one it stands. */
+static void set_limits(gv_endpoint *end) {
+  const uint64_t first = 1 << 20;
+  uint64_t number;
+  want(gv_set_conn_window(NULL, first), GV_INVALID, "window of no end");
+  want(gv_set_conn_window(end, 0), GV_OUT_OF_RANGE, "no window");
+  want(gv_set_conn_window(end, (UINT64_C(1) << 40) + 1), GV_OUT_OF_RANGE, "a window above all");
+  want(gv_granted(end, &number), GV_OK, "granted");
+  want(number == first ? GV_OK : GV_INVALID, GV_OK, "the first window is granted");
+  want(gv_set_conn_window(end, first + 1), GV_OK, "a greater window");
+  want(gv_set_conn_window(end, 1), GV_OK, "a small window");
+  want(gv_granted(end, &number), GV_OK, "granted");
+  want(number == first + 1 ? GV_OK : GV_INVALID, GV_OK, "the greatest window is granted");
+  want(gv_set_grant(NULL, GV_DIR_UNI, 1), GV_INVALID, "grant of no end");
+  want(gv_set_grant(end, (gv_dir)2, 1), GV_INVALID, "grant of no direction");
+  want(gv_set_grant(end, GV_DIR_UNI, (1 << 17) + 1), GV_OUT_OF_RANGE, "a grant above all");
+  want(gv_set_grant(end, GV_DIR_UNI, 101), GV_OK, "a greater grant");
+  want(gv_set_grant(end, GV_DIR_UNI, 0), GV_OK, "no grant");
+  want(gv_granted_streams(end, GV_DIR_UNI, &number), GV_OK, "granted_streams");
+  want(number == 101 ? GV_OK : GV_INVALID, GV_OK, "the greatest grant stands");
+  want(gv_granted_streams(end, GV_DIR_BIDI, &number), GV_OK, "granted_streams");
+  want(number == 100 ? GV_OK : GV_INVALID, GV_OK, "the other direction's stands");
+}
+
+/* A sending buffer is set anew, and what is kept of all streams is told. */
+static void set_buffer(gv_endpoint *end) {
+  static const uint8_t bytes[8], frame[] = {0x0a, 0x03, 0x01, 0x61}; /* stream 3 has a byte */
+  uint64_t number = 9;
+  size_t count = 9;
+  want(gv_open(end, GV_DIR_BIDI, &number, NULL), GV_OK, "open");
+  want(gv_receive(end, 0, frame, sizeof frame), GV_OK, "receive a byte");
+  want(gv_set_send_buffer(NULL, 0, 1), GV_INVALID, "buffer of no end");
+  want(gv_set_send_buffer(end, UINT64_C(1) << 62, 1), GV_INVALID, "buffer of no stream");
+  want(gv_set_send_buffer(end, 0, 0), GV_OUT_OF_RANGE, "no buffer");
+  want(gv_set_send_buffer(end, 0, ((size_t)1 << 30) + 1), GV_OUT_OF_RANGE, "a buffer above all");
+  want(gv_set_send_buffer(end, 4, 1), GV_NO_SUCH_STREAM, "buffer elsewhere");
+  want(gv_set_send_buffer(end, 3, 1), GV_WRONG_DIRECTION, "buffer of what is read");
+  want(gv_set_send_buffer(end, 0, 5), GV_OK, "a small buffer");
+  want(gv_write(end, 0, bytes, sizeof bytes, &count), GV_OK, "write");
+  want(count == 5 ? GV_OK : GV_INVALID, GV_OK, "it takes as many bytes");
+  want(gv_set_send_buffer(end, 0, 1), GV_OK, "a smaller buffer");
+  want(gv_kept_sum(end, NULL), GV_INVALID, "kept_sum to null");
+  want(gv_kept_sum(NULL, &number), GV_INVALID, "kept_sum of no end");
+  want(gv_kept_sum(end, &number), GV_OK, "kept_sum");
+  want(number == 5 ? GV_OK : GV_INVALID, GV_OK, "they are kept");
+}
+
+/* A stream that is forgotten is over without a read. */
+static void forgotten(gv_endpoint *end) {
+  static const uint8_t last[] = {0x0f, 0x03, 0x01, 0x01, 0x62}; /* its second byte is its last */
+  const uint64_t big = UINT64_C(1) << 62;
+  uint64_t number = 9;
+  want(gv_stop_and_forget(NULL, 3, 7), GV_INVALID, "forget of no end");
+  want(gv_stop_and_forget(end, big, 7), GV_INVALID, "forget no stream");
+  want(gv_stop_and_forget(end, 3, big), GV_INVALID, "forget with no code");
+  want(gv_stop_and_forget(end, 7, 7), GV_NO_SUCH_STREAM, "forget another");
+  want(gv_open(end, GV_DIR_UNI, &number, NULL), GV_OK, "open");
+  want(gv_stop_and_forget(end, number, 7), GV_WRONG_DIRECTION, "forget what is sent");
+  want(gv_stop_and_forget(end, 3, 7), GV_OK, "forget");
+  want(gv_next_ended(end, 0, &number), GV_NONE, "it isn't over");
+  want(gv_receive(end, 1, last, sizeof last), GV_OK, "receive the end");
+  want(gv_next_readable(end, 0, &number), GV_NONE, "nothing is to be read");
+  want(gv_next_ended(end, 0, &number), GV_OK, "it is over");
+  want(number == 3 ? GV_OK : GV_INVALID, GV_OK, "stream 3");
+}
+
+/* What is set anew, and what isn't once the end closed. */
+static void set_anew(void) {
+  static const uint8_t no_frame[] = {0xff};
+  gv_settings settings;
+  gv_limits limits = {.size = sizeof limits};
+  gv_endpoint *end = NULL;
+  uint64_t number = 9;
+  want(gv_settings_init(&settings, sizeof settings), GV_OK, "settings");
+  want(gv_limits_of(&settings, &limits), GV_OK, "limits");
+  want(gv_endpoint_new(GV_ROLE_CLIENT, &settings, &limits, &end), GV_OK, "new");
+  set_limits(end);
+  set_buffer(end);
+  forgotten(end);
+  want(gv_receive(end, 2, no_frame, sizeof no_frame), GV_PROTOCOL_ERROR, "no frame");
+  want(gv_set_conn_window(end, 0), GV_CONNECTION_CLOSED, "window once closed");
+  want(gv_set_grant(end, GV_DIR_BIDI, 1), GV_CONNECTION_CLOSED, "grant once closed");
+  want(gv_set_send_buffer(end, 0, 1), GV_CONNECTION_CLOSED, "buffer once closed");
+  want(gv_stop_and_forget(end, 3, 7), GV_CONNECTION_CLOSED, "forget once closed");
+  want(gv_kept_sum(end, &number), GV_OK, "a closed end is asked");
+  gv_endpoint_free(end);
+}
+
 int main(void) {
   const uint64_t big = UINT64_C(1) << 62;
   gv_settings settings = {sizeof settings, 4096, 1024, 1024, 1024, 2048, 8, 8, 8, 8};
@@ -136,6 +232,7 @@ int main(void) {
   static const uint8_t ack_of_2[] = {0x02, 0x02, 0x00, 0x00, 0x00};
   static const uint8_t stops[] = {0x05, 0x02, 0x07, 0x05, 0x02, 0x08};
   beside_ends();
+  set_anew();
   want(gv_endpoint_new((gv_role)2, &settings, &limits, &end), GV_INVALID, "role");
   want(gv_endpoint_new(GV_ROLE_CLIENT, NULL, &limits, &end), GV_INVALID, "no settings");
   settings.conn_window = 0;
@@ -163,10 +260,10 @@ int main(void) {
   want(gv_reset(end, 2, big), GV_INVALID, "reset");
   want(gv_stop(end, 2, big), GV_INVALID, "stop");
   want(gv_declare_lost(end, 0), GV_NOT_OUTSTANDING, "lose");
-  want(gv_token_acked(end, 0), GV_NOT_GIVEN, "acked before it was made");
-  want(gv_token_lost(end, UINT64_MAX), GV_NOT_GIVEN, "lost before it was made");
-  want(gv_token_acked(NULL, 0), GV_INVALID, "acked of no end");
-  want(gv_token_lost(NULL, 0), GV_INVALID, "lost of no end");
+  want(gv_token_acked(end, token_at(end, 0)), GV_NOT_GIVEN, "acked before it was made");
+  want(gv_token_lost(end, token_at(end, UINT64_MAX)), GV_NOT_GIVEN, "lost before it was made");
+  want(gv_token_acked(NULL, token_at(end, 0)), GV_INVALID, "acked of no end");
+  want(gv_token_lost(NULL, token_at(end, 0)), GV_INVALID, "lost of no end");
   want(gv_receive(end, big, &byte, 1), GV_INVALID, "receive");
   want(gv_receive(end, 5, NULL, 1), GV_INVALID, "receive from null");
   want(gv_receive_telling(end, big, &byte, 1, count_one, &told), GV_INVALID, "receive and tell");
@@ -261,16 +358,16 @@ int main(void) {
   want(gv_next_newly_acked(end, ack_of_2, sizeof ack_of_2, 0, NULL), GV_INVALID, "acknowledged to null");
   want(gv_receive_telling(end, 5, ack_of_2, sizeof ack_of_2, count_one, &told), GV_DUPLICATE, "receive the PING's number again");
   want(told == 0 ? GV_OK : GV_INVALID, GV_OK, "nothing is told");
-  want(gv_token_acked(end, 3), GV_NOT_GIVEN, "acked past the last");
-  want(gv_token_lost(end, 2), GV_OK, "lost");
+  want(gv_token_acked(end, token_at(end, 3)), GV_NOT_GIVEN, "acked past the last");
+  want(gv_token_lost(end, token_at(end, 2)), GV_OK, "lost");
   want(gv_next_outstanding(end, 0, &number), GV_NONE, "nothing is outstanding");
   want(gv_is_sendable(end, &is), GV_OK, "is_sendable");
   want(is ? GV_OK : GV_INVALID, GV_OK, "the end is due again");
-  want(gv_token_lost(end, 2), GV_OK, "lost again");
-  want(gv_token_acked(end, 2), GV_OK, "acked late");
+  want(gv_token_lost(end, token_at(end, 2)), GV_OK, "lost again");
+  want(gv_token_acked(end, token_at(end, 2)), GV_OK, "acked late");
   want(gv_is_sendable(end, &is), GV_OK, "is_sendable");
   want(!is ? GV_OK : GV_INVALID, GV_OK, "the end is acknowledged");
-  want(gv_token_acked(end, 2), GV_OK, "acked again");
+  want(gv_token_acked(end, token_at(end, 2)), GV_OK, "acked again");
   want(gv_stopped_with(end, 2, &number), GV_NONE, "not stopped");
   want(gv_receive(end, 7, stops, sizeof stops), GV_OK, "receive two STOP_SENDING");
   want(gv_stopped_with(end, 2, &number), GV_OK, "stopped");
@@ -289,8 +386,8 @@ int main(void) {
   want(gv_write(end, 2, &byte, 1, &count), GV_CONNECTION_CLOSED, "closed");
   want(gv_close_payload(end, room, sizeof room, &count), GV_OK, "close");
   want(gv_next_writable(end, 0, &number), GV_NONE, "nothing is writable");
-  want(gv_token_acked(end, 0), GV_CONNECTION_CLOSED, "acked once closed");
-  want(gv_token_lost(end, 9), GV_CONNECTION_CLOSED, "lost once closed");
+  want(gv_token_acked(end, token_at(end, 0)), GV_CONNECTION_CLOSED, "acked once closed");
+  want(gv_token_lost(end, token_at(end, 9)), GV_CONNECTION_CLOSED, "lost once closed");
   want(gv_raise_limits(end, &limits), GV_CONNECTION_CLOSED, "raise once closed");
   want(gv_claim_number(end, &number), GV_OK, "a closed end gives numbers");
   want(gv_receive(NULL, 0, &byte, 1), GV_INVALID, "no end");

@@ -96,6 +96,29 @@ static void of_packets(gv_endpoint *from, gv_endpoint *to, uint64_t stream) {
   DROP(receiving);
 }
 
+/* What a token has, and what it must not have. */
+static void of_tokens(gv_endpoint *from, uint64_t number) {
+  gv_token *token = NEW(gv_token), *next = NEW(gv_token);
+  check(gv_token_of(from, number, token) == GV_OK && gv_token_of(from, number + 1, next) == GV_OK, "tokens");
+  LATER(token);
+#ifdef GROWN
+  token->later = next->later = 0;
+#endif
+  check(gv_token_and(token, next) == GV_OK, "both");
+  printf("token %" PRIu64 ", %" PRIu64 " to %" PRIu64 "\n", token->epoch, token->first, token->number);
+  check(gv_token_acked(from, token) == GV_NOT_GIVEN && gv_token_lost(from, token) == GV_NOT_GIVEN, "not all were made");
+  size_t size = token->size;
+  token->size = 31;
+  check(gv_token_acked(from, token) == GV_INVALID && gv_token_lost(from, token) == GV_INVALID && gv_token_and(next, token) == GV_INVALID, "too small a token");
+  token->size = size;
+#ifdef GROWN
+  token->later = 1;
+  check(gv_token_lost(from, token) == (has_later ? GV_NOT_GIVEN : GV_INVALID), "a number that isn't known");
+#endif
+  drop(token, sizeof *token);
+  drop(next, sizeof *next);
+}
+
 /* What one end fills in is handed to the other. */
 static void of_fills(gv_endpoint *from, gv_endpoint *to) {
   gv_fill_request *want = NEW(gv_fill_request);
@@ -123,6 +146,7 @@ static void of_fills(gv_endpoint *from, gv_endpoint *to) {
   filled->size = size;
   check(gv_fill(from, want, out, sizeof out, filled) == GV_OK && filled->size == size, "a fill");
   printf("filled %zu bytes, of stream %" PRIu64 ", more %d, token %" PRIu64 "\n", filled->len, filled->last_stream, filled->more, filled->token);
+  of_tokens(from, filled->token);
   gv_frames frames = {out, filled->len, 0};
   check(gv_frames_next(&frames, frame, &fault) == GV_OK, "its frame");
 #ifdef GROWN

@@ -35,7 +35,10 @@ static gv_endpoint *new_end(void) {
   gv_limits limits = {sizeof limits, 4096, 1024, 1024, 1024, 8, 8};
   gv_allocator memory = {.size = sizeof memory, .allocate = allocate, .release = release};
   gv_endpoint *end = NULL;
-  want(gv_endpoint_new_with(GV_ROLE_CLIENT, &settings, &limits, &memory, &end), GV_OK, "new");
+  gv_tuning tuning;
+  want(gv_tuning_init(&tuning, sizeof tuning), GV_OK, "tuning");
+  tuning.epoch = 7;
+  want(gv_endpoint_new_tuned(GV_ROLE_CLIENT, &settings, &tuning, &limits, &memory, &end), GV_OK, "new");
   return end;
 }
 
@@ -106,6 +109,33 @@ static void frames(gv_endpoint *end) {
 /* So much room that the record of what may go in wants memory. */
 static uint8_t wide[100000];
 
+/* Tokens of two fills that follow one another. */
+static void tokens(gv_endpoint *end, uint64_t number, uint64_t after) {
+  gv_token token = {.size = sizeof token, .number = 99}, next = token, other = token;
+  want(gv_token_of(NULL, number, &token), GV_INVALID, "of no end");
+  want(gv_token_of(end, number, NULL), GV_INVALID, "told to null");
+  token.size = sizeof token - 1;
+  want(gv_token_of(end, number, &token), GV_INVALID, "told to a small struct");
+  token.size = sizeof token;
+  holds(token.number == 99, "nothing was told");
+  want(gv_token_of(end, number, &token), GV_OK, "a token");
+  holds(token.epoch == 7 && token.first == number && token.number == number, "its numbers");
+  want(gv_token_of(end, after, &next), GV_OK, "the one behind it");
+  other = next;
+  want(gv_token_and(NULL, &next), GV_INVALID, "of null");
+  want(gv_token_and(&token, NULL), GV_INVALID, "and null");
+  want(gv_token_and(&next, &token), GV_NONE, "the wrong way round");
+  holds(next.first == after && next.number == after, "it stays");
+  other.epoch = 8;
+  want(gv_token_and(&token, &other), GV_NONE, "of another end");
+  want(gv_token_acked(end, &other), GV_NOT_GIVEN, "acked of another end");
+  want(gv_token_lost(end, &other), GV_NOT_GIVEN, "lost of another end");
+  want(gv_token_acked(end, NULL), GV_INVALID, "acked by null");
+  want(gv_token_lost(end, NULL), GV_INVALID, "lost by null");
+  want(gv_token_and(&token, &next), GV_OK, "both");
+  holds(token.epoch == 7 && token.first == number && token.number == after, "numbers of both");
+}
+
 /* What may not be asked, and what is asked for. */
 static void fills(gv_endpoint *end) {
   gv_fill_request all = {.size = sizeof all, .items = true, .streams = true}, none = {.size = sizeof none}, low = all;
@@ -144,9 +174,13 @@ static void fills(gv_endpoint *end) {
   uint64_t token = filled.token;
   want(gv_fill(end, &all, out, GV_MIN_FILL, &filled), GV_OK, "the others");
   holds(filled.has_last_stream && filled.last_stream == stream && !filled.more && filled.token != token, "that is all");
-  want(gv_token_acked(end, filled.token), GV_OK, "acked");
+  tokens(end, token, filled.token);
+  gv_token first = {.size = sizeof first}, next = {.size = sizeof next};
+  want(gv_token_of(end, token, &first), GV_OK, "the first token");
+  want(gv_token_of(end, filled.token, &next), GV_OK, "the next token");
+  want(gv_token_acked(end, &next), GV_OK, "acked");
   want(gv_fill(end, &all, out, sizeof out, &filled), GV_NONE, "nothing is due");
-  want(gv_token_lost(end, token), GV_OK, "lost");
+  want(gv_token_lost(end, &first), GV_OK, "lost");
   all.items = false;
   want(gv_fill(end, &all, out, sizeof out, &filled), GV_OK, "it is due again");
   holds(filled.last_stream == other, "which it is");

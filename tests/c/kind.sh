@@ -93,10 +93,10 @@ fi
 later=$room/later
 mkdir -p "$later/include" "$later/src"
 cp "$root"/c/src/*.[ch] "$later/src"
-sed 's/^} gv_\(settings\|tuning\|limits\|allocator\|made\|fill_request\|filled\|sending\|receiving\|closing_info\|frame\|fault\);/  uint64_t later;\n&/' "$root/c/include/gotsavena.h" >"$later/include/gotsavena.h"
+sed 's/^} gv_\(settings\|tuning\|limits\|allocator\|made\|fill_request\|filled\|token\|sending\|receiving\|closing_info\|frame\|fault\);/  uint64_t later;\n&/' "$root/c/include/gotsavena.h" >"$later/include/gotsavena.h"
 sed -i 's/^ENDS_WITH(\([a-z_]*\), .*/ENDS_WITH(\1, later);/' "$later/src/calls.c"
-has_grown() { [ "$(grep -c '^  uint64_t later;' "$later/include/gotsavena.h")" = 12 ] && [ "$(grep -c ', later);' "$later/src/calls.c")" = 12 ]; }
-try 'twelve structs of the later header have one field more' has_grown
+has_grown() { [ "$(grep -c '^  uint64_t later;' "$later/include/gotsavena.h")" = 13 ] && [ "$(grep -c ', later);' "$later/src/calls.c")" = 13 ]; }
+try 'thirteen structs of the later header have one field more' has_grown
 make_later() {
   local name
   for name in calls memory about; do

@@ -80,8 +80,10 @@ static bool hand_over(gv_endpoint *from, gv_endpoint *to) {
   AGAIN(status, gv_fill(from, &all, out, sizeof out, &filled));
   if (status == GV_NONE) return false;
   want(status, GV_OK, "fill");
+  gv_token token = {.size = sizeof token};
+  want(gv_token_of(from, filled.token, &token), GV_OK, "its token");
   if (filled.token % 3 == 1) {
-    AGAIN(status, gv_token_lost(from, filled.token));
+    AGAIN(status, gv_token_lost(from, &token));
     want(status, GV_OK, "lost");
     return true;
   }
@@ -90,7 +92,7 @@ static bool hand_over(gv_endpoint *from, gv_endpoint *to) {
     AGAIN(status, gv_take_frame(to, &frame, &taken));
     want(status, GV_OK, "take a frame");
   }
-  AGAIN(status, gv_token_acked(from, filled.token));
+  AGAIN(status, gv_token_acked(from, &token));
   want(status, GV_OK, "acked");
   return true;
 }
