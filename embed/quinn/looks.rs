@@ -9,7 +9,12 @@ pub struct Halves<'a>(&'a StreamsState);
 
 impl Halves<'_> {
     pub fn contains_key(&self, id: &StreamId) -> bool {
-        self.0.is_read(*id) || self.0.gaps.thrown_away.contains(id)
+        let half = self.0.end.report(ours(*id)).and_then(|report| report.recv);
+        match half.map(|half| half.state) {
+            Some(RecvState::DataRead | RecvState::ResetRead) => false,
+            Some(_) => true,
+            None => self.0.is_read(*id),
+        }
     }
 
     pub fn get_mut(&self, id: &StreamId) -> Option<()> {
@@ -57,22 +62,12 @@ impl StreamsState {
     }
 
     pub fn receive_window(&self) -> u64 {
-        self.settings.limits().max_data
+        self.window
     }
 
-    /// The limit that the peer would be told now: a window beyond what was taken.
+    /// The limit that the peer would be told now: a window beyond what was taken, or what it was told before.
     pub fn local_max_data(&self) -> u64 {
-        let sides = [Side::Client, Side::Server].into_iter();
-        let types = sides.flat_map(|side| Dir::iter().map(move |dir| (side, dir)));
-        let all = types
-            .flat_map(|(side, dir)| (0..256).map(move |index| StreamId::new(side, dir, index)));
-        let taken = all.filter_map(|id| {
-            let half = self.end.report(ours(id))?.recv?;
-            let over = half.reset_code.is_some() || half.state == RecvState::DataRead;
-            let whole = over || self.gaps.thrown_away.contains(&id);
-            Some(if whole { half.highest } else { half.read_count })
-        });
-        self.receive_window() + taken.sum::<u64>()
+        self.end.granted().max(self.window + self.end.taken_sum())
     }
 
     pub fn max_remote(&self) -> [u64; 2] {
@@ -109,13 +104,21 @@ impl StreamsState {
         due
     }
 
-    // Of windows that change.
-
+    /// By how much that lies above a window beyond what was taken.
     pub fn receive_window_shrink_debt(&self) -> u64 {
-        0
+        self.local_max_data() - self.window - self.end.taken_sum()
     }
 
-    pub fn add_read_credits(&mut self, _credits: u64) -> ShouldTransmit {
-        ShouldTransmit(false)
+    /// So many bytes come on a stream of the peer, and are read.
+    pub fn add_read_credits(&mut self, credits: u64) -> ShouldTransmit {
+        let stream = ours(StreamId::new(!self.side, Dir::Uni, 0));
+        let mut bytes = [0; 1024];
+        for _ in 0..credits / 1024 {
+            let offset = self.end.taken(stream).unwrap_or(0);
+            let frame = Frame::Stream { stream, offset, fin: false, bytes: &bytes };
+            self.end.take_frame(&frame).expect("within the credit");
+            self.end.read(stream, &mut bytes).expect("it is open");
+        }
+        ShouldTransmit(self.is_sendable())
     }
 }

@@ -1,11 +1,11 @@
 //! What the layer can't be asked for yet, kept beside it.
 //!
 //! Each part has its reason. All else that quinn asks is answered by the layer's calls.
-use gotsavena::{Read, SendState};
+use gotsavena::SendState;
 use rustc_hash::FxHashSet;
 
 use super::{ours, StreamsState};
-use crate::{Dir, StreamId, VarInt};
+use crate::StreamId;
 
 #[derive(Default)]
 pub struct Gaps {
@@ -15,7 +15,7 @@ pub struct Gaps {
     pub(super) came: bool,
     /// Streams that the peer stopped and the application didn't let go of yet: the layer resets them at once.
     pub(super) stopped: FxHashSet<StreamId>,
-    /// Streams that the application stopped: the layer has them read on to their end.
+    /// Streams that the application stopped: a report of the layer doesn't tell them from others.
     pub(super) thrown_away: FxHashSet<StreamId>,
     /// How many sending halves aren't over: no call counts them.
     pub(super) send_streams: usize,
@@ -44,17 +44,4 @@ impl StreamsState {
         stopped
     }
 
-    // A stream that was stopped is read on, to nowhere.
-    pub(super) fn throw_away(&mut self, id: StreamId) {
-        if let Ok(Read::End | Read::Reset(_)) = self.end.read(ours(id), &mut []) {
-            self.gaps.thrown_away.remove(&id);
-        }
-    }
-
-    /// Windows and counts don't change while the connection lives.
-    pub fn set_max_concurrent(&mut self, _dir: Dir, _count: VarInt) {}
-
-    pub fn set_receive_window(&mut self, _receive_window: VarInt) -> bool {
-        false
-    }
 }

@@ -73,10 +73,9 @@ impl RecvStream<'_> {
         if !self.state.is_read(self.id) {
             return Err(UnknownStream(()));
         }
-        let stopped = self.state.end.stop(ours(self.id), error_code.into());
+        let stopped = self.state.end.stop_and_forget(ours(self.id), error_code.into());
         stopped.map_err(|_| UnknownStream(()))?;
         self.state.gaps.thrown_away.insert(self.id);
-        self.state.throw_away(self.id);
         Ok(())
     }
 }

@@ -5,7 +5,7 @@ use std::{iter, mem};
 
 use bytes::Bytes;
 use gotsavena::{
-    Closing, Endpoint, Fill, Frame, PeerLimits, Role, SendState, Settings, Share, TakeFault,
+    Closing, Endpoint, Fill, Frame, PeerLimits, RecvState, Role, SendState, Settings, Share, TakeFault,
     Token, Tuning, MIN_FILL,
 };
 use rustc_hash::FxHashMap;
@@ -31,6 +31,9 @@ pub struct StreamsState {
     pub(super) end: Endpoint,
     pub(super) side: Side,
     pub(super) settings: Settings,
+    pub(super) window: u64,
+    // How many bytes all streams may keep until they are acknowledged.
+    pub(super) send_window: u64,
     events: VecDeque<StreamEvent>,
     opened: [bool; 2],
     // Priorities that were set, and the stream from which on bytes go into the next packet.
@@ -57,7 +60,10 @@ pub fn told(setting: VarInt, most: u64) -> VarInt {
 fn new_end(side: Side, settings: Settings) -> Endpoint {
     let role = if side.is_client() { Role::Client } else { Role::Server };
     // The peer's limits come with the handshake, or are remembered.
-    let tuning = Tuning::default().within_credit(true).credit_step(Share::Eighth);
+    let tuning = Tuning::default()
+        .within_credit(true)
+        .credit_step(Share::Eighth)
+        .reads_when_closed(true);
     Endpoint::new_wide(role, settings, tuning, PeerLimits::default()).expect("in range")
 }
 
@@ -80,6 +86,8 @@ impl StreamsState {
             end: new_end(side, settings),
             side,
             settings,
+            window: settings.limits().max_data,
+            send_window,
             events: VecDeque::new(),
             opened: [false; 2],
             priorities: FxHashMap::default(),
@@ -104,9 +112,26 @@ impl StreamsState {
         self.gaps.came = true;
     }
 
+    // This end's
+
+    pub fn set_max_concurrent(&mut self, dir: Dir, count: VarInt) {
+        let set = self.end.set_grant(theirs(dir), count.0.min(MOST_STREAMS));
+        debug_assert!(set.is_ok(), "in range, of an end that is open");
+    }
+
+    /// Whether the window grew.
+    pub fn set_receive_window(&mut self, receive_window: VarInt) -> bool {
+        let before = self.window;
+        self.window = receive_window.0.clamp(1, MOST_DATA);
+        let set = self.end.set_conn_window(self.window);
+        debug_assert!(set.is_ok(), "in range, of an end that is open");
+        self.window > before
+    }
+
     /// Nothing that was sent before the handshake counts: a fresh end.
     pub fn zero_rtt_rejected(&mut self) {
         self.end = new_end(self.side, self.settings);
+        self.window = self.settings.limits().max_data;
         self.priorities.clear();
         self.gaps = Gaps::default();
     }
@@ -192,10 +217,16 @@ impl StreamsState {
         id: StreamId,
         frame: Frame<'_>,
     ) -> Result<ShouldTransmit, TransportError> {
+        let dir = id.dir();
+        if id.initiator() != self.side && id.index() >= self.end.granted_streams(theirs(dir)) {
+            return Err(TransportError::STREAM_LIMIT_ERROR(""));
+        }
         let opened = self.take(frame)?;
-        if self.gaps.thrown_away.contains(&id) {
-            self.throw_away(id);
-        } else if !opened && self.end.next_readable(ours(id)) == Some(ours(id)) {
+        let half = self.end.report(ours(id)).and_then(|report| report.recv);
+        if half.is_some_and(|half| half.state == RecvState::DataRead || half.reset_code.is_some()) {
+            self.gaps.thrown_away.remove(&id);
+        }
+        if !opened && self.end.next_readable(ours(id)) == Some(ours(id)) {
             self.events.push_back(StreamEvent::Readable { id });
         }
         // What is due is asked for by `is_sendable`.

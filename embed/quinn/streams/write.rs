@@ -23,7 +23,8 @@ impl StreamsState {
             return Err(WriteError::UnknownStream);
         }
         // (the end writes within the peer's limits)
-        let mut left = self.end.room(ours(id)) as usize;
+        let kept = self.send_window.saturating_sub(self.end.kept_sum());
+        let mut left = self.end.room(ours(id)).min(kept) as usize;
         if left == 0 {
             self.gaps.blocked.insert(id);
             return Err(WriteError::Blocked);
