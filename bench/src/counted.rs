@@ -2,7 +2,7 @@
 
 use crate::acts::{Act, played};
 use crate::counting::gotsavena_counted;
-use crate::ends::{Load, PLAIN, Pair};
+use crate::ends::{Load, PLAIN, Pair, Way};
 use crate::parts::{half_takes_in_order, mixed, read_once};
 
 /// Work, by a name of its own.
@@ -37,9 +37,10 @@ fn in_order() -> u64 {
     units
 }
 
-// Packets that are made, received, read from and acknowledged, beside so many active streams.
-fn whole_loop(active: u64) -> u64 {
+// Packets that go across so, are read from and acknowledged, beside so many active streams.
+fn whole_loop(active: u64, way: Way) -> u64 {
     let mut pair = Pair::new(Load {
+        way,
         active,
         open: active,
         window: 16 << 10,
@@ -64,13 +65,15 @@ fn whole_loop(active: u64) -> u64 {
     pair.made - before
 }
 
-pub fn all() -> [Counted; 10] {
+pub fn all() -> [Counted; 12] {
     let counted = |name, run| Counted { name, run };
     [
         counted("decode", decode),
         counted("in-order", in_order),
-        counted("loop-1", || whole_loop(1)),
-        counted("loop-64", || whole_loop(64)),
+        counted("loop-1", || whole_loop(1, Way::Made)),
+        counted("loop-64", || whole_loop(64, Way::Made)),
+        counted("filled-1", || whole_loop(1, Way::Filled)),
+        counted("taken-1", || whole_loop(1, Way::Taken)),
         counted("write", || played(Act::Write)),
         counted("make", || played(Act::Make)),
         counted("receive", || played(Act::Receive)),

@@ -1,7 +1,18 @@
 //! Two ends in one process, and what the rows do with them.
 
 use crate::pattern::{self, Source};
-use gotsavena::{Dir, Endpoint, Fill, Read, Role, Settings, StreamId};
+use gotsavena::{Dir, Endpoint, Fill, Read, Role, Settings, StreamId, Token, frames};
+
+/// How packets go across.
+#[derive(Clone, Copy, PartialEq)]
+pub enum Way {
+    /// Made, received, and acknowledged by ACK frames.
+    Made,
+    /// Filled, as of a stack that owns its packets, and received.
+    Filled,
+    /// Filled, taken in frame by frame, and acknowledged by their tokens.
+    Taken,
+}
 
 /// What a row of the whole loop asks for.
 #[derive(Clone, Copy)]
@@ -22,8 +33,7 @@ pub struct Load {
     pub total: u64,
     /// The room of a packet, in bytes.
     pub room: usize,
-    /// Packets are filled, as of a stack that owns them, and not made.
-    pub filled: bool,
+    pub way: Way,
     /// How many bytes are written in all before each burst, about.
     pub fill: usize,
 }
@@ -37,7 +47,7 @@ pub const PLAIN: Load = Load {
     lose: 0,
     total: 128 << 20,
     room: 1200,
-    filled: false,
+    way: Way::Made,
     fill: 256 << 10,
 };
 
@@ -54,10 +64,12 @@ pub struct Pair {
     given: Vec<u64>,
     taken: Vec<u64>,
     out: Vec<u8>,
-    // Their numbers and lengths, and the payloads.
-    packets: Vec<(u64, usize, Vec<u8>)>,
+    // Their tokens and lengths, and the payloads.
+    packets: Vec<(Token, usize, Vec<u8>)>,
     spare: Vec<Vec<u8>>,
     lost: Vec<u64>,
+    // Those that came, joined, where packets are told by their tokens.
+    came: Option<Token>,
     pub made: u64,
     /// How many bytes were written in all.
     pub written: u64,
@@ -93,6 +105,7 @@ impl Pair {
             packets: Vec::new(),
             spare: Vec::new(),
             lost: Vec::new(),
+            came: None,
             made: 0,
             written: 0,
         }
@@ -119,32 +132,36 @@ impl Pair {
         for _ in 0..self.load.burst {
             let mut payload = self.spare.pop().unwrap_or_default();
             payload.resize(self.load.room, 0);
-            let Some((number, len)) = self.make(&mut payload) else {
+            let Some((token, len)) = self.make(&mut payload) else {
                 break;
             };
-            self.packets.push((number, len, payload));
+            self.packets.push((token, len, payload));
         }
-        for (number, len, payload) in self.packets.drain(..) {
+        for (token, len, payload) in self.packets.drain(..) {
             self.made += 1;
             if self.load.lose > 0 && self.made % self.load.lose == 0 {
-                self.lost.push(number);
+                self.lost.push(token.number);
+            } else if self.load.way == Way::Taken {
+                take(&mut self.reader, &payload[..len]);
+                let joined = self.came.map_or(Some(token), |came| came.and(token));
+                self.came = joined.or(self.came);
             } else {
                 self.reader
-                    .receive(number, &payload[..len])
+                    .receive(token.number, &payload[..len])
                     .expect("an honest packet");
             }
             self.spare.push(payload);
         }
     }
 
-    // The next packet: its number and its length.
-    fn make(&mut self, payload: &mut [u8]) -> Option<(u64, usize)> {
-        if self.load.filled {
-            let filled = self.sender.fill(payload, &Fill::all()).ok()??;
-            return Some((filled.token.number, filled.len));
+    // The next packet: its token and its length.
+    fn make(&mut self, payload: &mut [u8]) -> Option<(Token, usize)> {
+        if self.load.way == Way::Made {
+            let made = self.sender.make_packet(payload).ok()??;
+            return Some((self.sender.token_of(made.number), made.len));
         }
-        let made = self.sender.make_packet(payload).ok()??;
-        Some((made.number, made.len))
+        let filled = self.sender.fill(payload, &Fill::all()).ok()??;
+        Some((filled.token, filled.len))
     }
 
     /// Reads what came on each active stream, and answers how many bytes.
@@ -165,15 +182,36 @@ impl Pair {
     pub fn answer(&mut self) {
         let mut payload = self.spare.pop().unwrap_or_default();
         payload.resize(self.load.room, 0);
-        if let Ok(Some(made)) = self.reader.make_packet(&mut payload) {
+        if self.load.way == Way::Taken {
+            if let Some(came) = self.came.take() {
+                self.sender.acked(came).expect("they were given");
+            }
+            if let Ok(Some(filled)) = self.reader.fill(&mut payload, &Fill::all()) {
+                take(&mut self.sender, &payload[..filled.len]);
+                self.reader.acked(filled.token).expect("it was given");
+            }
+        } else if let Ok(Some(made)) = self.reader.make_packet(&mut payload) {
             self.sender
                 .receive(made.number, &payload[..made.len])
                 .expect("an honest packet");
+            if self.load.way == Way::Filled {
+                // What is filled in carries no ACK.
+                let token = self.reader.token_of(made.number);
+                self.reader.acked(token).expect("it was given");
+            }
         }
         self.spare.push(payload);
         for number in self.lost.drain(..) {
             // An ACK may have come first where the packet was made again.
             let _ = self.sender.declare_lost(number);
         }
+    }
+}
+
+// Hands the frames in, one by one.
+fn take(end: &mut Endpoint, payload: &[u8]) {
+    for placed in frames(payload) {
+        let taken = placed.as_ref().map(|placed| end.take_frame(&placed.frame));
+        assert!(matches!(taken, Ok(Ok(_))), "an honest packet");
     }
 }

@@ -122,6 +122,19 @@ fn ended() -> Run {
     timed(&crowd.server, last, Endpoint::next_ended)
 }
 
+// Whether anything is due: bytes of the last stream are.
+fn due() -> Run {
+    let mut crowd = Crowd::new();
+    crowd.client.write(crowd.last(), b"!").expect("it is open");
+    let units = 1_000_000;
+    let time = time(|| {
+        for _ in 0..units {
+            assert!(black_box(&crowd.client).is_sendable());
+        }
+    });
+    Run { time, units }
+}
+
 pub fn rows() -> Vec<Row> {
     let row = |name, run| Row {
         name,
@@ -131,6 +144,7 @@ pub fn rows() -> Vec<Row> {
     vec![
         row("search-readable-10000", readable),
         row("search-sendable-10000", sendable),
+        row("search-due-10000", due),
         row("search-writable-10000", writable),
         row("search-ended-10000", ended),
     ]

@@ -1,7 +1,7 @@
 //! The whole loop: written, put in packets, read from them, read by the owner, acknowledged, with the credit told back.
 
 use crate::clock::time;
-use crate::ends::{Load, PLAIN, Pair};
+use crate::ends::{Load, PLAIN, Pair, Way};
 use crate::{Row, Run};
 
 pub fn transfer(load: Load) -> Run {
@@ -31,7 +31,13 @@ pub fn rows() -> Vec<Row> {
         row("loop", || transfer(PLAIN)),
         row("filled", || {
             transfer(Load {
-                filled: true,
+                way: Way::Filled,
+                ..PLAIN
+            })
+        }),
+        row("taken", || {
+            transfer(Load {
+                way: Way::Taken,
                 ..PLAIN
             })
         }),
