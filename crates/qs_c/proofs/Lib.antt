@@ -1,3 +1,5 @@
+pub mod HeardWords
+pub mod Hearings
 pub mod Laid
 pub mod Noting
 pub mod Ranges

@@ -33,8 +33,8 @@ sending_of None = record { state = 0; has_final_size = false; was_reset = false;
 sending_of (Some r) = record { state = send_number r.state; has_final_size = is_some r.final_size; was_reset = is_some r.reset_code; written = r.written; limit = r.limit; final_size = unwrap_or r.final_size 0; reset_code = unwrap_or r.reset_code 0 }
 
 abbrev pub receiving_of : Option RecvReport → GvReceiving
-receiving_of None = record { state = 0; has_final_size = false; was_reset = false; read_count = 0; highest = 0; limit = 0; final_size = 0; reset_code = 0 }
-receiving_of (Some r) = record { state = recv_number r.state; has_final_size = is_some r.final_size; was_reset = is_some r.reset_code; read_count = r.read_count; highest = r.highest; limit = r.limit; final_size = unwrap_or r.final_size 0; reset_code = unwrap_or r.reset_code 0 }
+receiving_of None = record { state = 0; has_final_size = false; was_reset = false; was_stopped = false; read_count = 0; highest = 0; limit = 0; final_size = 0; reset_code = 0; stop_code = 0 }
+receiving_of (Some r) = record { state = recv_number r.state; has_final_size = is_some r.final_size; was_reset = is_some r.reset_code; was_stopped = is_some r.stop_code; read_count = r.read_count; highest = r.highest; limit = r.limit; final_size = unwrap_or r.final_size 0; reset_code = unwrap_or r.reset_code 0; stop_code = unwrap_or r.stop_code 0 }
 
 abbrev pub lane_of : LaneReport → GvLane
 lane_of r = record { has_sending = is_some r.send; has_receiving = is_some r.recv; sending = sending_of r.send; receiving = receiving_of r.recv }

@@ -1,7 +1,12 @@
 pub mod Acks
+pub mod Events
 pub mod Frames
+pub mod Giving
 pub mod Kept
+pub mod KeptHeard
 pub mod Lanes
+pub mod Lending
+pub mod Peeking
 pub mod Places
 pub mod Statuses
 pub mod Structs

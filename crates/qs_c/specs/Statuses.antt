@@ -58,6 +58,11 @@ Asked None (Some f) fits Refused Answer = ⊥
 Asked (Some e) None fits Refused Answer = ⊥
 Asked (Some e) (Some f) fits Refused Answer = (f ≡ e) × MatchBool fits (Answer e) Refused
 
+-- A call that only looks at the end of a handle, which it borrows.
+abbrev pub Looked : Option End → Bool → Type 0 → (End → Type 0) → Type 0
+Looked None fits Refused Answer = Refused
+Looked (Some e) fits Refused Answer = MatchBool fits (Answer e) Refused
+
 -- A refusal for a handle without an end, or for a number out of its range.
 abbrev pub Invalid : {A : Type 0} → ℕ → A → A → Type 0
 Invalid status old new = (status ≡ 1) × (new ≡ old)

@@ -19,6 +19,9 @@ use Rattle.qs_c.specs.declared.structs.GvToken.{GvToken}
 use Rattle.qs_calls.specs.declared.token.Token.{Token}
 use Rattle.qs_c.specs.declared.structs.GvClosing.{GvClosing}
 use Rattle.qs_calls.specs.declared.closing.Closing.{Closing}
+use Rattle.qs_calls.specs.declared.closing.Closer.TheVariants.{Us, Peer}
+use Rattle.qs_calls.specs.declared.closing.CloseKind.TheVariants.{Transport, Application}
+use Rattle.qs_calls.specs.declared.closing.ToldClose.{ToldClose}
 
 abbrev pub settings_in : GvSettings → Settings
 settings_in s = record { conn_window = s.conn_window; bidi_local = s.bidi_local; bidi_remote = s.bidi_remote; uni = s.uni; send_buffer = s.send_buffer; grant_bidi = s.grant_bidi; grant_uni = s.grant_uni; lifetime_bidi = s.lifetime_bidi; lifetime_uni = s.lifetime_uni }
@@ -49,7 +52,7 @@ abbrev pub limits_in : GvLimits → PeerLimits
 limits_in s = record { max_data = s.max_data; bidi_local = s.bidi_local; bidi_remote = s.bidi_remote; uni = s.uni; streams_bidi = s.streams_bidi; streams_uni = s.streams_uni }
 
 abbrev pub request_in : GvRequest → Fill
-request_in r = record { items = r.items; streams = r.streams; first = r.first; alone = r.alone }
+request_in r = record { items = r.items; streams = r.streams; first = r.first; alone = r.alone; most_bytes = r.most_bytes }
 
 -- where no STREAM frame was filled in, 0
 abbrev pub filled_of : Filled → GvFilled
@@ -66,3 +69,7 @@ made_of m = record { number = m.number; len = m.len; is_ack_eliciting = m.is_ack
 
 abbrev pub closing_of : Closing → GvClosing
 closing_of c = record { code = c.code; frame_type = c.frame_type; place = c.place }
+
+-- 0 stands for this side and the transport
+abbrev pub close_in : (by kind code : ℕ) → ToldClose
+close_in by kind code = record { by = if nat_eq by 0 then Us else Peer; kind = if nat_eq kind 0 then Transport else Application; code = code }

@@ -3,15 +3,17 @@ ghost use Rattle.std.specs.Prelude.{◌≡◌, option_map};
 ghost use Rattle.qs_c.specs.Statuses.{use_status, lost_status, make_status, setup_status, raise_status, set_status, token_status, taken_number, status_of, told, found, read_told, consumed_told, open_told, made_told, filled_told, taken_told, received_told};
 ghost use Rattle.qs_c.specs.Structs.{closing_of};
 ghost use Rattle.qs_c.specs.Lanes.{lane_of};
+ghost use Rattle.qs_c.specs.Peeking.{peek_told};
 
 use crate::lane::GvLane;
+use crate::peeking::GvPieces;
 use crate::structs::{GvClosing, GvFilled, GvMade};
 use qs_calls::{Consumed, Filled, TakeFault, Taken, TokenFault};
 use qs_conn::{
     Closing, LaneReport, LostFault, Made, MakeFault, OpenFault, RaiseFault, Received, SetFault,
     SetupFault, UseFault,
 };
-use qs_recv::Read;
+use qs_recv::{Peek, Read};
 use qs_wire::StreamId;
 
 pub(crate) const OK: u32 = 0;
@@ -135,6 +137,28 @@ pub(crate) fn of_consumed(
             Read::End => END,
             Read::Wait => WAIT,
         },
+        Err(fault) => of_fault(fault),
+    }
+}
+
+pub(crate) fn of_peek<'a>(
+    answer: Result<Peek<'a>, UseFault>,
+    code: &mut u64,
+    pieces: &mut GvPieces<'a>,
+) -> u32
+    ensures { (result, code.new, pieces.new) ≡ peek_told answer.entry code.old pieces.old }
+{
+    match answer {
+        Ok(Peek::Bytes(front, back)) => {
+            *pieces = GvPieces { front, back };
+            OK
+        }
+        Ok(Peek::Reset(of)) => {
+            *code = of;
+            RESET
+        }
+        Ok(Peek::End) => END,
+        Ok(Peek::Wait) => WAIT,
         Err(fault) => of_fault(fault),
     }
 }

@@ -14,7 +14,7 @@ use std::marker::Model;
 #[repr(C)]
 #[derive(Drop)]
 pub struct Cell {
-    at: *mut u8,
+    pub(crate) at: *mut u8,
     alloc: Global,
     pub(crate) ghost value: { Option End } by { coded_option end_code },
 }

@@ -37,6 +37,16 @@ impl Handle {
         };
     }
 
+    /// The end that the handle holds, lent as long as the handle is.
+    pub(crate) fn held(&mut self) -> Option<&Thing>
+        ensures { MatchOption result (self.old.cell.value ≡ None) (λ thing. self.old.cell.value ≡ Some thing.now) }
+    {
+        if !self.live {
+            return None;
+        }
+        Some(self.cell.lend())
+    }
+
     fn none(alloc: Global) -> Handle
         ensures { result.cell.value ≡ None }
     {

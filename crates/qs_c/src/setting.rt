@@ -1,7 +1,7 @@
 //! What an owner sets anew while the connection lasts.
 ghost use Rattle.std.specs.Prelude.{◌≡◌, true, Result};
 ghost use Rattle.qs_calls.specs.declared.settings.SetFault.{SetFault};
-ghost use Rattle.qs_machine.specs.Setting.{ConnWindow, Grant, SendBuffer, SetStep};
+ghost use Rattle.qs_machine.specs.Setting.{ConnWindow, Grant, SendBuffer, StreamWindow, SetStep};
 ghost use Rattle.qs_c.specs.Statuses.{Called, Tested, is_small, is_flag, dir_of, set_status, status_of};
 
 use crate::answers::{INVALID, of_set};
@@ -55,6 +55,24 @@ pub extern "C" fn gvp_set_send_buffer(
     status
 }
 
+/// How far what comes of a stream may run ahead of what is taken of it.
+#[unsafe(no_mangle)]
+pub extern "C" fn gvp_set_stream_window(
+    alloc: Global,
+    end: &mut Handle,
+    stream: u64,
+    window: u64,
+) -> u32
+    ensures { Called end.old.cell.value end.new.cell.value (is_small stream) (result ≡ 1) (λ e f. (a : Result (Unit {0}) SetFault) × (result ≡ status_of set_status a) × SetStep e (StreamWindow stream window) a f) }
+{
+    let Some(mut thing) = end.take(alloc) else {
+        return INVALID;
+    };
+    let status = thing.set_stream_window(stream, window);
+    end.put(thing);
+    status
+}
+
 impl Thing {
     pub(crate) fn set_conn_window(&mut self, window: u64) -> u32
         ensures { (a : Result (Unit {0}) SetFault) × (result ≡ status_of set_status a) × SetStep self.old (ConnWindow window) a self.new }
@@ -78,5 +96,14 @@ impl Thing {
             return INVALID;
         };
         of_set(self.end.set_send_buffer(id, size))
+    }
+
+    pub(crate) fn set_stream_window(&mut self, stream: u64, window: u64) -> u32
+        ensures { Tested (is_small stream) self.old self.new (result ≡ 1) ((a : Result (Unit {0}) SetFault) × (result ≡ status_of set_status a) × SetStep self.old (StreamWindow stream window) a self.new) }
+    {
+        let Some(id) = StreamId::new(stream) else {
+            return INVALID;
+        };
+        of_set(self.end.set_stream_window(id, window))
     }
 }

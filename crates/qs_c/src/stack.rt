@@ -84,6 +84,7 @@ impl Thing {
             streams: want.streams,
             first,
             alone: want.alone,
+            most_bytes: want.most_bytes,
         };
         of_filled(self.end.fill(out, &wanted), filled)
     }

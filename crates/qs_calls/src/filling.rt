@@ -1,6 +1,6 @@
 //! What a stack that owns its packets asks to be filled in, and what went in.
 
-ghost use Rattle.std.specs.Prelude.{◌≡◌, true, false};
+ghost use Rattle.std.specs.Prelude.{◌≡◌, ◌-◌, ◌^◌, true, false};
 
 use crate::Token;
 use qs_wire::StreamId;
@@ -22,42 +22,51 @@ pub struct Fill {
     pub first: StreamId,
     /// Of that stream alone.
     pub alone: bool,
+    /// So many bytes of streams at most; `NO_CAP` stands for as many as fit. A chunk is cut where it would pass that, and then no stream
+    /// has another turn. With 0 no byte goes in, and an end only where all bytes of its stream went and no stream before it has any.
+    pub most_bytes: usize,
 }
+
+/// As many bytes of streams as fit: a slice has fewer than that.
+pub const NO_CAP: usize = usize::MAX;
 
 impl Fill {
     /// All that is due, from stream 0 on.
     pub fn all() -> Fill
-        ensures { result ≡ record { items = true; streams = true; first = 0; alone = false } }
+        ensures { result ≡ record { items = true; streams = true; first = 0; alone = false; most_bytes = 2 ^ 64 - 1 } }
     {
         Fill {
             items: true,
             streams: true,
             first: first_stream(),
             alone: false,
+            most_bytes: NO_CAP,
         }
     }
 
     /// Control items alone.
     pub fn control() -> Fill
-        ensures { result ≡ record { items = true; streams = false; first = 0; alone = false } }
+        ensures { result ≡ record { items = true; streams = false; first = 0; alone = false; most_bytes = 2 ^ 64 - 1 } }
     {
         Fill {
             items: true,
             streams: false,
             first: first_stream(),
             alone: false,
+            most_bytes: NO_CAP,
         }
     }
 
     /// Bytes and ends of streams alone, from stream 0 on.
     pub fn data() -> Fill
-        ensures { result ≡ record { items = false; streams = true; first = 0; alone = false } }
+        ensures { result ≡ record { items = false; streams = true; first = 0; alone = false; most_bytes = 2 ^ 64 - 1 } }
     {
         Fill {
             items: false,
             streams: true,
             first: first_stream(),
             alone: false,
+            most_bytes: NO_CAP,
         }
     }
 
@@ -70,6 +79,7 @@ impl Fill {
             streams: self.streams,
             first: stream,
             alone: false,
+            most_bytes: self.most_bytes,
         }
     }
 
@@ -82,6 +92,20 @@ impl Fill {
             streams: self.streams,
             first: stream,
             alone: true,
+            most_bytes: self.most_bytes,
+        }
+    }
+
+    /// The same, with so many bytes of streams at most.
+    pub fn at_most(self, bytes: usize) -> Fill
+        ensures { result ≡ record self { most_bytes = bytes } }
+    {
+        Fill {
+            items: self.items,
+            streams: self.streams,
+            first: self.first,
+            alone: self.alone,
+            most_bytes: bytes,
         }
     }
 }
@@ -93,7 +117,8 @@ pub struct Filled {
     pub len: usize,
     /// The stream of the last STREAM frame, if there is one. An owner whose streams send by turns goes on behind it.
     pub last_stream: Option<StreamId>,
-    /// Whether more of what was asked for is due that may go.
+    /// Whether more of what was asked for is due that may go. What is held back by the cap of bytes isn't counted: once that is used up,
+    /// control items alone are.
     pub more: bool,
 }
 

@@ -25,6 +25,7 @@ use Rattle.qs_machine.specs.FrameStep.{is_named}
 use Rattle.qs_machine.specs.Lawful.{MayAck, Fills, AreInTurn, frame_put}
 use Rattle.qs_machine.specs.Making.{IsText, IsPlainAck, NamesMost}
 use Rattle.qs_conn.specs.declared.filling.Wish.{Wish}
+use Rattle.qs_machine.specs.Filling.{stream_bytes}
 use Rattle.qs_conn.specs.Filling.{IsWished, IsAckLeft, InPacket, IsAckText, Begun, IsPassed, no_slot}
 use Rattle.qs_conn.proofs.PacketOrder.{order_first}
 use Rattle.qs_conn.proofs.Texts.{no_text, text_push, ack_left}
@@ -245,6 +246,7 @@ begun_ack wish room old text t goes asked sent fresh =
       ack = λ x. elim t.full [ inl full ↦ inl full | inr all ↦ inr (t.largest, t.ranges, inl (sym t.is), all) ];
       items = λ i p x. absurd p;
       no_chunk = λ m c there. fresh (Data m c) there;
+      no_byte = ap (λ f. stream_bytes (f ∷ [])) t.is;
     }
 
 pub begun_left : (wish : Wish) (room : ℕ) (old : End) (left : Bool) (text : List ℕ) → IsAckText wish.delay room old text → IsAckLeft true old.ack_due left → wish.ack_due ≡ true → wish.want.items ≡ true → all_sent old ≤ old.known_data → ((x : Piece) → InPacket old x → ⊥)

@@ -1,12 +1,12 @@
 -- Indexes that are marked in two lists: words of their flags, and the flags that sum those up.
-use Rattle.std.proofs.Common.{◌≡◌, ℕ, zero, suc, ◌+◌, ◌*◌, ◌/◌, ◌%◌, ◌<◌, ◌≤◌, ◌⊎◌, ◌==◌, ◌&&◌, Bool, true, false, List, [], ◌∷◌, length, get_or, min, bit_and, Option, refl, sym, ap, ◌∙◌, arith, inl, inr}
+use Rattle.std.proofs.Common.{◌≡◌, ℕ, zero, suc, ◌/◌, ◌%◌, ◌<◌, ◌≤◌, ◌⊎◌, ◌==◌, ◌&&◌, Bool, true, false, List, [], ◌∷◌, length, get_or, min, bit_and, Option, refl, sym, ap, ◌∙◌, arith, inl, inr}
 use Rattle.std.specs.Int.{bit_at}
 use Rattle.std.proofs.lemmas.Bool.{cases_lt}
-use Rattle.std.proofs.lemmas.List.{get_or_past, get_or_read}
+use Rattle.std.proofs.lemmas.List.{get_or_read}
 use Rattle.std.proofs.lemmas.Nat.Bits.{bit_at_and, bit_at-lt}
-use Rattle.qs_conn.specs.Marks.{is_marked, both, IsNextMark, IsNextInWord, HasNoMark, AreSummed}
+use Rattle.qs_conn.specs.Marks.{is_marked, both, IsNextMark, IsNextInWord, AreSummed}
 use Rattle.qs_conn.specs.Words.{flag, flags, AreFlags}
-use Rattle.qs_conn.proofs.Words.{flags_len, marked_is, flag_past}
+use Rattle.qs_conn.proofs.Words.{marked_is, flag_past}
 
 pub both_len : (ms os : List Bool) → length (both ms os) ≡ min (length ms) (length os)
 both_len [] os = omega arith

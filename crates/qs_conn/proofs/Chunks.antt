@@ -99,7 +99,7 @@ module _ (e : End) (n : ℕ) (s : Sending) (t : Ties e n s) (c : Chunk) (chunk :
       go true is none = refl
       go false is none = (let some = chunk.some in grind (arith, nat_tests, some, is, none))
 
-  first_due : 0 < c.len → IsDue e n s.lane c.offset
+  pub first_due : 0 < c.len → IsDue e n s.lane c.offset
   first_due some = t.due c.offset (chunk.due c.offset (omega arith) (omega (arith, some)))
 
   no_reset_of : s.lane.was_reset ≡ None
@@ -191,7 +191,7 @@ module _ (e : End) (n : ℕ) (s : Sending) (t : Ties e n s) (c : Chunk) (chunk :
   due_outside : (q : ℕ) → IsDue chunk_end_put n (sent_lane s.lane c) q → c.offset ≤ q → q < c.offset + c.len → ⊥
   due_outside q d ge lt = d.not_sent (chunk_of c.offset bytes c.fin, new_out, ge, omega (arith, count, lt))
 
-  due_still : (q : ℕ) → IsDue e n s.lane q → (c.offset ≤ q → q < c.offset + c.len → ⊥) → IsDue chunk_end_put n (sent_lane s.lane c) q
+  pub due_still : (q : ℕ) → IsDue e n s.lane q → (c.offset ≤ q → q < c.offset + c.len → ⊥) → IsDue chunk_end_put n (sent_lane s.lane c) q
   due_still q d out =
       record {
         no_reset = d.no_reset;
@@ -317,30 +317,31 @@ none_goes e n s room t enough credit none (l, there, some) = go (same_Some l s.l
     go same (inl b) = byte (subst (ByteGoes e n) same b)
     go same (inr b) = (let (due, sent) = subst (EndGoes e n) same b in sendable_end_has_chunk s room (e.known_data - all_sent e) t.lawful (omega (arith, enough)) (t.end_all due) sent none)
 
+-- A byte of a chunk within the credit goes.
+pub byte_of : (e : End) (n : ℕ) (s : Sending) (t : Ties e n s) (c : Chunk) → IsDueChunk s c → c.offset + c.len ≤ s.lane.sent_end + (e.known_data - all_sent e) → 0 < c.len → ByteGoes e n s.lane
+byte_of e n s t c chunk credit some = (
+  c.offset,
+  due,
+  omega (arith, some, chunk.within_limit),
+  elim (cases_lt c.offset s.lane.sent_end) [
+    | inl old ↦ inl old
+    | inr ge ↦ (let le : c.offset ≤ s.lane.sent_end = first_sent in inr (omega (arith, ge, le), omega (arith, some, credit, ge)))
+  ],
+)
+  where
+    due : IsDue e n s.lane c.offset
+    due = first_due e n s t c chunk some
+
+    first_sent : c.offset ≤ s.lane.sent_end
+    first_sent = elim (cases_lt s.lane.sent_end c.offset) [
+      | inl lt ↦ lowest_of e n s t c chunk s.lane.sent_end (t.lawful.parts.unsent_due (ap is_some due.no_reset) s.lane.sent_end (omega arith) (omega (arith, lt, due.written)))
+      | inr ge ↦ ge
+    ]
+
 -- A half with a chunk within the credit has something that goes.
 pub chunk_goes : (e : End) (n : ℕ) (s : Sending) (t : Ties e n s) (c : Chunk) → IsDueChunk s c → c.offset + c.len ≤ s.lane.sent_end + (e.known_data - all_sent e) → StreamGoes e n
-chunk_goes e n s t c chunk credit = (s.lane, t.lane, elim (cases_lt 0 c.len) [ inl some ↦ inl (byte some) | inr none ↦ inr (ended none (some_of e n s t c chunk)) ])
+chunk_goes e n s t c chunk credit = (s.lane, t.lane, elim (cases_lt 0 c.len) [ inl some ↦ inl (byte_of e n s t c chunk credit some) | inr none ↦ inr (ended none (some_of e n s t c chunk)) ])
   where
-    due : 0 < c.len → IsDue e n s.lane c.offset
-    due some = first_due e n s t c chunk some
-
-    byte : 0 < c.len → ByteGoes e n s.lane
-    byte some = (
-      c.offset,
-      due some,
-      omega (arith, some, chunk.within_limit),
-      elim (cases_lt c.offset s.lane.sent_end) [
-        | inl old ↦ inl old
-        | inr ge ↦ (let le : c.offset ≤ s.lane.sent_end = first_sent some in inr (omega (arith, ge, le), omega (arith, some, credit, ge)))
-      ],
-    )
-      where
-        first_sent : 0 < c.len → c.offset ≤ s.lane.sent_end
-        first_sent some = elim (cases_lt s.lane.sent_end c.offset) [
-          | inl lt ↦ lowest_of e n s t c chunk s.lane.sent_end (t.lawful.parts.unsent_due (ap is_some (due some).no_reset) s.lane.sent_end (omega arith) (omega (arith, lt, (due some).written)))
-          | inr ge ↦ ge
-        ]
-
     ended : c.len ≤ 0 → (0 < c.len) ⊎ (c.fin ≡ true) → EndGoes e n s.lane
     ended none (inl some) = absurd (omega (arith, none, some))
     ended none (inr fin) =

@@ -6,7 +6,7 @@ use Rattle.std.proofs.lemmas.Bool.{true≢false}
 use Rattle.std.proofs.lemmas.Option.{none-some, same_Some}
 use Rattle.qs_ranges.specs.declared.NoMemory.{NoMemory}
 use Rattle.qs_ranges.specs.Numbers.{MAX_VARINT, NumberSet}
-use Rattle.qs_recv.specs.Lane.{RecvLane, after_read, stop, stop_and_forget, new_lane as new_recv_lane}
+use Rattle.qs_recv.specs.Lane.{RecvLane, after_read, stop, stop_and_forget, new_lane as new_recv_lane, MAX_WINDOW, set_window}
 use Rattle.qs_recv.specs.declared.credit.Share.{Share}
 use Rattle.qs_send.specs.Lane.{SendLane, Sending, new_lane as new_send_lane, answer_of, refusal, reset_refusal, write_lane, finish_lane, reset_lane, stopped_lane, allow_lane, buffer_lane}
 use Rattle.qs_send.specs.declared.parts.Chunk.{Chunk}
@@ -33,10 +33,10 @@ use Rattle.qs_conn.specs.Runs.{held_out}
 use Rattle.qs_conn.specs.declared.slot.Slot.TheVariants as slots
 use Rattle.qs_conn.specs.Untold.{AreTold, TellsAt, SendTells, HasMore, told_by_recv, told_by_send, marked_for}
 use Rattle.qs_conn.proofs.Calm.{told_read}
-use Rattle.qs_conn.proofs.Counted.{fit_sends, fit_allowed, fit_written, fit_finished, fit_reset, fit_told_to_stop, fit_read, fit_stopped, fit_forgotten, fit_opened, put_counted, fit_buffered}
+use Rattle.qs_conn.proofs.Counted.{fit_sends, fit_allowed, fit_written, fit_finished, fit_reset, fit_told_to_stop, fit_read, fit_stopped, fit_forgotten, fit_opened, put_counted, fit_buffered, fit_windowed}
 use Rattle.qs_conn.proofs.Flows.{end_chunk}
 use Rattle.qs_conn.proofs.Funded.{sum_lane, reset_sends, sum_piece, sum_put}
-use Rattle.qs_conn.proofs.Kept.{sound_after_read, sound_after_stop, sound_after_forget, sound_opened}
+use Rattle.qs_conn.proofs.Kept.{sound_after_read, sound_after_stop, sound_after_forget, sound_opened, sound_after_window}
 use Rattle.qs_conn.proofs.Pieces.{noted_old, put_old}
 use Rattle.qs_conn.proofs.Untolds.{recv_own, send_own, recv_noted, send_noted, recvs_open, sends_open, told_carried, told_edited, told_placed, told_unmarked, told_written, told_sent, told_finished, told_allowed, told_buffered, told_put, told_noted, acked_stays, lost_stays, marks_stay, in_idle, out_idle}
 use Rattle.qs_conn.proofs.EachItem.{each_item}
@@ -126,6 +126,14 @@ module _ (c : Core) (h : IsAtRest c) where
       rest_recvs now marks c.ended (sound_after_stop c.limits.role c.limits.settings (present_of c.limits) c.recvs now c.limits.granted n code core.sound after)
       (fit_stopped _ _ _ _ _ _ _ core.counts now n code after)
       (told_edited (TellsAt c.limits.role c.limits.settings) c.recvs c.outbox.outstanding c.outbox.acked c.untold_recvs core.told_in now marks n (λ l. stop l code) after are)
+
+  -- a stream has another window
+  pub rest_windowed : (n w : ℕ) (now : Tables RecvLane) (marks : Tables Bool) → 1 ≤ w → w ≤ MAX_WINDOW → now ≡ updated c.recvs n (λ l. set_window l w) (lookup c.recvs n) → marks ≡ updated c.untold_recvs n (λ b. true) (lookup c.untold_recvs n)
+      → IsAtRest (record c { recvs = now; untold_recvs = marks })
+  rest_windowed n w now marks some small after are =
+      rest_recvs now marks c.ended (sound_after_window c.limits.role c.limits.settings (present_of c.limits) c.recvs now c.limits.granted n w some small core.sound after)
+      (fit_windowed _ _ _ _ _ _ _ core.counts now n w after)
+      (told_edited (TellsAt c.limits.role c.limits.settings) c.recvs c.outbox.outstanding c.outbox.acked c.untold_recvs core.told_in now marks n (λ l. set_window l w) after are)
 
   -- a stream is stopped and forgotten, and counted anew
   pub rest_forgotten : (n code : ℕ) (now : Tables RecvLane) (marks : Tables Bool) (e : ByDir ℕ) (was is : Bool) → now ≡ updated c.recvs n (λ l. stop_and_forget l code) (lookup c.recvs n) → marks ≡ updated c.untold_recvs n (λ b. true) (lookup c.untold_recvs n) → was ≡ is_over c.limits.role c.recvs c.outbox.sends n

@@ -4,7 +4,7 @@ use Rattle.std.specs.Prelude.{max, is_none, ◌==◌, Ok, IsOk}
 use Rattle.std.proofs.lemmas.Bool.{both_ways}
 use Rattle.std.proofs.lemmas.Option.{none-some, same_Some}
 use Rattle.qs_wire.specs.declared.stream_id.Role.{Role}
-use Rattle.qs_recv.specs.Lane.{RecvLane, stop, stop_and_forget, raise, after_read, take_stream, take_reset, check_stream, is_whole as recv_whole, new_lane as new_recv_lane}
+use Rattle.qs_recv.specs.Lane.{RecvLane, stop, stop_and_forget, raise, after_read, take_stream, take_reset, check_stream, is_whole as recv_whole, new_lane as new_recv_lane, set_window}
 use Rattle.qs_recv.specs.Lawful.{IsLawful}
 use Rattle.qs_recv.specs.Assembled.{discard, forget}
 use Rattle.qs_recv.specs.declared.credit.Share.{Share}
@@ -117,6 +117,12 @@ module _ (role : Role) (s : Settings) (recvs : Tables RecvLane) (sends : Tables 
       still_stopped : (t : Bool) (l : RecvLane) → IsToldOfEnd (Some l) → IsToldOfEnd (Some (cond t l (stopped l)))
       still_stopped true l told is = told is
       still_stopped false l told is = inr refl
+
+  -- another window
+  pub fit_windowed : (now : Tables RecvLane) (n w : ℕ) → now ≡ updated recvs n (λ l. set_window l w) (lookup recvs n) → CountsFit role s now sends e b u
+  fit_windowed now n w is =
+      fit_recvs now sends e (recvs_same role recvs now sends n (λ l. set_window l w) e h.counted is (λ l there. refl))
+      (told_updated recvs now n (λ l. set_window l w) h.told is (λ l there told. told))
 
   -- one of a stream that is forgotten
   pub fit_forgotten : (now : Tables RecvLane) (n code : ℕ) (e' : ByDir ℕ) (was is : Bool) → now ≡ updated recvs n (λ l. stop_and_forget l code) (lookup recvs n) → was ≡ is_over role recvs sends n → is ≡ is_over role now sends n → e' ≡ recounted n was is e

@@ -1,11 +1,11 @@
 -- What holds of a new end, and of the credit of a peer.
-use Rattle.std.proofs.Common.{◌≡◌, ℕ, Bool, true, false, not, ◌&&◌, Option, Some, None, refl, ap, sym, ◌∙◌, arith, rules, subst, cond}
+use Rattle.std.proofs.Common.{◌≡◌, ◌≤◌, ℕ, Bool, true, false, not, ◌&&◌, Option, Some, None, refl, ap, sym, ◌∙◌, arith, rules, subst, cond}
 use Rattle.std.specs.FinSet as set
 use Rattle.std.proofs.lemmas.Bool.{true≢false}
 use Rattle.std.proofs.lemmas.Bool.Decides.{nat_tests}
 use Rattle.qs_ranges.specs.Numbers.{NumberSet, run_starts}
 use Rattle.qs_wire.specs.declared.stream_id.Role.{Role}
-use Rattle.qs_recv.specs.Lane.{RecvLane, new_lane, after_read, stop, stop_and_forget}
+use Rattle.qs_recv.specs.Lane.{RecvLane, new_lane, after_read, stop, stop_and_forget, MAX_WINDOW, set_window}
 use Rattle.qs_recv.specs.declared.credit.Share.{Share}
 use Rattle.qs_calls.specs.declared.settings.Settings.{Settings}
 use Rattle.qs_calls.specs.declared.settings.Tuning.{Tuning}
@@ -24,7 +24,7 @@ use Rattle.qs_conn.proofs.Runs.{idle_new}
 use Rattle.qs_conn.specs.Untold.{TellsAt, SendTells}
 use Rattle.qs_conn.proofs.Untolds.{told_none}
 use Rattle.qs_machine.proofs.Sound.{keeps_open}
-use Rattle.qs_machine.proofs.CallsSound.{sound_read, sound_stop, sound_forget}
+use Rattle.qs_machine.proofs.CallsSound.{sound_read, sound_stop, sound_forget, sound_window}
 use Rattle.qs_machine.proofs.Bounds.{new_ends_sound}
 
 record AllTrue (a b c : Bool) : Type 0 where
@@ -109,6 +109,9 @@ sound_after_stop role s p recvs now g n code k after = subst (λ (t : Tables Rec
 
 pub sound_after_forget : (role : Role) (s : Settings) (p : Present) (recvs now : Tables RecvLane) (g n code : ℕ) → KeepsCredit role s p recvs g → now ≡ updated recvs n (λ l. stop_and_forget l code) (lookup recvs n) → KeepsCredit role s p now g
 sound_after_forget role s p recvs now g n code k after = subst (λ (t : Tables RecvLane). KeepsCredit role s p t g) (sym after) (sound_forget n code (end_with role s p recvs g) k)
+
+pub sound_after_window : (role : Role) (s : Settings) (p : Present) (recvs now : Tables RecvLane) (g n w : ℕ) → 1 ≤ w → w ≤ MAX_WINDOW → KeepsCredit role s p recvs g → now ≡ updated recvs n (λ l. set_window l w) (lookup recvs n) → KeepsCredit role s p now g
+sound_after_window role s p recvs now g n w some small k after = subst (λ (t : Tables RecvLane). KeepsCredit role s p t g) (sym after) (sound_window n w (end_with role s p recvs g) some small k)
 
 -- a stream was opened, or wasn't
 pub sound_opened : (role : Role) (s : Settings) (p : Present) (recvs now : Tables RecvLane) (g n w : ℕ) (share : Share) (absent : Bool) → KeepsCredit role s p recvs g → w ≡ window_by role s n → now ≡ cond absent recvs (open_to recvs n (λ m. new_lane w share)) → KeepsCredit role s p now g

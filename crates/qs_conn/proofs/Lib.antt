@@ -5,12 +5,14 @@ pub mod Allowed
 pub mod Asked
 pub mod Named
 pub mod Calm
+pub mod Capped
 pub mod Chunks
 pub mod Cores
 pub mod Counting
 pub mod Counted
 pub mod DueTied
 pub mod EachItem
+pub mod FirstNews
 pub mod Flows
 pub mod Funded
 pub mod Items
@@ -20,6 +22,7 @@ pub mod NewSettings
 pub mod LaneEdits
 pub mod MadePackets
 pub mod Halves
+pub mod Hearing
 pub mod Helds
 pub mod Indexed
 pub mod ItemOrders
@@ -57,6 +60,11 @@ pub mod Untolds
 pub mod Marked
 pub mod Words
 pub mod Boths
+pub mod UntoldMarks
+pub mod UntoldSearch
+pub mod SoughtTold
+pub mod EndedUntold
+pub mod ToldTables
 pub mod Summed
 pub mod Most
 pub mod Tasks

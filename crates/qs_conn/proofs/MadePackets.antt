@@ -1,5 +1,5 @@
 -- What a call of make_packet leaves, and one of fill.
-use Rattle.std.proofs.Common.{◌≡◌, ◌≢◌, ◌↔◌, ◌||◌, Option, ℕ, ◌+◌, ◌<◌, ◌≤◌, Bool, true, false, List, [], ◌∷◌, length, take, refl, sym, ap, ◌∙◌, subst, arith, inl, inr, None, Some, is_some, nat_le}
+use Rattle.std.proofs.Common.{◌≡◌, ◌≢◌, ◌↔◌, ◌||◌, Option, ℕ, ◌+◌, ◌-◌, ◌^◌, ◌<◌, ◌≤◌, Bool, true, false, List, [], ◌∷◌, length, take, refl, sym, ap, ◌∙◌, subst, arith, inl, inr, None, Some, is_some, nat_le}
 use Rattle.std.specs.Prelude.{Ok, Err}
 use Rattle.std.proofs.lemmas.Bool.{true≢false}
 use Rattle.std.proofs.lemmas.Bool.Decides.{nat_tests}
@@ -24,7 +24,7 @@ use Rattle.qs_machine.specs.Due.{Among, Sendable}
 use Rattle.qs_machine.specs.Lawful.{Fills, frame_put, pieces_so_far}
 use Rattle.qs_machine.specs.Making.{IsText, NamesMost, IsMade, MakeAt, MakeStep, make_refusal}
 use Rattle.qs_machine.specs.Alone.{token_of}
-use Rattle.qs_machine.specs.Filling.{IsWanted, WantedGoes, HasWanted, IsFilled, FillAt, FillStep}
+use Rattle.qs_machine.specs.Filling.{IsWanted, WantedGoes, HasWanted, GoesWithin, EndGoesAlone, still_asked, IsFilled, FillAt, FillStep}
 use Rattle.qs_machine.specs.InOrder.{AreInOrder, NothingStarves, NoItemStarves}
 use Rattle.qs_machine.specs.Outgoing.{Outgoing}
 use Rattle.qs_conn.specs.declared.middle.Core.{Core}
@@ -32,7 +32,8 @@ use Rattle.qs_conn.specs.Middle.{end_of}
 use Rattle.qs_conn.specs.Filling.{InPacket, pieces_at, last_data, end_by, Packed, IsWished, HasWished, IsAckLeft}
 use Rattle.qs_conn.proofs.LastStreams.{last_filled}
 use Rattle.qs_conn.proofs.Pieces.{put_next}
-use Rattle.qs_conn.proofs.Stages.{packed_same, packed_none, packed_asks, packed_made, packed_some, goes_same}
+use Rattle.qs_conn.proofs.Stages.{packed_same, packed_none, packed_asks, packed_made, packed_some, goes_same, goes_alone}
+use Rattle.qs_conn.proofs.Flows.{within_goes}
 
 -- Refusals
 
@@ -61,26 +62,26 @@ outgoing_of spare v = record { sends = v.sends; next = v.next; outstanding = v.o
 
 -- what `make_packet` asks for: all, and the ACK if one is due
 abbrev pub all_of : (first delay : ℕ) → Bool → Wish
-all_of first delay due = record { want = record { items = true; streams = true; first = first; alone = false }; delay = delay; ack_due = due }
+all_of first delay due = record { want = record { items = true; streams = true; first = first; alone = false; most_bytes = 2 ^ 64 - 1 }; delay = delay; ack_due = due }
 
 ack_left : (due : Bool) → IsAckLeft due due false
 ack_left true = (refl, refl)
 ack_left false = refl
 
 -- the call filled a packet
-module _ (v : End) (c new_c : Core) (wish : Wish) (room len : ℕ) (out : List ℕ) (left : Bool) (idle : fmap.get v.outstanding v.next ≡ None) (parts : end_of c v ≡ v) (goes : IsAckLeft wish.ack_due v.ack_due left)
-    (fills : (x : End) (b : Bool) → end_of c x ≡ x → x.done ≡ v.done → IsAckLeft wish.ack_due x.ack_due b → ((p : Piece) → InPacket x p → ⊥) → Packed wish.want.first wish room x (take len out) (end_of new_c (record x { ack_due = b }))) where
+module _ (v : End) (c new_c : Core) (wish : Wish) (room len quota : ℕ) (out : List ℕ) (left : Bool) (idle : fmap.get v.outstanding v.next ≡ None) (parts : end_of c v ≡ v) (goes : IsAckLeft wish.ack_due v.ack_due left)
+    (fills : (x : End) (b : Bool) → end_of c x ≡ x → x.done ≡ v.done → IsAckLeft wish.ack_due x.ack_due b → ((p : Piece) → InPacket x p → ⊥) → Packed wish.want.first wish room x (take len out) (end_of new_c (record x { ack_due = b })) quota) where
   abbrev pub filled : End
   filled = end_of new_c (record v { ack_due = left })
 
-  pub packed : Packed wish.want.first wish room v (take len out) filled
+  pub packed : Packed wish.want.first wish room v (take len out) filled quota
   packed = fills v left parts refl goes (fresh_of v idle)
 
   pub filled_next : new_c.outbox.next ≡ v.next
   filled_next = fills_next v v filled (seen_all packed.frames) packed.fills
 
   same_is : len ≡ 0 → filled ≡ v
-  same_is none = packed_same wish.want.first wish room v (take len out) filled packed (ap (λ k. take k out) none)
+  same_is none = packed_same wish.want.first wish room v (take len out) filled quota packed (ap (λ k. take k out) none)
 
   pub same_parts : len ≡ 0 → end_of new_c v ≡ v
   same_parts none = ap (λ (x : End). end_by (limits_of x) x.recvs (outgoing_of 0 x) v) (same_is none)
@@ -90,7 +91,7 @@ module _ (v : End) (c new_c : Core) (wish : Wish) (room len : ℕ) (out : List �
 
   -- it had nothing to send
   pub none_goes : 25 ≤ room → len ≡ 0 → HasWished wish v [] v
-  none_goes enough none = packed_none wish.want.first wish room v (take len out) filled packed enough (ap (λ k. take k out) none)
+  none_goes enough none = packed_none wish.want.first wish room v (take len out) filled quota packed enough (ap (λ k. take k out) none)
 
   -- it had some, and its number was used
   module _ (new : End) (o : Outgoing) (number : ℕ) (is : number ≡ v.next) (after : o ≡ record new_c.outbox { next = new_c.outbox.next + 1; spare = 0 }) (settled : new ≡ settle (end_of (record new_c { outbox = o }) (record v { ack_due = left }))) where
@@ -107,35 +108,35 @@ module _ (v : End) (c new_c : Core) (wish : Wish) (room len : ℕ) (out : List �
         subst (AreInOrder v []) (sym pieces) (packed.order asked)
 
 -- `make_packet` filled it
-module _ (v old : End) (same : v ≡ old) (c new_c : Core) (first delay room len : ℕ) (out : List ℕ) (idle : fmap.get v.outstanding v.next ≡ None) (parts : end_of c v ≡ v)
-    (fills : (x : End) (b : Bool) → end_of c x ≡ x → x.done ≡ v.done → IsAckLeft v.ack_due x.ack_due b → ((p : Piece) → InPacket x p → ⊥) → Packed first (all_of first delay v.ack_due) room x (take len out) (end_of new_c (record x { ack_due = b }))) where
+module _ (v old : End) (same : v ≡ old) (c new_c : Core) (first delay room len quota : ℕ) (out : List ℕ) (idle : fmap.get v.outstanding v.next ≡ None) (parts : end_of c v ≡ v)
+    (fills : (x : End) (b : Bool) → end_of c x ≡ x → x.done ≡ v.done → IsAckLeft v.ack_due x.ack_due b → ((p : Piece) → InPacket x p → ⊥) → Packed first (all_of first delay v.ack_due) room x (take len out) (end_of new_c (record x { ack_due = b })) quota) where
   abbrev wish : Wish
   wish = all_of first delay v.ack_due
 
   pub made_next : new_c.outbox.next ≡ v.next
-  made_next = filled_next v c new_c wish room len out false idle parts (ack_left v.ack_due) fills
+  made_next = filled_next v c new_c wish room len quota out false idle parts (ack_left v.ack_due) fills
 
   pub made_idle : len ≡ 0 → fmap.get new_c.outbox.outstanding new_c.outbox.next ≡ None
-  made_idle = idle_none v c new_c wish room len out false idle parts (ack_left v.ack_due) fills
+  made_idle = idle_none v c new_c wish room len quota out false idle parts (ack_left v.ack_due) fills
 
   -- it had nothing to send
   pub make_none : is_some v.closed ≡ false → v.next ≤ MAX_VARINT → 25 ≤ room → len ≡ 0 → MakeStep old first delay room (Ok None) [] (end_of new_c v)
   make_none clear le enough none =
-      let w = none_goes v c new_c wish room len out false idle parts (ack_left v.ack_due) fills enough none in
-      let quiet : Sendable v → ⊥ = λ goes. elim goes [ inl due ↦ (w.ack due).2 | inr (inl (i, due)) ↦ w.wanted.items refl i due | inr (inr (n, some)) ↦ w.wanted.streams n (refl, inl refl) some ] in
-      subst (λ e. MakeStep e first delay room (Ok None) [] (end_of new_c v)) same (subst (λ r. MakeAt r v first delay room (Ok None) [] (end_of new_c v)) (sym (no_refusal v clear le)) (quiet, refl, same_parts v c new_c wish room len out false idle parts (ack_left v.ack_due) fills none))
+      let w = none_goes v c new_c wish room len quota out false idle parts (ack_left v.ack_due) fills enough none in
+      let quiet : Sendable v → ⊥ = λ goes. elim goes [ inl due ↦ (w.ack due).2 | inr (inl (i, due)) ↦ w.wanted.items refl i due | inr (inr (n, some)) ↦ w.wanted.streams n (refl, inl refl) (inl (omega arith, some)) ] in
+      subst (λ e. MakeStep e first delay room (Ok None) [] (end_of new_c v)) same (subst (λ r. MakeAt r v first delay room (Ok None) [] (end_of new_c v)) (sym (no_refusal v clear le)) (quiet, refl, same_parts v c new_c wish room len quota out false idle parts (ack_left v.ack_due) fills none))
 
   module _ (new : End) (o : Outgoing) (number : ℕ) (asks : Bool) (is : number ≡ v.next) (after : o ≡ record new_c.outbox { next = new_c.outbox.next + 1; spare = 0 }) (settled : new ≡ settle (end_of (record new_c { outbox = o }) (record v { ack_due = false }))) where
     last : new ≡ settle (record (end_of new_c (record v { ack_due = false })) { next = v.next + 1 })
-    last = end v c new_c wish room len out false idle parts (ack_left v.ack_due) fills new o number is after settled
+    last = end v c new_c wish room len quota out false idle parts (ack_left v.ack_due) fills new o number is after settled
 
     -- it had some
-    pub make_some : asks ≡ is_some (fmap.get new_c.outbox.outstanding new_c.outbox.next) → is_some v.closed ≡ false → v.next ≤ MAX_VARINT → 0 < len → len ≤ room → length out ≡ room
+    pub make_some : asks ≡ is_some (fmap.get new_c.outbox.outstanding new_c.outbox.next) → is_some v.closed ≡ false → v.next ≤ MAX_VARINT → 0 < len → len ≤ room → room ≤ 16383 → length out ≡ room
         → MakeStep old first delay room (Ok (Some (record { number = number; len = len; is_ack_eliciting = asks }))) (take len out) new
-    make_some asked clear le some within count =
+    make_some asked clear le some within most count =
         let inside : length (take len out) ≡ len = length-take-le len out (omega (arith, within, count)) in
-        let full = packed v c new_c wish room len out false idle parts (ack_left v.ack_due) fills in
-        let made = packed_some first wish room v (take len out) (end_of new_c (record v { ack_due = false })) full number len asks (packed_asks first wish room v (take len out) (end_of new_c (record v { ack_due = false })) full asks idle asked) is (sym inside) (λ none. omega (arith, some, inside, ap length none)) within refl refl (λ n. (refl, inl refl)) refl in
+        let full = packed v c new_c wish room len quota out false idle parts (ack_left v.ack_due) fills in
+        let made = packed_some first wish room v (take len out) (end_of new_c (record v { ack_due = false })) quota full number len asks (packed_asks first wish room v (take len out) (end_of new_c (record v { ack_due = false })) quota full asks idle asked) is (sym inside) (λ none. omega (arith, some, inside, ap length none)) within refl refl (λ n. (refl, inl refl)) (omega (arith, most)) refl in
         subst (λ e. MakeStep e first delay room (Ok (Some (record { number = number; len = len; is_ack_eliciting = asks }))) (take len out) new) same
         (subst (λ r. MakeAt r v first delay room (Ok (Some (record { number = number; len = len; is_ack_eliciting = asks }))) (take len out) new) (sym (no_refusal v clear le)) (subst (IsMade v first delay room (record { number = number; len = len; is_ack_eliciting = asks }) (take len out)) (sym last) made))
 
@@ -143,10 +144,15 @@ module _ (v old : End) (same : v ≡ old) (c new_c : Core) (first delay room len
     pub make_order : NothingStarves old (Ok (Some (record { number = number; len = len; is_ack_eliciting = asks }))) new
     make_order = (
       ap (λ (x : End). x.ack_due) last,
-      subst (λ e. AreInOrder e [] (pieces_so_far new number)) same (in_order v c new_c wish room len out false idle parts (ack_left v.ack_due) fills new o number is after settled refl),
+      subst (λ e. AreInOrder e [] (pieces_so_far new number)) same (in_order v c new_c wish room len quota out false idle parts (ack_left v.ack_due) fills new o number is after settled refl),
     )
 
 -- What is filled in
+
+-- the next number makes no difference to what goes within the cap
+within_same : (e : End) (k left first n : ℕ) → GoesWithin left first (record e { next = k }) n → GoesWithin left first e n
+within_same e k left first n (inl (some, goes)) = inl (some, goes_same e k n goes)
+within_same e k left first n (inr alone) = inr (goes_alone e k first n alone)
 
 -- the frames are of kinds that are asked for
 module _ (wish : Wish) (none : wish.ack_due ≡ false) where
@@ -160,6 +166,10 @@ module _ (wish : Wish) (none : wish.ack_due ≡ false) where
   all_wanted : (fs : List Seen) → AllByRecursion (IsWished wish) fs → AllByRecursion (IsWanted wish.want) fs
   all_wanted [] all = tt
   all_wanted (f ∷ fs) all = (one_wanted f all.0, all_wanted fs all.1)
+
+-- where nothing that is asked for may go, no frame has all of it
+pub has_none : (want : Fill) (v : End) → (WantedGoes want v → ⊥) → HasWanted want v [] v
+has_none want v none = record { items = λ on i due. absurd (none (inl (on, (i, due)))); streams = λ n asked goes. none (inr (n, asked, within_goes _ want.first v n goes)) }
 
 -- what is asked for, without an ACK
 abbrev pub only_of : Fill → Wish
@@ -197,36 +207,33 @@ fill_exhausted v old want room same clear past = subst (λ e. FillStep e want ro
     is : make_refusal v ≡ Some making.Exhausted
     is = (let test : nat_le (MAX_VARINT + 1) v.next ≡ true = grind (arith, nat_tests, past) in rw (clear, test) refl)
 
-module _ (v old : End) (same : v ≡ old) (c new_c : Core) (want : Fill) (room len : ℕ) (out : List ℕ) (idle : fmap.get v.outstanding v.next ≡ None) (parts : end_of c v ≡ v)
-    (fills : (x : End) (b : Bool) → end_of c x ≡ x → x.done ≡ v.done → IsAckLeft false x.ack_due b → ((p : Piece) → InPacket x p → ⊥) → Packed want.first (only_of want) room x (take len out) (end_of new_c (record x { ack_due = b }))) where
-  abbrev full : Packed want.first (only_of want) room v (take len out) (end_of new_c v)
-  full = packed v c new_c (only_of want) room len out v.ack_due idle parts refl fills
+module _ (v old : End) (same : v ≡ old) (c new_c : Core) (want : Fill) (room len quota : ℕ) (out : List ℕ) (idle : fmap.get v.outstanding v.next ≡ None) (parts : end_of c v ≡ v)
+    (fills : (x : End) (b : Bool) → end_of c x ≡ x → x.done ≡ v.done → IsAckLeft false x.ack_due b → ((p : Piece) → InPacket x p → ⊥) → Packed want.first (only_of want) room x (take len out) (end_of new_c (record x { ack_due = b })) quota) where
+  abbrev full : Packed want.first (only_of want) room v (take len out) (end_of new_c v) quota
+  full = packed v c new_c (only_of want) room len quota out v.ack_due idle parts refl fills
 
   pub fill_next : new_c.outbox.next ≡ v.next
-  fill_next = filled_next v c new_c (only_of want) room len out v.ack_due idle parts refl fills
+  fill_next = filled_next v c new_c (only_of want) room len quota out v.ack_due idle parts refl fills
 
   pub fill_idle : len ≡ 0 → fmap.get new_c.outbox.outstanding new_c.outbox.next ≡ None
-  fill_idle = idle_none v c new_c (only_of want) room len out v.ack_due idle parts refl fills
+  fill_idle = idle_none v c new_c (only_of want) room len quota out v.ack_due idle parts refl fills
 
   -- nothing that is asked for may go
   pub fill_none : is_some v.closed ≡ false → v.next ≤ MAX_VARINT → len ≡ 0 → FillStep old want room (Ok None) [] (end_of new_c v)
   fill_none clear le none =
-      let quiet : 25 ≤ room → WantedGoes want v → ⊥ =
-      λ enough goes. (
-      let w = none_goes v c new_c (only_of want) room len out v.ack_due idle parts refl fills enough none in
-      elim goes [ inl (asked, (i, due)) ↦ w.wanted.items asked i due | inr (n, asked, some) ↦ w.wanted.streams n asked some ]) in
-      subst (λ e. FillStep e want room (Ok None) [] (end_of new_c v)) same (subst (λ r. FillAt r v want room (Ok None) [] (end_of new_c v)) (sym (no_refusal v clear le)) (quiet, refl, same_parts v c new_c (only_of want) room len out v.ack_due idle parts refl fills none))
+      let quiet : 25 ≤ room → HasWanted want v [] v = λ enough. (none_goes v c new_c (only_of want) room len quota out v.ack_due idle parts refl fills enough none).wanted in
+      subst (λ e. FillStep e want room (Ok None) [] (end_of new_c v)) same (subst (λ r. FillAt r v want room (Ok None) [] (end_of new_c v)) (sym (no_refusal v clear le)) (quiet, refl, same_parts v c new_c (only_of want) room len quota out v.ack_due idle parts refl fills none))
 
   module _ (new : End) (o : Outgoing) (number : ℕ) (is : number ≡ v.next) (after : o ≡ record new_c.outbox { next = new_c.outbox.next + 1; spare = 0 }) (settled : new ≡ settle (end_of (record new_c { outbox = o }) v)) where
     fill_end : new ≡ settle (record (end_of new_c v) { next = v.next + 1 })
-    fill_end = end v c new_c (only_of want) room len out v.ack_due idle parts refl fills new o number is after settled
+    fill_end = end v c new_c (only_of want) room len quota out v.ack_due idle parts refl fills new o number is after settled
 
     -- what its record holds is in order
     pub fill_order : (filled : Filled) → filled.token.number ≡ number → NoItemStarves want old (Ok (Some filled)) new
-    fill_order filled token asked = subst (λ e. AreInOrder e [] (pieces_so_far new filled.token.number)) same (subst (λ k. AreInOrder v [] (pieces_so_far new k)) (sym token) (in_order v c new_c (only_of want) room len out v.ack_due idle parts refl fills new o number is after settled asked))
+    fill_order filled token asked = subst (λ e. AreInOrder e [] (pieces_so_far new filled.token.number)) same (subst (λ k. AreInOrder v [] (pieces_so_far new k)) (sym token) (in_order v c new_c (only_of want) room len quota out v.ack_due idle parts refl fills new o number is after settled asked))
 
     -- something went in
-    pub fill_some : (token : Token) (last_one : Option ℕ) (more : Bool) → token ≡ token_of old number → last_one ≡ last_data None (pieces_at new_c.outbox.outstanding new_c.outbox.next) → (more ≡ true) ↔ WantedGoes want new → is_some v.closed ≡ false → v.next ≤ MAX_VARINT → 0 < len → len ≤ room → length out ≡ room
+    pub fill_some : (token : Token) (last_one : Option ℕ) (more : Bool) → token ≡ token_of old number → last_one ≡ last_data None (pieces_at new_c.outbox.outstanding new_c.outbox.next) → (more ≡ true) ↔ WantedGoes (still_asked want quota) new → is_some v.closed ≡ false → v.next ≤ MAX_VARINT → 0 < len → len ≤ room → length out ≡ room
         → FillStep old want room (Ok (Some (record { token = token; len = len; last_stream = last_one; more = more }))) (take len out) new
     fill_some token last_one more gives read goes clear le some within count =
         let text = take len out in
@@ -235,7 +242,7 @@ module _ (v old : End) (same : v ≡ old) (c new_c : Core) (want : Fill) (room l
         let mid : End = end_of new_c v in
         let wanted : AllByRecursion (IsWanted want) (seen_all full.frames) = all_wanted (only_of want) refl (seen_all full.frames) full.wished in
         let frames : seen_all full.frames ≢ [] = λ none. there (full.spells.canonical ∙ ap canonical_all (no_seen full.frames none)) in
-        let made = packed_made want.first (only_of want) room v text mid full token.number len true (sym (asks_all want (seen_all full.frames) frames wanted)) (ap (λ (t : Token). t.number) gives ∙ is) (sym inside) there (length text) (omega (arith, inside)) (names_less v 0 room (length text) full.frames (omega (arith, inside, within)) full.acks) (λ left. absurd (omega (arith, left))) in
+        let made = packed_made want.first (only_of want) room v text mid quota full token.number len true (sym (asks_all want (seen_all full.frames) frames wanted)) (ap (λ (t : Token). t.number) gives ∙ is) (sym inside) there (length text) (omega (arith, inside)) (names_less v 0 room (length text) full.frames (omega (arith, inside, within)) full.acks) (λ left. absurd (omega (arith, left))) in
         let filled : Filled = record { token = token; len = len; last_stream = last_one; more = more } in
         let all : IsFilled v want room filled text (settle (record mid { next = v.next + 1 })) =
         record {
@@ -243,9 +250,10 @@ module _ (v old : End) (same : v ≡ old) (c new_c : Core) (want : Fill) (room l
           token = gives ∙ ap (λ e. token_of e number) (sym same) ∙ ap (token_of v) is;
           fits = omega (arith, inside, within);
           wanted = wanted;
-          whole = λ left. (let w = (full.whole left).wanted in record { items = w.items; streams = λ n asked goes. w.streams n asked (goes_same mid (v.next + 1) n goes) });
+          capped = omega (arith, full.cap);
+          whole = λ left. (let w = (full.whole left).wanted in record { items = w.items; streams = λ n asked goes. w.streams n asked (within_same mid (v.next + 1) _ want.first n goes) });
           last_stream = read ∙ last_filled v v mid full.frames full.fills ∙ ap (λ (o : Option (List Piece)). last_stream_of (last_data None (elim o [ None ↦ [] | Some qs ↦ qs ])) full.frames) idle;
-          more = subst (λ e. (more ≡ true) ↔ WantedGoes want e) fill_end goes;
+          more = subst (λ k. (more ≡ true) ↔ WantedGoes (still_asked want k) (settle (record mid { next = v.next + 1 }))) (omega (arith, full.cap)) (subst (λ e. (more ≡ true) ↔ WantedGoes (still_asked want quota) e) fill_end goes);
         } in
         subst (λ e. FillStep e want room (Ok (Some filled)) text new) same
         (subst (λ r. FillAt r v want room (Ok (Some filled)) text new) (sym (no_refusal v clear le)) (subst (IsFilled v want room filled text) (sym fill_end) all))

@@ -5,7 +5,7 @@ use Rattle.std.proofs.lemmas.Bool.Decides.{nat_tests}
 use Rattle.qs_ranges.specs.Numbers.{MAX_VARINT, NumberSet}
 use Rattle.qs_wire.specs.declared.stream_id.Dir.{Dir}
 use Rattle.qs_wire.specs.declared.stream_id.Dir.TheVariants.{Bidi, Uni}
-use Rattle.qs_recv.specs.Lane.{taken}
+use Rattle.qs_recv.specs.Lane.{taken, limit_with}
 use Rattle.qs_calls.specs.Settings.{MAX_LIFETIME, are_in_wide_range}
 use Rattle.qs_calls.specs.declared.settings.Settings.{Settings}
 use Rattle.qs_calls.specs.declared.settings.PeerLimits.{PeerLimits}
@@ -14,7 +14,7 @@ use Rattle.qs_calls.specs.declared.settings.SetFault.TheVariants.{OutOfRange}
 use Rattle.qs_calls.specs.declared.closing.Closed.{Closed}
 use Rattle.qs_machine.specs.Tables.{total}
 use Rattle.qs_machine.specs.Owner.{first_refusal, refuse_if}
-use Rattle.qs_machine.specs.Setting.{Setting, ConnWindow, Grant, limit_with, is_settable}
+use Rattle.qs_machine.specs.Setting.{Setting, ConnWindow, Grant, is_settable}
 use Rattle.qs_machine.proofs.CallsSound.{sound_set, grant_within}
 use Rattle.qs_conn.specs.declared.limits.Limits.{Limits}
 use Rattle.qs_conn.specs.declared.middle.Core.{Core}

@@ -57,7 +57,7 @@ pub stage_put : (wish : Wish) (room : ℕ) (old : End) (t : Limits) (recvs : Tab
     Stage wish room old (take len before) (end_by t recvs o e) b P → Stage wish room old (take end after) (end_by t recvs new e) full (and_slot P s)
 stage_put wish room old t recvs o new e before after len end true full P s i is at passed le c free fits puts st = absurd (true≢false is)
 stage_put wish room old t recvs o new e before after len end false true P s i is at passed le c free fits (same, text, out, long) st =
-    let full : (first : ℕ) → Packed first wish room old (take len before) (end_by t recvs o e) = begun_too_long wish room old (take len before) (end_by t recvs o e) (IsPassed P) st i fits (omega (arith, length-take-le len before le, at)) (omega (arith, length-take-le len before le, at, long)) in
+    let full : (first : ℕ) → Packed first wish room old (take len before) (end_by t recvs o e) wish.want.most_bytes = begun_too_long wish room old (take len before) (end_by t recvs o e) (IsPassed P) st i fits (omega (arith, length-take-le len before le, at)) (omega (arith, length-take-le len before le, at, long)) in
     rw (same, text, out) full
 stage_put wish room old t recvs o new e before after len end false false P s i is at passed le c free fits (text, out) st =
     let put = slot_put wish room old (take len before) (end_by t recvs o e) (IsPassed P) s i c st passed free fits in

@@ -1,5 +1,5 @@
 -- Sending halves are opened and edited.
-use Rattle.std.proofs.Common.{◌≡◌, ℕ, nat_lt, Bool, true, false, ◌&&◌, ◌||◌, not, ◌==◌, max, inl, inr, ◌≤◌, cond, is_some, is_none, unwrap_or, ◌+◌, ◌-◌, subst, ◌<◌, ◌^◌, List, length, take, get_or, Option, Some, None, slice_get, Result, Ok, Err, refl, sym, ap, ◌∙◌, arith}
+use Rattle.std.proofs.Common.{◌≡◌, ℕ, nat_lt, Bool, true, false, ◌&&◌, ◌||◌, not, ◌==◌, max, inl, inr, ◌≤◌, cond, if◌then◌else◌, is_some, is_none, unwrap_or, ◌+◌, ◌-◌, subst, ◌<◌, ◌^◌, List, [], length, take, get_or, Option, Some, None, slice_get, Result, Ok, Err, refl, sym, ap, ◌∙◌, arith}
 use Rattle.std.specs.Option.{IfSome}
 use Rattle.std.specs.Ordering.{nat_cmp}
 use Rattle.std.specs.Result.{OnOk, OnErr, IfOk, IfErr}
@@ -13,13 +13,14 @@ use Rattle.std.specs.FinSet as set
 use Rattle.std.proofs.lemmas.Bool.{true≢false, cases_lt}
 use Rattle.std.proofs.lemmas.Bool.Decides.{nat_tests}
 use Rattle.std.proofs.lemmas.List.{get_or_default}
+use Rattle.qs_send.specs.declared.parts.Reset.{Reset}
 use Rattle.qs_send.specs.declared.parts.SendFault.{SendFault}
 use Rattle.qs_send.specs.declared.parts.SendFault.TheVariants.{WasReset, Finished}
 use Rattle.qs_send.specs.declared.parts.SendFault.TheVariants as SendFaults
 use Rattle.std.proofs.lemmas.Option.{none-some}
 use Rattle.qs_send.specs.Writable.{is_writable}
 use Rattle.qs_send.proofs.Steps.{write_nothing}
-use Rattle.qs_send.specs.Lane.{Sending, SendLane, new_sending, accepted, refusal, is_whole, write_lane, after_write, after_sent, after_acked}
+use Rattle.qs_send.specs.Lane.{Sending, SendLane, new_sending, accepted, refusal, is_whole, write_lane, after_write, after_finish, finish_lane, after_reset, reset_refusal, after_sent, after_acked, after_lost, lost_due}
 use Rattle.qs_machine.specs.Sums.{changed, no_sending}
 use Rattle.qs_conn.specs.declared.send_marks.Task.{Task}
 use Rattle.qs_conn.specs.declared.send_marks.Task.TheVariants as tasks
@@ -71,6 +72,7 @@ begins_quiet tasks.Bytes unmarked id limit buffer = record { no_offset = λ q lt
 begins_quiet tasks.Again unmarked id limit buffer = record { no_offset = λ q lt. set.contains-empty nat_cmp q; no_end = λ whole. refl }
 begins_quiet tasks.Writable unmarked id limit buffer = absurd (true≢false unmarked)
 begins_quiet tasks.Ended unmarked id limit buffer = refl
+begins_quiet tasks.Stopped unmarked id limit buffer = refl
 
 -- bytes that are written weren't sent before
 written_again : (s : Sending) (bytes : List ℕ) → s.lane.sent_end ≤ s.lane.written → IsQuiet tasks.Again s → IsQuiet tasks.Again (after_write s bytes)
@@ -135,3 +137,38 @@ wrote_keeps (Ok n) x y bytes ok err sent = (
       subst (IsQuiet tasks.Ended) (sym ok.2) (no_end x.lane.reset_acked (is_none x.lane.was_reset) x.lane.finished (is_whole x.lane) (is_whole (write_lane x.lane (take n bytes))) (not_asked (is_some x.lane.was_reset) x.lane.finished ok.0) q),
 )
 wrote_keeps (Err e) x y bytes ok err sent = (λ q. subst (IsQuiet tasks.Again) (sym err.0) q, λ q. subst (IsQuiet tasks.Ended) (sym err.0) q)
+
+-- Only a STOP_SENDING moves whether one came
+
+abbrev pub stop_of : Sending → Option ℕ
+stop_of s = s.lane.stopped
+
+pub finish_stop : (s y : Sending) → y ≡ after_finish s → stop_of y ≡ stop_of s
+finish_stop s y is = ap stop_of is ∙ go (is_some (refusal s.lane))
+  where
+    go : (b : Bool) → stop_of (cond b s (record { lane = finish_lane s.lane; due = record { offsets = s.due.offsets; fin = true } })) ≡ stop_of s
+    go true = refl
+    go false = refl
+
+pub reset_stop : (s y : Sending) (code : ℕ) → y ≡ after_reset s code → stop_of y ≡ stop_of s
+reset_stop s y code is = ap stop_of is ∙ go (is_some (reset_refusal s.lane)) (Some (record { code = code; size = if s.lane.fin_sent then s.lane.written else s.lane.sent_end }))
+  where
+    go : (b : Bool) (r : Option Reset) → (cond b s.lane (record s.lane { kept = []; was_reset = r })).stopped ≡ s.lane.stopped
+    go true r = refl
+    go false r = refl
+
+pub lost_stop : {E : Type 0} (r : Result (Unit {0}) E) (s y : Sending) (c : Chunk) → OnOk r (y ≡ after_lost s c) → OnErr r (y ≡ s) → stop_of y ≡ stop_of s
+lost_stop (Ok a) s y c ok err = ap stop_of ok ∙ go (is_some s.lane.was_reset)
+  where
+    go : (b : Bool) → stop_of (cond b s (record s { due = lost_due s.lane s.due c })) ≡ stop_of s
+    go true = refl
+    go false = refl
+lost_stop (Err e) s y c ok err = ap stop_of err
+
+pub acked_stop : {A E : Type 0} (r : Result A E) (s y : Sending) (c : Chunk) → OnOk r (y ≡ after_acked s c) → OnErr r (y ≡ s) → stop_of y ≡ stop_of s
+acked_stop (Ok a) s y c ok err = ap stop_of ok
+acked_stop (Err e) s y c ok err = ap stop_of err
+
+pub wrote_stop : (r : Result ℕ SendFault) (s y : Sending) (bytes : List ℕ) → IfOk r (λ n. (refusal s.lane ≡ None) × (n ≡ accepted s.lane (length bytes)) × (y ≡ after_write s (take n bytes))) → IfErr r (λ fault. (y ≡ s) × (fault ≡ unwrap_or (refusal s.lane) SendFaults.NoMemory)) → stop_of y ≡ stop_of s
+wrote_stop (Ok n) s y bytes ok err = ap stop_of ok.2
+wrote_stop (Err e) s y bytes ok err = ap stop_of err.0

@@ -33,7 +33,7 @@ raised_twice l = by_final l.final_size
   where
     by_final : (f : Option ℕ) → IsSettled (raise (record l { final_size = f }))
     by_final (Some s) = refl
-    by_final None = next_twice l.limit _ l.arrived.window l.share
+    by_final None = next_twice l.limit _ l.window l.share
 
 pub new_settled : (w : ℕ) (share : Share) → 1 ≤ w → w ≤ MAX_WINDOW → IsSettled (new_lane w share)
 new_settled w share some small =

@@ -31,6 +31,7 @@ quiet_has_none tasks.Again s quiet (inl (q, due, sent)) = both_ways (set.contain
 quiet_has_none tasks.Again s quiet (inr (due, whole)) = both_ways s.due.fin (quiet.no_end whole) due
 quiet_has_none tasks.Writable s quiet room = both_ways (is_writable s.lane) quiet room
 quiet_has_none tasks.Ended s quiet over = both_ways (send_ended s.lane) quiet over
+quiet_has_none tasks.Stopped s quiet came = both_ways (is_some s.lane.stopped) (ap is_some quiet) came
 
 module _ (e : End) (n : ℕ) (s : Sending) (tied : IsTied e.outstanding n s) where
   packet_has : IsLawful s → HasTask tasks.Bytes s → HasForPacket e n s.lane

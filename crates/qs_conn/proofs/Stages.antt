@@ -4,8 +4,9 @@ use Rattle.std.specs.FinMap as fmap
 use Rattle.std.proofs.lemmas.Bool.{true≢false, false_from_ne_true}
 use Rattle.std.proofs.lemmas.List.{length-append}
 use Rattle.std.specs.List.{AllByRecursion}
-use Rattle.qs_wire.specs.Layout.{FrameValue}
+use Rattle.qs_wire.specs.Layout.{FrameValue, stream}
 use Rattle.qs_wire.specs.Grammar.{Fits, canonical, canonical_all}
+use Rattle.qs_send.proofs.Canonical.{frame_len_is_canonical}
 use Rattle.qs_wire.proofs.Lengths.{control_short}
 use Rattle.qs_send.specs.declared.piece.Item.{Item}
 use Rattle.qs_send.specs.declared.parts.Chunk.{Chunk}
@@ -19,7 +20,7 @@ use Rattle.qs_machine.specs.Seen.{Seen, Ack, Stream, Control, Close, Plain, seen
 use Rattle.qs_machine.specs.Due.{Among, IsCurrent, IsCovered, IsDueItem, StreamGoes, Sendable}
 use Rattle.qs_machine.specs.Lawful.{MayPut, Fills, AcksAll, HasAll, IsInTurn, AreInTurn, frame_put}
 use Rattle.qs_machine.specs.Making.{IsMade, NamesMost}
-use Rattle.qs_machine.specs.Filling.{IsAsked}
+use Rattle.qs_machine.specs.Filling.{IsAsked, bytes_in, stream_bytes, bytes_left, EndGoesAlone}
 use Rattle.qs_machine.specs.InOrder.{IsLower, item_place}
 use Rattle.qs_machine.proofs.Carried.{get_new, among_more, among_last}
 use Rattle.qs_conn.specs.Filling.{InPacket, slot_of, frame_of_item, no_slot, IsPassed, IsWished, HasWished, Begun, Packed}
@@ -40,6 +41,11 @@ acks_more old fs f (largest, ranges, there, all) = (largest, ranges, among_more 
 pub turn_push : (first : ℕ) (old e : End) (fs : List Seen) (f : Seen) (mid : End) → Fills old e fs mid → AreInTurn first e fs → IsInTurn first mid f → AreInTurn first e (fs ++ f ∷ [])
 turn_push first old e [] f mid is turns now = (subst (λ x. IsInTurn first x f) is now, tt)
 turn_push first old e (g ∷ fs) f mid (may, rest) (here, turns) now = (here, turn_push first old (frame_put g e) fs f mid rest turns now)
+
+-- how many bytes of streams one more frame brings
+pub bytes_push : (fs : List Seen) (f : Seen) → stream_bytes (fs ++ f ∷ []) ≡ stream_bytes fs + bytes_in f
+bytes_push [] f = omega arith
+bytes_push (g ∷ fs) f = omega (arith, bytes_push fs f)
 
 -- Whether a packet asks for an ACK
 
@@ -82,6 +88,7 @@ begun_first wish room old asked none within fresh =
       ack = λ goes. absurd (true≢false (sym goes ∙ none));
       items = λ i p due. absurd p;
       no_chunk = λ n c there. fresh (Data n c) there;
+      no_byte = refl;
     }
 
 pub begun_none : (wish : Wish) (room : ℕ) (old : End) (left : Bool) → wish.want.items ≡ true → wish.ack_due ≡ false → left ≡ old.ack_due → all_sent old ≤ old.known_data → ((x : Piece) → InPacket old x → ⊥) → Begun wish room old [] (record old { ack_due = left }) (IsPassed no_slot)
@@ -108,7 +115,7 @@ module _ (wish : Wish) (room : ℕ) (old : End) (text : List ℕ) (e : End) (P :
 
   -- fewer slots
   pub begun_fewer : (Q : Slot → Type 0) → ((s : Slot) → Q s → P s) → Begun wish room old text e Q
-  begun_fewer Q fewer = record { asked = b.asked; frames = b.frames; fills = b.fills; spells = b.spells; acks = b.acks; wished = b.wished; turns = b.turns; order = b.order; steady = b.steady; within = b.within; ack = b.ack; items = λ i q due. b.items i (fewer (slot_of i) q) due; no_chunk = b.no_chunk }
+  begun_fewer Q fewer = record { asked = b.asked; frames = b.frames; fills = b.fills; spells = b.spells; acks = b.acks; wished = b.wished; turns = b.turns; order = b.order; steady = b.steady; within = b.within; ack = b.ack; items = λ i q due. b.items i (fewer (slot_of i) q) due; no_chunk = b.no_chunk; no_byte = b.no_byte }
 
   -- slots of which all that is current is covered
   pub begun_idle : (Q : Slot → Type 0) → ((i : Item) → Q (slot_of i) → IsCurrent e i → IsCovered e i) → Begun wish room old text e (λ t. P t ⊎ Q t)
@@ -127,6 +134,7 @@ module _ (wish : Wish) (room : ℕ) (old : End) (text : List ℕ) (e : End) (P :
         ack = b.ack;
         items = λ i p due. elim p [ inl before ↦ b.items i before due | inr is ↦ elim (covered_first i (covered i is (now i due.0))) [ inl before ↦ absurd (due.1 before) | inr a ↦ a ] ];
         no_chunk = b.no_chunk;
+        no_byte = b.no_byte;
       }
 
   module _ (i : Item) (only : (j : Item) → slot_of j ≡ slot_of i → IsCurrent e j → j ≡ i) where
@@ -153,17 +161,19 @@ module _ (wish : Wish) (room : ℕ) (old : End) (text : List ℕ) (e : End) (P :
             | inr same ↦ subst (λ k. Among (Control k) (seen_all b.frames ++ Control i ∷ [])) (sym (only j same (now j is.0))) (among_last (seen_all b.frames) (Control i))
           ]);
           no_chunk = λ n c there. elim (put_packet (Control i) e (Data n c) there) [ inl before ↦ b.no_chunk n c before | inr is ↦ not_told n c is ];
+          no_byte = pushed b.frames (frame_of_item i) (Control i) (seen_item i) (λ fs. stream_bytes fs ≡ 0) (bytes_push (seen_all b.frames) (Control i) ∙ omega (arith, b.no_byte));
         }
       where
         not_told : (n : ℕ) (c : Chunk) → Data n c ≡ Told i → ⊥
         not_told n c is = cc is
 
   -- Less than 25 bytes are left: nothing more is asked.
-  pub begun_full : room < length text + 25 → (first : ℕ) → Packed first wish room old text e
+  pub begun_full : room < length text + 25 → (first : ℕ) → Packed first wish room old text e wish.want.most_bytes
   begun_full full first =
       record {
         frames = b.frames;
         fills = b.fills;
+        cap = omega (arith, b.no_byte);
         spells = b.spells;
         acks = b.acks;
         wished = b.wished;
@@ -174,8 +184,17 @@ module _ (wish : Wish) (room : ℕ) (old : End) (text : List ℕ) (e : End) (P :
       }
 
   -- as where an item doesn't fit
-  pub begun_too_long : (i : Item) → Fits (frame_of_item i) → length text ≤ room → room - length text < length (canonical (frame_of_item i)) → (first : ℕ) → Packed first wish room old text e
+  pub begun_too_long : (i : Item) → Fits (frame_of_item i) → length text ≤ room → room - length text < length (canonical (frame_of_item i)) → (first : ℕ) → Packed first wish room old text e wish.want.most_bytes
   begun_too_long i fits within long = begun_full (omega (arith, within, long, control_short (frame_of_item i) (control_item i) fits))
+
+-- The bytes of streams are among those of the text.
+one_within : (f : FrameValue) → bytes_in (seen f) ≤ length (canonical f)
+one_within (stream n offset fin bytes) = (let all = frame_len_is_canonical n offset fin bytes in omega (arith, all))
+one_within f = omega arith
+
+bytes_within : (fs : List FrameValue) → stream_bytes (seen_all fs) ≤ length (canonical_all fs)
+bytes_within [] = omega arith
+bytes_within (f ∷ fs) = omega (arith, one_within f, bytes_within fs, length-append (canonical f) (canonical_all fs))
 
 -- The end
 
@@ -190,7 +209,18 @@ goes_same e k n (l, lane, some) = (
   ],
 )
 
-module _ (first : ℕ) (wish : Wish) (room : ℕ) (old : End) (text : List ℕ) (e : End) (p : Packed first wish room old text e) where
+-- and so an end that goes alone
+pub goes_alone : (e : End) (k first n : ℕ) → EndGoesAlone first (record e { next = k }) n → EndGoesAlone first e n
+goes_alone e k first n a =
+    record {
+      half = a.half;
+      lane = a.lane;
+      end = (end_due_more (record e { next = k }) e n a.half (λ c out. out) a.end.0, a.end.1);
+      no_byte = λ (q, due, low, credit). a.no_byte (q, due_more e (record e { next = k }) n a.half (λ c out. out) q due, low, credit);
+      in_turn = λ m before goes. a.in_turn m before (goes_same (record e { next = k }) e.next m goes);
+    }
+
+module _ (first : ℕ) (wish : Wish) (room : ℕ) (old : End) (text : List ℕ) (e : End) (quota : ℕ) (p : Packed first wish room old text e quota) where
   -- a packet without a byte changed nothing
   pub packed_same : text ≡ [] → e ≡ old
   packed_same none = subst (λ fs. Fills old old (seen_all fs) e) (no_frames wish.delay p.frames text p.spells none) p.fills
@@ -235,9 +265,12 @@ module _ (first : ℕ) (wish : Wish) (room : ℕ) (old : End) (text : List ℕ) 
         }
 
     -- all of it was to go, with the ACK
-    pub packed_some : len ≤ room → wish.ack_due ≡ old.ack_due → wish.want.items ≡ true → ((n : ℕ) → IsAsked wish.want n) → e.ack_due ≡ false
+    pub packed_some : len ≤ room → wish.ack_due ≡ old.ack_due → wish.want.items ≡ true → ((n : ℕ) → IsAsked wish.want n) → room < wish.want.most_bytes → e.ack_due ≡ false
         → IsMade old first wish.delay room (record { number = number; len = len; is_ack_eliciting = asks }) text (settle last)
-    packed_some fits due items all quiet =
+    packed_some fits due items all wide quiet =
         packed_made room fits p.acks (λ left. (
         let w = p.whole left in
-        record { ack = λ is. w.ack (due ∙ is); items = w.wanted.items items; no_ack = quiet; no_stream = λ n goes. w.wanted.streams n (all n) (goes_same e (old.next + 1) n goes) }))
+        record { ack = λ is. w.ack (due ∙ is); items = w.wanted.items items; no_ack = quiet; no_stream = λ n goes. w.wanted.streams n (all n) (inl (below wide, goes_same e (old.next + 1) n goes)) }))
+      where
+        below : room < wish.want.most_bytes → 0 < bytes_left wish.want (seen_all p.frames)
+        below wide = (let le = bytes_within p.frames in let same = ap length p.spells.canonical in omega (arith, le, same, count, fits, wide))

@@ -1,7 +1,7 @@
 -- The memory for the pieces of a packet in the making suffices: also where nothing of a stream is due, and it is for the connection's own items.
 use Rattle.std.proofs.Common.{◌≡◌, ℕ, ◌-◌, ◌≤◌, Bool, true, false, Some, List, refl, sym, ap, ◌∙◌, subst, arith, inl, inr}
 use Rattle.qs_send.specs.Lane.{Sending}
-use Rattle.qs_send.specs.Chunks.{IsNextChunk}
+use Rattle.qs_send.specs.Chunks.{IsAllowed}
 use Rattle.qs_send.specs.declared.parts.Chunk.{Chunk}
 use Rattle.qs_send.specs.declared.piece.Item.{Item}
 use Rattle.qs_send.specs.declared.piece.Item.TheVariants.{MaxData, MaxStreamData, MaxStreams, ResetStream, StopSending, DataBlocked, StreamDataBlocked, StreamsBlocked}
@@ -146,12 +146,12 @@ item_memory c e slot i xs ys len end o full room room' left at is free puts spar
     )
 
 -- a chunk that may go is something of a stream
-still_chunk : (c : Core) (n : ℕ) (s : Sending) (chunk : Chunk) (left fresh : ℕ) → HasSending c.outbox n s → IsNextChunk s left fresh chunk → fresh ≡ c.limits.known_data - sent_sum c.outbox.sends → IsStill c → ⊥
+still_chunk : (c : Core) (n : ℕ) (s : Sending) (chunk : Chunk) (left fresh : ℕ) → HasSending c.outbox n s → IsAllowed s left fresh chunk → fresh ≡ c.limits.known_data - sent_sum c.outbox.sends → IsStill c → ⊥
 still_chunk c n s chunk left fresh has next is still =
-    let credit = next.allowed.within_credit in
-    still.no_stream (some_end c) n (chunk_goes (end_of c (some_end c)) n s (ties_of c.limits c.recvs c.outbox (some_end c) n s has) chunk next.allowed.chunk (omega (arith, credit, is)))
+    let credit = next.within_credit in
+    still.no_stream (some_end c) n (chunk_goes (end_of c (some_end c)) n s (ties_of c.limits c.recvs c.outbox (some_end c) n s has) chunk next.chunk (omega (arith, credit, is)))
 
-module _ (c : Core) (n : ℕ) (s : Sending) (chunk : Chunk) (left fresh : ℕ) (has : HasSending c.outbox n s) (next : IsNextChunk s left fresh chunk) (is : fresh ≡ c.limits.known_data - sent_sum c.outbox.sends) where
+module _ (c : Core) (n : ℕ) (s : Sending) (chunk : Chunk) (left fresh : ℕ) (has : HasSending c.outbox n s) (next : IsAllowed s left fresh chunk) (is : fresh ≡ c.limits.known_data - sent_sum c.outbox.sends) where
   -- so there is memory for it
   pub chunk_spare : (room len own : ℕ) → HasMemory c room len own → HasOneSpare room len c.outbox.spare
   chunk_spare room len own h fits = elim h [ inl all ↦ omega (arith, all, fits) | inr (few, still) ↦ absurd (still_chunk c n s chunk left fresh has next is still) ]

@@ -28,12 +28,13 @@ use Rattle.qs_machine.specs.Ends.{End, Records, Present}
 use Rattle.qs_machine.specs.Credit.{all_sent}
 use Rattle.qs_machine.specs.Seen.{Seen, Ack, Stream, Control, Close, Plain, seen, seen_all}
 use Rattle.qs_machine.specs.Due.{Among, IsCurrent, IsDueItem, StreamGoes}
-use Rattle.qs_machine.specs.Setting.{limit_with, count_with}
+use Rattle.qs_recv.specs.Lane.{limit_with}
+use Rattle.qs_machine.specs.Setting.{count_with}
 use Rattle.qs_machine.specs.Outgoing.{Outgoing, HasSending, WantsMore, item_put_out}
 use Rattle.qs_machine.specs.Sums.{or_none}
 use Rattle.qs_machine.specs.Lawful.{MayAck, Fills, NamesAll, AcksAll, AreInTurn, pieces_so_far}
 use Rattle.qs_machine.specs.Making.{IsText, NamesMost}
-use Rattle.qs_machine.specs.Filling.{IsAsked, HasWanted}
+use Rattle.qs_machine.specs.Filling.{IsAsked, HasWanted, stream_bytes}
 use Rattle.qs_machine.specs.InOrder.{IsLower, AreInOrder}
 pub use Rattle.qs_conn.specs.Written.{made_text}
 
@@ -257,6 +258,7 @@ pub record Begun (wish : Wish) (room : ℕ) (old : End) (text : List ℕ) (e : E
   pub ack : wish.ack_due ≡ true → (room < length text + 25) ⊎ AcksAll old (seen_all frames)
   pub items : (i : Item) → P (slot_of i) → IsDueItem old i → Among (Control i) (seen_all frames)
   pub no_chunk : (n : ℕ) (c : Chunk) → InPacket e (Data n c) → ⊥
+  pub no_byte : stream_bytes (seen_all frames) ≡ 0
 
 -- How far the turns of streams are, that begin at `first`: those from there on and below `at` had theirs; or, on the way around, all
 -- those and the ones below `at`.
@@ -287,11 +289,13 @@ abbrev pub way_end : Bool → ℕ → Turn
 way_end false first = turn_at true first 0
 way_end true first = turn_at true first first
 
--- A packet so far, with all control items that were due and are asked for. Streams that had their turn have nothing to send any more; of the others nothing
--- is in it.
-pub record Flowing (wish : Wish) (room : ℕ) (old : End) (text : List ℕ) (e : End) (t : Turn) : Type 0 where
+-- A packet so far, with all control items that were due and are asked for, and so many bytes of streams left of the cap. Streams that had
+-- their turn have nothing to send any more; of the others nothing is in it.
+pub record Flowing (wish : Wish) (room : ℕ) (old : End) (text : List ℕ) (e : End) (quota : ℕ) (t : Turn) : Type 0 where
   pub frames : List FrameValue
   pub fills : Fills old old (seen_all frames) e
+  pub cap : stream_bytes (seen_all frames) + quota ≡ wish.want.most_bytes
+  pub begins : t.first ≡ wish.want.first
   pub spells : IsText wish.delay frames text
   pub acks : AllByRecursion (NamesMost old wish.delay room) frames
   pub wished : AllByRecursion (IsWished wish) (seen_all frames)
@@ -303,10 +307,11 @@ pub record Flowing (wish : Wish) (room : ℕ) (old : End) (text : List ℕ) (e :
   pub over : (n : ℕ) → HadTurn t.around t.first t.at n → StreamGoes e n → ⊥
   pub untouched : (n : ℕ) → (HadTurn t.around t.first t.at n → ⊥) → (c : Chunk) → InPacket e (Data n c) → ⊥
 
--- A packet that needs no more: it has all, or no room for an item more.
-pub record Packed (first : ℕ) (wish : Wish) (room : ℕ) (old : End) (text : List ℕ) (e : End) : Type 0 where
+-- A packet that needs no more: it has all that the cap of bytes lets in, or no room for an item more.
+pub record Packed (first : ℕ) (wish : Wish) (room : ℕ) (old : End) (text : List ℕ) (e : End) (quota : ℕ) : Type 0 where
   pub frames : List FrameValue
   pub fills : Fills old old (seen_all frames) e
+  pub cap : stream_bytes (seen_all frames) + quota ≡ wish.want.most_bytes
   pub spells : IsText wish.delay frames text
   pub acks : AllByRecursion (NamesMost old wish.delay room) frames
   pub wished : AllByRecursion (IsWished wish) (seen_all frames)
@@ -316,13 +321,13 @@ pub record Packed (first : ℕ) (wish : Wish) (room : ℕ) (old : End) (text : L
   pub whole : length text + 25 ≤ room → HasWished wish old (seen_all frames) e
 
 -- a packet with the streams that had their turn, or one that is full
-abbrev pub Flow : (wish : Wish) (room : ℕ) → End → List ℕ → End → Bool → Turn → Type 0
-Flow wish room old text e true t = Packed t.first wish room old text e
-Flow wish room old text e false t = Flowing wish room old text e t
+abbrev pub Flow : (wish : Wish) (room : ℕ) → End → List ℕ → End → (quota : ℕ) → Bool → Turn → Type 0
+Flow wish room old text e quota true t = Packed t.first wish room old text e quota
+Flow wish room old text e quota false t = Flowing wish room old text e quota t
 
 -- a packet so far, or one that is full
 abbrev pub Stage : (wish : Wish) (room : ℕ) → End → List ℕ → End → Bool → Passed → Type 0
-Stage wish room old text e true passed = (first : ℕ) → Packed first wish room old text e
+Stage wish room old text e true passed = (first : ℕ) → Packed first wish room old text e wish.want.most_bytes
 Stage wish room old text e false passed = Begun wish room old text e (IsPassed passed)
 
 -- the frame of a chunk, with the written bytes

@@ -1,14 +1,14 @@
 -- Of private contracts.
 -- What the private layers of an endpoint keep beside their values.
-use Rattle.std.specs.Prelude.{◌≡◌, ℕ, zero, suc, ◌≤◌, ◌<◌, ◌^◌, ◌==◌, Bool, if◌then◌else◌, List, [], ◌∷◌, length, Option, None, Some, is_some, is_none, ⊤}
-use Rattle.qs_recv.specs.Lane.{RecvLane, is_whole, raised_limit}
+use Rattle.std.specs.Prelude.{◌≡◌, ℕ, ◌≤◌, ◌<◌, ◌^◌, Bool, if◌then◌else◌, List, length, Option, None, Some, is_some, is_none, ⊤}
+use Rattle.qs_recv.specs.Lane.{RecvLane, is_whole}
 use Rattle.qs_machine.specs.declared.tally.Tally.{Tally}
 use Rattle.qs_conn.specs.declared.touches.Touches.{Touches}
 use Rattle.qs_conn.specs.Touches.{AreSettled}
 use Rattle.qs_calls.specs.declared.uses.UseFault.{UseFault}
 use Rattle.qs_calls.specs.declared.uses.UseFault.TheVariants as uses
 use Rattle.qs_calls.specs.declared.closing.Closed.{Closed}
-use Rattle.qs_calls.specs.declared.closing.Closed.TheVariants.{ByUs, ByPeer}
+use Rattle.qs_calls.specs.declared.closing.Closed.TheVariants.{ByUs, ByPeer, Told}
 use Rattle.qs_machine.specs.Ends.{End, send_lane, recv_lane}
 use Rattle.qs_machine.specs.Owner.{first_refusal, refuse_if, no_half}
 use Rattle.qs_wire.specs.Layout.{PlacedValue}
@@ -49,6 +49,7 @@ no_receiver is_shut e n = first_refusal (refuse_if is_shut uses.Closed) (refuse_
 abbrev pub ClosingFits : Option Closed → Type 0
 ClosingFits None = ⊤
 ClosingFits (Some (ByPeer code)) = ⊤
+ClosingFits (Some (Told close)) = ⊤
 ClosingFits (Some (ByUs closing)) = (closing.code < 2 ^ 62) × (closing.frame_type < 2 ^ 62)
 
 -- one frame takes effect and the processing goes on, asking for an ACK or not, or the processing ends with it

@@ -19,3 +19,4 @@ pub mod Settled
 pub mod Middle
 pub mod NewlyTold
 pub mod Promised
+pub mod Hearing

@@ -1,12 +1,13 @@
 -- Of private contracts.
 -- Which streams may have something to send or to tell: a mark for each index, and streams that have nothing.
-use Rattle.std.specs.Prelude.{◌≡◌, ℕ, ◌+◌, ◌*◌, ◌/◌, ◌^◌, ◌≤◌, ◌<◌, length, Bool, true, false, ◌&&◌, List, [], ◌∷◌, slice_index_or, slice_get, min, Option, None, Some, ⊤}
+use Rattle.std.specs.Prelude.{◌≡◌, ℕ, ◌+◌, ◌*◌, ◌/◌, ◌^◌, ◌≤◌, ◌<◌, length, Bool, true, false, not, ◌==◌, ◌&&◌, ◌||◌, List, [], ◌∷◌, slice_index_or, slice_get, min, Option, None, Some, ⊤}
 pub use Rattle.qs_ranges.specs.Bits.{IsBefore}
 use Rattle.qs_machine.specs.Tables.{Tables, type_of, lookup}
 use Rattle.qs_send.specs.declared.piece.Item.{Item}
 use Rattle.qs_conn.specs.declared.slot.Slot.{Slot}
 use Rattle.qs_machine.specs.Ends.{End}
 use Rattle.qs_machine.specs.News.{IsHeld, IsEnded}
+use Rattle.qs_machine.specs.Heard.{is_told}
 use Rattle.qs_machine.specs.Due.{IsCurrent, IsCovered}
 use Rattle.qs_conn.specs.Filling.{slot_of}
 
@@ -19,6 +20,20 @@ abbrev pub both : List Bool → List Bool → List Bool
 both [] others = []
 both (m ∷ marks) [] = []
 both (m ∷ marks) (o ∷ others) = (m && o) ∷ both marks others
+
+-- the indexes that are marked, without those that were told: a shorter list of these tells of no more
+abbrev pub untold : List Bool → List Bool → List Bool
+untold [] told = []
+untold (m ∷ marks) [] = m ∷ marks
+untold (m ∷ marks) (t ∷ told) = (m && not t) ∷ untold marks told
+
+-- an index is marked, and the others stand as they did
+abbrev pub IsMarkedBeside : ℕ → List Bool → List Bool → Type 0
+IsMarkedBeside n old new = (i : ℕ) → is_marked new i ≡ ((i == n) || is_marked old i)
+
+-- an index isn't marked any more, and the others stand as they did
+abbrev pub IsUnmarkedBeside : ℕ → List Bool → List Bool → Type 0
+IsUnmarkedBeside n old new = (i : ℕ) → is_marked new i ≡ (not (i == n) && is_marked old i)
 
 -- each part that isn't marked has the property
 abbrev pub AreMarked : {X : Type 0} → (X → Type 0) → List X → List Bool → Type 0
@@ -51,6 +66,18 @@ pub record IsNextInWord (marks : List Bool) (from : ℕ) (answer : Option ℕ) :
 abbrev pub IsAt : {X : Type 0} → (X → Type 0) → List X → ℕ → Type 0
 IsAt {X} P xs i = (x : X) × (slice_get xs i ≡ Some x) × P x
 
+-- there is such a part at an index, of which an owner wasn't told
+abbrev pub IsUntoldAt : {X : Type 0} → (X → Type 0) → List X → List Bool → ℕ → Type 0
+IsUntoldAt {X} P xs told i = IsAt P xs i × (is_marked told i ≡ false)
+
+-- a stream has the property, and an owner wasn't told of it
+abbrev pub IsUntold : (ℕ → Type 0) → Tables Bool → ℕ → Type 0
+IsUntold P told n = P n × (is_told told n ≡ false)
+
+-- such a stream of a type
+abbrev pub IsUntoldOf : (ℕ → Type 0) → Tables Bool → ℕ → ℕ → Type 0
+IsUntoldOf P told kind n = (type_of n ≡ kind) × IsUntold P told n
+
 -- a stream of a type is open, and what is kept of it has the property
 abbrev pub IsHeldOf : {X : Type 0} → (X → Type 0) → Tables X → ℕ → ℕ → Type 0
 IsHeldOf {X} P t kind n = (type_of n ≡ kind) × IsHeld P t n
@@ -67,6 +94,10 @@ IsEndedOf e kind n = (type_of n ≡ kind) × IsEnded e n
 abbrev pub HasNoMark : List Bool → ℕ → Type 0
 HasNoMark marks word = (i : ℕ) → i / 64 ≡ word → is_marked marks i ≡ false
 
+-- each index of a word of 64 is marked
+abbrev pub HasAllMarks : List Bool → ℕ → Type 0
+HasAllMarks marks word = (i : ℕ) → i / 64 ≡ word → is_marked marks i ≡ true
+
 -- how many indexes are marked
 abbrev pub count_marked : List Bool → ℕ
 count_marked [] = 0
@@ -78,6 +109,11 @@ pub record AreSummed (marks words : List Bool) : Type 0 where
   pub room : length marks ≤ 64 * length words
   pub fits : 64 * length words < 2 ^ 64 + 64
   pub none : (word : ℕ) → is_marked words word ≡ false → HasNoMark marks word
+
+-- There is a flag for each word of marks, and of a word with one each index is marked.
+pub record AreFull (marks full : List Bool) : Type 0 where
+  pub room : length marks ≤ 64 * length full
+  pub all : (word : ℕ) → is_marked full word ≡ true → HasAllMarks marks word
 
 -- what is current of the slot was told already
 abbrev pub IsIdle : End → Slot → Type 0

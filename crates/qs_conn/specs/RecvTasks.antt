@@ -1,6 +1,6 @@
 -- Of private contracts.
 -- Which receiving halves have an answer for their owner, and the marks of those that may.
-use Rattle.std.specs.Prelude.{◌≡◌, Bool, true, false, List}
+use Rattle.std.specs.Prelude.{◌≡◌, Bool, true, false, List, Option, None, Some}
 use Rattle.qs_recv.specs.Lane.{RecvLane}
 use Rattle.qs_recv.specs.News.{is_readable}
 use Rattle.qs_machine.specs.Credit.{recv_ended}
@@ -29,3 +29,8 @@ HasOne t l = has t l ≡ true
 -- each lane without a mark for a task has no answer of it
 abbrev pub AreNoted : List RecvLane → RecvMarks → Type 0
 AreNoted lanes marks = (t : RecvTask) → AreMarked (HasNone t) lanes (marks_of marks t)
+
+-- whether a read of one byte of a stream tells something new (RFC 9000, section 2.2)
+abbrev pub has_news : Option RecvLane → Bool
+has_news None = false
+has_news (Some l) = is_readable l

@@ -37,6 +37,10 @@ offered e l bytes = if e.tuning.within_credit then take (credit_for e l) bytes e
 abbrev pub HasSent : SendLane → Type 0
 HasSent l = send_ended l ≡ true
 
+-- of a half a STOP_SENDING came (RFC 9000, section 3.5)
+abbrev pub WasStopped : SendLane → Type 0
+WasStopped l = is_some l.stopped ≡ true
+
 -- some item is due; or none of the slots that were passed
 abbrev pub TellsDue : Bool → End → Passed → Type 0
 TellsDue true e passed = (i : Item) × IsDueItem e i

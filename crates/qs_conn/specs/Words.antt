@@ -3,6 +3,7 @@
 use Rattle.std.specs.Prelude.{◌≡◌, ℕ, ◌+◌, ◌*◌, ◌/◌, ◌%◌, ◌^◌, ◌<◌, ◌≤◌, ◌==◌, Bool, false, List, length, map, slice_index}
 use Rattle.std.specs.List.{range_with_len}
 use Rattle.std.specs.Int.{bit_at}
+use Rattle.qs_conn.specs.Marks.{is_marked}
 
 -- the flag of an index: past the words none is set
 abbrev pub flag : List ℕ → ℕ → Bool
@@ -11,6 +12,10 @@ flag words i = bit_at (slice_index words (i / 64)) (i % 64) == 1
 -- the flags of the indexes below a count
 abbrev pub flags : List ℕ → ℕ → List Bool
 flags words count = map (flag words) (range_with_len 0 count)
+
+-- a word has the marks of its 64 indexes
+abbrev pub IsWordOf : List Bool → ℕ → ℕ → Type 0
+IsWordOf marks place word = (i : ℕ) → i < 64 → (bit_at word i == 1) ≡ is_marked marks (place * 64 + i)
 
 -- There is a word for each flag and at most one word more, and no flag from the count on is set.
 pub record AreFlags (words : List ℕ) (count : ℕ) : Type 0 where

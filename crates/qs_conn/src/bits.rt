@@ -1,8 +1,8 @@
 //! Flags of indexes, as bits of words.
-ghost use Rattle.std.specs.Prelude.{◌≡◌, ◌++◌, ◌-◌, ◌<◌, ◌==◌, ◌^◌, [], false, length, take, slice_set, replicate, OnOk, OnErr};
+ghost use Rattle.std.specs.Prelude.{◌≡◌, ◌++◌, ◌-◌, ◌<◌, ◌==◌, ◌^◌, [], true, false, length, take, slice_set, replicate, OnOk, OnErr};
 ghost use Rattle.std.specs.Int.{bit_at};
-ghost use Rattle.qs_conn.specs.Marks.{IsNextMark, IsNextInWord, is_marked, both};
-ghost use Rattle.qs_conn.specs.Words.{IsCutAt};
+ghost use Rattle.qs_conn.specs.Marks.{IsNextMark, IsNextInWord, HasAllMarks, is_marked, both, untold};
+ghost use Rattle.qs_conn.specs.Words.{IsCutAt, IsWordOf};
 
 use qs_ranges::{NoMemory, lowest_bit, with_bit};
 use std::alloc::Global;
@@ -170,6 +170,64 @@ impl Bits {
             bit = 0;
         }
         None
+    }
+}
+
+impl Bits {
+    /// Whether each index of a word is marked.
+    pub(crate) fn is_full(&self, place: usize) -> bool
+        ensures { result ≡ true → HasAllMarks self.now place }
+    {
+        self.word(place) == u64::MAX
+    }
+
+    /// The least index from one on that is marked here and there and wasn't told, in the word of that index.
+    pub(crate) fn next_untold_in_word(
+        &self,
+        others: &Bits,
+        told: &Bits,
+        from: usize,
+    ) -> Option<usize>
+        ensures { IsNextInWord (untold (both self.now others.now) told.now) from result }
+    {
+        let place = from / FLAGS_PER_WORD;
+        let word = self.untold_word(others, told, place);
+        match lowest_bit(word, from % FLAGS_PER_WORD) {
+            Some(marked) => Some(place * FLAGS_PER_WORD + marked),
+            None => None,
+        }
+    }
+
+    /// The least index from one on that is marked here and there and wasn't told.
+    pub(crate) fn next_untold(&self, others: &Bits, told: &Bits, from: usize) -> Option<usize>
+        ensures { IsNextMark (untold (both self.now others.now) told.now) from result }
+    {
+        let mut bit = from % FLAGS_PER_WORD;
+        for place in from / FLAGS_PER_WORD..self.words.len().min(others.words.len()) {
+            let word = self.untold_word(others, told, place);
+            if let Some(marked) = lowest_bit(word, bit) {
+                return Some(place * FLAGS_PER_WORD + marked);
+            }
+            bit = 0;
+        }
+        None
+    }
+
+    // The marks here and there of a word that weren't told.
+    fn untold_word(&self, others: &Bits, told: &Bits, place: usize) -> u64
+        ensures { IsWordOf (untold (both self.now others.now) told.now) place result }
+    {
+        self.word(place) & others.word(place) & !told.word(place)
+    }
+
+    // The marks of a word: past the last one there is none.
+    fn word(&self, place: usize) -> u64
+        ensures { IsWordOf self.now place result }
+    {
+        if place >= self.words.len() {
+            return 0;
+        }
+        self.words[place]
     }
 }
 

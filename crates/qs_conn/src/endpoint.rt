@@ -30,8 +30,10 @@ mod ack_alone;
 mod alone;
 mod asking;
 mod claiming;
+mod ended_news;
 mod filling;
 mod frames;
+mod hearing;
 mod losing;
 mod making;
 mod newly;
@@ -43,6 +45,7 @@ mod receiving;
 mod recording;
 mod setting;
 mod taking;
+mod telling;
 mod tokens;
 
 /// One end of a connection. It takes in the payloads of packets and makes packets, and its owner opens, accepts, writes,
@@ -290,6 +293,13 @@ impl Endpoint {
         ensures small { result ≤ MAX_WINDOW }
     {
         self.core.limits.window(stream)
+    }
+
+    // How many bytes a sending half keeps at most as it begins.
+    fn send_buffer(&self) -> u32
+        ensures { result ≡ self.now.settings.send_buffer }
+    {
+        self.core.limits.settings.send_buffer as u32
     }
 
     // The limit with which a sending half begins.

@@ -1,9 +1,10 @@
 //! Which streams of one type may have something to send or to tell.
 ghost use Rattle.std.specs.Prelude.{◌≡◌, ◌++◌, ◌*◌, ◌-◌, ◌<◌, ◌^◌, [], true, false, length, take, slice_set, replicate, OnOk, OnErr};
-ghost use Rattle.qs_conn.specs.Marks.{is_marked, IsNextMark, HasNoMark, least_of, both};
+ghost use Rattle.qs_conn.specs.Marks.{is_marked, IsNextMark, HasNoMark, HasAllMarks, least_of, both, untold};
 ghost use Rattle.qs_conn.specs.Untold.{IsClear};
 
 use crate::bits::{Bits, FLAGS_PER_WORD};
+use crate::told_marks::ToldMarks;
 use qs_ranges::NoMemory;
 use std::alloc::Global;
 use std::marker::Model;
@@ -65,6 +66,20 @@ impl Marks {
         ensures { result ≡ length self.now }
     {
         self.marks.len()
+    }
+
+    /// Whether each index of a word is marked.
+    pub(crate) fn is_full(&self, place: usize) -> bool
+        ensures { result ≡ true → HasAllMarks self.now place }
+    {
+        self.marks.is_full(place)
+    }
+
+    /// The bits of the marks.
+    pub(crate) fn bits(&self) -> &Bits
+        ensures { result.now ≡ self.now }
+    {
+        &self.marks
     }
 
     /// Takes the memory for the indexes below a count.
@@ -161,6 +176,31 @@ impl Marks {
         while let Some(word) = self.words.next_both(&others.words, next) {
             let first = word * FLAGS_PER_WORD;
             if let Some(index) = self.marks.next_both_in_word(&others.marks, first) {
+                return Some(index);
+            }
+            next = word + 1;
+        }
+        None
+    }
+}
+
+impl Marks {
+    /// The least index from one on that is marked here and there and wasn't told. Where only these marks count, they are both.
+    pub(crate) fn next_untold(&self, others: &Marks, told: &ToldMarks, from: usize) -> Option<usize>
+        ensures { IsNextMark (untold (both self.now others.now) told.now) from result }
+    {
+        if self.most == 0 {
+            return None;
+        }
+        let marks = told.bits();
+        if let Some(index) = self.marks.next_untold_in_word(&others.marks, marks, from) {
+            return Some(index);
+        }
+        let full = told.full();
+        let mut next = from / FLAGS_PER_WORD + 1;
+        while let Some(word) = self.words.next_untold(&others.words, full, next) {
+            let first = word * FLAGS_PER_WORD;
+            if let Some(index) = self.marks.next_untold_in_word(&others.marks, marks, first) {
                 return Some(index);
             }
             next = word + 1;

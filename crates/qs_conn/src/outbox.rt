@@ -232,7 +232,7 @@ impl Outbox {
     pub(crate) fn open_to(
         &mut self,
         limit: u64,
-        buffer: usize,
+        buffer: u32,
         stream: StreamId,
     ) -> Result<(), NoMemory>
         requires { limit ≤ MAX_VARINT }
@@ -324,7 +324,7 @@ impl Outbox {
     }
 
     /// Sets how many bytes an open stream keeps at most.
-    pub(crate) fn set_buffer(&mut self, stream: StreamId, size: usize)
+    pub(crate) fn set_buffer(&mut self, stream: StreamId, size: u32)
         requires { is_some (lookup self.old.sends stream) ≡ true }
         ensures { self.new ≡ on_lane stream (λ l. buffer_lane l size) self.old }
     {

@@ -2,7 +2,7 @@
 ghost use Rattle.std.specs.Prelude.{◌≡◌, ◌+◌, ◌-◌, ◌≤◌, ◌<◌, ◌^◌, ◌++◌, [], length, drop, map, min, take, slice_get, slice_index_or, option_map, ℕ, false, None, Some, IfSome, OnOk, OnErr, IsOk, IfOk, Ok};
 ghost use Rattle.std.specs.List.{sum_by};
 ghost use Rattle.qs_ranges.specs.Numbers.{MAX_VARINT};
-ghost use Rattle.qs_recv.specs.Lane.{MAX_WINDOW, RecvLane, new_lane, check_stream, check_reset, check_bytes, highest, highest_after, taken, take_stream, take_reset, read_answer, bytes_read, after_read, raise, stop, stop_and_forget};
+ghost use Rattle.qs_recv.specs.Lane.{MAX_WINDOW, RecvLane, new_lane, check_stream, check_reset, check_bytes, highest, highest_after, taken, take_stream, take_reset, read_answer, bytes_read, after_read, raise, stop, stop_and_forget, set_window};
 ghost use Rattle.qs_recv.specs.Lawful.{IsLawful};
 ghost use Rattle.qs_recv.specs.Changes.{stream_changes};
 ghost use Rattle.qs_recv.specs.Peek.{IsPeek};
@@ -17,13 +17,14 @@ ghost use Rattle.qs_conn.specs.Held.{most_held};
 ghost use Rattle.qs_conn.specs.Layers.{limit_to_tell, stop_to_tell};
 ghost use Rattle.qs_conn.specs.Touches.{AreSettled};
 ghost use Rattle.qs_machine.specs.News.{IsLeast};
-ghost use Rattle.qs_conn.specs.Marks.{AreMarked, IsAt};
+ghost use Rattle.qs_conn.specs.Marks.{AreMarked, IsAt, IsUntoldAt};
 ghost use Rattle.qs_conn.specs.declared.recv_marks.RecvTask.TheVariants as tasks;
 ghost use Rattle.qs_conn.specs.Untold.{HasMore, IsRaisedMarked, AreRaisedMarked};
-ghost use Rattle.qs_conn.specs.RecvTasks.{HasOne, HasNone};
+ghost use Rattle.qs_conn.specs.RecvTasks.{has_news, HasOne, HasNone};
 
 use crate::marks::Marks;
 use crate::recv_marks::{RecvMarks, RecvTask, has};
+use crate::told_marks::ToldMarks;
 use crate::touches::Touches;
 use crate::untold::Untold;
 use qs_calls::RecvReport;
@@ -308,6 +309,16 @@ impl RecvLanes {
         self.news.may_tell(index)
     }
 
+    /// Whether a read of one byte of a lane tells something new.
+    pub(crate) fn is_readable(&self, index: usize) -> bool
+        ensures { result ≡ has_news (slice_get self.now index) }
+    {
+        match self.halves.get(index) {
+            Some(half) => half.is_readable(),
+            None => false,
+        }
+    }
+
     /// Reads at an open lane.
     pub(crate) fn read(&mut self, index: usize, into: &mut [u8]) -> Read
         requires there { index < length self.old }
@@ -388,6 +399,24 @@ impl RecvLanes {
         self.touched.touch(index);
     }
 
+    /// Sets the window of an open lane.
+    pub(crate) fn set_window(&mut self, index: usize, window: u64)
+        requires there { index < length self.old }
+        requires room { sum_by highest self.old + MAX_VARINT < 2 ^ 64 }
+        requires some { 1 ≤ window }
+        requires small { window ≤ MAX_WINDOW }
+        ensures after { self.new ≡ changed self.old index (λ l. set_window l window) (slice_get self.old index) }
+        ensures same { sum_by highest self.new ≡ sum_by highest self.old }
+    {
+        let half = &mut self.halves[index];
+        let was = measure(half);
+        half.set_window(window);
+        let is = measure(half);
+        self.news.look(index, half);
+        self.tally = moved(self.tally, was, is);
+        self.touched.touch(index);
+    }
+
     /// Whether a lane is in Data Read or Reset Read (RFC 9000, section 3.2).
     pub(crate) fn has_ended(&self, index: usize) -> bool
         ensures { result ≡ recv_over (slice_get self.now index) }
@@ -413,6 +442,7 @@ impl RecvLanes {
             limit: half.limit(),
             final_size: half.final_size(),
             reset_code: half.reset_code(),
+            stop_code: half.stop_code(),
         })
     }
 
@@ -478,6 +508,23 @@ impl RecvLanes {
     {
         let mut next = from;
         while let Some(index) = self.news.next(task, next) {
+            if has(task, &self.halves[index]) {
+                return Some(index);
+            }
+            next = index + 1;
+        }
+        None
+    }
+}
+
+impl RecvLanes {
+    /// The least index whose lane has an answer for its owner that wasn't told.
+    pub(crate) fn next_untold(&self, task: RecvTask, told: &ToldMarks) -> Option<usize>
+        ensures least { IsLeast (IsUntoldAt (HasOne task) self.now told.now) 0 result }
+        ensures small { IfSome result (λ n. n < 2 ^ 60) }
+    {
+        let mut next = 0;
+        while let Some(index) = self.news.next_untold(task, told, next) {
             if has(task, &self.halves[index]) {
                 return Some(index);
             }

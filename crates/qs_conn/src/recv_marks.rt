@@ -2,10 +2,11 @@
 ghost use Rattle.std.specs.Prelude.{◌≡◌, ◌++◌, ◌-◌, ◌<◌, [], false, length, take, slice_set, replicate, OnOk, OnErr};
 ghost use Rattle.qs_recv.specs.News.{is_readable};
 ghost use Rattle.qs_machine.specs.Credit.{recv_ended};
-ghost use Rattle.qs_conn.specs.Marks.{is_marked, IsNextMark};
+ghost use Rattle.qs_conn.specs.Marks.{is_marked, untold, IsNextMark};
 ghost use Rattle.qs_conn.specs.RecvTasks.{has, marks_of};
 
 use crate::marks::Marks;
+use crate::told_marks::ToldMarks;
 use qs_ranges::NoMemory;
 use qs_recv::{RecvHalf, RecvState, RingAssembly};
 use std::alloc::Global;
@@ -97,6 +98,16 @@ impl RecvMarks {
         match task {
             RecvTask::Readable => self.readable.next(from),
             RecvTask::Ended => self.ended.next(from),
+        }
+    }
+
+    /// The least marked index from one on that wasn't told.
+    pub(crate) fn next_untold(&self, task: RecvTask, told: &ToldMarks, from: usize) -> Option<usize>
+        ensures { IsNextMark (untold (marks_of self.now task) told.now) from result }
+    {
+        match task {
+            RecvTask::Readable => self.readable.next_untold(&self.readable, told, from),
+            RecvTask::Ended => self.ended.next_untold(&self.ended, told, from),
         }
     }
 }

@@ -1,7 +1,7 @@
 //! The receiving halves of an end.
 ghost use Rattle.std.specs.Prelude.{◌≡◌, ◌+◌, ◌≤◌, ◌<◌, ◌^◌, ◌++◌, ℕ, length, drop, take, is_some, option_map, true, false, Some, OnOk, OnErr, IsOk, IfOk, IfSome};
 ghost use Rattle.qs_ranges.specs.Numbers.{MAX_VARINT};
-ghost use Rattle.qs_recv.specs.Lane.{RecvLane, new_lane, check_stream, check_reset, check_bytes, highest, taken, noted, take_stream, take_reset, read_answer, bytes_read, after_read, raise, stop, stop_and_forget, MAX_WINDOW};
+ghost use Rattle.qs_recv.specs.Lane.{RecvLane, new_lane, check_stream, check_reset, check_bytes, highest, taken, noted, take_stream, take_reset, read_answer, bytes_read, after_read, raise, stop, stop_and_forget, MAX_WINDOW, set_window};
 ghost use Rattle.qs_machine.specs.Tables.{no_streams, table, with_table, lookup, updated, open_to, each, total, type_of};
 ghost use Rattle.qs_machine.specs.Memory.{HasNews};
 ghost use Rattle.qs_machine.specs.Changes.{half_changes, reset_changes};
@@ -14,15 +14,16 @@ ghost use Rattle.qs_conn.specs.Ended.{recv_over};
 ghost use Rattle.qs_conn.specs.Held.{most_held};
 ghost use Rattle.qs_conn.specs.Layers.{limit_to_tell, stop_to_tell};
 ghost use Rattle.qs_machine.specs.News.{IsLeast, IsHeld};
-ghost use Rattle.qs_conn.specs.Marks.{IsHeldOf, AreEndsMarked};
+ghost use Rattle.qs_conn.specs.Marks.{IsHeldOf, AreEndsMarked, IsUntold, IsUntoldOf};
 ghost use Rattle.qs_conn.specs.declared.recv_marks.RecvTask.TheVariants as tasks;
 ghost use Rattle.qs_conn.specs.Untold.{HasMore};
-ghost use Rattle.qs_conn.specs.RecvTasks.{HasOne, HasNone};
+ghost use Rattle.qs_conn.specs.RecvTasks.{HasOne, HasNone, has_news};
 
 use crate::marks::{Marks, least};
 use crate::places::{index_from, index_of, type_of};
 use crate::recv_lanes::RecvLanes;
 use crate::recv_marks::RecvTask;
+use crate::told_streams::ToldStreams;
 use crate::untold::Untold;
 use qs_calls::RecvReport;
 use qs_machine::Tally;
@@ -239,6 +240,14 @@ impl RecvTables {
         lanes.may_tell(index_of(stream))
     }
 
+    /// Whether a read of one byte of a stream tells something new.
+    pub(crate) fn is_readable(&self, stream: StreamId) -> bool
+        ensures { result ≡ has_news (lookup self.now stream) }
+    {
+        let lanes = &self.types[type_of(stream)];
+        lanes.is_readable(index_of(stream))
+    }
+
     /// Reads at an open stream.
     pub(crate) fn read(&mut self, stream: StreamId, into: &mut [u8]) -> Read
         requires open { is_some (lookup self.old stream) ≡ true }
@@ -291,6 +300,18 @@ impl RecvTables {
     {
         let lanes = &mut self.types[type_of(stream)];
         lanes.stop_and_forget(index_of(stream), code);
+    }
+
+    /// Sets the window of an open stream.
+    pub(crate) fn set_window(&mut self, stream: StreamId, window: u64)
+        requires open { is_some (lookup self.old stream) ≡ true }
+        requires room { total highest self.old < 2 ^ 62 }
+        requires some { 1 ≤ window }
+        requires small { window ≤ MAX_WINDOW }
+        ensures { self.new ≡ updated self.old stream (λ l. set_window l window) (lookup self.old stream) }
+    {
+        let lanes = &mut self.types[type_of(stream)];
+        lanes.set_window(index_of(stream), window);
     }
 
     /// Whether a stream's receiving half is in Data Read or Reset Read (RFC 9000, section 3.2).
@@ -373,6 +394,37 @@ impl RecvTables {
     {
         let lanes = &self.types[stream_type];
         match lanes.next_with(task, index_from(stream_type, from)) {
+            Some(index) => Some((index * 4 + stream_type) as u64),
+            None => None,
+        }
+    }
+
+    /// The least number of a stream whose receiving half has an answer for its owner that wasn't told.
+    pub(crate) fn next_untold(&self, task: RecvTask, told: &ToldStreams) -> Option<StreamId>
+        ensures { IsLeast (IsUntold (IsHeld (HasOne task) self.now) told.now) 0 result }
+    {
+        let bidi = least(
+            self.next_untold_of(task, 0, told),
+            self.next_untold_of(task, 1, told),
+        );
+        let uni = least(
+            self.next_untold_of(task, 2, told),
+            self.next_untold_of(task, 3, told),
+        );
+        match least(bidi, uni) {
+            Some(number) => StreamId::new(number),
+            None => None,
+        }
+    }
+
+    // The least such number among the streams of a type.
+    fn next_untold_of(&self, task: RecvTask, stream_type: usize, told: &ToldStreams) -> Option<u64>
+        requires { stream_type < 4 }
+        ensures least { IsLeast (IsUntoldOf (IsHeld (HasOne task) self.now) told.now stream_type) 0 result }
+        ensures small { IfSome result (λ n. n < 2 ^ 62) }
+    {
+        let lanes = &self.types[stream_type];
+        match lanes.next_untold(task, told.of_type(stream_type)) {
             Some(index) => Some((index * 4 + stream_type) as u64),
             None => None,
         }

@@ -13,10 +13,11 @@ ghost use Rattle.qs_conn.specs.Held.{most_buffered};
 ghost use Rattle.qs_conn.specs.Promised.{promised_on};
 ghost use Rattle.qs_conn.specs.Marks.{AreMarked, IsBefore, IsAt};
 ghost use Rattle.qs_conn.specs.declared.send_marks.Task.TheVariants as tasks;
-ghost use Rattle.qs_conn.specs.Tasks.{IsQuiet, HasTask};
+ghost use Rattle.qs_conn.specs.Tasks.{IsQuiet, HasTask, IsSoughtAt};
 
 use crate::marks::Marks;
-use crate::send_marks::{SendMarks, Task, has};
+use crate::send_marks::{Search, SendMarks, Task, has};
+use crate::told_marks::ToldMarks;
 use qs_ranges::NoMemory;
 use qs_send::{Chunk, SendFault, SendHalf, SendState};
 use qs_wire::StreamId;
@@ -117,7 +118,7 @@ impl SendLanes {
         &mut self,
         stream_type: u64,
         limit: u64,
-        buffer: usize,
+        buffer: u32,
         count: usize,
     ) -> Result<(), NoMemory>
         requires stream_type { stream_type < 4 }
@@ -229,7 +230,7 @@ impl SendLanes {
         let (after, has) = (promised(half), kept(half));
         self.promised = self.promised - before + after;
         self.kept = self.kept - had + has;
-        self.marks.look(index, half);
+        self.marks.look_stopped(index, half);
     }
 
     /// Takes in that the peer allows the offsets of an open half below a limit.
@@ -244,7 +245,7 @@ impl SendLanes {
     }
 
     /// Sets how many bytes an open half keeps at most.
-    pub(crate) fn set_buffer(&mut self, index: usize, size: usize)
+    pub(crate) fn set_buffer(&mut self, index: usize, size: u32)
         requires { index < length self.old }
         ensures { self.new ≡ changed self.old index (λ s. after_buffer s size) (slice_get self.old index) }
     {
@@ -351,6 +352,21 @@ impl SendLanes {
         let mut next = from;
         while let Some(index) = self.marks.next(task, next) {
             if has(task, &self.halves[index]) {
+                return Some(index);
+            }
+            next = index + 1;
+        }
+        None
+    }
+
+    /// The least index from one on whose half is sought.
+    pub(crate) fn next_sought(&self, search: Search, told: &ToldMarks, from: usize) -> Option<usize>
+        ensures least { IsLeast (IsSoughtAt search self.now told.now) from result }
+        ensures small { IfSome result (λ n. n < 2 ^ 60) }
+    {
+        let mut next = from;
+        while let Some(index) = self.marks.next_sought(search, told, next) {
+            if has(search.task, &self.halves[index]) {
                 return Some(index);
             }
             next = index + 1;

@@ -2,11 +2,12 @@
 ghost use Rattle.std.specs.Prelude.{◌≡◌, ◌++◌, ◌-◌, ◌<◌, [], true, false, length, take, replicate, OnOk, OnErr};
 ghost use Rattle.qs_machine.specs.Credit.{send_ended};
 ghost use Rattle.qs_conn.specs.Marks.{is_marked, IsNextMark};
-ghost use Rattle.qs_conn.specs.Tasks.{IsQuiet, IsLooked, IsStill, HasTask, begins, marks_of};
+ghost use Rattle.qs_conn.specs.Tasks.{IsQuiet, IsLooked, IsStill, HasTask, begins, marks_of, sought_of};
 ghost use Rattle.qs_conn.specs.Untold.{IsClear};
 ghost use Rattle.qs_conn.specs.declared.send_marks.Task.TheVariants as tasks;
 
 use crate::marks::Marks;
+use crate::told_marks::ToldMarks;
 use qs_ranges::NoMemory;
 use qs_send::{SendHalf, SendState};
 use std::alloc::Global;
@@ -22,6 +23,15 @@ pub(crate) enum Task {
     Writable,
     /// Its end: Data Recvd or Reset Recvd.
     Ended,
+    /// A STOP_SENDING that came.
+    Stopped,
+}
+
+/// What a search looks for: halves that have something of a task, of streams that an owner was told of, or of those that it wasn't.
+#[derive(Clone, Copy, Drop)]
+pub(crate) struct Search {
+    pub(crate) task: Task,
+    pub(crate) is_told: bool,
 }
 
 /// The halves of one type that have a task, for each task. A half without a mark has none.
@@ -31,6 +41,7 @@ pub(crate) struct SendMarks {
     again: Marks,
     writable: Marks,
     ended: Marks,
+    stopped: Marks,
 }
 
 impl SendMarks {
@@ -42,6 +53,7 @@ impl SendMarks {
             again: Marks::new(alloc),
             writable: Marks::new(alloc),
             ended: Marks::new(alloc),
+            stopped: Marks::new(alloc),
         }
     }
 
@@ -52,7 +64,8 @@ impl SendMarks {
         self.bytes.reserve(count)?;
         self.again.reserve(count)?;
         self.writable.reserve(count)?;
-        self.ended.reserve(count)
+        self.ended.reserve(count)?;
+        self.stopped.reserve(count)
     }
 
     /// Makes room for all indexes below a count: the new ones have no mark but that they may be written to.
@@ -60,7 +73,8 @@ impl SendMarks {
         ensures ok { OnOk result ((t : Task) → marks_of self.new t ≡ marks_of self.old t ++ replicate (count - length (marks_of self.old t)) (begins t)) }
         ensures err { OnErr result ((t : Task) → marks_of self.new t ≡ marks_of self.old t) }
     {
-        let (bytes, again, writable) = (self.bytes.len(), self.again.len(), self.writable.len());
+        let (bytes, again) = (self.bytes.len(), self.again.len());
+        let (writable, ended) = (self.writable.len(), self.ended.len());
         self.bytes.open_to(count)?;
         if let Err(refused) = self.again.open_to(count) {
             self.bytes.close_to(bytes);
@@ -77,6 +91,13 @@ impl SendMarks {
             self.writable.close_to(writable);
             return Err(refused);
         }
+        if let Err(refused) = self.stopped.open_to(count) {
+            self.bytes.close_to(bytes);
+            self.again.close_to(again);
+            self.writable.close_to(writable);
+            self.ended.close_to(ended);
+            return Err(refused);
+        }
         Ok(())
     }
 
@@ -88,11 +109,13 @@ impl SendMarks {
         self.again.close_to(count);
         self.writable.close_to(count);
         self.ended.close_to(count);
+        self.stopped.close_to(count);
     }
 
-    /// Looks again at a half that changed.
+    /// Looks again at a half that changed, but by no STOP_SENDING.
     pub(crate) fn look(&mut self, index: usize, half: &SendHalf)
-        requires { (t : Task) → index < length (marks_of self.old t) }
+        requires there { (t : Task) → index < length (marks_of self.old t) }
+        requires stop { IsStill tasks.Stopped index half.now self.old }
         ensures { (t : Task) → IsLooked t index half.now (marks_of self.old t) (marks_of self.new t) }
     {
         self.bytes.set(index, may_send(half));
@@ -101,11 +124,21 @@ impl SendMarks {
         self.ended.set(index, has_ended(half));
     }
 
+    /// Looks again at a half of which a STOP_SENDING came.
+    pub(crate) fn look_stopped(&mut self, index: usize, half: &SendHalf)
+        requires { (t : Task) → index < length (marks_of self.old t) }
+        ensures { (t : Task) → IsLooked t index half.now (marks_of self.old t) (marks_of self.new t) }
+    {
+        self.stopped.set(index, half.stop_code().is_some());
+        self.look(index, half);
+    }
+
     /// Looks again at a half that was given bytes: that moves neither what was sent before nor its end.
     pub(crate) fn look_written(&mut self, index: usize, half: &SendHalf)
         requires there { (t : Task) → index < length (marks_of self.old t) }
         requires again { IsStill tasks.Again index half.now self.old }
         requires end { IsStill tasks.Ended index half.now self.old }
+        requires stop { IsStill tasks.Stopped index half.now self.old }
         ensures { (t : Task) → IsLooked t index half.now (marks_of self.old t) (marks_of self.new t) }
     {
         self.bytes.set(index, may_send(half));
@@ -118,6 +151,7 @@ impl SendMarks {
         requires again { IsStill tasks.Again index half.now self.old }
         requires room { IsStill tasks.Writable index half.now self.old }
         requires end { IsStill tasks.Ended index half.now self.old }
+        requires stop { IsStill tasks.Stopped index half.now self.old }
         ensures { (t : Task) → IsLooked t index half.now (marks_of self.old t) (marks_of self.new t) }
     {
         self.bytes.set(index, may_send(half));
@@ -128,6 +162,7 @@ impl SendMarks {
     pub(crate) fn look_acked(&mut self, index: usize, half: &SendHalf)
         requires there { (t : Task) → index < length (marks_of self.old t) }
         requires again { IsStill tasks.Again index half.now self.old }
+        requires stop { IsStill tasks.Stopped index half.now self.old }
         ensures { (t : Task) → IsLooked t index half.now (marks_of self.old t) (marks_of self.new t) }
     {
         self.bytes.set(index, may_send(half));
@@ -148,12 +183,7 @@ impl SendMarks {
     pub(crate) fn may_have(&self, task: Task) -> bool
         ensures { result ≡ false → IsClear (marks_of self.now task) }
     {
-        match task {
-            Task::Bytes => self.bytes.may_have(),
-            Task::Again => self.again.may_have(),
-            Task::Writable => self.writable.may_have(),
-            Task::Ended => self.ended.may_have(),
-        }
+        self.of(task).may_have()
     }
 
     /// The marks of those that came to their end.
@@ -167,11 +197,35 @@ impl SendMarks {
     pub(crate) fn next(&self, task: Task, from: usize) -> Option<usize>
         ensures { IsNextMark (marks_of self.now task) from result }
     {
+        self.of(task).next(from)
+    }
+
+    /// The least marked index from one on that is sought.
+    pub(crate) fn next_sought(&self, search: Search, told: &ToldMarks, from: usize) -> Option<usize>
+        ensures { IsNextMark (sought_of search (marks_of self.now search.task) told.now) from result }
+    {
+        let marks = self.of(search.task);
+        if !search.is_told {
+            return marks.next_untold(marks, told, from);
+        }
+        let others = told.marks();
+        if !others.may_have() {
+            return None;
+        }
+        marks.next_both(others, from)
+    }
+
+    // The marks for a task.
+    #[inline(always)]
+    fn of(&self, task: Task) -> &Marks
+        ensures { result.now ≡ marks_of self.now task }
+    {
         match task {
-            Task::Bytes => self.bytes.next(from),
-            Task::Again => self.again.next(from),
-            Task::Writable => self.writable.next(from),
-            Task::Ended => self.ended.next(from),
+            Task::Bytes => &self.bytes,
+            Task::Again => &self.again,
+            Task::Writable => &self.writable,
+            Task::Ended => &self.ended,
+            Task::Stopped => &self.stopped,
         }
     }
 }
@@ -201,6 +255,7 @@ pub(crate) fn has(task: Task, half: &SendHalf) -> bool
         Task::Again => may_send_again(half),
         Task::Writable => half.is_writable(),
         Task::Ended => has_ended(half),
+        Task::Stopped => half.stop_code().is_some(),
     }
 }
 

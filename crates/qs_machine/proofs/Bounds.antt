@@ -22,7 +22,7 @@ use Rattle.qs_calls.specs.declared.settings.SetupFault.{SetupFault}
 use Rattle.qs_calls.specs.declared.settings.SetupFault.TheVariants.{OutOfRange, TooManyStreams}
 use Rattle.qs_calls.specs.Settings.{are_in_range, are_in_wide_range, are_spellable, are_countable, fault_where, setup_fault, wide_setup_fault, default_tuning}
 use Rattle.qs_machine.specs.Tables.{table, lookup, total, no_streams}
-use Rattle.qs_machine.specs.Ends.{End, role_bit, window, new_end, end_made, wide_end_made, end_unless}
+use Rattle.qs_machine.specs.Ends.{End, role_bit, new_end, end_made, wide_end_made, end_unless}
 use Rattle.qs_machine.specs.Credit.{spent, all_taken, all_stored, granted_streams, lifetime, recv_ended, both_ended, ended}
 use Rattle.qs_machine.specs.Standing.{HasLawfulLane, IsInCredit, CountsStand, IsSound, CountsAreSettled, IsLaneWithin, IsWithinCredit}
 use Rattle.qs_machine.proofs.Counts.{count_first}
@@ -44,8 +44,8 @@ stored_and_taken l h = by_use (is_some l.reset_code || is_some l.stop_code) h.di
         (p.0, omega (arith, below, h.received_within, p.0))) in
         omega arith
 
-lane_within : (l : RecvLane) (w : ℕ) → IsLawful l → l.arrived.window ≡ w → IsLaneWithin l w
-lane_within l w h same = record { stored = stored_within l h; credit = omega (arith, h.in_window, same); spent = h.granted }
+lane_within : (l : RecvLane) → IsLawful l → IsLaneWithin l
+lane_within l h = record { stored = stored_within l h; credit = omega (arith, h.in_window); spent = h.granted }
 
 slot_within : (role : Role) (s : Settings) (n : ℕ) (o : Option RecvLane) → HasLawfulLane role s n o → value (λ l. fmap.len l.arrived.stored + taken l) o ≤ value highest o
 slot_within role s n None h = omega arith
@@ -67,7 +67,7 @@ within_credit e h =
       stored = omega (arith, all, h.0.spent);
       credit = omega (arith, h.0.in_window);
       spent = h.0.spent;
-      lanes = λ n l is. (let p : HasLawfulLane e.role e.settings n (Some l) = subst (HasLawfulLane e.role e.settings n) is (h.0.lanes n) in lane_within l (window e n) p.0 p.1);
+      lanes = λ n l is. (let p : HasLawfulLane e.role e.settings n (Some l) = subst (HasLawfulLane e.role e.settings n) is (h.0.lanes n) in lane_within l p.0);
       counts = few_counts e h.1;
     }
 

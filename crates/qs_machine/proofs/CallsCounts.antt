@@ -2,7 +2,7 @@
 use Rattle.std.proofs.Common.{◌≡◌, ℕ, ◌+◌, ◌&&◌, take, refl, sym, ap, subst, arith}
 use Rattle.std.proofs.lemmas.Bool.{cond_both}
 use Rattle.qs_wire.specs.declared.stream_id.Dir.TheVariants.{Bidi, Uni}
-use Rattle.qs_recv.specs.Lane.{RecvLane, new_lane as new_recv_lane, after_read, stop, raise, stop_and_forget}
+use Rattle.qs_recv.specs.Lane.{RecvLane, new_lane as new_recv_lane, after_read, stop, raise, stop_and_forget, set_window}
 use Rattle.qs_send.specs.Lane.{buffer_lane}
 use Rattle.qs_send.specs.declared.piece.Piece.{Piece}
 use Rattle.qs_machine.specs.Ends.{End, on_recv, is_own, is_uni, opens, window}
@@ -11,7 +11,7 @@ use Rattle.qs_machine.specs.FrameStep.{frame_taken, acks, named}
 use Rattle.qs_machine.specs.Lawful.{frame_put}
 use Rattle.qs_machine.specs.Making.{first_lost}
 use Rattle.qs_machine.specs.EndStep.{Call, Answer, EndStep}
-use Rattle.qs_machine.specs.Setting.{Setting, ConnWindow, Grant, with_setting}
+use Rattle.qs_machine.specs.Setting.{Setting, ConnWindow, Grant, with_setting, StreamWindow}
 use Rattle.qs_machine.proofs.Leaves.{put_leaves}
 use Rattle.qs_machine.specs.Standing.{IsSound, IsInCredit, CountsAreSettled, CountsRise}
 use Rattle.qs_machine.specs.Repeats.{SentWasWritten}
@@ -22,7 +22,7 @@ use Rattle.qs_machine.proofs.Counts.{counts_settle, counts_rise}
 use Rattle.qs_machine.proofs.CallsSound.{sound_call, sound_change, stand_call, grant_grows}
 use Rattle.qs_machine.proofs.SentCalls.{keeps_change}
 use Rattle.qs_recv.specs.Lawful.{IsLawful}
-use Rattle.qs_machine.proofs.LanesAgain.{LaneAfter, lane_same, lane_twice, raise_after, stop_after, read_after, forget_after}
+use Rattle.qs_machine.proofs.LanesAgain.{LaneAfter, lane_same, lane_twice, raise_after, stop_after, read_after, forget_after, window_after}
 use Rattle.qs_machine.specs.Credit.{ended, settle}
 use Rattle.qs_machine.proofs.EndsAfter.{IsAfter, lawful_in, after_frame, after_acks, all_take, named_written}
 
@@ -82,6 +82,7 @@ moves_set (Grant Bidi n) e =
 moves_set (Grant Uni n) e =
     (counts_rise e (with_setting (Grant Uni n) e) (omega arith) (grant_grows e.present.grant_uni e.granted_uni e.settings.lifetime_uni (ended e Uni) n), kept_same LaneAfter lane_same e.recvs)
 moves_set (SendBuffer n size) e = moves_none e (with_setting (SendBuffer n size) e) refl refl refl
+moves_set (StreamWindow n w) e = moves_recvs e (with_setting (StreamWindow n w) e) refl refl (kept_updated LaneAfter lane_same e.recvs n (λ l. set_window l w) (λ l is. window_after l w))
 
 moves_after : (a b : End) → IsAfter a b → Moves a b
 moves_after a b after = (counts_rise a b after.bidi_granted after.uni_granted, after.recvs)

@@ -5,8 +5,8 @@ use Rattle.std.proofs.lemmas.Bool.Decides.{nat_tests}
 use Rattle.std.proofs.lemmas.Option.{none-some}
 use Rattle.qs_wire.specs.declared.stream_id.Dir.TheVariants.{Bidi, Uni}
 use Rattle.qs_recv.specs.Assembled.{discard}
-use Rattle.qs_recv.specs.Lane.{MAX_CONN_WINDOW, RecvLane, highest, after_read, after_answer, read_answer, stop, stop_and_forget}
-use Rattle.qs_recv.specs.Laws.{ReadUpTo, StopWith, ForgetWith}
+use Rattle.qs_recv.specs.Lane.{MAX_CONN_WINDOW, RecvLane, highest, after_read, after_answer, read_answer, stop, stop_and_forget, MAX_WINDOW, limit_with, set_window}
+use Rattle.qs_recv.specs.Laws.{ReadUpTo, StopWith, ForgetWith, SetWindow}
 use Rattle.qs_recv.specs.declared.half.Read.{Read}
 use Rattle.qs_recv.specs.declared.half.Read.TheVariants as reads
 use Rattle.qs_recv.proofs.GrowthLaws.{lawful_after_call, grows_after_call}
@@ -16,7 +16,7 @@ use Rattle.qs_calls.specs.Settings.{is_between, MAX_GRANT}
 use Rattle.qs_machine.specs.Ends.{End, on_recv}
 use Rattle.qs_machine.specs.Credit.{all_taken, ended, settle}
 use Rattle.qs_machine.specs.Owner.{first_refusal, refuse_if}
-use Rattle.qs_machine.specs.Setting.{Setting, ConnWindow, Grant, limit_with, count_with, is_settable, set_refusal, with_setting}
+use Rattle.qs_machine.specs.Setting.{Setting, ConnWindow, Grant, count_with, is_settable, set_refusal, with_setting, half_fault, StreamWindow}
 use Rattle.qs_machine.specs.FrameStep.{named}
 use Rattle.qs_machine.specs.EndStep.{Call, Answer, EndStep}
 use Rattle.qs_machine.specs.Standing.{IsInCredit, CountsStand}
@@ -25,7 +25,7 @@ use Rattle.qs_machine.proofs.EveryCall.{Change, changed, Comes, relates, Wanted,
 use Rattle.qs_machine.proofs.Counts.{counts_stand}
 use Rattle.qs_machine.proofs.Rising.{window_grows}
 use Rattle.qs_machine.specs.Setting.{SendBuffer}
-use Rattle.qs_machine.proofs.Sound.{keeps_updated, keeps_settle}
+use Rattle.qs_machine.proofs.Sound.{keeps_updated, keeps_settle, keeps_widened}
 use Rattle.qs_machine.proofs.FramesSound.{sound_opens, sound_acks, sound_frame}
 
 pub sound_settle : (e : End) → IsInCredit e → IsInCredit (settle e)
@@ -70,6 +70,12 @@ settable false false f g o h = absurd (none-some g (sym h))
 moved_within : (present g t w v : ℕ) → g ≤ t + v → limit_with present g t w ≤ t + max v w
 moved_within present g t w v h = grind (arith, nat_tests, h)
 
+-- another window of a stream
+pub sound_window : (n w : ℕ) (e : End) → 1 ≤ w → w ≤ MAX_WINDOW → IsInCredit e → IsInCredit (on_recv n (λ l. set_window l w) e)
+sound_window n w e some small h =
+    keeps_widened e.role e.settings e.present e.recvs e.granted h n (λ l. set_window l w)
+    (λ l is lawful. (lawful_after_call l (SetWindow w) lawful (some, small), omega arith, omega arith, omega (arith, h.spent)))
+
 pub sound_set : (x : Setting) (e : End) → set_refusal e x ≡ None → IsInCredit e → IsInCredit (with_setting x e)
 sound_set (ConnWindow w) e allowed h =
     let fits : is_between 1 MAX_CONN_WINDOW w ≡ true = settable (is_some e.closed) (is_settable (ConnWindow w)) setting.Closed setting.OutOfRange None allowed in
@@ -91,6 +97,11 @@ sound_set (Grant Uni n) e allowed h =
     let few : n ≤ MAX_GRANT = grind (arith, nat_tests, fits) in
     record { settings = h.settings; present = record { some = h.present.some; widest = h.present.widest; small = h.present.small; bidi = h.present.bidi; uni = few }; lanes = h.lanes; spent = h.spent; in_window = h.in_window }
 sound_set (SendBuffer n size) e allowed h = h
+sound_set (StreamWindow n w) e allowed h =
+    let fits : is_between 1 MAX_WINDOW w ≡ true = settable (is_some e.closed) (is_settable (StreamWindow n w)) setting.Closed setting.OutOfRange (half_fault e (StreamWindow n w)) allowed in
+    let some : 1 ≤ w = grind (arith, nat_tests, fits) in
+    let small : w ≤ MAX_WINDOW = grind (arith, nat_tests, fits) in
+    sound_window n w e some small h
 
 pub sound_forget : (n code : ℕ) (e : End) → IsInCredit e → IsInCredit (on_recv n (λ l. stop_and_forget l code) e)
 sound_forget n code e h =
@@ -129,6 +140,7 @@ stand_set (ConnWindow w) e h = h
 stand_set (Grant Bidi n) e h = (grant_within e.present.grant_bidi e.granted_bidi e.settings.lifetime_bidi (ended e Bidi) n h.0, h.1)
 stand_set (Grant Uni n) e h = (h.0, grant_within e.present.grant_uni e.granted_uni e.settings.lifetime_uni (ended e Uni) n h.1)
 stand_set (SendBuffer n size) e h = h
+stand_set (StreamWindow n w) e h = h
 
 stand_change : (old : End) (call : Call) (c : Change) (e : End) → Comes old call e c → CountsStand e → CountsStand (changed c e)
 stand_change old call (Wanted Uni count) e comes h = h

@@ -21,6 +21,7 @@ use Rattle.qs_send.proofs.Carrying.{rest_of, get_same-without_first}
 use Rattle.qs_calls.specs.declared.closing.Closing.{Closing}
 use Rattle.qs_calls.specs.declared.closing.Closed.{Closed}
 use Rattle.qs_calls.specs.declared.closing.Closed.TheVariants.{ByUs, ByPeer}
+use Rattle.qs_calls.specs.declared.closing.Closed.TheVariants as closings
 use Rattle.qs_calls.specs.declared.closing.Received.{Received}
 use Rattle.qs_calls.specs.declared.closing.Received.TheVariants as received
 use Rattle.qs_calls.specs.declared.filling.Fill.{Fill}
@@ -186,6 +187,7 @@ by_open P number payload old result new step below again taken = by_floor (nat_l
 pub closed_same : (c : Closed) (old : End) (result : Result Received Closing) (new : End) → ClosedReceive c old result new → new ≡ old
 closed_same (ByUs closing) old result new h = h.1
 closed_same (ByPeer code) old result new h = h.1
+closed_same (closings.Told close) old result new h = h.1
 
 -- a half that takes bytes refuses none
 pub half_allowed : (closed other : Bool) (o : Option SendLane) → first_refusal (refuse_if closed uses.Closed) (elim o [ None ↦ Some (no_half other) | Some l ↦ half_refusal (refusal l) ]) ≡ None → (l : SendLane) → o ≡ Some l → refusal l ≡ None

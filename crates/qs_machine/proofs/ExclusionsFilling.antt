@@ -1,5 +1,5 @@
 -- What isn't filled in.
-use Rattle.std.proofs.Common.{◌≡◌, ◌≤◌, ℕ, true, false, List, [], ◌∷◌, None, Some, refl, sym, ap, ◌∙◌, subst, arith, inl, inr, nat_cmp}
+use Rattle.std.proofs.Common.{◌≡◌, ◌≤◌, ℕ, zero, suc, true, false, List, [], ◌∷◌, None, Some, refl, sym, ap, ◌∙◌, subst, arith, inl, inr, nat_cmp}
 use Rattle.std.specs.List.{AllByRecursion}
 use Rattle.std.specs.FinSet as set
 use Rattle.std.proofs.lemmas.Bool.{true≢false, false≢true}
@@ -16,14 +16,32 @@ use Rattle.qs_machine.specs.Credit.{settle}
 use Rattle.qs_machine.specs.Seen.{Seen, seen_all}
 use Rattle.qs_machine.specs.Due.{StreamGoes}
 use Rattle.qs_machine.specs.Lawful.{AreInTurn}
-use Rattle.qs_machine.specs.Filling.{IsWanted, IsFilled}
+use Rattle.qs_machine.specs.Filling.{IsWanted, IsFilled, WantedGoes, stream_bytes, still_asked}
 use Rattle.qs_machine.specs.ExclusionsMaking.{writer}
-use Rattle.qs_machine.specs.ExclusionsFilling.{NoSuchFrames, NothingWantedIsLeftOut, NoSuchFill, NotFilled, everything, bytes_alone, items_alone}
+use Rattle.qs_machine.specs.ExclusionsFilling.{NoSuchFrames, NothingWantedIsLeftOut, NoSuchFill, NotFilled, everything, bytes_alone, items_alone, no_bytes}
 use Rattle.qs_machine.proofs.ExclusionsMaking.{no_control, no_item, none_due, not_made, ok_is_no_err}
 
 -- what is filled in is asked for
 wanted_are : (old : End) (want : Fill) (filled : Filled) (text : List ℕ) (new : End) (is : IsFilled old want 1200 filled text new) (frames : List Seen) → seen_all is.made.frames ≡ frames → AllByRecursion (IsWanted want) frames
 wanted_are old want filled text new is frames same = subst (AllByRecursion (IsWanted want)) same is.wanted
+
+-- what is asked for once the cap is used up was asked for before
+still_fewer : (want : Fill) (left : ℕ) (e : End) → WantedGoes (still_asked want left) e → WantedGoes want e
+still_fewer want zero e (inl some) = inl some
+still_fewer want zero e (inr (n, asked, goes)) = absurd (false≢true asked.0)
+still_fewer want (suc left) e goes = goes
+
+-- items are asked for still
+still_items : (left : ℕ) (e : End) → WantedGoes items_alone e → WantedGoes (still_asked everything left) e
+still_items zero e goes = goes
+still_items (suc left) e (inl some) = inl some
+still_items (suc left) e (inr (n, asked, goes)) = absurd (false≢true asked.0)
+
+-- and no stream where the cap is none
+still_none : (left : ℕ) (e : End) → left ≡ 0 → WantedGoes (still_asked (record no_bytes { items = false }) left) e → ⊥
+still_none zero e is (inl (on, some)) = false≢true on
+still_none zero e is (inr (n, asked, goes)) = false≢true asked.0
+still_none (suc left) e is goes = omega (arith, is)
 
 frames : NoSuchFrames
 frames =
@@ -32,6 +50,7 @@ frames =
       item = λ filled text new is same. false≢true (wanted_are _ _ filled text new is _ same).0;
       bytes = λ filled text new is same. false≢true (wanted_are _ _ filled text new is _ same).0.0;
       other = λ filled text new is same. elim (wanted_are _ _ filled text new is _ same).0.1 [ inl all ↦ true≢false all | inr one ↦ omega (arith, one) ];
+      past_cap = λ filled text new is same. (let le : 3 ≤ 2 = subst (λ fs. stream_bytes fs ≤ 2) same is.capped in omega (arith, le));
       turns = λ filled text new is same. not_made.turns.first_ignored (subst (AreInTurn 4 _) same is.made.turn);
     }
 
@@ -53,8 +72,9 @@ left_out : NothingWantedIsLeftOut
 left_out =
     record {
       item = λ left has. no_control (has.items refl (MaxData 5000) ((refl, omega arith), λ covered. elim covered [ inl flies ↦ carried-empty _ flies | inr acked ↦ none-some 5000 acked ]));
-      bytes = λ has. has.streams 0 (refl, inl refl) byte_goes;
-      alone = λ has. has.streams 0 (refl, inr refl) byte_goes;
+      bytes = λ has. has.streams 0 (refl, inl refl) (inl (omega arith, byte_goes));
+      below_cap = λ has. has.streams 0 (refl, inl refl) (inl (omega arith, byte_goes));
+      alone = λ has. has.streams 0 (refl, inr refl) (inl (omega arith, byte_goes));
     }
 
 next_is : (filled : Filled) (text : List ℕ) (new : End) → IsFilled writer everything 1200 filled text new → new.next ≡ 1
@@ -69,9 +89,10 @@ answers =
       len = λ last new is. (let e : 2 ≡ 1 = is.made.len in omega arith);
       no_room = λ filled new is. (let le : 1 ≤ 0 = is.fits in omega arith);
       no_last = λ filled text new is frames none. none-some 0 (sym none ∙ is.last_stream ∙ ap (last_stream_of None) frames);
-      no_more = λ filled text new is goes none. true≢false (sym (is.more.1 goes) ∙ none);
-      more = λ filled text new is none goes. none (is.more.0 goes);
-      nothing = λ text new step. step.0 (omega arith) (inr (0, (refl, inl refl), byte_goes));
+      no_more = λ filled text new is goes none. true≢false (sym (is.more.1 (still_items _ new goes)) ∙ none);
+      more = λ filled text new is none goes. none (still_fewer everything _ new (is.more.0 goes));
+      cap_is_more = λ filled text new is goes. still_none _ new (omega arith) (is.more.0 goes);
+      nothing = λ text new step. (step.0 (omega arith)).streams 0 (refl, inl refl) (inl (omega arith, byte_goes));
       closed = λ filled text new step. ok_is_no_err _ _ step.0;
       exhausted = λ filled text new step. ok_is_no_err _ _ step.0;
       last_number = λ new step. step;

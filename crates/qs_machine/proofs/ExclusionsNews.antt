@@ -27,7 +27,7 @@ search =
     }
 
 -- the half of the only stream
-only_is : {X : Type 0} (P : X → Type 0) (x : X) → IsHeld P (only x) 0 → P x
+pub only_is : {X : Type 0} (P : X → Type 0) (x : X) → IsHeld P (only x) 0 → P x
 unfolding lookup
 only_is P x (y, at, p) = subst P (sym (same_Some x y at)) p
 
@@ -42,10 +42,13 @@ no_other P x (y, at, p) = none-some y at
 waits : read_answer fresh 1 ≡ reads.Wait
 waits = not_chosen _ _ reads.Wait (set.contains-empty nat_cmp 0)
 
+pub nothing_readable : IsReadable (server_with fresh) 0 → ⊥
+nothing_readable h = both_ways (is_readable fresh) (ap tells_something waits) (only_is (λ l. is_readable l ≡ true) fresh h.1)
+
 readable : NotReadable
 readable =
     record {
-      nothing_came = λ h. both_ways (is_readable fresh) (ap tells_something waits) (only_is (λ l. is_readable l ≡ true) fresh h.1);
+      nothing_came = nothing_readable;
       told = λ h. false≢true (only_is (λ l. is_readable l ≡ true) (record all_came { told = true }) h.1);
       stopped = λ h. false≢true (only_is (λ l. is_readable l ≡ true) (stop three_came 7) h.1);
       forgotten = λ h. false≢true (only_is (λ l. is_readable l ≡ true) (stop_and_forget all_came 7) h.1);

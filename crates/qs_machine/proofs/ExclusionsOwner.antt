@@ -23,7 +23,7 @@ use Rattle.qs_machine.specs.Credit.{settle}
 use Rattle.qs_machine.specs.FrameStep.{frame_taken}
 use Rattle.qs_machine.specs.Owner.{Certain, send_refusal, accepted_by, is_end}
 use Rattle.qs_machine.specs.SmallEnds.{client_with, abc, begun, wrote, fresh}
-use Rattle.qs_machine.specs.ExclusionsOwner.{NoSuchOpening, NoSuchAccepting, NoSuchAcceptingOf, NoSuchSending, NoSuchWriting, NoSuchReading, LimitsSettle, LimitsOnlyRise, SetsNoMore, NotOwned, prudent, NoSuchForgetting}
+use Rattle.qs_machine.specs.ExclusionsOwner.{NoSuchOpening, NoSuchAccepting, NoSuchAcceptingOf, NoSuchSending, NoSuchWriting, NoSuchReading, LimitsSettle, LimitsOnlyRise, SetsNoMore, SetsNoMoreOfIt, NotOwned, prudent, NoSuchForgetting}
 use Rattle.qs_machine.proofs.Choices.{not_chosen}
 use Rattle.qs_machine.proofs.ExclusionsMaking.{ok_is_no_err}
 use Rattle.qs_machine.proofs.ExclusionsDue.{came_whole}
@@ -276,6 +276,24 @@ sets =
       too_many = λ new h. ok_is_no_err _ _ h.0;
     }
 
+sets_its : SetsNoMoreOfIt
+unfolding lookup update open_to each total
+sets_its =
+    record {
+      at_once = refl;
+      narrower = refl;
+      no_step = refl;
+      counts_then = refl;
+      ended = refl;
+      widest = refl;
+      later = refl;
+      unopened = λ new h. ok_is_no_err _ _ h.0;
+      not_its = λ new h. cc;
+      closed = λ new h. ok_is_no_err _ _ h.0;
+      no_window = λ new h. ok_is_no_err _ _ h.0;
+      too_wide = λ new h. ok_is_no_err _ _ h.0;
+    }
+
 pub not_owned : NotOwned
 not_owned = record {
   opening = openings;
@@ -288,4 +306,5 @@ not_owned = record {
   settling = settling;
   rising = risings;
   setting = sets;
+  setting_its = sets_its;
 }

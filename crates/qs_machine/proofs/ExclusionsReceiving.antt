@@ -272,7 +272,7 @@ unfolding frame_taken lookup update open_to
 report i =
     Some (record {
       send = Some (record { state = ready i; written = 0; final_size = None; reset_code = None; limit = 1024 });
-      recv = Some (record { state = ap (λ b. cond b DataRecvd SizeKnown) (came_whole 5) i; read_count = 0; highest = 5; limit = 1024; final_size = Some 5; reset_code = None });
+      recv = Some (record { state = ap (λ b. cond b DataRecvd SizeKnown) (came_whole 5) i; read_count = 0; highest = 5; limit = 1024; final_size = Some 5; reset_code = None; stop_code = None });
     })
   where
     ready : send_state (new_send_lane 0 1024 2048) ≡ sends.Ready

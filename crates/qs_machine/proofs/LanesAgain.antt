@@ -11,7 +11,7 @@ use Rattle.qs_ranges.specs.Numbers.{NumberSet, ContainsRange, is_within, numbers
 use Rattle.qs_ranges.proofs.Sets.{covers-is, covers-of, below-end_of}
 use Rattle.qs_ranges.proofs.Algebra.{inside, with_range-covered}
 use Rattle.qs_recv.specs.Assembled.{Assembled, put, store, discard, forget}
-use Rattle.qs_recv.specs.Lane.{RecvLane, highest, highest_after, check_stream, check_reset, check_bytes, take_stream, take_reset, is_whole, whole_to, breaks_known, raise, stop, stop_and_forget, after_read, after_answer, read_answer}
+use Rattle.qs_recv.specs.Lane.{RecvLane, highest, highest_after, check_stream, check_reset, check_bytes, take_stream, take_reset, is_whole, whole_to, breaks_known, raise, stop, stop_and_forget, after_read, after_answer, read_answer, set_window}
 use Rattle.qs_recv.specs.declared.half.Read.{Read}
 use Rattle.qs_recv.specs.declared.half.Read.TheVariants as reads
 use Rattle.qs_recv.specs.Lawful.{IsLawful}
@@ -22,7 +22,7 @@ use Rattle.qs_recv.proofs.LaneLaws.{check_fits}
 use Rattle.qs_recv.specs.Laws.{Grows, IsUnchanged, TakeStream, TakeReset, ReadUpTo, StopWith}
 use Rattle.qs_recv.proofs.SameAgain.{check_is, taken_passes, stored_before as byte_before}
 use Rattle.qs_recv.proofs.SameLaws.{byte_in, same_none, same_true}
-use Rattle.qs_recv.proofs.LawfulLaws.{unbroken, reset_known, raised_grows}
+use Rattle.qs_recv.proofs.LawfulLaws.{unbroken, reset_known, raised_grows, under_grows}
 use Rattle.qs_recv.proofs.GrowthLaws.{grows_after_call}
 use Rattle.qs_machine.proofs.EndedHalves.{RecvStays, recv_stays, whole_stays, reset_stays_ended, read_stays, stop_stays, forget_stays}
 
@@ -70,6 +70,9 @@ reset_after l code size lawful ok =
 
 pub raise_after : (l : RecvLane) → LaneAfter l (raise l)
 raise_after l = record { limit = raised_grows l; received = λ q is. is; size = λ s is. is; reset = λ is. is; stored = λ q byte came is. is; ended = λ is. is }
+
+pub window_after : (l : RecvLane) (w : ℕ) → LaneAfter l (set_window l w)
+window_after l w = record { limit = under_grows l w; received = λ q is. is; size = λ s is. is; reset = λ is. is; stored = λ q byte came is. is; ended = λ is. is }
 
 pub stop_after : (l : RecvLane) (code : ℕ) → IsLawful l → LaneAfter l (stop l code)
 stop_after l code lawful =

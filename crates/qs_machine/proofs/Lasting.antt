@@ -5,7 +5,7 @@ use Rattle.std.proofs.lemmas.Bool.{false≢true}
 use Rattle.qs_wire.specs.Layout.{FrameValue}
 use Rattle.qs_calls.specs.declared.closing.Closing.{Closing}
 use Rattle.qs_calls.specs.declared.closing.Closed.{Closed}
-use Rattle.qs_calls.specs.declared.closing.Closed.TheVariants.{ByUs, ByPeer}
+use Rattle.qs_calls.specs.declared.closing.Closed.TheVariants.{ByUs, ByPeer, Told}
 use Rattle.qs_calls.specs.declared.closing.Received.{Received}
 use Rattle.qs_calls.specs.declared.filling.Fill.{Fill}
 use Rattle.qs_calls.specs.declared.making.MakeFault.{MakeFault}
@@ -87,6 +87,7 @@ receive_again : (c : Option Closed) (number : ℕ) (payload : List ℕ) (old : E
 receive_again None number payload old result new is h = absurd (false≢true is)
 receive_again (Some (ByUs closing)) number payload old result new is h = h.1
 receive_again (Some (ByPeer code)) number payload old result new is h = h.1
+receive_again (Some (Told close)) number payload old result new is h = h.1
 
 take_again : (c : Option Closed) (f : FrameValue) (old : End) (answer : Result Taken TakeFault) (new : End) → is_some c ≡ true → TakeBy c f old answer new → new ≡ old
 take_again None f old answer new is h = absurd (false≢true is)

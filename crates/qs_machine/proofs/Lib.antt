@@ -45,6 +45,7 @@ pub mod ExclusionsOwner
 pub mod ExclusionsAlone
 pub mod ExclusionsNews
 pub mod ExclusionsAsking
+pub mod ExclusionsHeard
 pub mod SettledLimits
 pub mod OffsetParts
 pub mod Claims

@@ -12,7 +12,10 @@ use Rattle.qs_recv.specs.Lane.{RecvLane, taken, raise, step, next_limit}
 use Rattle.qs_recv.specs.declared.credit.Share.{Share}
 use Rattle.qs_calls.specs.declared.closing.Closing.{Closing}
 use Rattle.qs_calls.specs.declared.closing.Closed.{Closed}
-use Rattle.qs_calls.specs.declared.closing.Closed.TheVariants.{ByUs, ByPeer}
+use Rattle.qs_calls.specs.declared.closing.Closer.{Closer}
+use Rattle.qs_calls.specs.declared.closing.Closer.TheVariants.{Us, Peer}
+use Rattle.qs_machine.specs.Receiving.{told_receive}
+use Rattle.qs_calls.specs.declared.closing.Closed.TheVariants.{ByUs, ByPeer, Told}
 use Rattle.qs_calls.specs.declared.closing.Received.{Received}
 use Rattle.qs_calls.specs.declared.closing.Received.TheVariants as received
 use Rattle.qs_machine.specs.Tables.{Tables, each}
@@ -56,10 +59,10 @@ next_twice l t w share = go (moves l) refl
 pub raise_twice : (l : RecvLane) → raise (raise l) ≡ raise l
 raise_twice l = ap (λ k. record l { limit = k }) (go (is_some l.final_size))
   where
-    go : (b : Bool) → cond b (cond b l.limit (next_limit l.limit (taken l) l.arrived.window l.share)) (next_limit (cond b l.limit (next_limit l.limit (taken l) l.arrived.window l.share)) (taken l) l.arrived.window l.share)
-        ≡ cond b l.limit (next_limit l.limit (taken l) l.arrived.window l.share)
+    go : (b : Bool) → cond b (cond b l.limit (next_limit l.limit (taken l) l.window l.share)) (next_limit (cond b l.limit (next_limit l.limit (taken l) l.window l.share)) (taken l) l.window l.share)
+        ≡ cond b l.limit (next_limit l.limit (taken l) l.window l.share)
     go true = refl
-    go false = next_twice l.limit (taken l) l.arrived.window l.share
+    go false = next_twice l.limit (taken l) l.window l.share
 
 map_twice : {X : Type 0} (f : X → X) → ((x : X) → f (f x) ≡ f x) → (xs : List X) → map f (map f xs) ≡ map f xs
 map_twice f same [] = refl
@@ -106,6 +109,11 @@ was_open (Some (ByPeer code)) number payload old new step = absurd (not_done cod
   where
     not_done : (code : ℕ) → ◌≡◌ {A = Result Received Closing} (Ok received.Done) (Ok (received.PeerClosed code)) → ⊥
     not_done code h = cc
+was_open (Some (Told close)) number payload old new step = absurd (never close.by step.0)
+  where
+    never : (c : Closer) → ◌≡◌ {A = Result Received Closing} (Ok received.Done) (told_receive c close.code) → ⊥
+    never Us h = cc
+    never Peer h = cc
 was_open None number payload old new step =
     let Rest : Type 0 = (mid : End) × TakesPayload number payload old (Ok received.Done) mid × (new ≡ settle mid) in
     let found : Rest = by_open Rest number payload old (Ok received.Done) new step (λ low is. absurd (not_below low)) (λ again is. absurd (not_again again)) (λ high mid takes is. (mid, takes, is)) in

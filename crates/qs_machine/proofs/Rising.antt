@@ -6,11 +6,11 @@ use Rattle.std.proofs.lemmas.Bool.{cond_both, cases_eq}
 use Rattle.std.proofs.lemmas.Bool.Decides.{nat_tests}
 use Rattle.qs_wire.specs.declared.stream_id.Dir.TheVariants.{Bidi, Uni}
 use Rattle.qs_recv.specs.Assembled.{discard, forget}
-use Rattle.qs_recv.specs.Lane.{RecvLane, new_lane as new_recv_lane, take_stream, take_reset, after_read, after_answer, read_answer, stop, stop_and_forget, raise, next_limit, is_whole}
+use Rattle.qs_recv.specs.Lane.{RecvLane, new_lane as new_recv_lane, take_stream, take_reset, after_read, after_answer, read_answer, stop, stop_and_forget, raise, next_limit, is_whole, limit_with, set_window}
 use Rattle.qs_recv.specs.declared.credit.Share.{Share}
 use Rattle.qs_recv.specs.declared.half.Read.{Read}
 use Rattle.qs_recv.specs.declared.half.Read.TheVariants as reads
-use Rattle.qs_recv.proofs.LawfulLaws.{raised_grows}
+use Rattle.qs_recv.proofs.LawfulLaws.{raised_grows, under_grows}
 use Rattle.qs_send.specs.Lane.{SendLane, new_lane as new_send_lane, reset_refusal, write_lane, finish_lane, reset_lane, stopped_lane, acked_lane, allow_lane, reset_acked_lane, blocked_lane, sent_lane, buffer_lane}
 use Rattle.qs_send.specs.declared.piece.Item.{Item}
 use Rattle.qs_send.specs.declared.piece.Item.TheVariants.{MaxData, MaxStreamData, MaxStreams, ResetStream, StopSending, StreamDataBlocked, StreamsBlocked}
@@ -25,7 +25,7 @@ use Rattle.qs_machine.specs.Lawful.{frame_put, chunk_of}
 use Rattle.qs_machine.specs.EndStep.{Call, Answer, EndStep}
 use Rattle.qs_calls.specs.declared.settings.PeerLimits.{PeerLimits}
 use Rattle.qs_machine.specs.Raising.{limits_raised}
-use Rattle.qs_machine.specs.Setting.{Setting, ConnWindow, Grant, limit_with, with_setting}
+use Rattle.qs_machine.specs.Setting.{Setting, ConnWindow, Grant, with_setting, StreamWindow}
 use Rattle.qs_machine.proofs.Raised.{kept_raised}
 use Rattle.qs_machine.specs.Standing.{LimitsRiseIn, LimitsRise}
 use Rattle.qs_machine.proofs.EveryCall.{Change, changed, Comes, relates, Wanted, Opened, Written, Finished, WasReset, Stopped, WasRead, Raised, WasSet, Took, Acked, Put, Settled, Forgotten}
@@ -135,6 +135,7 @@ rises_set (ConnWindow w) e = (
 rises_set (Grant Bidi n) e = rises_same e
 rises_set (Grant Uni n) e = rises_same e
 rises_set (SendBuffer n size) e = rises_send n (λ m. buffer_lane m size) e (λ m. le_same m.limit)
+rises_set (StreamWindow n w) e = rises_recv n (λ l. set_window l w) e (λ l. under_grows l w)
 
 rises_settle : (e : End) → LimitsRise e (settle e)
 rises_settle e = (

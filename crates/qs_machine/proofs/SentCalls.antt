@@ -17,7 +17,7 @@ use Rattle.qs_machine.specs.Lawful.{MayPut, frame_put, item_put, chunk_of, noted
 use Rattle.qs_machine.specs.Making.{first_lost}
 use Rattle.qs_machine.specs.EndStep.{Call, Answer, EndStep}
 use Rattle.qs_machine.specs.Raising.{limits_raised}
-use Rattle.qs_machine.specs.Setting.{Grant}
+use Rattle.qs_machine.specs.Setting.{Grant, StreamWindow}
 use Rattle.qs_machine.proofs.Raised.{kept_raised}
 use Rattle.std.specs.FinMap as fmap
 use Rattle.qs_wire.specs.declared.stream_id.Role.{Role}
@@ -168,6 +168,7 @@ keeps_change old call (WasReset n code) e comes = keeps_send n (λ m. reset_lane
 keeps_change old call (Raised p) e comes = keeps_raised p e
 keeps_change old call (WasSet (Grant Uni n)) e comes = keeps_same e
 keeps_change old call (WasSet (SendBuffer n size)) e comes = keeps_send n (λ m. buffer_lane m size) e longer_same
+keeps_change old call (WasSet (StreamWindow n w)) e comes = keeps_same e
 keeps_change old call (Took f) e comes = keeps_frame f e
 keeps_change old call (Acked count ranges) e comes = keeps_acks (take count (named e ranges)) e
 keeps_change old call (Put f) e comes = keeps_put old f e comes

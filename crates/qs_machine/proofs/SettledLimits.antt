@@ -39,9 +39,9 @@ pub new_ends_settled : (role : Role) (s : Settings) (t : Tuning) (p : PeerLimits
 new_ends_settled role s t p e made = subst LimitsAreSettled (made_end (wide_setup_fault s p) (new_end role s t p) e made).1 (new_settled role s t p)
 
 -- a limit that was raised isn't raised again
-raised_stays : (k l : RecvLane) → raise k ≡ l → l.final_size ≡ None → next_limit l.limit (taken l) l.arrived.window l.share ≡ l.limit
+raised_stays : (k l : RecvLane) → raise k ≡ l → l.final_size ≡ None → next_limit l.limit (taken l) l.window l.share ≡ l.limit
 raised_stays k l is none =
-    ap (λ o. cond (is_some o) l.limit (next_limit l.limit (taken l) l.arrived.window l.share)) (sym none)
+    ap (λ o. cond (is_some o) l.limit (next_limit l.limit (taken l) l.window l.share)) (sym none)
     ∙ ap (λ (m : RecvLane). m.limit) (ap raise (sym is) ∙ raise_twice k ∙ is)
 
 found : (o : Option RecvLane) (l : RecvLane) → option_map raise o ≡ Some l → (k : RecvLane) × (raise k ≡ l)

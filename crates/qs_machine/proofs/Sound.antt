@@ -42,29 +42,39 @@ window_same role s n m e = rw e refl
 -- Changes of a table
 
 module _ (role : Role) (s : Settings) (p : Present) (recvs : Tables RecvLane) (granted : ℕ) (h : KeepsCredit role s p recvs granted) where
-  lane_at : (n : ℕ) (l : RecvLane) → lookup recvs n ≡ Some l → IsLawful l × (l.arrived.window ≡ window_by role s n)
+  lane_at : (n : ℕ) (l : RecvLane) → lookup recvs n ≡ Some l → IsLawful l × (window_by role s n ≤ l.arrived.window)
   lane_at n l is = subst (HasLawfulLane role s n) is (h.lanes n)
 
-  pub keeps_update : (n : ℕ) (l m : RecvLane) → lookup recvs n ≡ Some l → IsLawful m → m.arrived.window ≡ l.arrived.window → taken l ≤ taken m
+  pub keeps_update : (n : ℕ) (l m : RecvLane) → lookup recvs n ≡ Some l → IsLawful m → l.arrived.window ≤ m.arrived.window → taken l ≤ taken m
       → total highest recvs + highest m ≤ granted + highest l → KeepsCredit role s p (update recvs n m) granted
-  keeps_update n l m is lawful same more credit =
+  keeps_update n l m is lawful wider more credit =
       record {
         settings = h.settings;
         present = h.present;
-        lanes = slots_updated (HasLawfulLane role s) recvs n l m is (λ j ne. h.lanes j) (lawful, same ∙ (lane_at n l is).1);
+        lanes = slots_updated (HasLawfulLane role s) recvs n l m is (λ j ne. h.lanes j) (lawful, omega (arith, wider, (lane_at n l is).1));
         spent = omega (arith, total_update highest recvs n l m is, credit);
         in_window = omega (arith, total_update taken recvs n l m is, more, h.in_window);
       }
 
   -- a change of a lane, where the lane is open
-  pub keeps_updated : (n : ℕ) (f : RecvLane → RecvLane)
-      → ((l : RecvLane) → lookup recvs n ≡ Some l → IsLawful l → IsLawful (f l) × ((f l).arrived.window ≡ l.arrived.window) × (taken l ≤ taken (f l)) × (total highest recvs + highest (f l) ≤ granted + highest l))
+  pub keeps_widened : (n : ℕ) (f : RecvLane → RecvLane)
+      → ((l : RecvLane) → lookup recvs n ≡ Some l → IsLawful l → IsLawful (f l) × (l.arrived.window ≤ (f l).arrived.window) × (taken l ≤ taken (f l)) × (total highest recvs + highest (f l) ≤ granted + highest l))
       → KeepsCredit role s p (updated recvs n f (lookup recvs n)) granted
-  keeps_updated n f keeps = go (lookup recvs n) refl
+  keeps_widened n f keeps = go (lookup recvs n) refl
     where
       go : (o : Option RecvLane) → lookup recvs n ≡ o → KeepsCredit role s p (updated recvs n f o) granted
       go None is = h
       go (Some l) is = (let k = keeps l is (lane_at n l is).0 in keeps_update n l (f l) is k.0 k.1 k.2 k.3)
+
+  -- a change that leaves its window as it was
+  pub keeps_updated : (n : ℕ) (f : RecvLane → RecvLane)
+      → ((l : RecvLane) → lookup recvs n ≡ Some l → IsLawful l → IsLawful (f l) × ((f l).arrived.window ≡ l.arrived.window) × (taken l ≤ taken (f l)) × (total highest recvs + highest (f l) ≤ granted + highest l))
+      → KeepsCredit role s p (updated recvs n f (lookup recvs n)) granted
+  keeps_updated n f keeps =
+      keeps_widened n f (λ l is lawful.
+      let k = keeps l is lawful in
+      let same = k.1 in
+      (k.0, omega (arith, same), k.2, k.3))
 
   pub keeps_open : (n : ℕ) (share : Share) → KeepsCredit role s p (open_to recvs n (λ m. new_lane (window_by role s n) share)) granted
   keeps_open n share =
@@ -73,7 +83,7 @@ module _ (role : Role) (s : Settings) (p : Present) (recvs : Tables RecvLane) (g
       record {
         settings = h.settings;
         present = h.present;
-        lanes = slots_opened (HasLawfulLane role s) recvs n (λ m. new_lane w share) h.lanes (λ m none kind. (lawful_new w share fits.0 fits.1, window_same role s n m kind));
+        lanes = slots_opened (HasLawfulLane role s) recvs n (λ m. new_lane w share) h.lanes (λ m none kind. (let same = window_same role s n m kind in (lawful_new w share fits.0 fits.1, omega (arith, same))));
         spent = omega (arith, total_open highest recvs n (λ m. new_lane w share) (λ m. end_of-empty), h.spent);
         in_window = omega (arith, total_open taken recvs n (λ m. new_lane w share) (λ m. refl), h.in_window);
       }

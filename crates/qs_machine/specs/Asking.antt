@@ -9,7 +9,8 @@ use Rattle.qs_recv.specs.declared.half.Peek.{Peek}
 use Rattle.qs_send.specs.Lane.{SendLane, refusal, free_room, unacked_from}
 use Rattle.qs_send.specs.declared.piece.Item.{Item}
 use Rattle.qs_calls.specs.declared.closing.Closed.{Closed}
-use Rattle.qs_calls.specs.declared.closing.Closed.TheVariants.{ByUs, ByPeer}
+use Rattle.qs_calls.specs.declared.closing.ToldClose.{ToldClose}
+use Rattle.qs_calls.specs.declared.closing.Closed.TheVariants.{ByUs, ByPeer, Told}
 use Rattle.qs_calls.specs.declared.uses.UseFault.{UseFault}
 use Rattle.qs_machine.specs.Tables.{total}
 use Rattle.qs_machine.specs.Ends.{End, Records, send_lane, recv_lane}
@@ -23,11 +24,19 @@ use Rattle.qs_machine.specs.Owner.{opened_count, own_type, peer_type, accepted_b
 abbrev pub GoesBesideAck : End → Type 0
 GoesBesideAck e = (e.closed ≡ None) × (((i : Item) × IsDueItem e i) ⊎ ((n : ℕ) × StreamGoes e n))
 
--- the code with which the peer closed, None where it didn't (RFC 9000, section 10.2)
+-- the code with which the peer closed by a frame that came to this end, None where it didn't (RFC 9000, section 10.2)
 abbrev pub peer_closing : Option Closed → Option ℕ
 peer_closing None = None
 peer_closing (Some (ByUs closing)) = None
 peer_closing (Some (ByPeer code)) = Some code
+peer_closing (Some (Told close)) = None
+
+-- the close that the end was told of, None where it closed otherwise or is open (RFC 9000, section 10.2)
+abbrev pub told_closing : Option Closed → Option ToldClose
+told_closing None = None
+told_closing (Some (ByUs closing)) = None
+told_closing (Some (ByPeer code)) = None
+told_closing (Some (Told close)) = Some close
 
 -- how many runs the offsets make that came, on all streams that a reader wasn't told the end of and that weren't reset (ours)
 abbrev pub all_noted : End → ℕ

@@ -20,7 +20,12 @@ use Rattle.qs_calls.specs.declared.settings.Tuning.{Tuning}
 use Rattle.qs_calls.specs.declared.settings.PeerLimits.{PeerLimits}
 use Rattle.qs_calls.specs.declared.closing.Closing.{Closing}
 use Rattle.qs_calls.specs.declared.closing.Closed.{Closed}
-use Rattle.qs_calls.specs.declared.closing.Closed.TheVariants.{ByUs, ByPeer}
+use Rattle.qs_calls.specs.declared.closing.Closer.{Closer}
+use Rattle.qs_calls.specs.declared.closing.Closer.TheVariants.{Us, Peer}
+use Rattle.qs_calls.specs.declared.closing.CloseKind.{CloseKind}
+use Rattle.qs_calls.specs.declared.closing.CloseKind.TheVariants.{Transport, Application}
+use Rattle.qs_calls.specs.declared.closing.ToldClose.{ToldClose}
+use Rattle.qs_calls.specs.declared.closing.Closed.TheVariants.{ByUs, ByPeer, Told}
 use Rattle.qs_machine.specs.Tables.{Tables}
 use Rattle.qs_machine.specs.LostPackets.{LostPackets}
 use Rattle.qs_machine.specs.Ends.{End, Present, Records, AckedItems}
@@ -88,20 +93,53 @@ closing_code =
     (λ p. record { code = p.0; frame_type = p.1.0; place = p.1.1 })
     (λ _. refl)
 
-abbrev pub closed_cases : Closed → Closing ⊎ ℕ
-closed_cases (ByUs closing) = inl closing
-closed_cases (ByPeer code) = inr code
+abbrev pub closer_number : Closer → ℕ
+closer_number Us = 0
+closer_number Peer = 1
 
-abbrev pub closed_of : Closing ⊎ ℕ → Closed
+abbrev pub closer_of : ℕ → Closer
+closer_of zero = Us
+closer_of (suc n) = Peer
+
+pub closer_back : (c : Closer) → closer_of (closer_number c) ≡ c
+closer_back Us = refl
+closer_back Peer = refl
+
+abbrev pub kind_number : CloseKind → ℕ
+kind_number Transport = 0
+kind_number Application = 1
+
+abbrev pub kind_of : ℕ → CloseKind
+kind_of zero = Transport
+kind_of (suc n) = Application
+
+pub kind_back : (k : CloseKind) → kind_of (kind_number k) ≡ k
+kind_back Transport = refl
+kind_back Application = refl
+
+abbrev pub told_code : Coded ToldClose
+told_code =
+    code_by (Closer × (CloseKind × ℕ)) (coded× (code_by ℕ coded_ℕ closer_number closer_of closer_back) (coded× (code_by ℕ coded_ℕ kind_number kind_of kind_back) coded_ℕ)) (λ c. (c.by, (c.kind, c.code)))
+    (λ p. record { by = p.0; kind = p.1.0; code = p.1.1 })
+    (λ _. refl)
+
+abbrev pub closed_cases : Closed → Closing ⊎ (ℕ ⊎ ToldClose)
+closed_cases (ByUs closing) = inl closing
+closed_cases (ByPeer code) = inr (inl code)
+closed_cases (Told close) = inr (inr close)
+
+abbrev pub closed_of : Closing ⊎ (ℕ ⊎ ToldClose) → Closed
 closed_of (inl closing) = ByUs closing
-closed_of (inr code) = ByPeer code
+closed_of (inr (inl code)) = ByPeer code
+closed_of (inr (inr close)) = Told close
 
 pub closed_back : (c : Closed) → closed_of (closed_cases c) ≡ c
 closed_back (ByUs closing) = refl
 closed_back (ByPeer code) = refl
+closed_back (Told close) = refl
 
 abbrev pub closed_code : Coded Closed
-closed_code = code_by (Closing ⊎ ℕ) (coded⊎ closing_code coded_ℕ) closed_cases closed_of closed_back
+closed_code = code_by (Closing ⊎ (ℕ ⊎ ToldClose)) (coded⊎ closing_code (coded⊎ coded_ℕ told_code)) closed_cases closed_of closed_back
 
 -- Ends
 

@@ -10,6 +10,7 @@ use Rattle.qs_machine.specs.ExclusionsOwner.{NotOwned}
 use Rattle.qs_machine.specs.ExclusionsAlone.{NotAlone}
 use Rattle.qs_machine.specs.ExclusionsNews.{NotFound}
 use Rattle.qs_machine.specs.ExclusionsAsking.{NotAsked}
+use Rattle.qs_machine.specs.ExclusionsHeard.{NotHeard}
 
 pub record Exclusions : Type 0 where
   pub due : NotDue
@@ -22,3 +23,4 @@ pub record Exclusions : Type 0 where
   pub memory : NotRefused
   pub news : NotFound
   pub asking : NotAsked
+  pub heard : NotHeard

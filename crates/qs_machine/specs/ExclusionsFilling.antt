@@ -17,13 +17,20 @@ use Rattle.qs_machine.specs.ExclusionsMaking.{writer, two_due, two_writers}
 
 -- all, control items alone, and bytes alone, from stream 0 on
 abbrev pub everything : Fill
-everything = record { items = true; streams = true; first = 0; alone = false }
+everything = record { items = true; streams = true; first = 0; alone = false; most_bytes = 1000 }
 
 abbrev pub items_alone : Fill
 items_alone = record everything { streams = false }
 
 abbrev pub bytes_alone : Fill
 bytes_alone = record everything { items = false }
+
+-- two bytes at most, and none
+abbrev pub two_bytes : Fill
+two_bytes = record everything { most_bytes = 2 }
+
+abbrev pub no_bytes : Fill
+no_bytes = record everything { most_bytes = 0 }
 
 -- that went in under token 0
 abbrev pub filled_so : ℕ → Option ℕ → Filled
@@ -43,6 +50,8 @@ pub record NoSuchFrames : Type 0 where
   pub bytes : NotThese two_due items_alone (Stream 0 0 abc false ∷ [])
   -- bytes of another stream than the one that is asked for
   pub other : NotThese two_writers (record everything { first = 4; alone = true }) (Stream 0 0 abc false ∷ [])
+  -- more bytes than the cap
+  pub past_cap : NotThese writer two_bytes (Stream 0 0 abc false ∷ [])
   -- bytes of a lower stream first, where turns begin at the higher
   pub turns : NotThese two_writers (record everything { first = 4 }) (Stream 0 0 abc false ∷ [])
 
@@ -52,6 +61,8 @@ pub record NothingWantedIsLeftOut : Type 0 where
   pub item : (left : End) → HasWanted everything two_due (Stream 0 0 abc false ∷ []) left → ⊥
   -- nor bytes
   pub bytes : HasWanted bytes_alone writer [] writer → ⊥
+  -- nor those that the cap lets in still
+  pub below_cap : HasWanted (record bytes_alone { most_bytes = 1 }) writer [] writer → ⊥
   -- nor those of the one stream that is asked for
   pub alone : HasWanted (record bytes_alone { alone = true }) writer [] writer → ⊥
 
@@ -70,9 +81,11 @@ pub record NoSuchFill : Type 0 where
   -- with no last stream, where there is one
   pub no_last : (filled : Filled) (text : List ℕ) (new : End) (is : IsFilled writer everything 1200 filled text new) → is.made.frames ≡ stream 0 0 false abc ∷ [] → filled.last_stream ≡ None → ⊥
   -- with no more, where more may go
-  pub no_more : (filled : Filled) (text : List ℕ) (new : End) → FillStep writer everything 1200 (Ok (Some filled)) text new → WantedGoes everything new → filled.more ≡ false → ⊥
+  pub no_more : (filled : Filled) (text : List ℕ) (new : End) → FillStep writer everything 1200 (Ok (Some filled)) text new → WantedGoes items_alone new → filled.more ≡ false → ⊥
   -- with more, where nothing may
   pub more : (filled : Filled) (text : List ℕ) (new : End) → FillStep writer everything 1200 (Ok (Some filled)) text new → (WantedGoes everything new → ⊥) → filled.more ≡ true → ⊥
+  -- with more, where the cap alone holds bytes back
+  pub cap_is_more : (filled : Filled) (text : List ℕ) (new : End) → FillStep writer (record no_bytes { items = false }) 1200 (Ok (Some filled)) text new → filled.more ≡ true → ⊥
   -- with nothing, where bytes may go and there are 25 bytes of room
   pub nothing : (text : List ℕ) (new : End) → FillStep writer bytes_alone 25 (Ok None) text new → ⊥
   -- with something once the end closed

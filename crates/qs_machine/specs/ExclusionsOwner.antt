@@ -1,6 +1,6 @@
 -- Of laws.
 -- Which answers an end's owner isn't given, and what its calls don't leave (RFC 9000, sections 2, 3 and 4).
-use Rattle.std.specs.Prelude.{◌≡◌, ℕ, ◌+◌, ◌^◌, Bool, true, false, List, [], ◌∷◌, None, Some, Result, Ok, Err}
+use Rattle.std.specs.Prelude.{◌≡◌, ℕ, ◌+◌, ◌^◌, Bool, true, false, List, [], ◌∷◌, Option, None, Some, option_map, Result, Ok, Err}
 use Rattle.qs_wire.specs.declared.stream_id.Dir.TheVariants.{Bidi, Uni}
 use Rattle.qs_recv.specs.Lane.{RecvLane, new_lane as new_recv_lane, take_stream, take_reset, stop, stop_and_forget}
 use Rattle.qs_recv.specs.declared.credit.Share.{Share}
@@ -9,6 +9,7 @@ use Rattle.qs_recv.specs.declared.half.Read.TheVariants as reads
 use Rattle.qs_calls.specs.declared.closing.Closed.TheVariants.{ByPeer}
 use Rattle.qs_calls.specs.Settings.{limits_of, default_tuning}
 use Rattle.qs_calls.specs.declared.reading.Consumed.{Consumed}
+use Rattle.qs_calls.specs.declared.settings.SetFault.TheVariants as setting
 use Rattle.qs_calls.specs.declared.uses.OpenFault.TheVariants as opening
 use Rattle.qs_calls.specs.declared.uses.UseFault.{UseFault}
 use Rattle.qs_calls.specs.declared.uses.UseFault.TheVariants.{NoSuchStream, NoMemory, Closed}
@@ -16,7 +17,7 @@ use Rattle.qs_machine.specs.Ends.{End, first_present, send_lane, recv_lane, open
 use Rattle.qs_machine.specs.Credit.{settle, recv_ended}
 use Rattle.qs_machine.specs.Owner.{OpenStep, AcceptStep, AcceptOfStep, WriteStep, FinishStep, ResetStep, StopStep, ReadStep, ConsumeStep, StopAndForgetStep}
 use Rattle.qs_machine.specs.Raising.{limits_raised, RaiseStep}
-use Rattle.qs_machine.specs.Setting.{ConnWindow, Grant, with_setting, SetStep}
+use Rattle.qs_machine.specs.Setting.{ConnWindow, Grant, StreamWindow, with_setting, SetStep}
 use Rattle.qs_machine.specs.Examples.{standard, server, client_of, told_reset}
 use Rattle.qs_machine.specs.SmallEnds.{client_with, server_with, abc, begun, wrote, finished, reset_half, fresh, three_came, all_came}
 
@@ -213,7 +214,7 @@ by_halves all = record (server (record standard { grant_uni = 4; lifetime_uni = 
 
 -- a half of which six of ten bytes of window were read
 abbrev pub six_read : RecvLane
-six_read = record fresh { arrived = record fresh.arrived { read_count = 6; window = 10 }; limit = 10 }
+six_read = record fresh { arrived = record fresh.arrived { read_count = 6; window = 10 }; limit = 10; window = 10 }
 
 -- the same once two were read, where its limit moves by such a share
 abbrev pub two_read : Share → RecvLane
@@ -295,6 +296,36 @@ pub record SetsNoMore : Type 0 where
   pub too_wide : (new : End) → SetStep (server standard) (ConnWindow (2 ^ 40 + 1)) (Ok tt) new → ⊥
   pub too_many : (new : End) → SetStep (server standard) (Grant Uni (2 ^ 17 + 1)) (Ok tt) new → ⊥
 
+-- the limit of stream 0
+abbrev pub limit_at_first : End → Option ℕ
+limit_at_first e = option_map (λ l. l.limit) (recv_lane e 0)
+
+-- As the owner sets the window of a stream anew (sections 4.1 and 4.2)
+pub record SetsNoMoreOfIt : Type 0 where
+  -- a greater one moves the limit at once, be it by less than a step
+  pub at_once : limit_at_first (settle (with_setting (StreamWindow 0 11) (tuned Half))) ≡ Some 13
+  -- a smaller one takes nothing back
+  pub narrower : limit_at_first (settle (with_setting (StreamWindow 0 4) (tuned Half))) ≡ Some 10
+  -- and moves nothing by what is less than a step
+  pub no_step : limit_at_first (settle (with_setting (StreamWindow 0 9) (tuned Half))) ≡ Some 10
+  -- and it is the one that counts from then on
+  pub counts_then : limit_at_first (settle (with_setting (StreamWindow 0 4) (server_with six_read))) ≡ Some 10
+  -- the limit stays once the final size is known
+  pub ended : limit_at_first (settle (with_setting (StreamWindow 0 20) (server_with (record six_read { final_size = Some 8 })))) ≡ Some 10
+  -- the widest one that was set is remembered
+  pub widest : option_map (λ l. l.arrived.window) (recv_lane (with_setting (StreamWindow 0 4) (tuned Half)) 0) ≡ Some 10
+  -- a stream that opens later begins with the one that the peer was told at first
+  pub later : recv_lane (opens 4 (with_setting (StreamWindow 0 11) (tuned Half))) 4 ≡ Some (new_recv_lane 1024 Half)
+  -- of a stream that isn't open none is set
+  pub unopened : (new : End) → SetStep (server standard) (StreamWindow 0 11) (Ok tt) new → ⊥
+  -- nor of one that this end alone sends on
+  pub not_its : (new : End) → SetStep (record (server standard) { sends = record { client_bidi = []; server_bidi = []; client_uni = []; server_uni = begun ∷ [] } }) (StreamWindow 3 11) (Err setting.NoSuchStream) new → ⊥
+  -- nor once the end closed
+  pub closed : (new : End) → SetStep (over (tuned Half)) (StreamWindow 0 11) (Ok tt) new → ⊥
+  -- none of no byte is, and none wider than the widest
+  pub no_window : (new : End) → SetStep (tuned Half) (StreamWindow 0 0) (Ok tt) new → ⊥
+  pub too_wide : (new : End) → SetStep (tuned Half) (StreamWindow 0 (2 ^ 30 + 1)) (Ok tt) new → ⊥
+
 pub record NotOwned : Type 0 where
   pub opening : NoSuchOpening
   pub accepting : NoSuchAccepting
@@ -306,3 +337,4 @@ pub record NotOwned : Type 0 where
   pub settling : LimitsSettle
   pub rising : LimitsOnlyRise
   pub setting : SetsNoMore
+  pub setting_its : SetsNoMoreOfIt

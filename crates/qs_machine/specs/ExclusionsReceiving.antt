@@ -148,7 +148,7 @@ ReportIsOfHighest =
     lane_report told_end 0
     ≡ Some (record {
       send = Some (record { state = Ready; written = 0; final_size = None; reset_code = None; limit = 1024 });
-      recv = Some (record { state = DataRecvd; read_count = 0; highest = 5; limit = 1024; final_size = Some 5; reset_code = None });
+      recv = Some (record { state = DataRecvd; read_count = 0; highest = 5; limit = 1024; final_size = Some 5; reset_code = None; stop_code = None });
     })
 
 -- an end that knows of a reset of stream 0 and of no final size, as no sound end does, with a connection limit of 5

@@ -19,6 +19,7 @@ pub mod InOrder
 pub mod Reports
 pub mod News
 pub mod Asking
+pub mod Heard
 pub mod Newly
 pub mod Raising
 pub mod Setting
@@ -44,6 +45,7 @@ pub mod ExclusionsOwner
 pub mod ExclusionsAlone
 pub mod ExclusionsNews
 pub mod ExclusionsAsking
+pub mod ExclusionsHeard
 pub mod Exclusions
 pub mod SettledLimits
 pub mod OffsetParts

@@ -9,7 +9,7 @@ use Rattle.qs_wire.specs.Grammar.{Fits, canonical, canonical_all}
 use Rattle.qs_send.specs.declared.piece.Piece.{Piece}
 use Rattle.qs_send.specs.Records.{without_first}
 use Rattle.qs_calls.specs.declared.closing.Closed.{Closed}
-use Rattle.qs_calls.specs.declared.closing.Closed.TheVariants.{ByUs, ByPeer}
+use Rattle.qs_calls.specs.declared.closing.Closed.TheVariants.{ByUs, ByPeer, Told}
 use Rattle.qs_calls.specs.declared.making.Made.{Made}
 use Rattle.qs_calls.specs.declared.making.MakeFault.{MakeFault}
 use Rattle.qs_calls.specs.declared.making.MakeFault.TheVariants as making
@@ -153,6 +153,7 @@ LoseStep old k answer new =
 abbrev pub close_text_of : Option Closed → Option (List ℕ)
 close_text_of None = None
 close_text_of (Some (ByPeer code)) = None
+close_text_of (Some (Told close)) = None
 close_text_of (Some (ByUs closing)) = Some (canonical (connection_close closing.code closing.frame_type []))
 
 -- the CONNECTION_CLOSE of this end's own closing, with an empty reason (RFC 9000, section 19.19)

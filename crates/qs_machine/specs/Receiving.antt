@@ -8,7 +8,10 @@ use Rattle.qs_wire.specs.Reading.{reading_of}
 use Rattle.qs_wire.specs.declared.fault.WireFault.{WireFault}
 use Rattle.qs_calls.specs.declared.closing.Closing.{Closing}
 use Rattle.qs_calls.specs.declared.closing.Closed.{Closed}
-use Rattle.qs_calls.specs.declared.closing.Closed.TheVariants.{ByUs, ByPeer}
+use Rattle.qs_calls.specs.declared.closing.Closer.{Closer}
+use Rattle.qs_calls.specs.declared.closing.Closer.TheVariants.{Us, Peer}
+use Rattle.qs_calls.specs.declared.closing.ToldClose.{ToldClose}
+use Rattle.qs_calls.specs.declared.closing.Closed.TheVariants.{ByUs, ByPeer, Told}
 use Rattle.qs_calls.specs.declared.closing.Received.{Received}
 use Rattle.qs_calls.specs.declared.closing.Received.TheVariants.{Done, Duplicate, BelowFloor, PeerClosed, NoMemory}
 use Rattle.qs_machine.specs.Ends.{End, closes}
@@ -82,10 +85,20 @@ OpenReceive number payload old result new =
     ((result ≡ Ok Duplicate) × (new ≡ old))
     ((mid : End) × TakesPayload number payload old result mid × (new ≡ settle mid)))
 
+-- an end's own close that it was told of is no frame's fault (RFC 9000, section 10.2)
+abbrev pub told_of_us : ℕ → Closing
+told_of_us code = record { code = code; frame_type = 0; place = 0 }
+
+-- what an end that was told of a close says again (RFC 9000, section 10.2)
+abbrev pub told_receive : Closer → ℕ → Result Received Closing
+told_receive Us code = Err (told_of_us code)
+told_receive Peer code = Ok (PeerClosed code)
+
 -- an end that is closed says so again (RFC 9000, section 10.2)
 abbrev pub ClosedReceive : Closed → End → Result Received Closing → End → Type 0
 ClosedReceive (ByUs closing) old result new = (result ≡ Err closing) × (new ≡ old)
 ClosedReceive (ByPeer code) old result new = (result ≡ Ok (PeerClosed code)) × (new ≡ old)
+ClosedReceive (Told close) old result new = (result ≡ told_receive close.by close.code) × (new ≡ old)
 
 -- of a closed end, or of an open one (RFC 9000, section 10.2)
 abbrev pub ReceiveBy : Option Closed → ℕ → List ℕ → End → Result Received Closing → End → Type 0
@@ -95,3 +108,14 @@ ReceiveBy None number payload old result new = OpenReceive number payload old re
 -- `receive` of a payload (RFC 9000, sections 12.3 and 13.1)
 abbrev pub ReceiveStep : End → ℕ → List ℕ → Result Received Closing → End → Type 0
 ReceiveStep old number payload result new = ReceiveBy old.closed number payload old result new
+
+-- A close that the owner saw or made itself
+
+abbrev pub told_by : Option Closed → ToldClose → End → End
+told_by None close e = closes (Told close) e
+told_by (Some closed) close e = e
+
+-- `tell_closed`: an open end closes, and one that closed stays as it is (RFC 9000, section 10.2). No event of runs, in which neither end
+-- closes.
+abbrev pub told_closed : ToldClose → End → End
+told_closed close e = told_by e.closed close e

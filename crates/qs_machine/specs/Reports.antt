@@ -6,7 +6,7 @@ use Rattle.qs_send.specs.Lane.{SendLane, declared_size, state as send_state}
 use Rattle.qs_send.specs.declared.parts.Reset.{Reset}
 use Rattle.qs_calls.specs.declared.closing.Closing.{Closing}
 use Rattle.qs_calls.specs.declared.closing.Closed.{Closed}
-use Rattle.qs_calls.specs.declared.closing.Closed.TheVariants.{ByUs, ByPeer}
+use Rattle.qs_calls.specs.declared.closing.Closed.TheVariants.{ByUs, ByPeer, Told}
 use Rattle.qs_calls.specs.declared.report.LaneReport.{LaneReport}
 use Rattle.qs_calls.specs.declared.report.SendReport.{SendReport}
 use Rattle.qs_calls.specs.declared.report.RecvReport.{RecvReport}
@@ -31,6 +31,7 @@ recv_report l =
       limit = l.limit;
       final_size = l.final_size;
       reset_code = l.reset_code;
+      stop_code = l.stop_code;
     }
 
 abbrev pub report_if : Option SendLane → Option RecvLane → Option LaneReport
@@ -43,8 +44,9 @@ report_if (Some s) (Some r) = Some (record { send = Some (send_report s); recv =
 abbrev pub lane_report : End → ℕ → Option LaneReport
 lane_report e n = report_if (send_lane e n) (recv_lane e n)
 
--- why this end closed, None where it is open or saw its peer close (RFC 9000, section 10.2)
+-- why this end closed, None where it is open, saw its peer close or was told (RFC 9000, section 10.2)
 abbrev pub own_closing : Option Closed → Option Closing
 own_closing None = None
 own_closing (Some (ByUs closing)) = Some closing
 own_closing (Some (ByPeer code)) = None
+own_closing (Some (Told close)) = None

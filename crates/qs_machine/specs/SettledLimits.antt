@@ -13,7 +13,7 @@ use Rattle.qs_machine.specs.EndStep.{Call, Answer, EndStep}
 -- Each limit is its own next one: the connection's, and that of each receiving half whose final size isn't known.
 pub record LimitsAreSettled (e : End) : Type 0 where
   pub connection : next_limit e.granted (all_taken e) e.present.conn_window e.tuning.credit_step ≡ e.granted
-  pub streams : (n : ℕ) (l : RecvLane) → recv_lane e n ≡ Some l → l.final_size ≡ None → next_limit l.limit (taken l) l.arrived.window l.share ≡ l.limit
+  pub streams : (n : ℕ) (l : RecvLane) → recv_lane e n ≡ Some l → l.final_size ≡ None → next_limit l.limit (taken l) l.window l.share ≡ l.limit
 
 -- a new end grants what it sets out with, and nothing was taken
 abbrev pub NewEndsSettleLimits : Type 0

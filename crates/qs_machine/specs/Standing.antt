@@ -13,10 +13,10 @@ use Rattle.qs_machine.specs.Tables.{Tables, lookup, total}
 use Rattle.qs_machine.specs.Ends.{End, Present, window_by, window, recv_lane}
 use Rattle.qs_machine.specs.Credit.{spent, all_taken, all_stored, granted_streams, lifetime, next_count}
 
--- a receiving half that is open is lawful, and has the window of its type of stream
+-- a receiving half that is open is lawful, and its greatest window is no narrower than the one of its type of stream
 abbrev pub HasLawfulLane : Role → Settings → ℕ → Option RecvLane → Type 0
 HasLawfulLane role s n None = ⊤
-HasLawfulLane role s n (Some l) = IsLawful l × (l.arrived.window ≡ window_by role s n)
+HasLawfulLane role s n (Some l) = IsLawful l × (window_by role s n ≤ l.arrived.window)
 
 -- what is in force is in the ranges that an end has at first, and the widest window is no narrower than the present one
 pub record IsInForce (p : Present) : Type 0 where
@@ -50,10 +50,10 @@ IsSound e = IsInCredit e × CountsStand e
 abbrev pub CountsAreSettled : End → Type 0
 CountsAreSettled e = (d : Dir) → granted_streams e d ≡ next_count e d
 
--- of one stream: its stored bytes were granted and aren't taken, and that is within the window
-pub record IsLaneWithin (l : RecvLane) (window : ℕ) : Type 0 where
+-- of one stream: its stored bytes were granted and aren't taken, and that is within the widest window that was set of it
+pub record IsLaneWithin (l : RecvLane) : Type 0 where
   pub stored : fmap.len l.arrived.stored ≤ l.limit - taken l
-  pub credit : l.limit - taken l ≤ window
+  pub credit : l.limit - taken l ≤ l.arrived.window
   pub spent : highest l ≤ l.limit
 
 -- the bytes that an end stores were granted and aren't taken, and that is within the widest window that was set; and so of each stream; no
@@ -62,7 +62,7 @@ pub record IsWithinCredit (e : End) : Type 0 where
   pub stored : all_stored e ≤ e.granted - all_taken e
   pub credit : e.granted - all_taken e ≤ e.present.widest
   pub spent : spent e ≤ e.granted
-  pub lanes : (n : ℕ) (l : RecvLane) → recv_lane e n ≡ Some l → IsLaneWithin l (window e n)
+  pub lanes : (n : ℕ) (l : RecvLane) → recv_lane e n ≡ Some l → IsLaneWithin l
   pub counts : (d : Dir) → granted_streams e d ≤ lifetime e.settings d
 
 -- each half that is open stays so, and its limit is no lower

@@ -9,14 +9,14 @@ use Rattle.std.proofs.lemmas.Bool.{cond_both, or_left}
 use Rattle.qs_ranges.specs.Numbers.{end_of}
 use Rattle.qs_ranges.proofs.Sets.{below-end_of}
 use Rattle.qs_recv.specs.Assembled.{Assembled, put, discard, forget, front_of}
-use Rattle.qs_recv.specs.Lane.{RecvLane, highest, check_stream, take_stream, check_reset, take_reset, is_whole, breaks_known, read_answer, after_answer, after_read, stop, stop_and_forget, raise}
+use Rattle.qs_recv.specs.Lane.{RecvLane, highest, check_stream, take_stream, check_reset, take_reset, is_whole, breaks_known, read_answer, after_answer, after_read, stop, stop_and_forget, raise, set_window}
 use Rattle.qs_recv.specs.Lawful.{IsLawful}
-use Rattle.qs_recv.specs.Laws.{IsSent, CarriesSent, LaneCall, TakeStream, TakeReset, ReadUpTo, StopWith, ForgetWith, RaiseLimit, after_call, IsAllowed, Grows}
+use Rattle.qs_recv.specs.Laws.{IsSent, CarriesSent, LaneCall, TakeStream, TakeReset, ReadUpTo, StopWith, ForgetWith, RaiseLimit, SetWindow, after_call, IsAllowed, Grows}
 use Rattle.qs_recv.specs.declared.half.Read.{Read}
 use Rattle.qs_recv.specs.declared.half.Read.TheVariants.{Bytes, End, Reset, Wait}
 use Rattle.qs_recv.proofs.AssembledLaws.{contains-with_run}
 use Rattle.qs_recv.proofs.LaneLaws.{written_put, written_take}
-use Rattle.qs_recv.proofs.LawfulLaws.{below_is, lawful_take_stream, lawful_take_reset, lawful_after_read, lawful_stop, lawful_told, lawful_raise, highest-take_stream, highest_after-grows, unbroken, reset_above, reset_known, read_counts, taken_within, all_taken, raised_grows}
+use Rattle.qs_recv.proofs.LawfulLaws.{below_is, lawful_take_stream, lawful_take_reset, lawful_after_read, lawful_stop, lawful_told, lawful_raise, lawful_set_window, highest-take_stream, highest_after-grows, unbroken, reset_above, reset_known, read_counts, taken_within, all_taken, raised_grows, under_grows}
 
 pub lawful_after_call : (lane : RecvLane) (call : LaneCall) → IsLawful lane → IsAllowed lane call → IsLawful (after_call lane call)
 lawful_after_call lane (TakeStream offset bytes fin) h ok = lawful_take_stream lane offset bytes fin h ok
@@ -25,6 +25,7 @@ lawful_after_call lane (ReadUpTo room) h ok = lawful_after_read lane room h
 lawful_after_call lane (StopWith code) h ok = lawful_stop lane code h
 lawful_after_call lane (ForgetWith code) h ok = lawful_told (stop lane code) (lawful_stop lane code h)
 lawful_after_call lane (RaiseLimit) h ok = lawful_raise lane h
+lawful_after_call lane (SetWindow window) h ok = lawful_set_window lane window ok.0 ok.1 h
 
 nothing_changes : (lane : RecvLane) → Grows lane lane
 nothing_changes lane =
@@ -123,6 +124,16 @@ grows_raise lane =
       final_size_stays = λ size is. is;
     }
 
+grows_set_window : (lane : RecvLane) (window : ℕ) → Grows lane (set_window lane window)
+grows_set_window lane window =
+    record {
+      highest_grows = omega arith;
+      taken_grows = omega arith;
+      limit_grows = under_grows lane window;
+      received_stays = λ q is. is;
+      final_size_stays = λ size is. is;
+    }
+
 pub grows_after_call : (lane : RecvLane) (call : LaneCall) → IsLawful lane → IsAllowed lane call → Grows lane (after_call lane call)
 grows_after_call lane (TakeStream offset bytes fin) h ok = grows_take_stream lane offset bytes fin h ok
 grows_after_call lane (TakeReset code size) h ok = grows_take_reset lane code size h ok
@@ -130,6 +141,7 @@ grows_after_call lane (ReadUpTo room) h ok = grows_after_read lane room
 grows_after_call lane (StopWith code) h ok = grows_stop lane code h
 grows_after_call lane (ForgetWith code) h ok = grows_forgotten lane code h
 grows_after_call lane (RaiseLimit) h ok = grows_raise lane
+grows_after_call lane (SetWindow window) h ok = grows_set_window lane window
 
 -- What is stored
 
@@ -157,3 +169,4 @@ sent_after_call sent lane (ReadUpTo room) h part = by_answer (read_answer lane r
 sent_after_call sent lane (StopWith code) h part = cond_both (is_some lane.stop_code) lane _ (λ l. IsSent sent l.arrived) (λ _. h) (λ _. sent_discard sent lane.arrived)
 sent_after_call sent lane (ForgetWith code) h part = cond_both (is_some lane.stop_code) lane _ (λ l. IsSent sent l.arrived) (λ _. h) (λ _. sent_discard sent lane.arrived)
 sent_after_call sent lane (RaiseLimit) h part = h
+sent_after_call sent lane (SetWindow window) h part = h

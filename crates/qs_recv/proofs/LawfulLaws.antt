@@ -13,7 +13,7 @@ use Rattle.qs_ranges.proofs.Sets.{end_of-empty, end_of-numbers, numbers-none, be
 use Rattle.qs_recv.specs.Assembled.{put, take_front, front_of, keep_from, store}
 use Rattle.qs_recv.proofs.AssembledLaws.{get-keep_from, contains-with_run, end_of-with_run, stored_by_keep, front_stored}
 use Rattle.qs_recv.proofs.LaneLaws.{len_within, check_fits, put_past}
-use Rattle.qs_recv.specs.Lane.{MAX_WINDOW, RecvLane, new_lane, highest, highest_after, taken, check_stream, take_stream, check_reset, take_reset, is_whole, breaks_known, read_answer, after_answer, after_read, stop, raise, next_limit, raised_limit}
+use Rattle.qs_recv.specs.Lane.{MAX_WINDOW, RecvLane, new_lane, highest, highest_after, taken, check_stream, take_stream, check_reset, take_reset, is_whole, breaks_known, read_answer, after_answer, after_read, stop, raise, next_limit, raised_limit, limit_with, limit_under, set_window}
 use Rattle.qs_recv.specs.declared.credit.Share.{Share}
 use Rattle.qs_recv.specs.declared.half.Read.{Read}
 use Rattle.qs_recv.specs.declared.half.Read.TheVariants.{Bytes, End, Reset, Wait}
@@ -48,6 +48,7 @@ lawful_new window share some small =
     let none = end_of-empty in
     record {
       some_window = some;
+      widest = omega arith;
       small_window = small;
       small_limit = omega arith;
       granted = omega arith;
@@ -133,6 +134,7 @@ lawful_take_stream lane offset bytes fin h ok = by_reset (is_some lane.reset_cod
         let counts = taken_grows (is_some lane.reset_code || is_some lane.stop_code) (highest lane) _ lane.arrived.read_count (rw (← grown) at more) in
         record {
           some_window = h.some_window;
+          widest = h.widest;
           small_window = h.small_window;
           small_limit = h.small_limit;
           granted = rw grown fits;
@@ -152,6 +154,7 @@ lawful_take_stream lane offset bytes fin h ok = by_reset (is_some lane.reset_cod
         let within = received_grown lane.final_size (end_of lane.arrived.received) (offset + length bytes) (length bytes) fin h.received_within (unbroken lane offset (length bytes) fin ok) in
         record {
           some_window = h.some_window;
+          widest = h.widest;
           small_window = h.small_window;
           small_limit = h.small_limit;
           granted = rw grown fits;
@@ -216,6 +219,7 @@ lawful_take_reset lane code size h ok =
     let fits : size ≤ lane.limit = ltb-false lane.limit size (reset_fits _ _ _ _ _ ok) in
     record {
       some_window = h.some_window;
+      widest = h.widest;
       small_window = h.small_window;
       small_limit = h.small_limit;
       granted = fits;
@@ -266,6 +270,7 @@ lawful_front lane room h =
     let counts = read_counts (is_some lane.reset_code || is_some lane.stop_code) (highest lane) lane.arrived.read_count (lane.arrived.read_count + length (front_of lane.arrived room)) (omega arith) in
     record {
       some_window = h.some_window;
+      widest = h.widest;
       small_window = h.small_window;
       small_limit = h.small_limit;
       granted = h.granted;
@@ -282,6 +287,7 @@ pub lawful_told : (lane : RecvLane) → IsLawful lane → IsLawful (record lane 
 lawful_told lane h =
     record {
       some_window = h.some_window;
+      widest = h.widest;
       small_window = h.small_window;
       small_limit = h.small_limit;
       granted = h.granted;
@@ -315,6 +321,7 @@ lawful_stop lane code h =
     let all = all_taken (is_some lane.reset_code) (highest lane) lane.arrived.read_count in
     record {
       some_window = h.some_window;
+      widest = h.widest;
       small_window = h.small_window;
       small_limit = h.small_limit;
       granted = h.granted;
@@ -332,23 +339,55 @@ lawful_stop lane code h =
 next_limit_grows : (l t w : ℕ) (share : Share) → l ≤ next_limit l t w share
 next_limit_grows l t w share = grind (arith, nat_tests)
 
-next_limit_within : (l t w : ℕ) (share : Share) → l ≤ t + w → next_limit l t w share ≤ t + w
-next_limit_within l t w share h = grind (arith, nat_tests)
+next_limit_within : (l t w v : ℕ) (share : Share) → w ≤ v → l ≤ t + v → next_limit l t w share ≤ t + v
+next_limit_within l t w v share le h = grind (arith, nat_tests)
 
 next_limit_small : (l t w : ℕ) (share : Share) → l ≤ MAX_VARINT → next_limit l t w share ≤ MAX_VARINT
 next_limit_small l t w share h = grind (arith, nat_tests)
 
 pub raised_grows : (lane : RecvLane) → lane.limit ≤ raised_limit lane
-raised_grows lane = cond_both (is_some lane.final_size) _ _ (λ k. lane.limit ≤ k) (λ _. omega arith) (λ _. next_limit_grows lane.limit (taken lane) lane.arrived.window lane.share)
+raised_grows lane = cond_both (is_some lane.final_size) _ _ (λ k. lane.limit ≤ k) (λ _. omega arith) (λ _. next_limit_grows lane.limit (taken lane) lane.window lane.share)
 
 pub lawful_raise : (lane : RecvLane) → IsLawful lane → IsLawful (raise lane)
 lawful_raise lane h =
     record {
       some_window = h.some_window;
+      widest = h.widest;
       small_window = h.small_window;
-      small_limit = cond_both (is_some lane.final_size) _ _ (λ k. k ≤ MAX_VARINT) (λ _. h.small_limit) (λ _. next_limit_small lane.limit (taken lane) lane.arrived.window lane.share h.small_limit);
+      small_limit = cond_both (is_some lane.final_size) _ _ (λ k. k ≤ MAX_VARINT) (λ _. h.small_limit) (λ _. next_limit_small lane.limit (taken lane) lane.window lane.share h.small_limit);
       granted = omega (arith, h.granted, raised_grows lane);
-      in_window = cond_both (is_some lane.final_size) _ _ (λ k. k ≤ taken lane + lane.arrived.window) (λ _. h.in_window) (λ _. next_limit_within lane.limit (taken lane) lane.arrived.window lane.share h.in_window);
+      in_window = cond_both (is_some lane.final_size) _ _ (λ k. k ≤ taken lane + lane.arrived.window) (λ _. h.in_window) (λ _. next_limit_within lane.limit (taken lane) lane.window lane.arrived.window lane.share h.widest h.in_window);
+      stored_received = h.stored_received;
+      read_received = h.read_received;
+      received_within = h.received_within;
+      discards = h.discards;
+      thrown_away = h.thrown_away;
+      reset_sized = h.reset_sized;
+    }
+
+-- Another window
+
+pub limit_with_grows : (p g t w : ℕ) → g ≤ limit_with p g t w
+limit_with_grows p g t w = grind (arith, nat_tests)
+
+limit_with_within : (p g t w v : ℕ) → g ≤ t + v → limit_with p g t w ≤ t + max v w
+limit_with_within p g t w v h = grind (arith, nat_tests)
+
+limit_with_small : (p g t w : ℕ) → g ≤ MAX_VARINT → limit_with p g t w ≤ MAX_VARINT
+limit_with_small p g t w h = grind (arith, nat_tests)
+
+pub under_grows : (lane : RecvLane) (window : ℕ) → lane.limit ≤ limit_under lane window
+under_grows lane window = cond_both (is_some lane.final_size) _ _ (λ k. lane.limit ≤ k) (λ _. omega arith) (λ _. limit_with_grows lane.window lane.limit (taken lane) window)
+
+pub lawful_set_window : (lane : RecvLane) (window : ℕ) → 1 ≤ window → window ≤ MAX_WINDOW → IsLawful lane → IsLawful (set_window lane window)
+lawful_set_window lane window some small h =
+    record {
+      some_window = some;
+      widest = omega arith;
+      small_window = omega (arith, h.small_window, small);
+      small_limit = cond_both (is_some lane.final_size) _ _ (λ k. k ≤ MAX_VARINT) (λ _. h.small_limit) (λ _. limit_with_small lane.window lane.limit (taken lane) window h.small_limit);
+      granted = omega (arith, h.granted, under_grows lane window);
+      in_window = cond_both (is_some lane.final_size) _ _ (λ k. k ≤ taken lane + max lane.arrived.window window) (λ _. omega (arith, h.in_window)) (λ _. limit_with_within lane.window lane.limit (taken lane) window lane.arrived.window h.in_window);
       stored_received = h.stored_received;
       read_received = h.read_received;
       received_within = h.received_within;

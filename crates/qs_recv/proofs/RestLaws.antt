@@ -38,7 +38,7 @@ known_below e offset end known q low high = contains-below e q ∙ elim known [
 
 -- What holds of a half that is made of one at rest
 
-pub sound_at_rest : (w : ℕ × Share) (n e limit : ℕ) (f r s : Option ℕ) (told : Bool) → IsAtRest (lane_at_rest w n e limit f r s told) n e → IsSound (lane_at_rest w n e limit f r s told) w.0 n e
+pub sound_at_rest : (w : ℕ × (ℕ × Share)) (n e limit : ℕ) (f r s : Option ℕ) (told : Bool) → IsAtRest (lane_at_rest w n e limit f r s told) n e → IsSound (lane_at_rest w n e limit f r s told) w.0 n e
 sound_at_rest w n e limit f r s told h = record { lawful = h.lawful; window_is = refl; count_is = refl; end_is = end_of-below e; stop_fits = h.stop_fits }
 
 pub let_go_at_rest : (lane : RecvLane) (n e size : ℕ) → lane.arrived.read_count ≡ n → size ≡ 0 → IsAtRest lane n e → IsLetGo lane size
@@ -49,18 +49,18 @@ let_go_at_rest lane n e size count none h = record { gone = λ _. none; over = �
 pub read_below : (lane : RecvLane) (n e : ℕ) → IsAtRest lane n e → lane.arrived.read_count ≤ highest lane
 read_below lane n e h = let read = read_within lane h.lawful in omega (arith, read, h.lawful.received_within)
 
-pub read_at_rest : (w : ℕ × Share) (n e limit : ℕ) (f r s : Option ℕ) (told : Bool) → IsAtRest (lane_at_rest w n e limit f r s told) n e → n ≤ MAX_VARINT
+pub read_at_rest : (w : ℕ × (ℕ × Share)) (n e limit : ℕ) (f r s : Option ℕ) (told : Bool) → IsAtRest (lane_at_rest w n e limit f r s told) n e → n ≤ MAX_VARINT
 read_at_rest w n e limit f r s told h =
     let read = read_below (lane_at_rest w n e limit f r s told) n e h in
     omega (arith, read, h.lawful.granted, h.lawful.small_limit)
 
-pub came_at_rest : (w : ℕ × Share) (n e limit : ℕ) (f r s : Option ℕ) (told : Bool) → IsAtRest (lane_at_rest w n e limit f r s told) n e → n ≤ e
+pub came_at_rest : (w : ℕ × (ℕ × Share)) (n e limit : ℕ) (f r s : Option ℕ) (told : Bool) → IsAtRest (lane_at_rest w n e limit f r s told) n e → n ≤ e
 came_at_rest w n e limit f r s told h =
     let read = read_within (lane_at_rest w n e limit f r s told) h.lawful in
     let end = end_of-below e in
     omega (arith, read, end)
 
-pub end_at_rest : (w : ℕ × Share) (n e limit : ℕ) (f r s : Option ℕ) (told : Bool) → IsAtRest (lane_at_rest w n e limit f r s told) n e → e ≤ MAX_VARINT
+pub end_at_rest : (w : ℕ × (ℕ × Share)) (n e limit : ℕ) (f r s : Option ℕ) (told : Bool) → IsAtRest (lane_at_rest w n e limit f r s told) n e → e ≤ MAX_VARINT
 end_at_rest w n e limit f r s told h =
     let end = end_of-below e in
     omega (arith, end, h.lawful.received_within, h.lawful.granted, h.lawful.small_limit)
@@ -75,10 +75,10 @@ whole_below e size =
 
 -- A new half
 
-pub new_at_rest : (w : ℕ) (share : Share) → lane_at_rest (w, share) 0 0 w None None None false ≡ new_lane w share
+pub new_at_rest : (w : ℕ) (share : Share) → lane_at_rest (w, (w, share)) 0 0 w None None None false ≡ new_lane w share
 new_at_rest w share = ap (λ r. record (new_lane w share) { arrived = record { stored = map.empty; received = r; read_count = 0; window = w; discarding = false } }) (numbers-none 0 0 (omega arith))
 
-pub at_rest_new : (w : ℕ) (share : Share) → 1 ≤ w → w ≤ MAX_WINDOW → IsAtRest (lane_at_rest (w, share) 0 0 w None None None false) 0 0
+pub at_rest_new : (w : ℕ) (share : Share) → 1 ≤ w → w ≤ MAX_WINDOW → IsAtRest (lane_at_rest (w, (w, share)) 0 0 w None None None false) 0 0
 at_rest_new w share some small =
     record {
       lawful = subst IsLawful (sym (new_at_rest w share)) (lawful_new w share some small);
@@ -99,17 +99,17 @@ at_rest_thrown lane n e off lawful fits =
     }
 
 -- the offsets up to the largest are those that came
-below_itself : (w : ℕ × Share) (n e limit code size : ℕ) (s : Option ℕ) (told : Bool)
+below_itself : (w : ℕ × (ℕ × Share)) (n e limit code size : ℕ) (s : Option ℕ) (told : Bool)
     → lane_at_rest w n (end_of (numbers 0 e)) limit (Some size) (Some code) s told ≡ lane_at_rest w n e limit (Some size) (Some code) s told
 below_itself w n e limit code size s told = ap (λ k. lane_at_rest w n k limit (Some size) (Some code) s told) (end_of-below e)
 
-pub at_rest_reset : (w : ℕ × Share) (n e limit code size : ℕ) (f s : Option ℕ) (told : Bool) → is_whole (lane_at_rest w n e limit f None s told) ≡ false → IsOk (check_reset (lane_at_rest w n e limit f None s told) size)
+pub at_rest_reset : (w : ℕ × (ℕ × Share)) (n e limit code size : ℕ) (f s : Option ℕ) (told : Bool) → is_whole (lane_at_rest w n e limit f None s told) ≡ false → IsOk (check_reset (lane_at_rest w n e limit f None s told) size)
     → IsAtRest (lane_at_rest w n e limit f None s told) n e → IsAtRest (lane_at_rest w n e limit (Some size) (Some code) s told) n e
 at_rest_reset w n e limit code size f s told not_whole ok h =
     at_rest_thrown (lane_at_rest w n e limit (Some size) (Some code) s told) n e refl
     (subst IsLawful (below_itself w n e limit code size s told) (sound_reset (lane_at_rest w n e limit f None s told) w.0 n e code size refl not_whole ok (sound_at_rest w n e limit f None s told h)).lawful) h.stop_fits
 
-pub reset_rest_is : (w : ℕ × Share) (n e limit code size : ℕ) (f s : Option ℕ) (told : Bool) → is_whole (lane_at_rest w n e limit f None s told) ≡ false
+pub reset_rest_is : (w : ℕ × (ℕ × Share)) (n e limit code size : ℕ) (f s : Option ℕ) (told : Bool) → is_whole (lane_at_rest w n e limit f None s told) ≡ false
     → lane_at_rest w n e limit (Some size) (Some code) s told ≡ take_reset (lane_at_rest w n e limit f None s told) code size
 reset_rest_is w n e limit code size f s told not_whole =
     let lane : RecvLane = lane_at_rest w n e limit f None s told in
@@ -117,13 +117,13 @@ reset_rest_is w n e limit code size f s told not_whole =
     sym (ap (λ b. cond b lane after) not_whole ∙ below_itself w n e limit code size s told)
 
 -- what a stop leaves
-pub stopped_at_rest : (w : ℕ × Share) (n e limit code : ℕ) (f r : Option ℕ) (told : Bool)
+pub stopped_at_rest : (w : ℕ × (ℕ × Share)) (n e limit code : ℕ) (f r : Option ℕ) (told : Bool)
     → (let lane : RecvLane = lane_at_rest w n e limit f r None told in lane_at_rest w n e limit f r (Some code) told ≡ record lane { arrived = discard lane.arrived; stop_code = Some code })
 stopped_at_rest w n e limit code f r told =
     let lane : RecvLane = lane_at_rest w n e limit f r None told in
     ap (λ off. record lane { arrived = at_rest w.0 n e off; stop_code = Some code }) (or_right (is_some r) true refl)
 
-pub at_rest_stopped : (w : ℕ × Share) (n e limit code : ℕ) (f r : Option ℕ) (told : Bool) → code ≤ MAX_VARINT
+pub at_rest_stopped : (w : ℕ × (ℕ × Share)) (n e limit code : ℕ) (f r : Option ℕ) (told : Bool) → code ≤ MAX_VARINT
     → IsAtRest (lane_at_rest w n e limit f r None told) n e → IsAtRest (lane_at_rest w n e limit f r (Some code) told) n e
 at_rest_stopped w n e limit code f r told fits h =
     at_rest_thrown (lane_at_rest w n e limit f r (Some code) told) n e (or_right (is_some r) true refl)
@@ -144,7 +144,7 @@ at_rest_told lane n e why h =
     }
 
 -- nothing is told where it isn't over
-pub wait_at_rest : (w : ℕ × Share) (n e limit room : ℕ) (f s : Option ℕ) (told : Bool) → (is_some s ≡ true → is_whole (lane_at_rest w n e limit f None s told) ≡ false) → (is_some s ≡ false → at_final_size n f ≡ false)
+pub wait_at_rest : (w : ℕ × (ℕ × Share)) (n e limit room : ℕ) (f s : Option ℕ) (told : Bool) → (is_some s ≡ true → is_whole (lane_at_rest w n e limit f None s told) ≡ false) → (is_some s ≡ false → at_final_size n f ≡ false)
     → IsAtRest (lane_at_rest w n e limit f None s told) n e → read_answer (lane_at_rest w n e limit f None s told) room ≡ Wait
 wait_at_rest w n e limit room f None told not_whole more h =
     let lane : RecvLane = lane_at_rest w n e limit f None None told in
@@ -166,13 +166,13 @@ at_rest_raised lane n e limit is h =
 
 -- A frame
 
-pub taken_at_rest : (w : ℕ × Share) (n e e' limit offset : ℕ) (f r s : Option ℕ) (told : Bool) (bytes : List ℕ) (fin : Bool) → EndsAt (lane_at_rest w n e limit f r s told) offset bytes e'
+pub taken_at_rest : (w : ℕ × (ℕ × Share)) (n e e' limit offset : ℕ) (f r s : Option ℕ) (told : Bool) (bytes : List ℕ) (fin : Bool) → EndsAt (lane_at_rest w n e limit f r s told) offset bytes e'
     → lane_at_rest w n e' limit (cond fin (Some (offset + length bytes)) f) r s told ≡ take_stream (lane_at_rest w n e limit f r s told) offset bytes fin
 taken_at_rest w n e e' limit offset f r s told bytes fin h =
     let lane : RecvLane = lane_at_rest w n e limit f r s told in
     ap (λ a. record lane { arrived = a; final_size = cond fin (Some (offset + length bytes)) f }) (sym h.arrived)
 
-pub at_rest_taken : (w : ℕ × Share) (n e e' limit offset : ℕ) (f r s : Option ℕ) (told : Bool) (bytes : List ℕ) (fin : Bool) → EndsAt (lane_at_rest w n e limit f r s told) offset bytes e'
+pub at_rest_taken : (w : ℕ × (ℕ × Share)) (n e e' limit offset : ℕ) (f r s : Option ℕ) (told : Bool) (bytes : List ℕ) (fin : Bool) → EndsAt (lane_at_rest w n e limit f r s told) offset bytes e'
     → IsOk (check_stream (lane_at_rest w n e limit f r s told) offset (length bytes) fin)
     → IsAtRest (lane_at_rest w n e limit f r s told) n e → IsAtRest (lane_at_rest w n e' limit (cond fin (Some (offset + length bytes)) f) r s told) n e'
 at_rest_taken w n e e' limit offset f r s told bytes fin ends ok h =
@@ -184,14 +184,14 @@ at_rest_taken w n e e' limit offset f r s told bytes fin ends ok h =
       ended = λ is_told on. same_size f (offset + length bytes) (length bytes) n fin (highest lane) (unbroken lane offset (length bytes) fin ok) (h.ended is_told on);
     }
 
-pub grown_at_rest : (w : ℕ × Share) (n e e' limit offset : ℕ) (f r s : Option ℕ) (told : Bool) (bytes : List ℕ) (fin : Bool) → EndsAt (lane_at_rest w n e limit f r s told) offset bytes e'
+pub grown_at_rest : (w : ℕ × (ℕ × Share)) (n e e' limit offset : ℕ) (f r s : Option ℕ) (told : Bool) (bytes : List ℕ) (fin : Bool) → EndsAt (lane_at_rest w n e limit f r s told) offset bytes e'
     → IsAtRest (lane_at_rest w n e limit f r s told) n e
     → highest (lane_at_rest w n e' limit (cond fin (Some (offset + length bytes)) f) r s told) ≡ highest_after (lane_at_rest w n e limit f r s told) offset (length bytes) fin
 grown_at_rest w n e e' limit offset f r s told bytes fin ends h =
     ap highest (taken_at_rest w n e e' limit offset f r s told bytes fin ends) ∙ highest-take_stream (lane_at_rest w n e limit f r s told) offset bytes fin h.lawful
 
 -- where nothing new comes
-pub ends_known : (w : ℕ × Share) (n e limit offset : ℕ) (f r s : Option ℕ) (told : Bool) (bytes : List ℕ) → ContainsRange (numbers 0 e) offset (offset + length bytes)
+pub ends_known : (w : ℕ × (ℕ × Share)) (n e limit offset : ℕ) (f r s : Option ℕ) (told : Bool) (bytes : List ℕ) → ContainsRange (numbers 0 e) offset (offset + length bytes)
     → IsAtRest (lane_at_rest w n e limit f r s told) n e → EndsAt (lane_at_rest w n e limit f r s told) offset bytes e
 ends_known w n e limit offset f r s told bytes known h =
     record { arrived = either (is_some r); all_read = h.all_read }
@@ -201,7 +201,7 @@ ends_known w n e limit offset f r s told bytes known h =
     either false = sym (put_known (at_rest w.0 n e (is_some r || is_some s)) offset bytes known)
 
 -- after a reset
-pub ends_passed : (w : ℕ × Share) (n e limit offset code : ℕ) (f s : Option ℕ) (told : Bool) (bytes : List ℕ) → EndsAt (lane_at_rest w n e limit f (Some code) s told) offset bytes e
+pub ends_passed : (w : ℕ × (ℕ × Share)) (n e limit offset code : ℕ) (f s : Option ℕ) (told : Bool) (bytes : List ℕ) → EndsAt (lane_at_rest w n e limit f (Some code) s told) offset bytes e
 ends_passed w n e limit offset code f s told bytes = record { arrived = refl; all_read = λ on. absurd (both_ways true on refl) }
 
 -- after a stop, where it touches what came
@@ -212,7 +212,7 @@ union_below e lo hi touches ends =
     let new = contains-below hi q in
     contains-with_range (numbers 0 e) lo hi q ∙ grind (arith, nat_tests))
 
-pub ends_more : (w : ℕ × Share) (n e limit offset code : ℕ) (f : Option ℕ) (told : Bool) (bytes : List ℕ) → offset ≤ e → e ≤ offset + length bytes
+pub ends_more : (w : ℕ × (ℕ × Share)) (n e limit offset code : ℕ) (f : Option ℕ) (told : Bool) (bytes : List ℕ) → offset ≤ e → e ≤ offset + length bytes
     → EndsAt (lane_at_rest w n e limit f None (Some code) told) offset bytes (offset + length bytes)
 ends_more w n e limit offset code f told bytes touches ends =
     record {
@@ -229,7 +229,7 @@ apart_below e offset end new q low high = contains-below e q ∙ grind (arith, n
 
 -- what a reset leaves is at rest
 pub forgotten_is : (lane : RecvLane) (w n e code size : ℕ) → IsSound lane w n e
-    → lane_at_rest (w, lane.share) n e lane.limit (Some size) (Some code) lane.stop_code lane.told ≡ record lane { arrived = forget lane.arrived; final_size = Some size; reset_code = Some code }
+    → lane_at_rest (w, (lane.window, lane.share)) n e lane.limit (Some size) (Some code) lane.stop_code lane.told ≡ record lane { arrived = forget lane.arrived; final_size = Some size; reset_code = Some code }
 forgotten_is lane w n e code size h =
     ap (λ a. record lane { arrived = a; final_size = Some size; reset_code = Some code }) (sym (
     ap (λ k. record { stored = map.empty; received = numbers 0 k; read_count = lane.arrived.read_count; window = lane.arrived.window; discarding = true }) h.end_is
@@ -238,15 +238,15 @@ forgotten_is lane w n e code size h =
     ))
 
 pub reset_is : (lane : RecvLane) (w n e code size : ℕ) → is_some lane.reset_code ≡ false → is_whole lane ≡ false → IsSound lane w n e
-    → lane_at_rest (w, lane.share) n e lane.limit (Some size) (Some code) lane.stop_code lane.told ≡ take_reset lane code size
+    → lane_at_rest (w, (lane.window, lane.share)) n e lane.limit (Some size) (Some code) lane.stop_code lane.told ≡ take_reset lane code size
 reset_is lane w n e code size no_reset not_whole h =
     let after : RecvLane = record lane { arrived = forget lane.arrived; final_size = Some size; reset_code = Some code } in
     forgotten_is lane w n e code size h ∙ sym (ap (λ b. cond (b || is_whole lane) lane after) no_reset ∙ ap (λ b. cond b lane after) not_whole)
 
 pub reset_at_rest : (lane : RecvLane) (w n e code size : ℕ) → is_some lane.reset_code ≡ false → is_whole lane ≡ false → IsOk (check_reset lane size) → IsSound lane w n e
-    → IsAtRest (lane_at_rest (w, lane.share) n e lane.limit (Some size) (Some code) lane.stop_code lane.told) n e
+    → IsAtRest (lane_at_rest (w, (lane.window, lane.share)) n e lane.limit (Some size) (Some code) lane.stop_code lane.told) n e
 reset_at_rest lane w n e code size no_reset not_whole ok h =
-    at_rest_thrown (lane_at_rest (w, lane.share) n e lane.limit (Some size) (Some code) lane.stop_code lane.told) n e refl
+    at_rest_thrown (lane_at_rest (w, (lane.window, lane.share)) n e lane.limit (Some size) (Some code) lane.stop_code lane.told) n e refl
     (subst IsLawful (sym (forgotten_is lane w n e code size h)) (sound_reset lane w n e code size no_reset not_whole ok h).lawful) h.stop_fits
 
 -- A half of which the end, or a reset, was told
@@ -274,7 +274,7 @@ nothing_left lane size told h let_go = go lane.arrived.discarding refl
     go false on = map.empty_of_len lane.arrived.stored (none_left lane h (let_go.ended told on))
 
 pub rested_is : (lane : RecvLane) (w n e size : ℕ) → lane.told ≡ true → ContainsRange lane.arrived.received 0 e → IsSound lane w n e → IsLetGo lane size
-    → lane_at_rest (w, lane.share) n e lane.limit lane.final_size lane.reset_code lane.stop_code lane.told ≡ lane
+    → lane_at_rest (w, (lane.window, lane.share)) n e lane.limit lane.final_size lane.reset_code lane.stop_code lane.told ≡ lane
 rested_is lane w n e size told all h let_go =
     let stored = nothing_left lane size told h.lawful let_go in
     let received : lane.arrived.received ≡ numbers 0 e =

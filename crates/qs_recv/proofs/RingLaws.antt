@@ -122,6 +122,35 @@ ring_at_rest f w from end off wide small came all_read =
 pub view_at_rest : (f : ℕ → ℕ) (w from end : ℕ) (off : Bool) → (off ≡ false → from ≡ end) → stored_in_ring (numbers 0 end) f w from off ≡ map.empty
 view_at_rest f w from end off all_read = nothing_in_ring (numbers 0 end) f w from off (none_at_rest from end off all_read)
 
+-- A wider window
+
+pub ring_wider : (r : NumberSet) (f : ℕ → ℕ) (w v from : ℕ) → w ≤ v → ((q : ℕ) → set.contains r q ≡ true → q < from + w) → ring_bytes r f from v ≡ ring_bytes r f from w
+ring_wider r f w v from le within =
+    same_map nat_cmp_total nat_cmp-IsAntisymmetric _ _ (λ q. get-ring r f v from v q ∙ by_came q (set.contains r q) refl ∙ sym (get-ring r f w from w q))
+  where
+    by_came : (q : ℕ) (came : Bool) → set.contains r q ≡ came → cond (is_in_run q from v && set.contains r q) (Some (f q)) None ≡ cond (is_in_run q from w && set.contains r q) (Some (f q)) None
+    by_came q true is =
+        let below = within q is in
+        let same : is_in_run q from v ≡ is_in_run q from w = grind (arith, nat_tests) in
+        ap (λ b. cond (b && set.contains r q) (Some (f q)) None) same
+    by_came q false is =
+        ap (λ b. cond b (Some (f q)) None) (and_right (is_in_run q from v) (set.contains r q) is)
+        ∙ sym (ap (λ b. cond b (Some (f q)) None) (and_right (is_in_run q from w) (set.contains r q) is))
+
+pub view_wider : (r : NumberSet) (f : ℕ → ℕ) (w v from stored : ℕ) (off : Bool) → w ≤ v → IsRing f r w from stored off → stored_in_ring r f v from off ≡ stored_in_ring r f w from off
+view_wider r f w v from stored true le h = refl
+view_wider r f w v from stored false le h = ring_wider r f w v from le (h.came_within refl)
+
+pub widened_ring : (r : NumberSet) (f : ℕ → ℕ) (w v from stored : ℕ) (off : Bool) → w ≤ v → v ≤ MAX_WINDOW → IsRing f r w from stored off → IsRing f r v from stored off
+widened_ring r f w v from stored off le small h =
+    record {
+      small_window = small;
+      small_count = h.small_count;
+      read_came = h.read_came;
+      came_within = λ on q came. (let below = h.came_within on q came in omega (arith, below, le));
+      counted = h.counted ∙ ap map.len (sym (view_wider r f w v from stored off le h));
+    }
+
 -- A read
 
 -- what is next lies within the window

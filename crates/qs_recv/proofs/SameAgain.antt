@@ -8,10 +8,10 @@ use Rattle.std.specs.Ordering.{nat_cmp}
 use Rattle.std.specs.FinMap as map
 use Rattle.std.specs.FinSet as set
 use Rattle.std.proofs.lemmas.Bool.{both_ways, and_right, cond_both}
-use Rattle.qs_recv.specs.Assembled.{Assembled, discard, forget, front_of, put, same, store, take_front}
+use Rattle.qs_recv.specs.Assembled.{Assembled, discard, forget, front_of, put, same, store, take_front, widen}
 use Rattle.qs_recv.specs.Bytes.{byte_at}
 use Rattle.qs_recv.specs.Lane.{RecvLane, after_answer, check_bytes, is_whole, read_answer, take_stream}
-use Rattle.qs_recv.specs.Laws.{IsPart, IsSent, IsUnchanged, LaneCall, TakeStream, TakeReset, ReadUpTo, StopWith, ForgetWith, RaiseLimit, after_call}
+use Rattle.qs_recv.specs.Laws.{IsPart, IsSent, IsUnchanged, LaneCall, TakeStream, TakeReset, ReadUpTo, StopWith, ForgetWith, RaiseLimit, SetWindow, after_call}
 use Rattle.qs_recv.specs.declared.half.Read.{Read}
 use Rattle.qs_recv.specs.declared.half.Read.TheVariants.{Bytes, End, Reset, Wait}
 use Rattle.qs_recv.specs.declared.half.RecvFault.{RecvFault}
@@ -86,6 +86,10 @@ stored_take a size q byte came is = by_case (nat_le (a.read_count + length (fron
     by_case true is' = is'
     by_case false is' = absurd (both_ways false refl (ap is_some is'))
 
+stored_wider : (a : Assembled) (window : ℕ) → StoredIn a (widen a window)
+unfolding StoredIn
+stored_wider a window q byte came is = is
+
 stored_discard : (a : Assembled) → StoredIn a (discard a)
 unfolding StoredIn
 stored_discard a q byte came is = absurd (both_ways _ (ap is_some (map.get-empty nat_cmp q)) (ap is_some is))
@@ -113,6 +117,7 @@ stored_step lane (ReadUpTo room) = by_answer (read_answer lane room)
 stored_step lane (StopWith code) = cond_both (is_some lane.stop_code) lane _ (λ l. StoredIn lane.arrived l.arrived) (λ _. stored_same lane.arrived) (λ _. stored_discard lane.arrived)
 stored_step lane (ForgetWith code) = cond_both (is_some lane.stop_code) lane _ (λ l. StoredIn lane.arrived l.arrived) (λ _. stored_same lane.arrived) (λ _. stored_discard lane.arrived)
 stored_step lane (RaiseLimit) = stored_same lane.arrived
+stored_step lane (SetWindow window) = stored_wider lane.arrived window
 
 pub stored_before : (lane : RecvLane) (call : LaneCall) (q byte : ℕ) → set.contains lane.arrived.received q ≡ true
     → map.get (after_call lane call).arrived.stored q ≡ Some byte → map.get lane.arrived.stored q ≡ Some byte

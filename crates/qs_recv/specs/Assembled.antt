@@ -1,12 +1,12 @@
 -- Trusted.
 -- What an assembly holds of a stream, however it keeps it (RFC 9000, section 2.2, for the whole file).
 --     Assembled      the bytes that are still to be read, by offset; every offset that came; how many bytes were read; how far past
---                    these the next ones may lie; and whether bytes are thrown away
+--                    these the next ones may lie, the greatest window that was set; and whether bytes are thrown away
 --     nothing_yet, at_rest, put, take_front, discard      what the calls of an assembly leave
---     forget      what a reset leaves
+--     forget, widen      what a reset leaves, and a greater window
 --     front m at size      the bytes of m from an offset on, up to the first offset that isn't in m, and at most size
 --     same m at bytes      whether bytes from an offset on are those that m has there
-use Rattle.std.specs.Prelude.{ℕ, ◌+◌, zero, suc, Bool, true, false, if◌then◌else◌, ◌==◌, ◌&&◌, nat_le, List, [], ◌∷◌, length, Option, None, Some}
+use Rattle.std.specs.Prelude.{ℕ, ◌+◌, zero, suc, Bool, true, false, if◌then◌else◌, ◌==◌, ◌&&◌, nat_le, max, List, [], ◌∷◌, length, Option, None, Some}
 use Rattle.std.specs.Ordering.{nat_cmp}
 use Rattle.std.specs.FinMap as map
 use Rattle.std.specs.FinSet as set
@@ -69,6 +69,10 @@ take_front a size =
 -- what is stored is thrown away, and so is what comes from now on
 abbrev pub discard : Assembled → Assembled
 discard a = record a { stored = map.empty; discarding = true }
+
+-- bytes may lie so far past those that were read, too (RFC 9000, section 4.2)
+abbrev pub widen : Assembled → ℕ → Assembled
+widen a window = record a { window = max a.window window }
 
 -- after a reset nothing is stored from now on, and it doesn't matter which offsets came: each one up to the largest that did counts as
 -- one that came (RFC 9000, section 3.2)

@@ -12,11 +12,11 @@ use Rattle.qs_recv.specs.declared.half.RecvFault.TheVariants.{FinalSize, StreamC
 use Rattle.qs_recv.specs.declared.half.Highest.{Highest}
 use Rattle.qs_recv.specs.declared.credit.Share.{Share}
 use Rattle.qs_recv.specs.declared.credit.Share.TheVariants.{Half, Quarter, Eighth, Sixteenth}
-use Rattle.qs_recv.specs.Assembled.{Assembled, nothing_yet, put, take_front, front_of, discard, same, forget}
+use Rattle.qs_recv.specs.Assembled.{Assembled, nothing_yet, put, take_front, front_of, discard, same, forget, widen}
 
 -- what arrived; the final size, the reset's code and the code of this end's own stop, where known; whether a reader was told of the end or
--- the reset, or wants to be told of neither; the limit on offsets that was granted; and by which share of the window the limit moves
--- (RFC 9000, sections 3.2, 3.5, 4.1 and 4.2)
+-- the reset, or wants to be told of neither; the limit on offsets that was granted; the window by which it moves, beside the greatest one in
+-- `arrived`; and by which share of it (RFC 9000, sections 3.2, 3.5, 4.1 and 4.2)
 pub record RecvLane : Type 0 where
   pub arrived : Assembled
   pub final_size : Option ℕ
@@ -24,12 +24,13 @@ pub record RecvLane : Type 0 where
   pub stop_code : Option ℕ
   pub told : Bool
   pub limit : ℕ
+  pub window : ℕ
   pub share : Share
 
 -- nothing arrived, and one window is granted (RFC 9000, section 4.1)
 abbrev pub new_lane : ℕ → Share → RecvLane
 new_lane window share =
-    record { arrived = nothing_yet window; final_size = None; reset_code = None; stop_code = None; told = false; limit = window; share = share }
+    record { arrived = nothing_yet window; final_size = None; reset_code = None; stop_code = None; told = false; limit = window; window = window; share = share }
 
 -- the final size if known, else one more than the largest offset that came, or 0 (RFC 9000, sections 4.1 and 4.5)
 abbrev pub highest : RecvLane → ℕ
@@ -198,7 +199,7 @@ next_limit l t w share =
 -- the limit isn't raised once the final size is known (RFC 9000, sections 4.2 and 4.5)
 abbrev pub raised_limit : RecvLane → ℕ
 raised_limit lane =
-    if is_some lane.final_size then lane.limit else next_limit lane.limit (taken lane) lane.arrived.window lane.share
+    if is_some lane.final_size then lane.limit else next_limit lane.limit (taken lane) lane.window lane.share
 
 -- the lane with its limit raised (RFC 9000, section 4.2)
 abbrev pub raise : RecvLane → RecvLane
@@ -207,3 +208,18 @@ raise lane = record lane { limit = raised_limit lane }
 -- the new limit, where it rose
 abbrev pub raise_answer : RecvLane → Option ℕ
 raise_answer lane = if nat_lt lane.limit (raised_limit lane) then Some (raised_limit lane) else None
+
+-- a greater window moves a limit at once, be it by less than a step; under a smaller one the limit stands until it is met
+-- (RFC 9000, section 4.2)
+abbrev pub limit_with : (present granted taken window : ℕ) → ℕ
+limit_with present granted taken window = if nat_lt present window then max granted (min MAX_VARINT (taken + window)) else granted
+
+-- the limit under another window: it stays once the final size is known (RFC 9000, sections 4.2 and 4.5)
+abbrev pub limit_under : RecvLane → ℕ → ℕ
+limit_under lane window =
+    if is_some lane.final_size then lane.limit else limit_with lane.window lane.limit (taken lane) window
+
+-- the lane under another window (RFC 9000, section 4.2)
+abbrev pub set_window : RecvLane → ℕ → RecvLane
+set_window lane window =
+    record lane { arrived = widen lane.arrived window; limit = limit_under lane window; window = window }

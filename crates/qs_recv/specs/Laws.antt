@@ -5,12 +5,12 @@ use Rattle.std.specs.FinMap as map
 use Rattle.std.specs.FinSet as set
 use Rattle.qs_recv.specs.Assembled.{Assembled}
 use Rattle.qs_recv.specs.Bytes.{byte_at}
-use Rattle.qs_recv.specs.Lane.{MAX_WINDOW, RecvLane, new_lane, highest, taken, check_stream, check_bytes, take_stream, check_reset, take_reset, after_read, stop, stop_and_forget, raise}
+use Rattle.qs_recv.specs.Lane.{MAX_WINDOW, RecvLane, new_lane, highest, taken, check_stream, check_bytes, take_stream, check_reset, take_reset, after_read, stop, stop_and_forget, raise, set_window}
 use Rattle.qs_recv.specs.Lawful.{IsLawful}
 use Rattle.qs_recv.specs.declared.credit.Share.{Share}
 
 -- a call that may change a lane: a frame that is taken, a read of so many bytes, a stop with a code, one of a stream that is forgotten too, a
--- raise of the limit
+-- raise of the limit, another window
 pub data LaneCall : Type 0 where
   TakeStream : ℕ → List ℕ → Bool → LaneCall
   TakeReset : ℕ → ℕ → LaneCall
@@ -18,6 +18,7 @@ pub data LaneCall : Type 0 where
   StopWith : ℕ → LaneCall
   ForgetWith : ℕ → LaneCall
   RaiseLimit : LaneCall
+  SetWindow : ℕ → LaneCall
 
 -- the lane after a call
 abbrev pub after_call : RecvLane → LaneCall → RecvLane
@@ -27,8 +28,9 @@ after_call lane (ReadUpTo room) = after_read lane room
 after_call lane (StopWith code) = stop lane code
 after_call lane (ForgetWith code) = stop_and_forget lane code
 after_call lane (RaiseLimit) = raise lane
+after_call lane (SetWindow window) = set_window lane window
 
--- a frame is taken only once it passed its check
+-- a frame is taken only once it passed its check, and a window lies in its range
 abbrev pub IsAllowed : RecvLane → LaneCall → Type 0
 IsAllowed lane (TakeStream offset bytes fin) = IsOk (check_stream lane offset (length bytes) fin)
 IsAllowed lane (TakeReset code size) = IsOk (check_reset lane size)
@@ -36,6 +38,7 @@ IsAllowed lane (ReadUpTo room) = Unit {0}
 IsAllowed lane (StopWith code) = Unit {0}
 IsAllowed lane (ForgetWith code) = Unit {0}
 IsAllowed lane (RaiseLimit) = Unit {0}
+IsAllowed lane (SetWindow window) = (1 ≤ window) × (window ≤ MAX_WINDOW)
 
 -- no count falls, what was received stays received, and a known final size stays
 pub record Grows (old new : RecvLane) : Type 0 where
@@ -58,7 +61,7 @@ CallsNeverTakeBack = (lane : RecvLane) (call : LaneCall) → IsLawful lane → I
 abbrev pub StoredBytesWereGranted : Type 0
 StoredBytesWereGranted = (lane : RecvLane) → IsLawful lane → map.len lane.arrived.stored ≤ lane.limit - taken lane
 
--- what was granted beyond what was taken lies within the window, and what was taken within the limit
+-- what was granted beyond what was taken lies within the greatest window, and what was taken within the limit
 abbrev pub CreditIsWithinWindow : Type 0
 CreditIsWithinWindow = (lane : RecvLane) → IsLawful lane → (taken lane ≤ lane.limit) × (lane.limit - taken lane ≤ lane.arrived.window)
 
@@ -77,6 +80,7 @@ CarriesSent sent (ReadUpTo room) = Unit {0}
 CarriesSent sent (StopWith code) = Unit {0}
 CarriesSent sent (ForgetWith code) = Unit {0}
 CarriesSent sent (RaiseLimit) = Unit {0}
+CarriesSent sent (SetWindow window) = Unit {0}
 
 -- where each frame carries what was sent, only that is stored (RFC 9000, section 2.2)
 abbrev pub StoredBytesWereSent : Type 0

@@ -25,8 +25,8 @@ size_in bits = bits % SPAN + 1
 abbrev pub share_in : ℕ → Share
 share_in bits = share_of (bits / SPAN)
 
--- the lane of these numbers, of which the first is the window with its share: bytes are thrown away after a reset or a stop (RFC 9000, sections 3.2 and 3.5)
-abbrev pub lane_at_rest : ℕ × Share → ℕ → ℕ → ℕ → Option ℕ → Option ℕ → Option ℕ → Bool → RecvLane
+-- the lane of these numbers, of which the first are the greatest window, and the present one with its share: bytes are thrown away after a reset or a stop (RFC 9000, sections 3.2 and 3.5)
+abbrev pub lane_at_rest : ℕ × (ℕ × Share) → ℕ → ℕ → ℕ → Option ℕ → Option ℕ → Option ℕ → Bool → RecvLane
 lane_at_rest window read_count end limit final_size reset_code stop_code told =
     record {
       arrived = at_rest window.0 read_count end (is_some reset_code || is_some stop_code);
@@ -35,7 +35,8 @@ lane_at_rest window read_count end limit final_size reset_code stop_code told =
       stop_code = stop_code;
       told = told;
       limit = limit;
-      share = window.1;
+      window = window.1.0;
+      share = window.1.1;
     }
 
 -- it is lawful, a stop can be told, and until bytes are thrown away all that came was read, which is all of the stream once the end was told

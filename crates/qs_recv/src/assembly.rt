@@ -2,7 +2,7 @@
 ghost use Rattle.std.specs.Prelude.{◌≡◌, ℕ, ◌+◌, ◌-◌, ◌*◌, ◌<◌, ◌≤◌, ◌⊎◌, ◌++◌, max, length, drop, true, false, OnOk, OnErr};
 ghost use Rattle.std.specs.FinMap as map;
 ghost use Rattle.std.specs.FinSet as set;
-ghost use Rattle.qs_recv.specs.Assembled.{Assembled, nothing_yet, at_rest, put, take_front, front_of, discard, same};
+ghost use Rattle.qs_recv.specs.Assembled.{Assembled, nothing_yet, at_rest, put, take_front, front_of, discard, same, widen};
 ghost use Rattle.qs_ranges.specs.Numbers.{MAX_VARINT, MissesRange, covers, end_of};
 ghost use Rattle.qs_recv.specs.Lane.{MAX_WINDOW};
 
@@ -62,6 +62,12 @@ pub trait Assembly: Drop {
     fn discard(&mut self)
         ensures after { holds self.new ≡ discard (holds self.old) }
         ensures gone { size self.new ≡ 0 };
+
+    /// From now on as many bytes past those that were read are stored as the greater window has.
+    fn widen(&mut self, window: u64)
+        requires { window ≤ MAX_WINDOW }
+        ensures after { holds self.new ≡ widen (holds self.old) window }
+        ensures still { size self.new ≡ size self.old };
 
     /// Gives back memory in which nothing is stored.
     fn give_back(&mut self)

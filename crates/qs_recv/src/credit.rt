@@ -1,7 +1,7 @@
 //! How much more a peer may send.
 ghost use Rattle.std.specs.Prelude.{◌≡◌, ◌≤◌, max};
 ghost use Rattle.qs_ranges.specs.Numbers.{MAX_VARINT};
-ghost use Rattle.qs_recv.specs.Lane.{MAX_CONN_WINDOW, step, next_limit};
+ghost use Rattle.qs_recv.specs.Lane.{MAX_CONN_WINDOW, step, next_limit, limit_with};
 
 // The largest value of a variable-length integer.
 const MAX_VARINT: u64 = (1 << 62) - 1;
@@ -30,6 +30,21 @@ pub fn next_limit(limit: u64, taken: u64, window: u64, share: Share) -> u64
         next
     } else {
         limit
+    }
+}
+
+/// The limit under another window: a greater one moves it at once, and under a smaller one it stands (RFC 9000, section 4.2).
+pub(crate) fn limit_with(present: u64, granted: u64, taken: u64, window: u64) -> u64
+    requires small { granted ≤ MAX_VARINT }
+    requires taken { taken ≤ MAX_VARINT }
+    requires window { window ≤ MAX_CONN_WINDOW }
+    ensures value { result ≡ limit_with present granted taken window }
+    ensures in_range { result ≤ MAX_VARINT }
+{
+    if present < window {
+        granted.max((taken + window).min(MAX_VARINT))
+    } else {
+        granted
     }
 }
 

@@ -5,7 +5,7 @@ ghost use Rattle.qs_ranges.specs.Numbers.{MAX_VARINT, MissesRange, covers};
 ghost use Rattle.qs_recv.specs.Lawful.{IsLawful};
 ghost use Rattle.qs_recv.specs.Sound.{CodeFits};
 ghost use Rattle.qs_recv.specs.News.{is_readable, tells_something};
-ghost use Rattle.qs_recv.specs.Lane.{new_lane, highest, highest_after, noted, taken, state, check_stream, check_bytes, take_stream, check_reset, take_reset, is_whole, breaks_final_size, read_answer, bytes_read, after_read, stop, stop_and_forget, raise, raise_answer, MAX_WINDOW};
+ghost use Rattle.qs_recv.specs.Lane.{new_lane, highest, highest_after, noted, taken, state, check_stream, check_bytes, take_stream, check_reset, take_reset, is_whole, breaks_final_size, read_answer, bytes_read, after_read, stop, stop_and_forget, raise, raise_answer, set_window, MAX_WINDOW};
 ghost use Rattle.qs_recv.specs.Changes.{stream_changes};
 ghost use Rattle.qs_recv.specs.Peek.{IsPeek};
 
@@ -71,7 +71,7 @@ pub enum RecvState {
 /// The receiving half of a stream, over any assembly. Offsets and sizes count bytes from the start of the stream.
 ///
 /// One that never carried a byte, one that was reset, and one of which a reader was told the end or that was forgotten, while no
-/// offset is missing, is a record of 56 bytes; the first byte that is stored takes the box.
+/// offset is missing, is a record of 64 bytes; the first byte that is stored takes the box.
 #[derive(Drop)]
 pub struct RecvHalf<A: Assembly> {
     alloc: Global,
@@ -269,6 +269,20 @@ impl<A: Assembly> RecvHalf<A> {
         match &mut self.parts {
             Parts::Resting(rest) => rest.raise(),
             Parts::Live(live) => live.raise(),
+        }
+    }
+
+    /// Sets another window (section 4.2): a greater one moves the limit at once, be it by less than the half's share of it, and
+    /// under a smaller one the limit stands until so much was taken that it moves again. Once the final size is known it stays.
+    pub fn set_window(&mut self, window: u64)
+        requires some { 1 ≤ window }
+        requires small { window ≤ MAX_WINDOW }
+        ensures after { self.new ≡ set_window self.old window }
+        ensures same_highest { highest self.new ≡ highest self.old }
+    {
+        match &mut self.parts {
+            Parts::Resting(rest) => rest.set_window(window),
+            Parts::Live(live) => live.set_window(window),
         }
     }
 

@@ -5,15 +5,15 @@ ghost use Rattle.qs_ranges.specs.Numbers.{MAX_VARINT, MissesRange, covers};
 ghost use Rattle.qs_recv.specs.Lawful.{IsLawful};
 ghost use Rattle.qs_recv.specs.Sound.{CodeFits};
 ghost use Rattle.qs_recv.specs.News.{is_readable, tells_something};
-ghost use Rattle.qs_recv.specs.Lane.{highest, highest_after, noted, taken, state, check_stream, check_bytes, take_stream, check_reset, take_reset, is_whole, breaks_final_size, read_answer, bytes_read, after_read, stop, stop_and_forget, raise, raise_answer};
+ghost use Rattle.qs_recv.specs.Lane.{highest, highest_after, noted, taken, state, check_stream, check_bytes, take_stream, check_reset, take_reset, is_whole, breaks_final_size, read_answer, bytes_read, after_read, stop, stop_and_forget, raise, raise_answer, set_window, MAX_WINDOW};
 ghost use Rattle.qs_recv.specs.Changes.{stream_changes};
 ghost use Rattle.qs_recv.specs.Peek.{IsPeek};
 
 use crate::assembly::{Assembly, Peeking, Skipping};
-use crate::credit::{Share, next_limit};
+use crate::credit::{Share, limit_with, next_limit};
 use crate::half::{Highest, Peek, Read, RecvFault, RecvState};
 use crate::rest::{Rest, given};
-use crate::window::Window;
+use crate::window::Windows;
 use std::alloc::Global;
 use std::marker::Model;
 
@@ -21,10 +21,12 @@ use std::marker::Model;
 #[derive(Drop)]
 pub(crate) struct LiveHalf<A: Assembly> {
     assembly: A,
-    window: u64,
+    // The greatest window that was set.
+    widest: u64,
     read_count: u64,
     received_end: u64,
     limit: u64,
+    window: u64,
     final_size: Option<u64>,
     reset_code: Option<u64>,
     stop_code: Option<u64>,
@@ -41,9 +43,9 @@ impl<A: Assembly> Model for LiveHalf<A> {
 
     ghost coded = { lane_code };
 
-    ghost view = { λ h. record { arrived = A.holds h.assembly; final_size = h.final_size; reset_code = h.reset_code; stop_code = h.stop_code; told = h.told; limit = h.limit; share = h.share } };
+    ghost view = { λ h. record { arrived = A.holds h.assembly; final_size = h.final_size; reset_code = h.reset_code; stop_code = h.stop_code; told = h.told; limit = h.limit; window = h.window; share = h.share } };
 
-    ghost invariant = { λ h. IsSound (record { arrived = A.holds h.assembly; final_size = h.final_size; reset_code = h.reset_code; stop_code = h.stop_code; told = h.told; limit = h.limit; share = h.share }) h.window h.read_count h.received_end × IsLetGo (record { arrived = A.holds h.assembly; final_size = h.final_size; reset_code = h.reset_code; stop_code = h.stop_code; told = h.told; limit = h.limit; share = h.share }) (A.size h.assembly) };
+    ghost invariant = { λ h. IsSound (record { arrived = A.holds h.assembly; final_size = h.final_size; reset_code = h.reset_code; stop_code = h.stop_code; told = h.told; limit = h.limit; window = h.window; share = h.share }) h.widest h.read_count h.received_end × IsLetGo (record { arrived = A.holds h.assembly; final_size = h.final_size; reset_code = h.reset_code; stop_code = h.stop_code; told = h.told; limit = h.limit; window = h.window; share = h.share }) (A.size h.assembly) };
 }
 
 impl<A: Assembly> LiveHalf<A> {
@@ -51,21 +53,22 @@ impl<A: Assembly> LiveHalf<A> {
     pub(crate) fn revived(alloc: Global, rest: &Rest) -> Self
         ensures { result ≡ rest.now }
     {
-        let window = rest.window.size();
+        let widest = rest.windows.widest();
         let reset_code = given(rest.is_reset, rest.reset);
         let stop_code = given(rest.is_stopped, rest.stop);
         let is_over = is_either(reset_code, stop_code);
         LiveHalf {
-            assembly: A::at_rest(alloc, window, rest.read_count, rest.received_end, is_over),
-            window,
+            assembly: A::at_rest(alloc, widest, rest.read_count, rest.received_end, is_over),
+            widest,
             read_count: rest.read_count,
             received_end: rest.received_end,
             limit: rest.limit,
+            window: rest.windows.size(),
             final_size: given(rest.is_sized, rest.size),
             reset_code,
             stop_code,
             told: rest.told,
-            share: rest.window.share(),
+            share: rest.windows.share(),
         }
     }
 
@@ -83,7 +86,7 @@ impl<A: Assembly> LiveHalf<A> {
             size: self.final_size.unwrap_or(0),
             reset: self.reset_code.unwrap_or(0),
             stop: self.stop_code.unwrap_or(0),
-            window: Window::new(self.window, self.share),
+            windows: Windows::new(self.widest, self.window, self.share),
             is_sized: self.final_size.is_some(),
             is_reset: self.reset_code.is_some(),
             is_stopped: self.stop_code.is_some(),
@@ -211,7 +214,7 @@ impl<A: Assembly> LiveHalf<A> {
             size,
             reset: code,
             stop: self.stop_code.unwrap_or(0),
-            window: Window::new(self.window, self.share),
+            windows: Windows::new(self.widest, self.window, self.share),
             is_sized: true,
             is_reset: true,
             is_stopped: self.stop_code.is_some(),
@@ -282,6 +285,20 @@ impl<A: Assembly> LiveHalf<A> {
         }
         self.limit = next;
         Some(next)
+    }
+
+    pub(crate) fn set_window(&mut self, window: u64)
+        requires some { 1 ≤ window }
+        requires small { window ≤ MAX_WINDOW }
+        ensures { self.new ≡ set_window self.old window }
+    {
+        let taken = self.taken();
+        if self.final_size.is_none() {
+            self.limit = limit_with(self.window, self.limit, taken, window);
+        }
+        self.assembly.widen(window);
+        self.widest = self.widest.max(window);
+        self.window = window;
     }
 
     pub(crate) fn is_lawful(&self)

@@ -6,11 +6,11 @@ ghost use Rattle.qs_recv.specs.Lawful.{IsLawful};
 ghost use Rattle.qs_recv.specs.Rest.{EndsAt, given};
 ghost use Rattle.qs_recv.specs.Peek.{IsPeek};
 ghost use Rattle.qs_recv.specs.Sound.{CodeFits};
-ghost use Rattle.qs_recv.specs.Lane.{new_lane, highest, highest_after, noted, taken, is_whole, check_stream, check_reset, take_stream, take_reset, read_answer, bytes_read, after_read, stop, stop_and_forget, raise, raise_answer, MAX_WINDOW};
+ghost use Rattle.qs_recv.specs.Lane.{new_lane, highest, highest_after, noted, taken, is_whole, check_stream, check_reset, take_stream, take_reset, read_answer, bytes_read, after_read, stop, stop_and_forget, raise, raise_answer, set_window, MAX_WINDOW};
 
-use crate::credit::{Share, next_limit};
+use crate::credit::{Share, limit_with, next_limit};
 use crate::half::{Peek, Read};
-use crate::window::Window;
+use crate::window::Windows;
 use std::marker::Model;
 
 /// A receiving half that stores nothing, and of which the offsets that came are those below `received_end`: one that never
@@ -23,7 +23,7 @@ pub(crate) struct Rest {
     pub(crate) size: u64,
     pub(crate) reset: u64,
     pub(crate) stop: u64,
-    pub(crate) window: Window,
+    pub(crate) windows: Windows,
     pub(crate) is_sized: bool,
     pub(crate) is_reset: bool,
     pub(crate) is_stopped: bool,
@@ -39,9 +39,9 @@ impl Model for Rest {
 
     ghost coded = { lane_code };
 
-    ghost view = { λ r. lane_at_rest r.window r.read_count r.received_end r.limit (given r.is_sized r.size) (given r.is_reset r.reset) (given r.is_stopped r.stop) r.told };
+    ghost view = { λ r. lane_at_rest r.windows r.read_count r.received_end r.limit (given r.is_sized r.size) (given r.is_reset r.reset) (given r.is_stopped r.stop) r.told };
 
-    ghost invariant = { λ r. IsAtRest (lane_at_rest r.window r.read_count r.received_end r.limit (given r.is_sized r.size) (given r.is_reset r.reset) (given r.is_stopped r.stop) r.told) r.read_count r.received_end };
+    ghost invariant = { λ r. IsAtRest (lane_at_rest r.windows r.read_count r.received_end r.limit (given r.is_sized r.size) (given r.is_reset r.reset) (given r.is_stopped r.stop) r.told) r.read_count r.received_end };
 }
 
 impl Rest {
@@ -58,7 +58,7 @@ impl Rest {
             size: 0,
             reset: 0,
             stop: 0,
-            window: Window::new(window, share),
+            windows: Windows::new(window, window, share),
             is_sized: false,
             is_reset: false,
             is_stopped: false,
@@ -183,14 +183,28 @@ impl Rest {
         let next = next_limit(
             self.limit,
             self.taken(),
-            self.window.size(),
-            self.window.share(),
+            self.windows.size(),
+            self.windows.share(),
         );
         if next <= self.limit {
             return None;
         }
         self.limit = next;
         Some(next)
+    }
+
+    /// Sets another window.
+    pub(crate) fn set_window(&mut self, window: u64)
+        requires some { 1 ≤ window }
+        requires small { window ≤ MAX_WINDOW }
+        ensures { self.new ≡ set_window self.old window }
+    {
+        let taken = self.taken();
+        if !self.is_sized {
+            self.limit = limit_with(self.windows.size(), self.limit, taken, window);
+        }
+        let widest = self.windows.widest().max(window);
+        self.windows = Windows::new(widest, window, self.windows.share());
     }
 
     /// What holds of the half at all times.

@@ -24,7 +24,7 @@ use Rattle.qs_machine.specs.Alone.{is_ours, TakesOne, TakesEach, after_one}
 use Rattle.qs_machine.specs.Standing.{IsSound, IsInCredit}
 use Rattle.qs_machine.specs.Repeats.{SentWasWritten}
 use Rattle.qs_machine.specs.EndStep.{Call, Answer, EndStep}
-use Rattle.qs_machine.specs.Setting.{Grant, SendBuffer}
+use Rattle.qs_machine.specs.Setting.{Grant, SendBuffer, StreamWindow}
 use Rattle.qs_machine.proofs.EveryCall.{Change, changed, Comes, each_call, Wanted, Opened, Written, Finished, WasReset, Raised, WasSet, Took as WasTaken, Acked, Put}
 use Rattle.qs_machine.proofs.TablesAfter.{KeptIn, kept_same, kept_twice, kept_updated, kept_open, kept_each, still_open}
 use Rattle.qs_machine.proofs.Raised.{kept_raised}
@@ -98,6 +98,7 @@ keeps_changed old call (Acked count ranges) e comes sound sent =
     keeps_after e (acks (take count (named e ranges)) e) (after_acks (take count (named e ranges)) e (all_take e.sends count (named e ranges) (named_written e ranges sent)))
 keeps_changed old call (Put f) e comes sound sent = keeps_put f e
 keeps_changed old call (WasSet (Grant Uni n)) e comes sound sent = keeps_same e
+keeps_changed old call (WasSet (StreamWindow n w)) e comes sound sent = keeps_same e
 keeps_changed old call c e comes sound sent = keeps_same e
 
 keeps_call : (old : End) → IsSound old → SentWasWritten old → (call : Call) (answer : Answer call) (new : End) → EndStep old call answer new → Keeps old new

@@ -59,11 +59,11 @@ module _ (a b : Settings) (h : History) (w : World) (ok : WorldOk a b h w) (keep
         | inr top ↦ inr (omega (arith, top, grants))
       ]
 
-  stream_ahead : (n : ℕ) (l : SendLane) (r : RecvLane) → sending w s n ≡ Some l → receiving w s n ≡ Some r → r.final_size ≡ None → IsAhead l.sent_end l.limit r.arrived.window r.share
+  stream_ahead : (n : ℕ) (l : SendLane) (r : RecvLane) → sending w s n ≡ Some l → receiving w s n ≡ Some r → r.final_size ≡ None → IsAhead l.sent_end l.limit r.window r.share
   stream_ahead n l r at is e =
       let known : l.limit ≡ r.limit = (limits_known a b h w ok keeps rest s told).streams n l r at is e in
       let paid : taken r ≡ l.sent_end = taken_sent a b h w ok keeps rest s n l r at is in
-      elim (ahead r.limit (taken r) r.arrived.window r.share ((keeps (other s)).limits.streams n r is e)) [
+      elim (ahead r.limit (taken r) r.window r.share ((keeps (other s)).limits.streams n r is e)) [
         | inl more ↦ inl (omega (arith, more, known, paid))
         | inr top ↦ inr (omega (arith, top, known))
       ]
@@ -93,8 +93,8 @@ module _ (a b : Settings) (h : History) (w : World) (ok : WorldOk a b h w) (keep
             let known : l.limit ≡ r.limit = (limits_known a b h w ok keeps rest s told).streams n l r at is e in
             let paid : taken r ≡ l.sent_end = taken_sent a b h w ok keeps rest s n l r at is in
             let same : taken r ≡ r.limit = omega (arith, known, paid, blocked, at_limit) in
-            let settled : next_limit r.limit r.limit r.arrived.window r.share ≡ r.limit = subst (λ t. next_limit r.limit t r.arrived.window r.share ≡ r.limit) same ((keeps (other s)).limits.streams n r is e) in
-            let top : MAX_VARINT ≤ r.limit = full r.limit r.arrived.window r.share (lawful a b h w ok keeps rest s n r is).some_window settled in
+            let settled : next_limit r.limit r.limit r.window r.share ≡ r.limit = subst (λ t. next_limit r.limit t r.window r.share ≡ r.limit) same ((keeps (other s)).limits.streams n r is e) in
+            let top : MAX_VARINT ≤ r.limit = full r.limit r.window r.share (lawful a b h w ok keeps rest s n r is).some_window settled in
             let small : l.written ≤ MAX_VARINT = ((keeps s).sends n l at).small in
             omega (arith, top, small, more, known, blocked)
 

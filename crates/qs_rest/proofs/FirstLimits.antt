@@ -15,7 +15,7 @@ use Rattle.qs_calls.specs.declared.answer.Answer.TheVariants as answers
 use Rattle.qs_machine.specs.Ends.{End}
 use Rattle.qs_machine.specs.Receiving.{ReceiveStep}
 use Rattle.qs_machine.specs.Raising.{RaiseStep, raise_refusal, greater_limits}
-use Rattle.qs_machine.specs.Setting.{Grant}
+use Rattle.qs_machine.specs.Setting.{Grant, StreamWindow}
 use Rattle.qs_machine.specs.FrameStep.{named, acks, frame_taken}
 use Rattle.qs_machine.specs.Lawful.{frame_put}
 use Rattle.qs_machine.specs.EndStep.{Call, Answer as CallAnswer, EndStep, Consume, Receive, TakeFrame, TakeFrames, TokenAcked, TokenLost, MakeAck, FillIn, RaiseLimits, Set, StopAndForget}
@@ -84,6 +84,7 @@ change_rises old call (Put f) e comes = same_peer e (frame_put f e) (ap (λ (x :
 change_rises old call (WasSet (SendBuffer n size)) e comes = rises_same e.peer
 change_rises old call (Raised limits) e comes = rises_more e.peer limits
 change_rises old call (WasSet (Grant Uni n)) e comes = rises_same e.peer
+change_rises old call (WasSet (StreamWindow n w)) e comes = rises_same e.peer
 change_rises old call c e comes = rises_same e.peer
 
 call_rises : (old : End) (call : Call) (answer : CallAnswer call) (new : End) → EndStep old call answer new → Rises old.peer new.peer

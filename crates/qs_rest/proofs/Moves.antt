@@ -16,7 +16,7 @@ use Rattle.qs_send.specs.declared.piece.Piece.TheVariants.{Data, Told}
 use Rattle.qs_machine.specs.Tables.{Tables, lookup, updated, open_to}
 use Rattle.qs_machine.specs.Ends.{End, AckedItems, on_send, is_own, is_uni, opens, opened_by_peer, first_send_limit}
 use Rattle.qs_machine.specs.Credit.{settle}
-use Rattle.qs_machine.specs.Setting.{Setting, ConnWindow, Grant, SendBuffer, with_setting}
+use Rattle.qs_machine.specs.Setting.{Setting, ConnWindow, Grant, SendBuffer, with_setting, StreamWindow}
 use Rattle.qs_machine.specs.Seen.{Seen, Ack, Stream, Control, Close, Plain}
 use Rattle.qs_machine.specs.FrameStep.{AckedPiece, frame_taken, item_taken, piece_acked, item_acked, acks, without_piece, first_acked, named, greatest, or_zero}
 use Rattle.qs_machine.specs.Lawful.{Fills, frame_put, item_put, chunk_of}
@@ -168,6 +168,7 @@ module _ (p : Past) where
   set_moved e all acked (ConnWindow w) = record { role = refl; peer = refl; conn = omega arith; bidi = omega arith; uni = omega arith; sends = kept_all e.sends; halves = all; acked = acked }
   set_moved e all acked (Grant Bidi n) = record { role = refl; peer = refl; conn = omega arith; bidi = omega arith; uni = omega arith; sends = kept_all e.sends; halves = all; acked = acked }
   set_moved e all acked (Grant Uni n) = record { role = refl; peer = refl; conn = omega arith; bidi = omega arith; uni = omega arith; sends = kept_all e.sends; halves = all; acked = acked }
+  set_moved e all acked (StreamWindow n w) = record { role = refl; peer = refl; conn = omega arith; bidi = omega arith; uni = omega arith; sends = kept_all e.sends; halves = all; acked = acked }
   set_moved e all acked (SendBuffer n size) =
       let h = half_moved e n (λ m. buffer_lane m size) all acked (λ l is. buffer_lasts l size) (λ l is h. buffer_true p n _ l h size) in
       record { role = h.role; peer = h.peer; conn = h.conn; bidi = h.bidi; uni = h.uni; sends = h.sends; halves = h.halves; acked = h.acked }

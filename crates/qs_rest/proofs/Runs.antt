@@ -10,7 +10,11 @@ use Rattle.qs_send.specs.Lane.{SendLane, allow_lane}
 use Rattle.qs_send.specs.declared.piece.Item.{Item}
 use Rattle.qs_calls.specs.declared.closing.Closing.{Closing}
 use Rattle.qs_calls.specs.declared.closing.Closed.{Closed}
+use Rattle.qs_calls.specs.declared.closing.Closer.{Closer}
+use Rattle.qs_calls.specs.declared.closing.Closer.TheVariants.{Us, Peer}
+use Rattle.qs_machine.specs.Receiving.{told_receive}
 use Rattle.qs_calls.specs.declared.closing.Closed.TheVariants.{ByUs, ByPeer}
+use Rattle.qs_calls.specs.declared.closing.Closed.TheVariants as closings
 use Rattle.qs_calls.specs.declared.closing.Received.{Received}
 use Rattle.qs_calls.specs.declared.closing.Received.TheVariants.{Duplicate, BelowFloor, PeerClosed}
 use Rattle.qs_calls.specs.declared.making.Made.{Made}
@@ -336,6 +340,11 @@ after_payload p e new k text result good ok is step = by_closed e.closed step
     by_closed : (o : Option Closed) → ReceiveBy o k text e result new → After p (frames_in text) e result new
     by_closed (Some (ByUs closing)) h = stays (Err closing) refl h.0 h.1
     by_closed (Some (ByPeer code)) h = stays (Ok (PeerClosed code)) refl h.0 h.1
+    by_closed (Some (closings.Told close)) h = stays (told_receive close.by close.code) (never_done close.by) h.0 h.1
+      where
+        never_done : (c : Closer) → is_done (answers.Deliver (told_receive c close.code)) ≡ false
+        never_done Us = refl
+        never_done Peer = refl
     by_closed None h =
         by_open (After p (frames_in text) e result new) k text e result new h (stays (Ok BelowFloor) refl) (stays (Ok Duplicate) refl) (λ high mid taken at.
         settled p k (frames_in text) is e result mid new (each_grows raise mid.recvs raise_grows) at

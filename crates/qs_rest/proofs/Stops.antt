@@ -4,7 +4,7 @@ use Rattle.std.specs.Prelude.{cond}
 use Rattle.std.proofs.lemmas.Bool.{cond_both}
 use Rattle.qs_wire.specs.declared.stream_id.Dir.TheVariants.{Bidi, Uni}
 use Rattle.qs_recv.specs.Assembled.{discard, forget}
-use Rattle.qs_recv.specs.Lane.{RecvLane, new_lane as new_recv_lane, highest, taken, take_stream, take_reset, after_read, after_answer, read_answer, stop, stop_and_forget, raise, is_whole}
+use Rattle.qs_recv.specs.Lane.{RecvLane, new_lane as new_recv_lane, highest, taken, take_stream, take_reset, after_read, after_answer, read_answer, stop, stop_and_forget, raise, is_whole, set_window}
 use Rattle.qs_recv.specs.declared.half.Read.{Read}
 use Rattle.qs_recv.specs.declared.half.Read.TheVariants as reads
 use Rattle.qs_send.specs.declared.piece.Item.{Item}
@@ -14,7 +14,7 @@ use Rattle.qs_machine.specs.Ends.{End, on_recv, is_own, is_uni, opens, opened_by
 use Rattle.qs_machine.specs.Seen.{Seen, Ack, Stream, Control, Close, Plain}
 use Rattle.qs_machine.specs.FrameStep.{frame_taken, item_taken, named}
 use Rattle.qs_machine.specs.EndStep.{Call, Answer, EndStep}
-use Rattle.qs_machine.specs.Setting.{Grant}
+use Rattle.qs_machine.specs.Setting.{Grant, StreamWindow}
 use Rattle.qs_machine.proofs.TablesAfter.{KeptIn, kept_same, kept_twice, kept_updated, kept_open, kept_each}
 use Rattle.qs_machine.proofs.Leaves.{acks_leave, put_leaves, wanted_leaves}
 use Rattle.qs_rest.specs.Laws.{StopsGiveBack}
@@ -99,6 +99,7 @@ stay_change old call (Stopped n code) e comes = stay_recv n (λ m. stop m code) 
 stay_change old call (Forgotten n code) e comes = stay_recv n (λ m. stop_and_forget m code) e (λ l. stop_stays code l)
 stay_change old call (WasRead n size) e comes = stay_recv n (λ m. after_read m size) e (λ l. answer_stays (read_answer l size) size l)
 stay_change old call (WasSet (SendBuffer n size)) e comes = stay_same e.recvs
+stay_change old call (WasSet (StreamWindow n w)) e comes = stay_recv n (λ l. set_window l w) e (λ l c is. is)
 stay_change old call (Took f) e comes = stay_frame f e
 stay_change old call (Acked count ranges) e comes = stay_equal e.recvs _ (ap (λ (x : End). x.recvs) (acks_leave (take count (named e ranges)) e))
 stay_change old call (Put f) e comes = stay_equal e.recvs _ (ap (λ (x : End). x.recvs) (put_leaves f e))

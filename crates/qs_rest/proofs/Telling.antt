@@ -10,7 +10,7 @@ use Rattle.qs_wire.specs.Reading.{reading_of}
 use Rattle.qs_wire.specs.declared.fault.WireFault.{WireFault}
 use Rattle.qs_recv.specs.Assembled.{discard, front_of, put, forget}
 use Rattle.qs_recv.specs.News.{is_readable, tells_something}
-use Rattle.qs_recv.specs.Lane.{RecvLane, new_lane as new_recv_lane, is_whole, at_final_size, take_stream, take_reset, read_answer, answer_by, after_answer, after_read, stop, stop_and_forget, raise}
+use Rattle.qs_recv.specs.Lane.{RecvLane, new_lane as new_recv_lane, is_whole, at_final_size, take_stream, take_reset, read_answer, answer_by, after_answer, after_read, stop, stop_and_forget, raise, set_window}
 use Rattle.qs_recv.specs.declared.credit.Share.{Share}
 use Rattle.qs_recv.specs.declared.half.Read.{Read}
 use Rattle.qs_recv.specs.declared.half.Read.TheVariants as reads
@@ -36,7 +36,7 @@ use Rattle.qs_calls.specs.declared.answer.Answer.{Answer}
 use Rattle.qs_machine.specs.Tables.{Tables, lookup, updated, open_to}
 use Rattle.qs_wire.specs.declared.stream_id.Dir.TheVariants.{Bidi, Uni}
 use Rattle.qs_machine.specs.Ends.{End, on_recv, is_own, is_uni, opens, opened_by_peer, window}
-use Rattle.qs_machine.specs.Setting.{Setting, ConnWindow, Grant, SendBuffer, with_setting}
+use Rattle.qs_machine.specs.Setting.{Setting, ConnWindow, Grant, SendBuffer, with_setting, StreamWindow}
 use Rattle.qs_machine.specs.Credit.{settle}
 use Rattle.qs_machine.specs.Seen.{Seen, Ack, Stream, Control, Close, Plain, seen, asks_ack}
 use Rattle.qs_machine.specs.FrameStep.{frame_taken, item_taken, named}
@@ -202,12 +202,13 @@ told_settles e all = slots_each (λ m o. ToldSlot o) raise e.recvs (λ m. go (lo
     go None h = tt
     go (Some l) h = h
 
--- what is set anew leaves the receiving halves
+-- what is set anew leaves the receiving halves, but for a window, and what is told of them
 pub set_told : (e : End) → AllTold e.recvs → (x : Setting) → AllTold (settle (with_setting x e)).recvs
 set_told e all (ConnWindow w) = told_settles (with_setting (ConnWindow w) e) all
 set_told e all (Grant Bidi n) = told_settles (with_setting (Grant Bidi n) e) all
 set_told e all (Grant Uni n) = told_settles (with_setting (Grant Uni n) e) all
 set_told e all (SendBuffer n size) = told_settles (with_setting (SendBuffer n size) e) all
+set_told e all (StreamWindow n w) = told_settles (with_setting (StreamWindow n w) e) (told_updated e.recvs n (λ l. set_window l w) all (λ l was. was))
 
 told_edits : (old : End) → AllTold old.recvs → Edits (λ new. AllTold new.recvs) old
 told_edits old all =

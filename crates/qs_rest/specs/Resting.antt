@@ -91,7 +91,7 @@ pub record HasCreditAhead (h : History) (w : World) (s : Side) : Type 0 where
   -- on the connection (section 4.1)
   pub connection : IsAhead (all_sent (end_of w s)) (end_of w s).known_data (end_of w (other s)).present.conn_window (end_of w (other s)).tuning.credit_step
   -- and on each stream of which no final size came (sections 4.1 and 4.5)
-  pub streams : (n : ℕ) (l : SendLane) (r : RecvLane) → send_lane (end_of w s) n ≡ Some l → recv_lane (end_of w (other s)) n ≡ Some r → r.final_size ≡ None → IsAhead l.sent_end l.limit r.arrived.window r.share
+  pub streams : (n : ℕ) (l : SendLane) (r : RecvLane) → send_lane (end_of w s) n ≡ Some l → recv_lane (end_of w (other s)) n ≡ Some r → r.final_size ≡ None → IsAhead l.sent_end l.limit r.window r.share
 
 -- the stream is reset: Reset Recvd, and Reset Read, or Data Read where all data had come before (RFC 9000, sections 3.1 and 3.2)
 abbrev pub IsResetAtBoth : World → Side → ℕ → Type 0

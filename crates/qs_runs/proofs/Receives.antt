@@ -11,7 +11,11 @@ use Rattle.qs_wire.specs.Reading.{reading_of}
 use Rattle.qs_wire.specs.declared.fault.WireFault.{WireFault}
 use Rattle.qs_calls.specs.declared.closing.Closing.{Closing}
 use Rattle.qs_calls.specs.declared.closing.Closed.{Closed}
+use Rattle.qs_calls.specs.declared.closing.Closer.{Closer}
+use Rattle.qs_calls.specs.declared.closing.Closer.TheVariants.{Us, Peer}
+use Rattle.qs_machine.specs.Receiving.{told_receive}
 use Rattle.qs_calls.specs.declared.closing.Closed.TheVariants.{ByUs, ByPeer}
+use Rattle.qs_calls.specs.declared.closing.Closed.TheVariants as closings
 use Rattle.qs_calls.specs.declared.closing.Received.{Received}
 use Rattle.qs_calls.specs.declared.closing.Received.TheVariants.{Done, Duplicate, BelowFloor, PeerClosed, NoMemory}
 use Rattle.qs_machine.specs.Ends.{End, closes}
@@ -187,6 +191,11 @@ receives p e new k text result ok is step = by_closed e.closed step
     by_closed : (o : Option Closed) → ReceiveBy o k text e result new → EndOk (with_received p k result) new
     by_closed (Some (ByUs closing)) h = stays (Err closing) refl h.0 h.1
     by_closed (Some (ByPeer code)) h = stays (Ok (PeerClosed code)) refl h.0 h.1
+    by_closed (Some (closings.Told close)) h = stays (told_receive close.by close.code) (never_done close.by) h.0 h.1
+      where
+        never_done : (c : Closer) → is_done (answers.Deliver (told_receive c close.code)) ≡ false
+        never_done Us = refl
+        never_done Peer = refl
     by_closed None h =
         by_open (EndOk (with_received p k result) new) k text e result new h (stays (Ok BelowFloor) refl) (stays (Ok Duplicate) refl) (λ high mid takes same.
         ended_by _ _ _ same (settle_ok _ mid (takes_ok p k (frames_in text) is (reading_of text).left [] false (reading_of text).fault e result mid refl ok (ltb-false k e.floor high) tt takes)))

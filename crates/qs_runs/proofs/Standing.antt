@@ -5,7 +5,7 @@ use Rattle.qs_machine.specs.Ends.{End}
 use Rattle.qs_machine.specs.EndStep.{Call, Answer as CallAnswer, EndStep}
 use Rattle.qs_machine.proofs.Leaves.{acks_leave, put_leaves, frame_leaves}
 use Rattle.qs_machine.proofs.EveryCall.{Change, changed, Comes, MovesStanding, relates, Wanted, Took, Acked, Put, Raised, WasSet, Shut}
-use Rattle.qs_machine.specs.Setting.{SendBuffer}
+use Rattle.qs_machine.specs.Setting.{SendBuffer, StreamWindow}
 use Rattle.qs_machine.specs.FrameStep.{named}
 use Rattle.qs_machine.specs.Setting.{Grant}
 use Rattle.qs_machine.specs.Owner.{Certain, Uncertain}
@@ -37,6 +37,7 @@ stands_change old call (Took f) e own comes = ap standing (frame_leaves f e)
 stands_change old call (Acked count ranges) e own comes = ap standing (acks_leave (take count (named e ranges)) e)
 stands_change old call (Put f) e own comes = ap standing (put_leaves f e)
 stands_change old call (WasSet (SendBuffer n size)) e own comes = refl
+stands_change old call (WasSet (StreamWindow n w)) e own comes = refl
 stands_change old call (Raised limits) e own comes = absurd (own comes)
 stands_change old call (Shut c) e own comes = absurd (own comes)
 stands_change old call (WasSet (Grant Uni n)) e own comes = refl

@@ -28,7 +28,7 @@ abbrev pub never_sent : SendReport
 never_sent = record { state = Ready; written = 0; final_size = None; reset_code = None; limit = 0 }
 
 abbrev pub never_received : RecvReport
-never_received = record { state = Recv; read_count = 0; highest = 0; limit = 0; final_size = None; reset_code = None }
+never_received = record { state = Recv; read_count = 0; highest = 0; limit = 0; final_size = None; reset_code = None; stop_code = None }
 
 abbrev pub joined : Side → ℕ → SendReport → RecvReport → LaneTotals
 joined s n sent read =

@@ -7,12 +7,13 @@ ghost use Rattle.qs_machine.specs.Receiving.{closing_at};
 ghost use Rattle.qs_machine.specs.Verdicts.{verdict};
 ghost use Rattle.qs_machine.specs.Changes.{is_yet_to_open, item_changes, changes};
 ghost use Rattle.qs_conn.specs.Seen.{view_seen, SeenFits};
-ghost use Rattle.qs_machine.specs.Alone.{is_ours, alone, closed_fault, of_both, TakesOne, TakesEach, TakeFrameStep, TakeFramesStep};
+ghost use Rattle.qs_machine.specs.Alone.{is_ours, alone, closed_fault, told_fault, of_both, TakesOne, TakesEach, TakeFrameStep, TakeFramesStep};
 
+use super::receiving::told_of_us;
 use super::{Endpoint, is_uni};
 use crate::newly_told::Silent;
 use crate::seen::{SeenFrame, has_text, is_ours, seen, type_number};
-use qs_calls::{Closed, Closing, TakeFault, Taken};
+use qs_calls::{Closed, Closer, Closing, TakeFault, Taken, ToldClose};
 use qs_send::Item;
 use qs_wire::{Frame, StreamId};
 
@@ -186,8 +187,19 @@ impl Endpoint {
         match self.closed {
             Some(Closed::ByUs(closing)) => Some(TakeFault::Closing(closing)),
             Some(Closed::ByPeer(code)) => Some(TakeFault::PeerClosed(code)),
+            Some(Closed::Told(close)) => Some(told_fault(close)),
             None => None,
         }
+    }
+}
+
+// What an end that was told of a close says again.
+fn told_fault(close: ToldClose) -> TakeFault
+    ensures { result ≡ told_fault close.by close.code }
+{
+    match close.by {
+        Closer::Us => TakeFault::Closing(told_of_us(close.code)),
+        Closer::Peer => TakeFault::PeerClosed(close.code),
     }
 }
 

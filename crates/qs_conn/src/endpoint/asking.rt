@@ -1,12 +1,12 @@
 //! What an end's owner, and the layer beneath, may ask of it. Nothing changes.
 ghost use Rattle.std.specs.Prelude.{◌≡◌, ◌↔◌, IsTrue, ◌-◌, ◌^◌, min};
 ghost use Rattle.qs_machine.specs.Credit.{all_taken, credit_for};
-ghost use Rattle.qs_machine.specs.Asking.{GoesBesideAck, all_noted, taken, peer_closing, streams_left, open_left, is_blocked, credit_left, room, unsent, acked_below, stopped_with, IsNextOutstanding, IsPeeked, all_unsent, all_kept};
+ghost use Rattle.qs_machine.specs.Asking.{GoesBesideAck, all_noted, taken, peer_closing, told_closing, streams_left, open_left, is_blocked, credit_left, room, unsent, acked_below, stopped_with, IsNextOutstanding, IsPeeked, all_unsent, all_kept};
 ghost use Rattle.qs_machine.specs.Ends.{send_lane};
 ghost use Rattle.qs_machine.specs.Sums.{or_none};
 
 use super::Endpoint;
-use qs_calls::{Closed, UseFault};
+use qs_calls::{Closed, ToldClose, UseFault};
 use qs_recv::Peek;
 use qs_wire::{Dir, StreamId};
 
@@ -22,12 +22,22 @@ impl Endpoint {
         self.core.has_frame()
     }
 
-    /// The code with which the peer closed, `None` where it didn't (RFC 9000, section 10.2).
+    /// The code with which the peer closed by a frame that came to this end, `None` where it didn't (RFC 9000, section 10.2).
     pub fn peer_closed(&self) -> Option<u64>
         ensures { result ≡ peer_closing self.now.closed }
     {
         match self.closed {
             Some(Closed::ByPeer(code)) => Some(code),
+            _ => None,
+        }
+    }
+
+    /// The close that the end was told of by `tell_closed`, `None` where it closed otherwise or is open (RFC 9000, section 10.2).
+    pub fn told_close(&self) -> Option<ToldClose>
+        ensures { result ≡ told_closing self.now.closed }
+    {
+        match self.closed {
+            Some(Closed::Told(close)) => Some(close),
             _ => None,
         }
     }

@@ -1,7 +1,7 @@
 //! What is due is filled in, for a packet of a stack that owns its packets.
 ghost use Rattle.std.specs.Prelude.{◌≡◌, ◌↔◌, ℕ, IsTrue, List, [], length};
 ghost use Rattle.qs_machine.specs.Ends.{End};
-ghost use Rattle.qs_machine.specs.Filling.{WantedGoes, FillBy, FillStep};
+ghost use Rattle.qs_machine.specs.Filling.{WantedGoes, FillBy, FillStep, still_asked};
 ghost use Rattle.qs_machine.specs.InOrder.{NoItemStarves};
 ghost use Rattle.qs_conn.specs.Written.{filled_text, KeepsBehind};
 
@@ -40,7 +40,8 @@ impl Endpoint {
             delay: 0,
             ack_due: false,
         };
-        let len = self.core.fill(&self.done, &wish, out);
+        let packet = self.core.fill(&self.done, &wish, out);
+        let len = packet.len;
         if len == 0 {
             return Ok(None);
         }
@@ -48,7 +49,8 @@ impl Endpoint {
         let last_stream = self.core.outbox.last_stream();
         self.core.outbox.commit();
         self.settle();
-        let more = self.has_more(want, near);
+        let rest = still_asked(want, packet.quota);
+        let more = self.has_more(&rest, near);
         Ok(Some(Filled {
             token,
             len,
@@ -74,5 +76,21 @@ impl Endpoint {
         ensures { IsTrue result ↔ WantedGoes want.now self.now }
     {
         self.core.has_wanted(want, last)
+    }
+}
+
+// What is asked for still, where so many bytes of streams may go.
+fn still_asked(want: &Fill, quota: usize) -> Fill
+    ensures { result ≡ still_asked want.now quota }
+{
+    if quota > 0 {
+        return *want;
+    }
+    Fill {
+        items: want.items,
+        streams: false,
+        first: want.first,
+        alone: want.alone,
+        most_bytes: want.most_bytes,
     }
 }

@@ -8,7 +8,7 @@ ghost use Rattle.qs_conn.specs.Written.{made_text, KeepsRest};
 
 use super::Endpoint;
 use crate::filling::Wish;
-use qs_calls::{Fill, Made, MakeFault};
+use qs_calls::{Fill, Made, MakeFault, NO_CAP};
 use qs_wire::StreamId;
 
 /// The largest packet number (RFC 9000, section 12.3).
@@ -59,6 +59,7 @@ impl Endpoint {
     ) -> Result<Option<Made>, MakeFault>
         requires delay { delay < 2 ^ 62 }
         requires least { 128 ≤ length out.old }
+        requires most { length out.old ≤ 16383 }
         ensures step { MakeStep self.old first delay (length out.old) result (made_text result out.new) self.new }
         ensures order { NothingStarves self.old result self.new }
         ensures rest { KeepsRest result out.old out.new }
@@ -79,13 +80,14 @@ impl Endpoint {
             streams: true,
             first,
             alone: false,
+            most_bytes: NO_CAP,
         };
         let wish = Wish {
             want,
             delay,
             ack_due: self.ack_due,
         };
-        let len = self.core.fill(&self.done, &wish, out);
+        let len = self.core.fill(&self.done, &wish, out).len;
         if len == 0 {
             return Ok(None);
         }

@@ -142,7 +142,7 @@ impl Endpoint {
         let limit = self.first_send_limit(stream);
         let window = self.window(stream);
         let share = self.core.limits.tuning.credit_step;
-        let buffer = self.core.limits.settings.send_buffer;
+        let buffer = self.send_buffer();
         self.core.outbox.are_of_open();
         let before = self.core.outbox.count(stream);
         self.core.outbox.are_of_open();
@@ -241,7 +241,7 @@ fn open_sends(
     outbox: &mut Outbox,
     absent: bool,
     limit: u64,
-    buffer: usize,
+    buffer: u32,
     stream: StreamId,
 ) -> Result<(), NoMemory>
     requires { limit ≤ MAX_VARINT }

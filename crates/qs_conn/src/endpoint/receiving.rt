@@ -8,14 +8,14 @@ ghost use Rattle.qs_send.specs.Records.{NoneEmpty};
 ghost use Rattle.qs_machine.specs.Ends.{closes};
 ghost use Rattle.qs_machine.specs.Newly.{newly_acked};
 ghost use Rattle.qs_machine.specs.Seen.{seen};
-ghost use Rattle.qs_machine.specs.Receiving.{ReceiveStep, TakesPayload, AtEnd, closing_at, closing_of};
+ghost use Rattle.qs_machine.specs.Receiving.{ReceiveStep, TakesPayload, AtEnd, closing_at, closing_of, told_receive, told_of_us};
 ghost use Rattle.qs_conn.specs.Layers.{TakesFrame};
 ghost use Rattle.qs_conn.specs.NewlyTold.{told_of};
 
 use super::Endpoint;
 use crate::newly_told::{Silent, Told};
 use crate::seen::{SeenFrame, asks_ack, seen};
-use qs_calls::{Closed, Closing, Received};
+use qs_calls::{Closed, Closer, Closing, Received, ToldClose};
 use qs_wire::{Frames, Placed, WireFault};
 
 /// What one frame does to the processing of its payload. Where it goes on, the frame may ask for an ACK.
@@ -70,6 +70,7 @@ impl Endpoint {
         match self.closed {
             Some(Closed::ByUs(closing)) => return Err(closing),
             Some(Closed::ByPeer(code)) => return Ok(Received::PeerClosed(code)),
+            Some(Closed::Told(close)) => return told_receive(close),
             None => {}
         }
         if number < self.floor {
@@ -179,5 +180,26 @@ impl Endpoint {
         };
         self.closed = Some(Closed::ByUs(closing));
         closing
+    }
+}
+
+// What an end that was told of a close says again.
+fn told_receive(close: ToldClose) -> Result<Received, Closing>
+    ensures { result ≡ told_receive close.by close.code }
+{
+    match close.by {
+        Closer::Us => Err(told_of_us(close.code)),
+        Closer::Peer => Ok(Received::PeerClosed(close.code)),
+    }
+}
+
+// An end's own close that it was told of is no frame's fault.
+pub(super) fn told_of_us(code: u64) -> Closing
+    ensures { result ≡ told_of_us code }
+{
+    Closing {
+        code,
+        frame_type: 0,
+        place: 0,
     }
 }

@@ -14,7 +14,8 @@ ghost use Rattle.qs_conn.specs.Marks.{IsBefore, IsIdle};
 
 use super::Core;
 use crate::filling::{
-    LEAST_STREAM_FRAME, Packet, Wish, is_covered, put_ack_if, put_chunk, put_item,
+    Course, LEAST_STREAM_FRAME, Packet, Wish, cut_to, full_at, is_covered, put_ack_if, put_chunk,
+    put_item,
 };
 use crate::send_marks::Task;
 use crate::slot::{Kind, Slot};
@@ -25,9 +26,9 @@ use qs_wire::{Dir, StreamId};
 const OWN_ITEMS: usize = 6;
 
 impl Core {
-    /// Fills a packet from its first byte on with what is asked for, and answers how many bytes it has: the ACK, control items, and the
+    /// Fills a packet from its first byte on with what is asked for, and answers how far it is: the ACK, control items, and the
     /// bytes of streams (RFC 9000, sections 4, 13.2 and 13.3).
-    pub(crate) fn fill(&mut self, done: &RangeSet, wish: &Wish, out: &mut [u8]) -> usize
+    pub(crate) fn fill(&mut self, done: &RangeSet, wish: &Wish, out: &mut [u8]) -> Course
         requires filling { IsFilling self.old out.old 0 }
         requires memory { HasMemory self.old (length out.old) 0 6 }
         requires delay { wish.now.delay < 2 ^ 62 }
@@ -36,8 +37,8 @@ impl Core {
         requires space { wish.now.ack_due ≡ true → 26 ≤ length out.old }
         requires together { wish.now.ack_due ≡ true → wish.now.want.items ≡ true }
         ensures packed { (old : End) (left : Bool) → end_of self.old old ≡ old → old.done ≡ done.now → IsAckLeft wish.now.ack_due old.ack_due left → ((x : Piece) → InPacket old x → ⊥)
-            → Packed wish.now.want.first wish.now (length out.old) old (take result out.new) (end_of self.new (record old { ack_due = left })) }
-        ensures filled { FillsOn self.old out.old 0 self.new out.new result 6 }
+            → Packed wish.now.want.first wish.now (length out.old) old (take result.len out.new) (end_of self.new (record old { ack_due = left })) result.quota }
+        ensures filled { FillsOn self.old out.old 0 self.new out.new result.len 6 }
     {
         let len = put_ack_if(done, wish, out);
         let start = Packet {
@@ -45,8 +46,7 @@ impl Core {
             is_full: false,
         };
         let packet = self.put_items(wish, out, start);
-        let packet = self.put_streams(wish, out, packet);
-        packet.len
+        self.put_streams(wish, out, packet)
     }
 
     /// How many pieces a packet of that many bytes holds at most: each takes two or more, and where nothing of a stream is due there are
@@ -179,14 +179,19 @@ impl Core {
     // Puts the bytes of the streams into the packet that are asked for: of one alone, or of those from it on before the others and lower
     // numbers first, as far as the limits and the room allow.
     #[tactic(auto, using(crate::proofs::Cores::fills_same))]
-    fn put_streams(&mut self, wish: &Wish, out: &mut [u8], packet: Packet) -> Packet
+    fn put_streams(&mut self, wish: &Wish, out: &mut [u8], packet: Packet) -> Course
         requires filling { IsFilling self.old out.old packet.len }
         requires memory { HasMemory self.old (length out.old) packet.len 0 }
         ensures packed { (room : ℕ) (old e : End) → room ≡ length out.old
-            → Flow wish.now room old (take packet.len out.old) (end_of self.old e) packet.is_full (turn_at false wish.now.want.first wish.now.want.first)
-            → Packed wish.now.want.first wish.now room old (take result.len out.new) (end_of self.new e) }
+            → Flow wish.now room old (take packet.len out.old) (end_of self.old e) wish.now.want.most_bytes packet.is_full (turn_at false wish.now.want.first wish.now.want.first)
+            → Packed wish.now.want.first wish.now room old (take result.len out.new) (end_of self.new e) result.quota }
         ensures filled { FillsOn self.old out.old packet.len self.new out.new result.len 0 }
     {
+        let packet = Course {
+            len: packet.len,
+            quota: wish.want.most_bytes,
+            is_full: packet.is_full,
+        };
         if !wish.want.streams {
             return packet;
         }
@@ -202,12 +207,12 @@ impl Core {
 
     // Puts the bytes of the streams of a way into the packet, lower numbers first, as far as the limits and the room allow.
     #[tactic(auto, using(crate::proofs::Cores::fills_same))]
-    fn put_way(&mut self, first: StreamId, around: bool, out: &mut [u8], packet: Packet) -> Packet
+    fn put_way(&mut self, first: StreamId, around: bool, out: &mut [u8], packet: Course) -> Course
         requires filling { IsFilling self.old out.old packet.len }
         requires memory { HasMemory self.old (length out.old) packet.len 0 }
         ensures flow { (wish : Wish) (room : ℕ) (old e : End) → ((n : ℕ) → IsAsked wish.want n) → room ≡ length out.old
-            → Flow wish room old (take packet.len out.old) (end_of self.old e) packet.is_full (turn_at around first (start_of around first))
-            → Flow wish room old (take result.len out.new) (end_of self.new e) result.is_full (way_end around first) }
+            → Flow wish room old (take packet.len out.old) (end_of self.old e) packet.quota packet.is_full (turn_at around first (start_of around first))
+            → Flow wish room old (take result.len out.new) (end_of self.new e) result.quota result.is_full (way_end around first) }
         ensures filled { FillsOn self.old out.old packet.len self.new out.new result.len 0 }
     {
         if packet.is_full {
@@ -245,12 +250,12 @@ impl Core {
 
     // Puts chunks of a stream into the packet, if it is one that can send.
     #[tactic(auto, using(crate::proofs::Cores::fills_same))]
-    fn put_open(&mut self, stream: StreamId, out: &mut [u8], packet: Packet) -> Packet
+    fn put_open(&mut self, stream: StreamId, out: &mut [u8], packet: Course) -> Course
         requires filling { IsFilling self.old out.old packet.len }
         requires memory { HasMemory self.old (length out.old) packet.len 0 }
         ensures flow { (around : Bool) (first : ℕ) (wish : Wish) (room : ℕ) (old e : End) → IsAsked wish.want stream → room ≡ length out.old → IsOnWay around first stream
-            → Flow wish room old (take packet.len out.old) (end_of self.old e) packet.is_full (turn_at around first stream)
-            → Flow wish room old (take result.len out.new) (end_of self.new e) result.is_full (turn_at around first (stream + 1)) }
+            → Flow wish room old (take packet.len out.old) (end_of self.old e) packet.quota packet.is_full (turn_at around first stream)
+            → Flow wish room old (take result.len out.new) (end_of self.new e) result.quota result.is_full (turn_at around first (stream + 1)) }
         ensures filled { FillsOn self.old out.old packet.len self.new out.new result.len 0 }
     {
         if self.outbox.is_open(stream) {
@@ -259,32 +264,47 @@ impl Core {
         packet
     }
 
-    // Puts chunks of a stream into the packet, one for each run of due offsets, as far as the limits and the room allow.
+    // Puts chunks of a stream into the packet, one for each run of due offsets, as far as the limits, the room and the cap allow.
     #[tactic(auto, using(crate::proofs::Cores::fills_same))]
-    fn put_chunks(&mut self, stream: StreamId, out: &mut [u8], packet: Packet) -> Packet
+    fn put_chunks(&mut self, stream: StreamId, out: &mut [u8], packet: Course) -> Course
         requires filling { IsFilling self.old out.old packet.len }
         requires memory { HasMemory self.old (length out.old) packet.len 0 }
         requires open { is_some (lookup self.old.outbox.sends stream) ≡ true }
         ensures flow { (around : Bool) (first : ℕ) (wish : Wish) (room : ℕ) (old e : End) → IsAsked wish.want stream → room ≡ length out.old → IsOnWay around first stream
-            → Flow wish room old (take packet.len out.old) (end_of self.old e) packet.is_full (turn_at around first stream)
-            → Flow wish room old (take result.len out.new) (end_of self.new e) result.is_full (turn_at around first (stream + 1)) }
+            → Flow wish room old (take packet.len out.old) (end_of self.old e) packet.quota packet.is_full (turn_at around first stream)
+            → Flow wish room old (take result.len out.new) (end_of self.new e) result.quota result.is_full (turn_at around first (stream + 1)) }
         ensures filled { FillsOn self.old out.old packet.len self.new out.new result.len 0 }
     {
         if packet.is_full {
             return packet;
         }
         let mut len = packet.len;
+        let mut quota = packet.quota;
         let mut fresh = self.limits.known_data - self.outbox.sent_sum();
         while let Some(chunk) = self.outbox.next_chunk(stream, out.len() - len, fresh) {
+            if chunk.len > quota {
+                if quota == 0 {
+                    return full_at(len, 0);
+                }
+                let part = cut_to(chunk, quota);
+                let end = put_chunk(&mut self.outbox, stream, part, out, len);
+                self.untold_sends.look_blocked(&self.outbox, stream);
+                return full_at(end, 0);
+            }
             len = put_chunk(&mut self.outbox, stream, chunk, out, len);
+            quota -= chunk.len;
             self.untold_sends.look_blocked(&self.outbox, stream);
             if out.len() - len < LEAST_STREAM_FRAME {
-                return Packet { len, is_full: true };
+                return full_at(len, quota);
             }
             fresh = self.limits.known_data - self.outbox.sent_sum();
         }
         let is_full = self.outbox.is_held_by_room(stream, out.len() - len, fresh);
-        Packet { len, is_full }
+        Course {
+            len,
+            quota,
+            is_full,
+        }
     }
 }
 

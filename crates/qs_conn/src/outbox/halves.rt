@@ -5,12 +5,13 @@ ghost use Rattle.qs_machine.specs.Tables.{lookup};
 ghost use Rattle.qs_machine.specs.Sums.{tables_of};
 ghost use Rattle.qs_machine.specs.News.{IsLeast, IsHeld};
 ghost use Rattle.qs_conn.specs.Marks.{IsBefore, HaveTo, IsHeldOf};
-ghost use Rattle.qs_conn.specs.Tasks.{IsQuiet, HasTask};
+ghost use Rattle.qs_conn.specs.Tasks.{IsQuiet, HasTask, IsSought, IsSoughtOf};
 
 use crate::marks::least;
 use crate::places::{index_from, index_of, type_of};
 use crate::send_lanes::SendLanes;
-use crate::send_marks::Task;
+use crate::send_marks::{Search, Task};
+use crate::told_streams::ToldStreams;
 use qs_send::SendHalf;
 use qs_wire::StreamId;
 
@@ -112,6 +113,53 @@ pub(super) fn next_with_of(
 {
     let lanes = &types[stream_type];
     match lanes.next_with(task, index_from(stream_type, from)) {
+        Some(index) => Some((index * 4 + stream_type) as u64),
+        None => None,
+    }
+}
+
+/// The least number from one on of a stream whose half is sought.
+pub(super) fn next_sought(
+    types: &[SendLanes; 4],
+    search: Search,
+    told: &ToldStreams,
+    from: u64,
+) -> Option<StreamId>
+    requires len { length types.now ≡ 4 }
+    requires from { from ≤ 2 ^ 62 }
+    ensures { IsLeast (IsSought search (tables_of types.now) told.now) from result }
+{
+    let bidi = least(
+        next_sought_of(types, search, told, 0, from),
+        next_sought_of(types, search, told, 1, from),
+    );
+    let uni = least(
+        next_sought_of(types, search, told, 2, from),
+        next_sought_of(types, search, told, 3, from),
+    );
+    match least(bidi, uni) {
+        Some(number) => StreamId::new(number),
+        None => None,
+    }
+}
+
+// The least such number among the streams of a type.
+fn next_sought_of(
+    types: &[SendLanes; 4],
+    search: Search,
+    told: &ToldStreams,
+    stream_type: usize,
+    from: u64,
+) -> Option<u64>
+    requires len { length types.now ≡ 4 }
+    requires stream_type { stream_type < 4 }
+    requires from { from ≤ 2 ^ 62 }
+    ensures least { IsLeast (IsSoughtOf search (tables_of types.now) told.now stream_type) from result }
+    ensures small { IfSome result (λ n. n < 2 ^ 62) }
+{
+    let lanes = &types[stream_type];
+    let marks = told.of_type(stream_type);
+    match lanes.next_sought(search, marks, index_from(stream_type, from)) {
         Some(index) => Some((index * 4 + stream_type) as u64),
         None => None,
     }

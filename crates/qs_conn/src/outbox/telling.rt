@@ -1,23 +1,27 @@
 //! What an end has to tell of its sending side.
-ghost use Rattle.std.specs.Prelude.{nat_lt, ◌-◌, ◌≡◌, ◌≤◌, ◌<◌, ◌^◌, ◌↔◌, ◌||◌, IsTrue, ℕ, length, IfSome, IfNone, false};
+ghost use Rattle.std.specs.Prelude.{nat_lt, ◌-◌, ◌≡◌, ◌≤◌, ◌<◌, ◌^◌, ◌↔◌, ◌||◌, IsTrue, ℕ, length, IfSome, IfNone, true, false};
 ghost use Rattle.qs_ranges.specs.Numbers.{MAX_VARINT};
 ghost use Rattle.qs_send.specs.declared.piece.Piece.TheVariants as pieces;
 ghost use Rattle.qs_machine.specs.Tables.{lookup};
 ghost use Rattle.qs_machine.specs.Sums.{or_none};
 ghost use Rattle.qs_machine.specs.Ends.{End};
 ghost use Rattle.qs_machine.specs.News.{IsLeast, IsHeld};
+ghost use Rattle.qs_machine.specs.Heard.{is_told};
 ghost use Rattle.qs_machine.specs.Changes.{half_changes};
 ghost use Rattle.qs_send.specs.Changes.{stop_changes};
 ghost use Rattle.qs_machine.specs.Asking.{waits_for_credit, unsent_of, acked_below_of};
 ghost use Rattle.qs_conn.specs.Marks.{IsBefore, IsHeldOf, AreEndsMarked};
-ghost use Rattle.qs_conn.specs.Sending.{IsDueOf, MayWrite, HasSent, buffer_room, limit_left};
+ghost use Rattle.qs_conn.specs.Sending.{IsDueOf, MayWrite, HasSent, WasStopped, buffer_room, limit_left};
 ghost use Rattle.qs_conn.specs.Tasks.{IsQuietAt};
 ghost use Rattle.qs_machine.specs.Outgoing.{IsCarried, IsAckedOut, IsAckedReset, IsBlockedAt, WantsMore, reset_by, with_outgoing};
 
 use super::Outbox;
-use super::halves::{half_of, is_open, least_marked, may_have, next_with, next_with_of};
+use super::halves::{
+    half_of, is_open, least_marked, may_have, next_sought, next_with, next_with_of,
+};
 use crate::marks::Marks;
-use crate::send_marks::Task;
+use crate::send_marks::{Search, Task};
+use crate::told_streams::ToldStreams;
 use qs_send::{Item, MAX_VARINT, Reset, SendState};
 use qs_wire::StreamId;
 
@@ -40,7 +44,8 @@ impl Outbox {
         self.told.is_acked(item)
     }
 
-    fn is_reset_acked(&self, stream: StreamId) -> bool
+    /// Whether the reset of a stream was acknowledged.
+    pub(crate) fn is_reset_acked(&self, stream: StreamId) -> bool
         ensures { IsTrue result ↔ IsAckedReset (lookup self.now.sends stream) }
     {
         if !is_open(&self.types, stream) {
@@ -211,6 +216,43 @@ impl Outbox {
     {
         let _next = self.next;
         next_with(&self.types, Task::Writable, from)
+    }
+
+    /// The least number from one on of a stream that may be written to, of those in `short`.
+    pub(crate) fn next_short(&self, short: &ToldStreams, from: u64) -> Option<StreamId>
+        requires { from ≤ 2 ^ 62 }
+        ensures { IsLeast (λ n. IsHeld MayWrite self.now.sends n × (is_told short.now n ≡ true)) from result }
+    {
+        let _next = self.next;
+        let search = Search {
+            task: Task::Writable,
+            is_told: true,
+        };
+        next_sought(&self.types, search, short, from)
+    }
+
+    /// The least number of a stream whose sending half came to its end and wasn't told.
+    pub(crate) fn next_ended_untold(&self, told: &ToldStreams) -> Option<StreamId>
+        ensures { IsLeast (λ n. IsHeld HasSent self.now.sends n × (is_told told.now n ≡ false)) 0 result }
+    {
+        let _next = self.next;
+        let search = Search {
+            task: Task::Ended,
+            is_told: false,
+        };
+        next_sought(&self.types, search, told, 0)
+    }
+
+    /// The least number of a stream of which a STOP_SENDING came that wasn't told.
+    pub(crate) fn next_stopped_untold(&self, told: &ToldStreams) -> Option<StreamId>
+        ensures { IsLeast (λ n. IsHeld WasStopped self.now.sends n × (is_told told.now n ≡ false)) 0 result }
+    {
+        let _next = self.next;
+        let search = Search {
+            task: Task::Stopped,
+            is_told: false,
+        };
+        next_sought(&self.types, search, told, 0)
     }
 
     /// The marks of the streams of a type, by index, whose sending half may have come to its end. One without a mark hasn't.

@@ -1,5 +1,6 @@
-use Rattle.std.proofs.Common.{◌≡◌, ℕ, ◌∙◌, arith, refl, sym, subst, length, drop, ap}
+use Rattle.std.proofs.Common.{◌≡◌, ℕ, true, ◌↔◌, ◌∙◌, arith, refl, sym, subst, length, drop, ap}
 use Rattle.qs_calls.specs.declared.token.Token.{Token}
+use Rattle.qs_machine.specs.Filling.{WantedGoes}
 use Rattle.qs_machine.specs.Outgoing.{Outgoing}
 use Rattle.qs_conn.proofs.Cores.{core_outbox, kept_streams}
 use Rattle.qs_conn.proofs.MadePackets.{fill_exhausted, fill_none, fill_idle, fill_next, fill_some, fill_order}
@@ -10,57 +11,57 @@ use Rattle.qs_conn.proofs.endpoint.Endpoint.fill.Goals as goal
 pub returns-then-number-gt-MAX_VARINT-clause-step : goal.returns-then-number-gt-MAX_VARINT-clause-step
 returns-then-number-gt-MAX_VARINT-clause-step c = fill_exhausted _ c.args.self.now c.args.want.now (length c.args.out.now) c.self.view_is (sym c.is_some.ensures ∙ c.if-is_some.false) (omega (arith, c.if-number-gt-MAX_VARINT.true, c.next-number.ensures))
 
-pub fill-len-requires-clause-filling : goal.fill-len-requires-clause-filling
-fill-len-requires-clause-filling c =
+pub fill-packet-requires-clause-filling : goal.fill-packet-requires-clause-filling
+fill-packet-requires-clause-filling c =
     let core = c.self.inside.core in
     record { core = core_outbox core c.self.invariant.rest.core core.outbox.next _ c.begin.new.self c.in_default.ensures.ok; within = omega arith }
 
-pub fill-len-requires-clause-memory : goal.fill-len-requires-clause-memory
-fill-len-requires-clause-memory c = memory_begun c.self.inside.core _ _ c.begin.new.self c.in_default.ensures.ok c.most_pieces-most.ensures
+pub fill-packet-requires-clause-memory : goal.fill-packet-requires-clause-memory
+fill-packet-requires-clause-memory c = memory_begun c.self.inside.core _ _ c.begin.new.self c.in_default.ensures.ok c.most_pieces-most.ensures
 
 pub invariant_of-self-then-len-eq0 : goal.invariant_of-self-then-len-eq0
 invariant_of-self-then-len-eq0 c =
-    let filled = c.fill-len.ensures.filled in
-    let idle = fill_idle _ c.args.self.now c.self.view_is (record c.self.inside.core { outbox = c.begin.new.self }) c.fill-len.new.self c.args.want.now (length c.args.out.now) c.fill-len.result c.fill-len.new.out c.self.invariant.rest.idle (rw c.in_default.ensures.ok refl) c.fill-len.ensures.packed c.if-len-eq0.true in
-    kept_streams c.self.inside.core _ _ _ _ _ c.self.invariant c.fill-len.new.self (record { core = filled.filling.core; idle = idle }) (record { limits = filled.streams.limits; recvs = filled.streams.recvs }) filled.ended
+    let filled = c.fill-packet.ensures.filled in
+    let idle = fill_idle _ c.args.self.now c.self.view_is (record c.self.inside.core { outbox = c.begin.new.self }) c.fill-packet.new.self c.args.want.now (length c.args.out.now) c.fill-packet.result.len c.fill-packet.result.quota c.fill-packet.new.out c.self.invariant.rest.idle (rw c.in_default.ensures.ok refl) c.fill-packet.ensures.packed c.if-len-eq0.true in
+    kept_streams c.self.inside.core _ _ _ _ _ c.self.invariant c.fill-packet.new.self (record { core = filled.filling.core; idle = idle }) (record { limits = filled.streams.limits; recvs = filled.streams.recvs }) filled.ended
 
 pub returns-then-len-eq0-clause-step : goal.returns-then-len-eq0-clause-step
 returns-then-len-eq0-clause-step c =
-    fill_none _ c.args.self.now c.self.view_is (record c.self.inside.core { outbox = c.begin.new.self }) c.fill-len.new.self c.args.want.now (length c.args.out.now) c.fill-len.result c.fill-len.new.out c.self.invariant.rest.idle (rw c.in_default.ensures.ok refl) c.fill-len.ensures.packed
+    fill_none _ c.args.self.now c.self.view_is (record c.self.inside.core { outbox = c.begin.new.self }) c.fill-packet.new.self c.args.want.now (length c.args.out.now) c.fill-packet.result.len c.fill-packet.result.quota c.fill-packet.new.out c.self.invariant.rest.idle (rw c.in_default.ensures.ok refl) c.fill-packet.ensures.packed
     (sym c.is_some.ensures ∙ c.if-is_some.false) (omega (arith, c.if-number-gt-MAX_VARINT.false, c.next-number.ensures)) c.if-len-eq0.true
 
 pub commit-requires : goal.commit-requires
 commit-requires c =
-    let next = fill_next _ c.args.self.now c.self.view_is (record c.self.inside.core { outbox = c.begin.new.self }) c.fill-len.new.self c.args.want.now (length c.args.out.now) c.fill-len.result c.fill-len.new.out c.self.invariant.rest.idle (rw c.in_default.ensures.ok refl) c.fill-len.ensures.packed in
+    let next = fill_next _ c.args.self.now c.self.view_is (record c.self.inside.core { outbox = c.begin.new.self }) c.fill-packet.new.self c.args.want.now (length c.args.out.now) c.fill-packet.result.len c.fill-packet.result.quota c.fill-packet.new.out c.self.invariant.rest.idle (rw c.in_default.ensures.ok refl) c.fill-packet.ensures.packed in
     omega (arith, next, c.if-number-gt-MAX_VARINT.false, c.next-number.ensures)
 
 pub invariant_of-self-2 : goal.invariant_of-self-2
 invariant_of-self-2 c =
-    let filled = c.fill-len.ensures.filled in
-    let core = core_outbox c.fill-len.new.self filled.filling.core _ _ c.commit.new.self c.commit.ensures.after in
-    kept_streams c.self.inside.core _ _ _ _ _ c.self.invariant (record c.fill-len.new.self { outbox = c.commit.new.self }) (record { core = core; idle = c.commit.ensures.idle }) (record { limits = filled.streams.limits; recvs = filled.streams.recvs }) filled.ended
+    let filled = c.fill-packet.ensures.filled in
+    let core = core_outbox c.fill-packet.new.self filled.filling.core _ _ c.commit.new.self c.commit.ensures.after in
+    kept_streams c.self.inside.core _ _ _ _ _ c.self.invariant (record c.fill-packet.new.self { outbox = c.commit.new.self }) (record { core = core; idle = c.commit.ensures.idle }) (record { limits = filled.streams.limits; recvs = filled.streams.recvs }) filled.ended
 
 pub returns-clause-step : goal.returns-clause-step
 returns-clause-step c =
-    fill_some _ c.args.self.now c.self.view_is (record c.self.inside.core { outbox = c.begin.new.self }) c.fill-len.new.self c.args.want.now (length c.args.out.now) c.fill-len.result c.fill-len.new.out c.self.invariant.rest.idle (rw c.in_default.ensures.ok refl) c.fill-len.ensures.packed
+    fill_some _ c.args.self.now c.self.view_is (record c.self.inside.core { outbox = c.begin.new.self }) c.fill-packet.new.self c.args.want.now (length c.args.out.now) c.fill-packet.result.len c.fill-packet.result.quota c.fill-packet.new.out c.self.invariant.rest.idle (rw c.in_default.ensures.ok refl) c.fill-packet.ensures.packed
     c.settle.new.self c.commit.new.self c.next-number.result c.next-number.ensures c.commit.ensures.after c.settle.ensures
-    c.token_of-token.result c.last_stream-last_stream.result c.has_more-more.result c.token_of-token.ensures c.last_stream-last_stream.ensures c.has_more-more.ensures
+    c.token_of-token.result c.last_stream-last_stream.result c.has_more-more.result c.token_of-token.ensures c.last_stream-last_stream.ensures (subst (λ w. (c.has_more-more.result ≡ true) ↔ WantedGoes w c.settle.new.self) c.still_asked-rest.ensures c.has_more-more.ensures)
     (sym c.is_some.ensures ∙ c.if-is_some.false) (omega (arith, c.if-number-gt-MAX_VARINT.false, c.next-number.ensures))
-    (omega (arith, c.if-len-eq0.false)) (omega (arith, c.fill-len.ensures.filled.filling.within, c.fill-len.ensures.filled.room)) c.fill-len.ensures.filled.room
+    (omega (arith, c.if-len-eq0.false)) (omega (arith, c.fill-packet.ensures.filled.filling.within, c.fill-packet.ensures.filled.room)) c.fill-packet.ensures.filled.room
 
 pub returns-in-Err-clause-rest : goal.returns-in-Err-clause-rest
 returns-in-Err-clause-rest c = behind_none c.unfilled.result c.args.out.now (c.unfilled.ensures.text c.args.out.now)
 
 pub returns-then-len-eq0-clause-rest : goal.returns-then-len-eq0-clause-rest
-returns-then-len-eq0-clause-rest c = subst (λ (k : ℕ). drop k c.fill-len.new.out ≡ drop k c.args.out.now) c.if-len-eq0.true c.fill-len.ensures.filled.rest.1
+returns-then-len-eq0-clause-rest c = subst (λ (k : ℕ). drop k c.fill-packet.new.out ≡ drop k c.args.out.now) c.if-len-eq0.true c.fill-packet.ensures.filled.rest.1
 
 pub returns-clause-rest : goal.returns-clause-rest
-returns-clause-rest c = behind_kept (record { token = c.token_of-token.result; len = c.fill-len.result; last_stream = c.last_stream-last_stream.result; more = c.has_more-more.result }) c.args.out.now c.fill-len.new.out c.fill-len.ensures.filled.filling.within c.fill-len.ensures.filled.rest.1
+returns-clause-rest c = behind_kept (record { token = c.token_of-token.result; len = c.fill-packet.result.len; last_stream = c.last_stream-last_stream.result; more = c.has_more-more.result }) c.args.out.now c.fill-packet.new.out c.fill-packet.ensures.filled.filling.within c.fill-packet.ensures.filled.rest.1
 
 pub returns-in-Err-clause-order : goal.returns-in-Err-clause-order
 returns-in-Err-clause-order c = c.unfilled.ensures.order _ _
 
 pub returns-clause-order : goal.returns-clause-order
 returns-clause-order c =
-    fill_order _ c.args.self.now c.self.view_is (record c.self.inside.core { outbox = c.begin.new.self }) c.fill-len.new.self c.args.want.now (length c.args.out.now) c.fill-len.result c.fill-len.new.out c.self.invariant.rest.idle (rw c.in_default.ensures.ok refl) c.fill-len.ensures.packed
-    c.settle.new.self c.commit.new.self c.next-number.result c.next-number.ensures c.commit.ensures.after c.settle.ensures (record { token = c.token_of-token.result; len = c.fill-len.result; last_stream = c.last_stream-last_stream.result; more = c.has_more-more.result }) (ap (λ (t : Token). t.number) c.token_of-token.ensures)
+    fill_order _ c.args.self.now c.self.view_is (record c.self.inside.core { outbox = c.begin.new.self }) c.fill-packet.new.self c.args.want.now (length c.args.out.now) c.fill-packet.result.len c.fill-packet.result.quota c.fill-packet.new.out c.self.invariant.rest.idle (rw c.in_default.ensures.ok refl) c.fill-packet.ensures.packed
+    c.settle.new.self c.commit.new.self c.next-number.result c.next-number.ensures c.commit.ensures.after c.settle.ensures (record { token = c.token_of-token.result; len = c.fill-packet.result.len; last_stream = c.last_stream-last_stream.result; more = c.has_more-more.result }) (ap (λ (t : Token). t.number) c.token_of-token.ensures)

@@ -50,7 +50,7 @@ invariant_of-self-in_err-open_sends c =
     (kept_streams _ _ _ _ _ _ c.self.invariant _ (rest_placed core c.self.invariant.rest c.args.stream c.open_to.new.self c.open_to-2.new.self c.in_ok-open_to.ensures.ok c.in_ok-open_to-2.ensures.ok) (record { limits = refl; recvs = refl }) refl)
 
 pub returns-clause-ok : goal.returns-clause-ok
-returns-clause-ok c = rw (c.in_ok-open_sends.ensures.ok, c.in_default.ensures.ok, c.both.ensures, c.both-2.ensures, c.is_uni-uni.ensures, c.is_own-own.ensures, c.first_send_limit-limit.ensures.value, c.window-window.ensures.value, ← c.self.view_is) refl
+returns-clause-ok c = rw (c.in_ok-open_sends.ensures.ok, c.in_default.ensures.ok, c.both.ensures, c.both-2.ensures, c.is_uni-uni.ensures, c.is_own-own.ensures, c.first_send_limit-limit.ensures.value, c.window-window.ensures.value, c.send_buffer-buffer.ensures, ← c.self.view_is) refl
 
 pub invariant_of-self-in_err-open_to-2 : goal.invariant_of-self-in_err-open_to-2
 invariant_of-self-in_err-open_to-2 c =

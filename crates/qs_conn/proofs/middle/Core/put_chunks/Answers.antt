@@ -1,7 +1,8 @@
 use Rattle.std.proofs.Common.{◌≡◌, ◌+◌, ◌≤◌, ◌-◌, true, is_some, length, take, arith, refl, sym, ap, subst, ◌∙◌}
 use Rattle.qs_machine.specs.Tables.{lookup}
 use Rattle.qs_machine.specs.Outgoing.{sent_sum}
-use Rattle.qs_conn.specs.Filling.{end_by}
+use Rattle.qs_conn.specs.Filling.{end_by, Flow, turn_at}
+use Rattle.qs_conn.proofs.Capped.{cut_part, flow_capped, flow_cut}
 use Rattle.qs_conn.proofs.Cores.{core_chunk, fills_same, fills_on, fills_outbox}
 use Rattle.qs_conn.proofs.Flows.{Chunking, flow_begins, may_go, sum_within, sum_small, chunking_put, still_open, flow_few, flow_ends}
 use Rattle.qs_conn.proofs.Stills.{chunk_spare, chunk_memory}
@@ -10,7 +11,7 @@ use Rattle.qs_conn.proofs.middle.Core.put_chunks.Goals as goal
 pub loop-chunk-init : goal.loop-chunk-init
 loop-chunk-init c =
     record {
-      chunking = λ around first wish room old e asked at on f. flow_begins wish room old (take c.args.packet.len c.args.out.now) (end_by c.args.self.now.limits c.args.self.now.recvs c.args.self.now.outbox e) c.args.packet.is_full around first c.args.stream c.if-packet.false asked on f;
+      chunking = λ around first wish room old e asked at on f. flow_begins wish room old (take c.args.packet.len c.args.out.now) (end_by c.args.self.now.limits c.args.self.now.recvs c.args.self.now.outbox e) c.args.packet.quota c.args.packet.is_full around first c.args.stream c.if-packet.false asked on f;
       is_open = c.requires.open;
       fresh = ap (λ k. c.args.self.now.limits.known_data - k) c.sent_sum.ensures.value;
       filled = fills_same c.args.self.now c.args.out.now c.args.packet.len 0 c.requires.filling;
@@ -18,17 +19,17 @@ loop-chunk-init c =
 
 pub put_chunk-len-requires-clause-may : goal.put_chunk-len-requires-clause-may
 put_chunk-len-requires-clause-may c =
-    may_go c.loop-chunk.self.outbox c.args.stream c.in-Some.ensures.0 c.in-Some.chunk (length c.loop-chunk.out - c.loop-chunk.len) c.loop-chunk.fresh c.in-Some.ensures.1 c.in-Some.ensures.2.0 c.in-Some.ensures.2.1
+    may_go c.loop-chunk.self.outbox c.args.stream c.in-Some.ensures.0 c.in-Some.chunk (length c.loop-chunk.out - c.loop-chunk.len) c.loop-chunk.fresh c.in-Some.ensures.1 c.in-Some.ensures.2.0.allowed c.in-Some.ensures.2.1
 
 pub put_chunk-len-requires-clause-small : goal.put_chunk-len-requires-clause-small
 put_chunk-len-requires-clause-small c =
     let core = c.loop-chunk.invariant.filled.filling.core in
-    sum_small c.loop-chunk.self.outbox c.args.stream c.in-Some.ensures.0 c.in-Some.chunk (length c.loop-chunk.out - c.loop-chunk.len) c.loop-chunk.fresh c.loop-chunk.self.limits.known_data c.in-Some.ensures.1 c.in-Some.ensures.2.0 c.loop-chunk.invariant.fresh core.credit core.fits.known
+    sum_small c.loop-chunk.self.outbox c.args.stream c.in-Some.ensures.0 c.in-Some.chunk (length c.loop-chunk.out - c.loop-chunk.len) c.loop-chunk.fresh c.loop-chunk.self.limits.known_data c.in-Some.ensures.1 c.in-Some.ensures.2.0.allowed c.loop-chunk.invariant.fresh core.credit core.fits.known
 
 pub overflow_sub-fresh-in-Some : goal.overflow_sub-fresh-in-Some
 overflow_sub-fresh-in-Some c =
     let known = c.loop-chunk.self.limits.known_data in
-    let now = sum_within c.loop-chunk.self.outbox c.args.stream c.in-Some.ensures.0 c.in-Some.chunk (length c.loop-chunk.out - c.loop-chunk.len) c.loop-chunk.fresh known c.in-Some.ensures.1 c.in-Some.ensures.2.0 c.loop-chunk.invariant.fresh c.loop-chunk.invariant.filled.filling.core.credit in
+    let now = sum_within c.loop-chunk.self.outbox c.args.stream c.in-Some.ensures.0 c.in-Some.chunk (length c.loop-chunk.out - c.loop-chunk.len) c.loop-chunk.fresh known c.in-Some.ensures.1 c.in-Some.ensures.2.0.allowed c.loop-chunk.invariant.fresh c.loop-chunk.invariant.filled.filling.core.credit in
     let credit : sent_sum c.put_chunk-len.new.outbox.sends ≤ known = subst (λ o. sent_sum o.sends ≤ known) (sym c.put_chunk-len.ensures.outbox) now in
     omega (arith, c.sent_sum-in-Some.ensures.value, credit)
 
@@ -43,13 +44,13 @@ loop-chunk-preserved c =
     let known = self.limits.known_data in
     let left = length c.loop-chunk.out - c.loop-chunk.len in
     let put = c.put_chunk-len.ensures in
-    let credit = sum_within self.outbox n s c.in-Some.chunk left c.loop-chunk.fresh known h next c.loop-chunk.invariant.fresh filled.filling.core.credit in
+    let credit = sum_within self.outbox n s c.in-Some.chunk left c.loop-chunk.fresh known h next.allowed c.loop-chunk.invariant.fresh filled.filling.core.credit in
     record {
-      chunking = λ around first wish room old e asked at on f. subst (λ x. Chunking wish room old (take c.put_chunk-len.result c.put_chunk-len.new.out) (end_by self.limits self.recvs x e) around first n) (sym put.outbox)
-          (chunking_put around first self.limits self.recvs self.outbox e wish room old c.loop-chunk.out c.put_chunk-len.new.out c.loop-chunk.len c.put_chunk-len.result n c.in-Some.chunk left c.loop-chunk.fresh s h next c.in-Some.ensures.2.1 filled.filling.within (at ∙ sym filled.room) refl c.loop-chunk.invariant.fresh put.count put.text (c.loop-chunk.invariant.chunking around first wish room old e asked at on f));
+      chunking = λ around first wish room old e asked at on f. subst (λ x. Chunking wish room old (take c.put_chunk-len.result c.put_chunk-len.new.out) (end_by self.limits self.recvs x e) (c.loop-chunk.quota - c.in-Some.chunk.len) around first n) (sym put.outbox)
+          (chunking_put around first self.limits self.recvs self.outbox e c.loop-chunk.quota (c.loop-chunk.quota - c.in-Some.chunk.len) wish room old c.loop-chunk.out c.put_chunk-len.new.out c.loop-chunk.len c.put_chunk-len.result n c.in-Some.chunk left c.loop-chunk.fresh s h next c.in-Some.ensures.2.1 filled.filling.within (at ∙ sym filled.room) refl c.loop-chunk.invariant.fresh put.count (omega (arith, c.if-chunk-quota.false)) put.text (c.loop-chunk.invariant.chunking around first wish room old e asked at on f));
       is_open = subst (λ x. is_some (lookup x.sends n) ≡ true) (sym put.outbox) (still_open self.outbox n s c.in-Some.chunk h);
       fresh = ap (λ k. known - k) c.sent_sum-in-Some.ensures.value;
-      filled = fills_on _ _ _ _ _ _ _ _ _ _ _ filled (fills_outbox self c.put_chunk-len.new.outbox c.look_blocked.new.self _ _ _ _ _ (core_chunk self filled.filling.core n c.in-Some.chunk _ _ _ put.outbox put.count credit c.look_blocked.ensures.more c.look_blocked.ensures.marked) put.within (λ own. chunk_memory self c.args.stream c.in-Some.ensures.0 c.in-Some.chunk left c.loop-chunk.fresh c.in-Some.ensures.1 c.in-Some.ensures.2.0 c.loop-chunk.invariant.fresh c.put_chunk-len.new.outbox c.look_blocked.new.self _ _ _ _ own put.spare) put.rest put.room);
+      filled = fills_on _ _ _ _ _ _ _ _ _ _ _ filled (fills_outbox self c.put_chunk-len.new.outbox c.look_blocked-in-Some.new.self _ _ _ _ _ (core_chunk self filled.filling.core n c.in-Some.chunk _ _ _ put.outbox put.count credit c.look_blocked-in-Some.ensures.more c.look_blocked-in-Some.ensures.marked) put.within (λ own. chunk_memory self c.args.stream c.in-Some.ensures.0 c.in-Some.chunk left c.loop-chunk.fresh c.in-Some.ensures.1 c.in-Some.ensures.2.0.allowed c.loop-chunk.invariant.fresh c.put_chunk-len.new.outbox c.look_blocked-in-Some.new.self _ _ _ _ own put.spare) put.rest put.room);
     }
 
 pub returns-then-out-len-lt-LEAST_STREAM_FRAME-clause-flow : goal.returns-then-out-len-lt-LEAST_STREAM_FRAME-clause-flow
@@ -59,9 +60,9 @@ returns-then-out-len-lt-LEAST_STREAM_FRAME-clause-flow c = λ around first wish 
     let filled = c.loop-chunk.invariant.filled in
     let put = c.put_chunk-len.ensures in
     let left = length c.loop-chunk.out - c.loop-chunk.len in
-    let more = subst (λ x. Chunking wish room old (take c.put_chunk-len.result c.put_chunk-len.new.out) (end_by self.limits self.recvs x e) around first n) (sym put.outbox)
-    (chunking_put around first self.limits self.recvs self.outbox e wish room old c.loop-chunk.out c.put_chunk-len.new.out c.loop-chunk.len c.put_chunk-len.result n c.in-Some.chunk left c.loop-chunk.fresh c.in-Some.ensures.0 c.in-Some.ensures.1 c.in-Some.ensures.2.0 c.in-Some.ensures.2.1 filled.filling.within (at ∙ sym filled.room) refl c.loop-chunk.invariant.fresh put.count put.text (c.loop-chunk.invariant.chunking around first wish room old e asked at on f)) in
-    flow_few around first (n + 1) (end_by self.limits self.recvs c.put_chunk-len.new.outbox e) wish room old c.put_chunk-len.new.out c.put_chunk-len.result n put.within (at ∙ sym filled.room ∙ sym put.room) (omega (arith, c.if-out-len-lt-LEAST_STREAM_FRAME.true)) more
+    let more = subst (λ x. Chunking wish room old (take c.put_chunk-len.result c.put_chunk-len.new.out) (end_by self.limits self.recvs x e) (c.loop-chunk.quota - c.in-Some.chunk.len) around first n) (sym put.outbox)
+    (chunking_put around first self.limits self.recvs self.outbox e c.loop-chunk.quota (c.loop-chunk.quota - c.in-Some.chunk.len) wish room old c.loop-chunk.out c.put_chunk-len.new.out c.loop-chunk.len c.put_chunk-len.result n c.in-Some.chunk left c.loop-chunk.fresh c.in-Some.ensures.0 c.in-Some.ensures.1 c.in-Some.ensures.2.0 c.in-Some.ensures.2.1 filled.filling.within (at ∙ sym filled.room) refl c.loop-chunk.invariant.fresh put.count (omega (arith, c.if-chunk-quota.false)) put.text (c.loop-chunk.invariant.chunking around first wish room old e asked at on f)) in
+    rw c.full_at-then-out-len-lt-LEAST_STREAM_FRAME.ensures (flow_few around first (n + 1) (end_by self.limits self.recvs c.put_chunk-len.new.outbox e) (c.loop-chunk.quota - c.in-Some.chunk.len) wish room old c.put_chunk-len.new.out c.put_chunk-len.result n put.within (at ∙ sym filled.room ∙ sym put.room) (omega (arith, c.if-out-len-lt-LEAST_STREAM_FRAME.true)) more)
 
 pub returns-then-out-len-lt-LEAST_STREAM_FRAME-clause-filled : goal.returns-then-out-len-lt-LEAST_STREAM_FRAME-clause-filled
 returns-then-out-len-lt-LEAST_STREAM_FRAME-clause-filled c =
@@ -70,8 +71,8 @@ returns-then-out-len-lt-LEAST_STREAM_FRAME-clause-filled c =
     let filled = c.loop-chunk.invariant.filled in
     let put = c.put_chunk-len.ensures in
     let left = length c.loop-chunk.out - c.loop-chunk.len in
-    let credit = sum_within self.outbox n c.in-Some.ensures.0 c.in-Some.chunk left c.loop-chunk.fresh self.limits.known_data c.in-Some.ensures.1 c.in-Some.ensures.2.0 c.loop-chunk.invariant.fresh filled.filling.core.credit in
-    fills_on _ _ _ _ _ _ _ _ _ _ _ filled (fills_outbox self c.put_chunk-len.new.outbox c.look_blocked.new.self _ _ _ _ _ (core_chunk self filled.filling.core n c.in-Some.chunk _ _ _ put.outbox put.count credit c.look_blocked.ensures.more c.look_blocked.ensures.marked) put.within (λ own. chunk_memory self c.args.stream c.in-Some.ensures.0 c.in-Some.chunk left c.loop-chunk.fresh c.in-Some.ensures.1 c.in-Some.ensures.2.0 c.loop-chunk.invariant.fresh c.put_chunk-len.new.outbox c.look_blocked.new.self _ _ _ _ own put.spare) put.rest put.room)
+    let credit = sum_within self.outbox n c.in-Some.ensures.0 c.in-Some.chunk left c.loop-chunk.fresh self.limits.known_data c.in-Some.ensures.1 c.in-Some.ensures.2.0.allowed c.loop-chunk.invariant.fresh filled.filling.core.credit in
+    rw c.full_at-then-out-len-lt-LEAST_STREAM_FRAME.ensures (fills_on _ _ _ _ _ _ _ _ _ _ _ filled (fills_outbox self c.put_chunk-len.new.outbox c.look_blocked-in-Some.new.self _ _ _ _ _ (core_chunk self filled.filling.core n c.in-Some.chunk _ _ _ put.outbox put.count credit c.look_blocked-in-Some.ensures.more c.look_blocked-in-Some.ensures.marked) put.within (λ own. chunk_memory self c.args.stream c.in-Some.ensures.0 c.in-Some.chunk left c.loop-chunk.fresh c.in-Some.ensures.1 c.in-Some.ensures.2.0.allowed c.loop-chunk.invariant.fresh c.put_chunk-len.new.outbox c.look_blocked-in-Some.new.self _ _ _ _ own put.spare) put.rest put.room))
 
 pub returns-clause-flow : goal.returns-clause-flow
 returns-clause-flow c = λ around first wish room old e asked at on f.
@@ -80,10 +81,60 @@ returns-clause-flow c = λ around first wish room old e asked at on f.
     let left = length c.loop-chunk.out - c.loop-chunk.len in
     let none = c.in_default.ensures in
     let held = c.is_held_by_room-is_full.ensures in
-    flow_ends around first self.limits self.recvs self.outbox e wish room old c.loop-chunk.out c.loop-chunk.len c.args.stream left c.loop-chunk.fresh none.0 held.0 c.is_held_by_room-is_full.result
+    flow_ends around first self.limits self.recvs self.outbox e c.loop-chunk.quota wish room old c.loop-chunk.out c.loop-chunk.len c.args.stream left c.loop-chunk.fresh none.0 held.0 c.is_held_by_room-is_full.result
     none.1 none.2 held.1 held.2 filled.filling.within (at ∙ sym filled.room) refl c.loop-chunk.invariant.fresh (c.loop-chunk.invariant.chunking around first wish room old e asked at on f)
 
 pub put_chunk-len-requires-clause-spare : goal.put_chunk-len-requires-clause-spare
 put_chunk-len-requires-clause-spare c =
-    chunk_spare c.loop-chunk.self c.args.stream c.in-Some.ensures.0 c.in-Some.chunk (length c.loop-chunk.out - c.loop-chunk.len) c.loop-chunk.fresh c.in-Some.ensures.1 c.in-Some.ensures.2.0 c.loop-chunk.invariant.fresh _ _ 0
+    chunk_spare c.loop-chunk.self c.args.stream c.in-Some.ensures.0 c.in-Some.chunk (length c.loop-chunk.out - c.loop-chunk.len) c.loop-chunk.fresh c.in-Some.ensures.1 c.in-Some.ensures.2.0.allowed c.loop-chunk.invariant.fresh _ _ 0
     (c.loop-chunk.invariant.filled.memory 0 c.requires.memory)
+
+-- the cap is used up
+
+pub returns-then-quota-eq0-clause-flow : goal.returns-then-quota-eq0-clause-flow
+returns-then-quota-eq0-clause-flow c = λ around first wish room old e asked at on f.
+    let self = c.loop-chunk.self in
+    let filled = c.loop-chunk.invariant.filled in
+    rw c.full_at.ensures
+    (flow_capped around first (c.args.stream + 1) self.limits self.recvs self.outbox e c.loop-chunk.quota wish room old c.loop-chunk.out c.loop-chunk.len c.args.stream c.in-Some.chunk (length c.loop-chunk.out - c.loop-chunk.len) c.loop-chunk.fresh c.in-Some.ensures.0 c.in-Some.ensures.1 c.in-Some.ensures.2.0
+    c.loop-chunk.invariant.fresh c.if-chunk-quota.true c.if-quota-eq0.true filled.filling.within (at ∙ sym filled.room) (c.loop-chunk.invariant.chunking around first wish room old e asked at on f))
+
+-- the chunk is cut
+
+pub put_chunk-end-requires-clause-may : goal.put_chunk-end-requires-clause-may
+put_chunk-end-requires-clause-may c =
+    let part = cut_part c.in-Some.ensures.0 c.in-Some.chunk c.cut_to-part.result (length c.loop-chunk.out - c.loop-chunk.len) c.loop-chunk.fresh c.loop-chunk.quota c.in-Some.ensures.2 c.cut_to-part.ensures (omega (arith, c.if-quota-eq0.false)) c.if-chunk-quota.true in
+    may_go c.loop-chunk.self.outbox c.args.stream c.in-Some.ensures.0 c.cut_to-part.result (length c.loop-chunk.out - c.loop-chunk.len) c.loop-chunk.fresh c.in-Some.ensures.1 part.0 part.1
+
+pub put_chunk-end-requires-clause-small : goal.put_chunk-end-requires-clause-small
+put_chunk-end-requires-clause-small c =
+    let core = c.loop-chunk.invariant.filled.filling.core in
+    let part = cut_part c.in-Some.ensures.0 c.in-Some.chunk c.cut_to-part.result (length c.loop-chunk.out - c.loop-chunk.len) c.loop-chunk.fresh c.loop-chunk.quota c.in-Some.ensures.2 c.cut_to-part.ensures (omega (arith, c.if-quota-eq0.false)) c.if-chunk-quota.true in
+    sum_small c.loop-chunk.self.outbox c.args.stream c.in-Some.ensures.0 c.cut_to-part.result (length c.loop-chunk.out - c.loop-chunk.len) c.loop-chunk.fresh c.loop-chunk.self.limits.known_data c.in-Some.ensures.1 part.0 c.loop-chunk.invariant.fresh core.credit core.fits.known
+
+pub put_chunk-end-requires-clause-spare : goal.put_chunk-end-requires-clause-spare
+put_chunk-end-requires-clause-spare c =
+    chunk_spare c.loop-chunk.self c.args.stream c.in-Some.ensures.0 c.in-Some.chunk (length c.loop-chunk.out - c.loop-chunk.len) c.loop-chunk.fresh c.in-Some.ensures.1 c.in-Some.ensures.2.0.allowed c.loop-chunk.invariant.fresh _ _ 0
+    (c.loop-chunk.invariant.filled.memory 0 c.requires.memory)
+
+pub returns-then-chunk-quota-clause-flow : goal.returns-then-chunk-quota-clause-flow
+returns-then-chunk-quota-clause-flow c = λ around first wish room old e asked at on f.
+    let self = c.loop-chunk.self in
+    let n = c.args.stream in
+    let filled = c.loop-chunk.invariant.filled in
+    let put = c.put_chunk-end.ensures in
+    let left = length c.loop-chunk.out - c.loop-chunk.len in
+    let flow = flow_cut around first (n + 1) self.limits self.recvs self.outbox e c.loop-chunk.quota wish room old c.loop-chunk.out c.put_chunk-end.new.out c.loop-chunk.len c.put_chunk-end.result n c.in-Some.chunk c.cut_to-part.result left c.loop-chunk.fresh c.in-Some.ensures.0 c.in-Some.ensures.1 c.in-Some.ensures.2.0 c.in-Some.ensures.2.1
+    c.cut_to-part.ensures (omega (arith, c.if-quota-eq0.false)) c.if-chunk-quota.true filled.filling.within (at ∙ sym filled.room) refl c.loop-chunk.invariant.fresh put.count put.text (c.loop-chunk.invariant.chunking around first wish room old e asked at on f) in
+    rw c.full_at-then-chunk-quota.ensures (subst (λ x. Flow wish room old (take c.put_chunk-end.result c.put_chunk-end.new.out) (end_by self.limits self.recvs x e) 0 true (turn_at around first (n + 1))) (sym put.outbox) flow)
+
+pub returns-then-chunk-quota-clause-filled : goal.returns-then-chunk-quota-clause-filled
+returns-then-chunk-quota-clause-filled c =
+    let self = c.loop-chunk.self in
+    let n = c.args.stream in
+    let filled = c.loop-chunk.invariant.filled in
+    let put = c.put_chunk-end.ensures in
+    let left = length c.loop-chunk.out - c.loop-chunk.len in
+    let part = cut_part c.in-Some.ensures.0 c.in-Some.chunk c.cut_to-part.result left c.loop-chunk.fresh c.loop-chunk.quota c.in-Some.ensures.2 c.cut_to-part.ensures (omega (arith, c.if-quota-eq0.false)) c.if-chunk-quota.true in
+    let credit = sum_within self.outbox n c.in-Some.ensures.0 c.cut_to-part.result left c.loop-chunk.fresh self.limits.known_data c.in-Some.ensures.1 part.0 c.loop-chunk.invariant.fresh filled.filling.core.credit in
+    rw c.full_at-then-chunk-quota.ensures (fills_on _ _ _ _ _ _ _ _ _ _ _ filled (fills_outbox self c.put_chunk-end.new.outbox c.look_blocked.new.self _ _ _ _ _ (core_chunk self filled.filling.core n c.cut_to-part.result _ _ _ put.outbox put.count credit c.look_blocked.ensures.more c.look_blocked.ensures.marked) put.within (λ own. chunk_memory self c.args.stream c.in-Some.ensures.0 c.in-Some.chunk left c.loop-chunk.fresh c.in-Some.ensures.1 c.in-Some.ensures.2.0.allowed c.loop-chunk.invariant.fresh c.put_chunk-end.new.outbox c.look_blocked.new.self _ _ _ _ own put.spare) put.rest put.room))

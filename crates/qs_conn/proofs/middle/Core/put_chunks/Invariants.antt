@@ -13,8 +13,8 @@ abbrev pub invariant-loop-chunk : goal.invariant-loop-chunk
 invariant-loop-chunk l =
     record {
       chunking : (around : Bool) (first : ℕ) (wish : Wish) (room : ℕ) (old e : End) → IsAsked wish.want l.fn.stream → room ≡ length l.fn.out → IsOnWay around first l.fn.stream
-          → Flow wish room old (take l.fn.packet.len l.fn.out) (end_of l.fn.self e) l.fn.packet.is_full (turn_at around first l.fn.stream)
-          → Chunking wish room old (take l.len l.out) (end_of l.self e) around first l.fn.stream;
+          → Flow wish room old (take l.fn.packet.len l.fn.out) (end_of l.fn.self e) l.fn.packet.quota l.fn.packet.is_full (turn_at around first l.fn.stream)
+          → Chunking wish room old (take l.len l.out) (end_of l.self e) l.quota around first l.fn.stream;
       is_open : is_some (lookup l.self.outbox.sends l.fn.stream) ≡ true;
       fresh : l.fresh ≡ l.self.limits.known_data - sent_sum l.self.outbox.sends;
       filled : FillsOn l.fn.self l.fn.out l.fn.packet.len l.self l.out l.len 0;

@@ -8,13 +8,13 @@ use Rattle.qs_conn.proofs.middle.Core.put_streams.Goals as goal
 pub returns-then-not-wish-clause-packed : goal.returns-then-not-wish-clause-packed
 returns-then-not-wish-clause-packed c = λ room old e at start.
     let first = c.args.wish.now.want.first in
-    flow_packed first c.args.wish.now room old _ _ c.args.packet.is_full false first (had_none c.args.wish.now.want first first c.if-not-wish.true) start
+    flow_packed first c.args.wish.now room old _ _ c.args.wish.now.want.most_bytes c.args.packet.is_full false first (had_none c.args.wish.now.want first first c.if-not-wish.true) start
 
 pub returns-then-wish-clause-packed : goal.returns-then-wish-clause-packed
 returns-then-wish-clause-packed c = λ room old e at start.
     let first = c.args.wish.now.want.first in
     let asked : IsAsked c.args.wish.now.want first = (c.if-not-wish.false, inr refl) in
-    flow_packed first c.args.wish.now room old _ _ c.put_open.result.is_full false (first + 1) (had_one c.args.wish.now.want c.if-wish.true)
+    flow_packed first c.args.wish.now room old _ _ c.put_open.result.quota c.put_open.result.is_full false (first + 1) (had_one c.args.wish.now.want c.if-wish.true)
     (c.put_open.ensures.flow false first c.args.wish.now room old e asked at (omega arith) start)
 
 pub returns-then-packet-clause-packed : goal.returns-then-packet-clause-packed
@@ -24,8 +24,9 @@ returns-then-packet-clause-packed c = λ room old e at start.
     let text = take c.put_way-packet.result.len c.put_way-packet.new.out in
     let there = end_of c.put_way-packet.new.self e in
     let full = c.put_way-packet.result.is_full in
+    let quota = c.put_way-packet.result.quota in
     let all = all_asked wish.want c.if-not-wish.false c.if-wish.false in
-    flow_packed first wish room old text there full true first (λ n asked. had_all first n) (flow_whole wish room old text there full true first 0 c.if-packet.true (c.put_way-packet.ensures.flow wish room old e all at start))
+    flow_packed first wish room old text there quota full true first (λ n asked. had_all first n) (flow_whole wish room old text there quota full true first 0 c.if-packet.true (c.put_way-packet.ensures.flow wish room old e all at start))
 
 pub returns-clause-packed : goal.returns-clause-packed
 returns-clause-packed c = λ room old e at start.
@@ -34,7 +35,7 @@ returns-clause-packed c = λ room old e at start.
     let all = all_asked wish.want c.if-not-wish.false c.if-wish.false in
     let one = c.put_way-packet.ensures.flow wish room old e all at start in
     let two = c.put_way.ensures.flow wish room old e all (at ∙ sym c.put_way-packet.ensures.filled.room) one in
-    flow_packed first wish room old (take c.put_way.result.len c.put_way.new.out) (end_of c.put_way.new.self e) c.put_way.result.is_full true first (λ n asked. had_all first n) two
+    flow_packed first wish room old (take c.put_way.result.len c.put_way.new.out) (end_of c.put_way.new.self e) c.put_way.result.quota c.put_way.result.is_full true first (λ n asked. had_all first n) two
 
 pub returns-clause-filled : goal.returns-clause-filled
 returns-clause-filled c = fills_on _ _ _ _ _ _ _ _ _ _ _ c.put_way-packet.ensures.filled c.put_way.ensures.filled

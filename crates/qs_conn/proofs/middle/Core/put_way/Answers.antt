@@ -8,7 +8,7 @@ use Rattle.qs_conn.proofs.middle.Core.put_way.Goals as goal
 
 pub returns-then-packet-clause-flow : goal.returns-then-packet-clause-flow
 returns-then-packet-clause-flow c = λ wish room old e all at start.
-    flow_whole wish room old (take c.args.packet.len c.args.out.now) (end_of c.args.self.now e) c.args.packet.is_full c.args.around c.args.first (start_of c.args.around c.args.first) c.if-packet.true start
+    flow_whole wish room old (take c.args.packet.len c.args.out.now) (end_of c.args.self.now e) c.args.packet.quota c.args.packet.is_full c.args.around c.args.first (start_of c.args.around c.args.first) c.if-packet.true start
 
 pub loop-stream-init : goal.loop-stream-init
 loop-stream-init c =
@@ -16,7 +16,7 @@ loop-stream-init c =
     record {
       small = c.way_start-from.ensures.small;
       begun = omega (arith, start);
-      flow = λ wish room old e all at f. subst (λ n. Flow wish room old (take c.args.packet.len c.args.out.now) (end_of c.args.self.now e) c.args.packet.is_full (turn_at c.args.around c.args.first n)) (sym start) f;
+      flow = λ wish room old e all at f. subst (λ n. Flow wish room old (take c.args.packet.len c.args.out.now) (end_of c.args.self.now e) c.args.packet.quota c.args.packet.is_full (turn_at c.args.around c.args.first n)) (sym start) f;
       filled = fills_same c.args.self.now c.args.out.now c.args.packet.len 0 c.requires.filling;
     }
 
@@ -30,16 +30,16 @@ loop-stream-preserved c =
       begun = omega (arith, c.loop-stream.invariant.begun, c.in-Some.ensures.from, c.value-from.ensures.same);
       flow = λ wish room old e all at start. (
           let before = c.loop-stream.invariant.flow wish room old e all at start in
-          let here = flow_idle wish room old (take c.loop-stream.packet.len c.loop-stream.out) (end_of c.loop-stream.self e) c.loop-stream.packet.is_full around first c.loop-stream.from stream c.in-Some.ensures.from
+          let here = flow_idle wish room old (take c.loop-stream.packet.len c.loop-stream.out) (end_of c.loop-stream.self e) c.loop-stream.packet.quota c.loop-stream.packet.is_full around first c.loop-stream.from stream c.in-Some.ensures.from
           (λ n. c.in-Some.ensures.none n e) before in
           let after = c.put_open-packet.ensures.flow around first wish room old e (all stream) (at ∙ sym c.loop-stream.invariant.filled.room) (c.is_on_way.ensures.0 c.if-not-is_on_way.false) here in
-          subst (λ n. Flow wish room old (take c.put_open-packet.result.len c.put_open-packet.new.out) (end_of c.put_open-packet.new.self e) c.put_open-packet.result.is_full (turn_at around first (n + 1))) (sym c.value-from.ensures.same) after);
+          subst (λ n. Flow wish room old (take c.put_open-packet.result.len c.put_open-packet.new.out) (end_of c.put_open-packet.new.self e) c.put_open-packet.result.quota c.put_open-packet.result.is_full (turn_at around first (n + 1))) (sym c.value-from.ensures.same) after);
       filled = fills_on _ _ _ _ _ _ _ _ _ _ _ c.loop-stream.invariant.filled c.put_open-packet.ensures.filled;
     }
 
 pub returns-then-not-is_on_way-clause-flow : goal.returns-then-not-is_on_way-clause-flow
 returns-then-not-is_on_way-clause-flow c = λ wish room old e all at start.
-    flow_way wish room old (take c.loop-stream.packet.len c.loop-stream.out) (end_of c.loop-stream.self e) c.loop-stream.packet.is_full c.args.around c.args.first c.loop-stream.from
+    flow_way wish room old (take c.loop-stream.packet.len c.loop-stream.out) (end_of c.loop-stream.self e) c.loop-stream.packet.quota c.loop-stream.packet.is_full c.args.around c.args.first c.loop-stream.from
     (λ n le on. c.in-Some.ensures.none n e le (off_way c.args.around c.args.first c.loop-stream.from c.in-Some.stream n c.loop-stream.invariant.begun c.in-Some.ensures.from (λ is. true≢false (sym (c.is_on_way.ensures.1 is) ∙ c.if-not-is_on_way.true)) on))
     (c.loop-stream.invariant.flow wish room old e all at start)
 
@@ -49,14 +49,14 @@ returns-then-packet-2-clause-flow c = λ wish room old e all at start. (
     let around = c.args.around in
     let first = c.args.first in
     let before = c.loop-stream.invariant.flow wish room old e all at start in
-    let here = flow_idle wish room old (take c.loop-stream.packet.len c.loop-stream.out) (end_of c.loop-stream.self e) c.loop-stream.packet.is_full around first c.loop-stream.from stream c.in-Some.ensures.from
+    let here = flow_idle wish room old (take c.loop-stream.packet.len c.loop-stream.out) (end_of c.loop-stream.self e) c.loop-stream.packet.quota c.loop-stream.packet.is_full around first c.loop-stream.from stream c.in-Some.ensures.from
     (λ n. c.in-Some.ensures.none n e) before in
     let after = c.put_open-packet.ensures.flow around first wish room old e (all stream) (at ∙ sym c.loop-stream.invariant.filled.room) (c.is_on_way.ensures.0 c.if-not-is_on_way.false) here in
-    flow_whole wish room old (take c.put_open-packet.result.len c.put_open-packet.new.out) (end_of c.put_open-packet.new.self e) c.put_open-packet.result.is_full around first (stream + 1) c.if-packet-2.true after)
+    flow_whole wish room old (take c.put_open-packet.result.len c.put_open-packet.new.out) (end_of c.put_open-packet.new.self e) c.put_open-packet.result.quota c.put_open-packet.result.is_full around first (stream + 1) c.if-packet-2.true after)
 
 pub returns-clause-flow : goal.returns-clause-flow
 returns-clause-flow c = λ wish room old e all at start.
-    flow_way wish room old (take c.loop-stream.packet.len c.loop-stream.out) (end_of c.loop-stream.self e) c.loop-stream.packet.is_full c.args.around c.args.first c.loop-stream.from
+    flow_way wish room old (take c.loop-stream.packet.len c.loop-stream.out) (end_of c.loop-stream.self e) c.loop-stream.packet.quota c.loop-stream.packet.is_full c.args.around c.args.first c.loop-stream.from
     (λ n le on. c.in_default.ensures.none n e le tt)
     (c.loop-stream.invariant.flow wish room old e all at start)
 

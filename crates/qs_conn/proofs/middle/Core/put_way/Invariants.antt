@@ -12,8 +12,8 @@ invariant-loop-stream l =
       small : l.from ≤ 2 ^ 62;
       begun : start_of l.fn.around l.fn.first ≤ l.from;
       flow : (wish : Wish) (room : ℕ) (old e : End) → ((n : ℕ) → IsAsked wish.want n) → room ≡ length l.fn.out
-          → Flow wish room old (take l.fn.packet.len l.fn.out) (end_of l.fn.self e) l.fn.packet.is_full (turn_at l.fn.around l.fn.first (start_of l.fn.around l.fn.first))
-          → Flow wish room old (take l.packet.len l.out) (end_of l.self e) l.packet.is_full (turn_at l.fn.around l.fn.first l.from);
+          → Flow wish room old (take l.fn.packet.len l.fn.out) (end_of l.fn.self e) l.fn.packet.quota l.fn.packet.is_full (turn_at l.fn.around l.fn.first (start_of l.fn.around l.fn.first))
+          → Flow wish room old (take l.packet.len l.out) (end_of l.self e) l.packet.quota l.packet.is_full (turn_at l.fn.around l.fn.first l.from);
       filled : FillsOn l.fn.self l.fn.out l.fn.packet.len l.self l.out l.packet.len 0;
     }
 

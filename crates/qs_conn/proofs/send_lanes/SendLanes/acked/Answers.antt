@@ -1,8 +1,8 @@
 use Rattle.qs_conn.specs.declared.send_marks.Task.TheVariants as tasks
 use Rattle.qs_conn.specs.Tasks.{IsQuiet, marks_of}
-use Rattle.qs_conn.proofs.SendEdits.{ok_at, asked_at, acked_again}
+use Rattle.qs_conn.proofs.SendEdits.{ok_at, asked_at, acked_again, acked_stop}
 use Rattle.qs_conn.proofs.Marked.{mark_there}
-use Rattle.qs_conn.proofs.Tasks.{all_looked, still_quiet}
+use Rattle.qs_conn.proofs.Tasks.{all_looked, still_quiet, still_unstopped}
 use Rattle.qs_conn.proofs.Promised.{promised_of, kept_of, acked_promises, sum_same, sum_moved}
 use Rattle.qs_conn.proofs.send_lanes.SendLanes.acked.Goals as goal
 
@@ -13,6 +13,9 @@ pub look_acked-requires-clause-again : goal.look_acked-requires-clause-again
 look_acked-requires-clause-again c =
     still_quiet tasks.Again c.self.inside.halves.items c.self.inside.marks c.args.index c.index_mut-half.result.now c.acked-answer.new.self c.self.invariant.1 (rw c.self.view_is c.requires.there) c.index_mut-half.ensures.value
     (acked_again c.acked-answer.result c.index_mut-half.result.now c.acked-answer.new.self c.args.chunk c.acked-answer.ensures.ok c.acked-answer.ensures.err)
+
+pub look_acked-requires-clause-stop : goal.look_acked-requires-clause-stop
+look_acked-requires-clause-stop c = still_unstopped c.self.inside.halves.items c.self.inside.marks c.args.index c.index_mut-half.result.now c.acked-answer.new.self c.self.invariant.1 (rw c.self.view_is c.requires.there) c.index_mut-half.ensures.value (acked_stop c.acked-answer.result c.index_mut-half.result.now c.acked-answer.new.self c.args.chunk c.acked-answer.ensures.ok c.acked-answer.ensures.err)
 
 pub invariant_of-self : goal.invariant_of-self
 invariant_of-self c =

@@ -1,12 +1,16 @@
 use Rattle.qs_conn.specs.Tasks.{IsQuiet, marks_of}
 use Rattle.qs_conn.proofs.LaneEdits.{changed_at}
+use Rattle.qs_conn.proofs.SendEdits.{finish_stop}
 use Rattle.qs_conn.proofs.Marked.{mark_there}
-use Rattle.qs_conn.proofs.Tasks.{all_looked}
+use Rattle.qs_conn.proofs.Tasks.{all_looked, still_unstopped}
 use Rattle.qs_conn.proofs.Promised.{finish_promises, finish_keeps, sums_same}
 use Rattle.qs_conn.proofs.send_lanes.SendLanes.finish.Goals as goal
 
-pub look-requires : goal.look-requires
-look-requires c = λ t. mark_there (IsQuiet t) c.self.inside.halves.items (marks_of c.self.inside.marks t) c.args.index (c.self.invariant.1 t) (rw c.self.view_is c.requires)
+pub look-requires-clause-there : goal.look-requires-clause-there
+look-requires-clause-there c = λ t. mark_there (IsQuiet t) c.self.inside.halves.items (marks_of c.self.inside.marks t) c.args.index (c.self.invariant.1 t) (rw c.self.view_is c.requires)
+
+pub look-requires-clause-stop : goal.look-requires-clause-stop
+look-requires-clause-stop c = still_unstopped c.self.inside.halves.items c.self.inside.marks c.args.index c.index_mut-half.result.now c.finish-answer.new.self c.self.invariant.1 (rw c.self.view_is c.requires) c.index_mut-half.ensures.value (finish_stop c.index_mut-half.result.now c.finish-answer.new.self c.finish-answer.ensures.after)
 
 pub invariant_of-self : goal.invariant_of-self
 invariant_of-self c =

@@ -1,13 +1,17 @@
 use Rattle.std.proofs.Common.{ap}
 use Rattle.qs_conn.specs.Tasks.{IsQuiet, marks_of}
 use Rattle.qs_conn.proofs.LaneEdits.{changed_at}
+use Rattle.qs_conn.proofs.SendEdits.{stop_of}
 use Rattle.qs_conn.proofs.Marked.{mark_there}
-use Rattle.qs_conn.proofs.Tasks.{all_looked}
+use Rattle.qs_conn.proofs.Tasks.{all_looked, still_unstopped}
 use Rattle.qs_conn.proofs.Promised.{promised_of, kept_of, sums_same}
 use Rattle.qs_conn.proofs.send_lanes.SendLanes.note_blocked.Goals as goal
 
-pub look-requires : goal.look-requires
-look-requires c = λ t. mark_there (IsQuiet t) c.self.inside.halves.items (marks_of c.self.inside.marks t) c.args.index (c.self.invariant.1 t) (rw c.self.view_is c.requires)
+pub look-requires-clause-there : goal.look-requires-clause-there
+look-requires-clause-there c = λ t. mark_there (IsQuiet t) c.self.inside.halves.items (marks_of c.self.inside.marks t) c.args.index (c.self.invariant.1 t) (rw c.self.view_is c.requires)
+
+pub look-requires-clause-stop : goal.look-requires-clause-stop
+look-requires-clause-stop c = still_unstopped c.self.inside.halves.items c.self.inside.marks c.args.index c.index_mut-half.result.now c.note_blocked.new.self c.self.invariant.1 (rw c.self.view_is c.requires) c.index_mut-half.ensures.value (ap stop_of c.note_blocked.ensures)
 
 pub invariant_of-self : goal.invariant_of-self
 invariant_of-self c =

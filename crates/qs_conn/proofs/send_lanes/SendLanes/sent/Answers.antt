@@ -5,9 +5,9 @@ use Rattle.std.proofs.lemmas.List.{get_or_default}
 use Rattle.qs_send.specs.Chunks.{IsDueChunk}
 use Rattle.qs_machine.specs.Sums.{no_sending}
 use Rattle.qs_conn.proofs.LaneEdits.{changed_at}
-use Rattle.qs_conn.proofs.SendEdits.{sent_again}
+use Rattle.qs_conn.proofs.SendEdits.{sent_again, stop_of}
 use Rattle.qs_conn.proofs.Marked.{mark_there}
-use Rattle.qs_conn.proofs.Tasks.{all_looked, still_quiet}
+use Rattle.qs_conn.proofs.Tasks.{all_looked, still_quiet, still_unstopped}
 use Rattle.qs_conn.proofs.Promised.{kept_of, sums_same, sent_promises}
 use Rattle.qs_conn.proofs.send_lanes.SendLanes.sent.Goals as goal
 
@@ -26,6 +26,9 @@ look_sent-requires-clause-room c =
 pub look_sent-requires-clause-end : goal.look_sent-requires-clause-end
 look_sent-requires-clause-end c =
     still_quiet tasks.Ended c.self.inside.halves.items c.self.inside.marks c.args.index c.index_mut-half.result.now c.sent.new.self c.self.invariant.1 (rw c.self.view_is c.requires.there) c.index_mut-half.ensures.value (λ q. subst (IsQuiet tasks.Ended) (sym c.sent.ensures) q)
+
+pub look_sent-requires-clause-stop : goal.look_sent-requires-clause-stop
+look_sent-requires-clause-stop c = still_unstopped c.self.inside.halves.items c.self.inside.marks c.args.index c.index_mut-half.result.now c.sent.new.self c.self.invariant.1 (rw c.self.view_is c.requires.there) c.index_mut-half.ensures.value (ap stop_of c.sent.ensures)
 
 pub invariant_of-self : goal.invariant_of-self
 invariant_of-self c =

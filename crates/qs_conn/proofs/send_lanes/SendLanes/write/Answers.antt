@@ -4,10 +4,10 @@ use Rattle.qs_send.specs.Lane.{Sending, accepted}
 use Rattle.qs_machine.specs.Sums.{no_sending}
 use Rattle.qs_conn.specs.declared.send_marks.Task.TheVariants as tasks
 use Rattle.qs_conn.specs.Tasks.{IsQuiet, marks_of}
-use Rattle.qs_conn.proofs.SendEdits.{wrote_at, wrote_none, wrote_keeps}
+use Rattle.qs_conn.proofs.SendEdits.{wrote_at, wrote_none, wrote_keeps, wrote_stop}
 use Rattle.qs_conn.proofs.Marked.{mark_there, unmarked_at}
 use Rattle.qs_conn.proofs.Least.{part_at}
-use Rattle.qs_conn.proofs.Tasks.{all_looked, still_quiet}
+use Rattle.qs_conn.proofs.Tasks.{all_looked, still_quiet, still_unstopped}
 use Rattle.qs_conn.proofs.Promised.{promised_of, kept_of, sum_few, sums_wrote, wrote_few}
 use Rattle.qs_conn.proofs.send_lanes.SendLanes.write.Goals as goal
 
@@ -32,6 +32,9 @@ look_written-requires-clause-again c =
 pub look_written-requires-clause-end : goal.look_written-requires-clause-end
 look_written-requires-clause-end c =
     still_quiet tasks.Ended c.self.inside.halves.items c.self.inside.marks c.args.index c.index_mut-half.result.now c.write-answer.new.self c.self.invariant.1 (rw c.self.view_is c.requires) c.index_mut-half.ensures.value (wrote_keeps c.write-answer.result c.index_mut-half.result.now c.write-answer.new.self c.args.bytes.now c.write-answer.ensures.accepted c.write-answer.ensures.refused c.is_lawful.ensures.order.sent_written).1
+
+pub look_written-requires-clause-stop : goal.look_written-requires-clause-stop
+look_written-requires-clause-stop c = still_unstopped c.self.inside.halves.items c.self.inside.marks c.args.index c.index_mut-half.result.now c.write-answer.new.self c.self.invariant.1 (rw c.self.view_is c.requires) c.index_mut-half.ensures.value (wrote_stop c.write-answer.result c.index_mut-half.result.now c.write-answer.new.self c.args.bytes.now c.write-answer.ensures.accepted c.write-answer.ensures.refused)
 
 pub overflow_add-self : goal.overflow_add-self
 overflow_add-self c =

@@ -1,5 +1,7 @@
 use Rattle.std.proofs.Common.{sym, ◌∙◌}
 use Rattle.qs_conn.specs.declared.send_marks.Task.TheVariants as tasks
+use Rattle.qs_conn.specs.Marks.{is_marked}
+use Rattle.qs_conn.proofs.Marked.{mark_kept}
 use Rattle.qs_conn.proofs.Tasks.{looked}
 use Rattle.qs_conn.proofs.send_marks.SendMarks.look_acked.Goals as goal
 
@@ -18,4 +20,4 @@ set-requires-3 c = c.requires.there tasks.Ended
 pub returns : goal.returns
 returns c =
     let again = c.look_again.ensures in
-    looked c.args.self.now (record { bytes = c.set.new.self; again = c.look_again.new.again; writable = c.set-2.new.self; ended = c.set-3.new.self }) c.args.index c.args.half.now c.may_send.result again.0 c.is_writable.result c.has_ended.result c.may_send.ensures.none again.1 (λ is. sym c.is_writable.ensures ∙ is) (λ is. sym c.has_ended.ensures ∙ is) c.set.ensures again.2 c.set-2.ensures c.set-3.ensures
+    looked c.args.self.now (record { bytes = c.set.new.self; again = c.look_again.new.again; writable = c.set-2.new.self; ended = c.set-3.new.self; stopped = c.args.self.now.stopped }) c.args.index c.args.half.now c.may_send.result again.0 c.is_writable.result c.has_ended.result (is_marked c.args.self.now.stopped c.args.index) c.may_send.ensures.none again.1 (λ is. sym c.is_writable.ensures ∙ is) (λ is. sym c.has_ended.ensures ∙ is) c.requires.stop c.set.ensures again.2 c.set-2.ensures c.set-3.ensures (mark_kept c.args.self.now.stopped c.args.index)

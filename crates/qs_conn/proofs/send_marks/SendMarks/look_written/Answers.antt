@@ -15,4 +15,4 @@ pub returns : goal.returns
 returns c =
     let marks = c.args.self.now in
     let i = c.args.index in
-    looked marks (record { bytes = c.set.new.self; again = marks.again; writable = c.set-2.new.self; ended = marks.ended }) i c.args.half.now c.may_send.result (is_marked marks.again i) c.is_writable.result (is_marked marks.ended i) c.may_send.ensures.none c.requires.again (λ is. sym c.is_writable.ensures ∙ is) c.requires.end c.set.ensures (mark_kept marks.again i) c.set-2.ensures (mark_kept marks.ended i)
+    looked marks (record { bytes = c.set.new.self; again = marks.again; writable = c.set-2.new.self; ended = marks.ended; stopped = marks.stopped }) i c.args.half.now c.may_send.result (is_marked marks.again i) c.is_writable.result (is_marked marks.ended i) (is_marked marks.stopped i) c.may_send.ensures.none c.requires.again (λ is. sym c.is_writable.ensures ∙ is) c.requires.end c.requires.stop c.set.ensures (mark_kept marks.again i) c.set-2.ensures (mark_kept marks.ended i) (mark_kept marks.stopped i)

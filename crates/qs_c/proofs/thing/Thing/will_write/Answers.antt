@@ -1,0 +1,16 @@
+use Rattle.std.proofs.Common.{◌≡◌, rules}
+use Rattle.std.specs.Prelude.{Result}
+use Rattle.qs_ranges.specs.declared.NoMemory.{NoMemory}
+use Rattle.qs_machine.specs.Ends.{End}
+use Rattle.qs_machine.specs.Heard.{WillWrite}
+use Rattle.qs_c.specs.Statuses.{is_small, status_of}
+use Rattle.qs_c.specs.Events.{CalledHeard, memory_status}
+use Rattle.qs_c.proofs.Steps.{same_end}
+use Rattle.qs_c.proofs.Hearings.{called_heard}
+use Rattle.qs_c.proofs.thing.Thing.will_write.Goals as goal
+
+pub returns : goal.returns
+returns c =
+    same_end (λ (e : End). CalledHeard c.args.heard.now.cell.value c.put.new.self.cell.value (is_small c.args.stream) (c.will_write-status.result ≡ 1) (λ g h. (a : Result (Unit {0}) NoMemory) × (c.will_write-status.result ≡ status_of memory_status a) × WillWrite e c.args.stream c.args.len g a h))
+    c.self.inside.end c.args.self.now (search rules)
+    (called_heard c.args.heard.now.cell.value c.put.new.self.cell.value c.deref_mut.result.now c.will_write-status.new.self _ _ _ (search rules) (search rules) c.will_write-status.ensures)

@@ -1,0 +1,59 @@
+//! An end is told that the connection closed.
+ghost use Rattle.std.specs.Prelude.{◌≡◌, ◌&&◌, true};
+ghost use Rattle.qs_machine.specs.Receiving.{told_closed};
+ghost use Rattle.qs_c.specs.Statuses.{Called, Tested, is_flag};
+ghost use Rattle.qs_c.specs.Structs.{close_in};
+
+use crate::answers::{INVALID, OK};
+use crate::handle::Handle;
+use crate::thing::Thing;
+use qs_calls::{CloseKind, Closer, ToldClose};
+use std::alloc::Global;
+
+/// A close that the stack above the packets saw or made itself: 0 by this side or the transport, 1 by the peer or the application.
+#[unsafe(no_mangle)]
+pub extern "C" fn gvp_tell_closed(
+    alloc: Global,
+    end: &mut Handle,
+    by: u32,
+    kind: u32,
+    code: u64,
+) -> u32
+    ensures { Called end.old.cell.value end.new.cell.value (is_flag by && is_flag kind) (result ≡ 1) (λ e f. (result ≡ 0) × (f ≡ told_closed (close_in by kind code) e)) }
+{
+    let Some(mut thing) = end.take(alloc) else {
+        return INVALID;
+    };
+    let status = thing.tell_closed(by, kind, code);
+    end.put(thing);
+    status
+}
+
+impl Thing {
+    pub(crate) fn tell_closed(&mut self, by: u32, kind: u32, code: u64) -> u32
+        ensures { Tested (is_flag by && is_flag kind) self.old self.new (result ≡ 1) ((result ≡ 0) × (self.new ≡ told_closed (close_in by kind code) self.old)) }
+    {
+        if by > 1 {
+            return INVALID;
+        }
+        if kind > 1 {
+            return INVALID;
+        }
+        self.end.tell_closed(close_of(by, kind, code));
+        OK
+    }
+}
+
+fn close_of(by: u32, kind: u32, code: u64) -> ToldClose
+    ensures { result ≡ close_in by kind code }
+{
+    ToldClose {
+        by: if by == 0 { Closer::Us } else { Closer::Peer },
+        kind: if kind == 0 {
+            CloseKind::Transport
+        } else {
+            CloseKind::Application
+        },
+        code,
+    }
+}

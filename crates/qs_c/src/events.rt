@@ -1,0 +1,190 @@
+//! What an owner hears of its end, and what it tells for that. What was heard has a handle of its own, beside that of the end.
+ghost use Rattle.std.specs.Prelude.{◌≡◌, ℕ, true, Option, Some, None, Result, MatchBool, nat_eq};
+ghost use Rattle.qs_ranges.specs.declared.NoMemory.{NoMemory};
+ghost use Rattle.qs_calls.specs.declared.news.News.{News};
+ghost use Rattle.qs_machine.specs.Heard.{heard_nothing, IsNextNews, IsReadOn, WillWrite, with_wants};
+ghost use Rattle.qs_c.specs.Statuses.{Asked, Invalid, is_small, is_flag, dir_of, status_of};
+ghost use Rattle.qs_c.specs.Events.{TestedHeard, CalledHeard, memory_status, news_told};
+
+use crate::answers::{INVALID, NO_MEMORY, OK};
+use crate::calls::dir_of;
+use crate::handle::Handle;
+use crate::listener::Listener;
+use crate::listener_handle::ListenerHandle;
+use crate::news::{GvNews, of_news, of_note};
+use crate::thing::Thing;
+use qs_conn::{Endpoint, Heard};
+use qs_wire::StreamId;
+use std::alloc::Global;
+
+/// Takes the memory for what an owner heard: the handle holds it then, and nothing was heard. A handle that holds some loses it.
+#[unsafe(no_mangle)]
+pub extern "C" fn gvp_heard_new(alloc: Global, heard: &mut ListenerHandle) -> u32
+    ensures { MatchBool (nat_eq result 0) (heard.new.cell.value ≡ Some heard_nothing) ((result ≡ 2) × (heard.new.cell.value ≡ heard.old.cell.value)) }
+{
+    let nothing = Heard::new(alloc);
+    let Ok(boxed) = Box::new(alloc, Listener { heard: nothing }) else {
+        return NO_MEMORY;
+    };
+    heard.put(boxed);
+    OK
+}
+
+/// Drops what a handle holds.
+#[unsafe(no_mangle)]
+pub extern "C" fn gvp_heard_drop(alloc: Global, heard: &mut ListenerHandle)
+    ensures { heard.new.cell.value ≡ None }
+{
+    let _gone = heard.take(alloc);
+}
+
+/// Tells the first piece of news of an end, and notes that it was heard.
+#[unsafe(no_mangle)]
+pub extern "C" fn gvp_next_news(
+    alloc: Global,
+    heard: &mut ListenerHandle,
+    end: &mut Handle,
+    news: &mut GvNews,
+) -> u32
+    ensures { Asked end.old.cell.value end.new.cell.value true (Invalid result news.old news.new × (heard.new.cell.value ≡ heard.old.cell.value)) (λ e. CalledHeard heard.old.cell.value heard.new.cell.value true (Invalid result news.old news.new) (λ g h. (a : Result (Option News) NoMemory) × ((result, news.new) ≡ news_told a news.old) × IsNextNews e g a h)) }
+{
+    let Some(thing) = end.take(alloc) else {
+        return INVALID;
+    };
+    let status = thing.next_news(alloc, heard, news);
+    end.put(thing);
+    status
+}
+
+/// So many bytes are about to be written to a stream of the end.
+#[unsafe(no_mangle)]
+pub extern "C" fn gvp_will_write(
+    alloc: Global,
+    heard: &mut ListenerHandle,
+    end: &mut Handle,
+    stream: u64,
+    len: usize,
+) -> u32
+    ensures { Asked end.old.cell.value end.new.cell.value true ((result ≡ 1) × (heard.new.cell.value ≡ heard.old.cell.value)) (λ e. CalledHeard heard.old.cell.value heard.new.cell.value (is_small stream) (result ≡ 1) (λ g h. (a : Result (Unit {0}) NoMemory) × (result ≡ status_of memory_status a) × WillWrite e stream len g a h)) }
+{
+    let Some(thing) = end.take(alloc) else {
+        return INVALID;
+    };
+    let status = thing.will_write(alloc, heard, stream, len);
+    end.put(thing);
+    status
+}
+
+/// A stream of a direction is to be opened once one may.
+#[unsafe(no_mangle)]
+pub extern "C" fn gvp_wants(alloc: Global, heard: &mut ListenerHandle, dir: u32) -> u32
+    ensures { CalledHeard heard.old.cell.value heard.new.cell.value (is_flag dir) (result ≡ 1) (λ g h. (result ≡ 0) × (h ≡ with_wants g (dir_of dir) true)) }
+{
+    let Some(mut listener) = heard.take(alloc) else {
+        return INVALID;
+    };
+    let status = listener.wants(dir);
+    heard.put(listener);
+    status
+}
+
+/// A stream of the end was read, or stopped.
+#[unsafe(no_mangle)]
+pub extern "C" fn gvp_was_read(
+    alloc: Global,
+    heard: &mut ListenerHandle,
+    end: &mut Handle,
+    stream: u64,
+) -> u32
+    ensures { Asked end.old.cell.value end.new.cell.value true ((result ≡ 1) × (heard.new.cell.value ≡ heard.old.cell.value)) (λ e. CalledHeard heard.old.cell.value heard.new.cell.value (is_small stream) (result ≡ 1) (λ g h. (result ≡ 0) × IsReadOn e stream g h)) }
+{
+    let Some(thing) = end.take(alloc) else {
+        return INVALID;
+    };
+    let status = thing.was_read(alloc, heard, stream);
+    end.put(thing);
+    status
+}
+
+impl Thing {
+    pub(crate) fn next_news(
+        &self,
+        alloc: Global,
+        heard: &mut ListenerHandle,
+        news: &mut GvNews,
+    ) -> u32
+        ensures { CalledHeard heard.old.cell.value heard.new.cell.value true (Invalid result news.old news.new) (λ g h. (a : Result (Option News) NoMemory) × ((result, news.new) ≡ news_told a news.old) × IsNextNews self.now g a h) }
+    {
+        let Some(mut listener) = heard.take(alloc) else {
+            return INVALID;
+        };
+        let status = listener.next_news(&self.end, news);
+        heard.put(listener);
+        status
+    }
+
+    pub(crate) fn will_write(
+        &self,
+        alloc: Global,
+        heard: &mut ListenerHandle,
+        stream: u64,
+        len: usize,
+    ) -> u32
+        ensures { CalledHeard heard.old.cell.value heard.new.cell.value (is_small stream) (result ≡ 1) (λ g h. (a : Result (Unit {0}) NoMemory) × (result ≡ status_of memory_status a) × WillWrite self.now stream len g a h) }
+    {
+        let Some(mut listener) = heard.take(alloc) else {
+            return INVALID;
+        };
+        let status = listener.will_write(&self.end, stream, len);
+        heard.put(listener);
+        status
+    }
+
+    pub(crate) fn was_read(&self, alloc: Global, heard: &mut ListenerHandle, stream: u64) -> u32
+        ensures { CalledHeard heard.old.cell.value heard.new.cell.value (is_small stream) (result ≡ 1) (λ g h. (result ≡ 0) × IsReadOn self.now stream g h) }
+    {
+        let Some(mut listener) = heard.take(alloc) else {
+            return INVALID;
+        };
+        let status = listener.was_read(&self.end, stream);
+        heard.put(listener);
+        status
+    }
+}
+
+impl Listener {
+    pub(crate) fn next_news(&mut self, end: &Endpoint, news: &mut GvNews) -> u32
+        ensures { (a : Result (Option News) NoMemory) × ((result, news.new) ≡ news_told a news.old) × IsNextNews end.now self.old a self.new }
+    {
+        of_news(self.heard.next_news(end), news)
+    }
+
+    pub(crate) fn will_write(&mut self, end: &Endpoint, stream: u64, len: usize) -> u32
+        ensures { TestedHeard (is_small stream) self.old self.new (result ≡ 1) ((a : Result (Unit {0}) NoMemory) × (result ≡ status_of memory_status a) × WillWrite end.now stream len self.old a self.new) }
+    {
+        let Some(id) = StreamId::new(stream) else {
+            return INVALID;
+        };
+        of_note(self.heard.will_write(end, id, len))
+    }
+
+    pub(crate) fn wants(&mut self, dir: u32) -> u32
+        ensures { TestedHeard (is_flag dir) self.old self.new (result ≡ 1) ((result ≡ 0) × (self.new ≡ with_wants self.old (dir_of dir) true)) }
+    {
+        let Some(way) = dir_of(dir) else {
+            return INVALID;
+        };
+        self.heard.wants(way);
+        OK
+    }
+
+    pub(crate) fn was_read(&mut self, end: &Endpoint, stream: u64) -> u32
+        ensures { TestedHeard (is_small stream) self.old self.new (result ≡ 1) ((result ≡ 0) × IsReadOn end.now stream self.old self.new) }
+    {
+        let Some(id) = StreamId::new(stream) else {
+            return INVALID;
+        };
+        self.heard.was_read(end, id);
+        OK
+    }
+}

@@ -1,0 +1,99 @@
+//! A piece of news, as C is told it.
+ghost use Rattle.std.specs.Prelude.{◌≡◌};
+ghost use Rattle.qs_c.specs.Events.{memory_status, dir_number, news_of, news_told};
+ghost use Rattle.qs_c.specs.Statuses.{status_of};
+
+use crate::answers::{NO_MEMORY, NONE, OK};
+use qs_calls::News;
+use qs_ranges::NoMemory;
+use qs_wire::{Dir, StreamId};
+
+const OPENED: u32 = 0;
+
+const READABLE: u32 = 1;
+
+const WRITABLE: u32 = 2;
+
+const STOPPED: u32 = 3;
+
+const FINISHED: u32 = 4;
+
+const RESET_ACKED: u32 = 5;
+
+const ENDED: u32 = 6;
+
+const AVAILABLE: u32 = 7;
+
+/// What its kind hasn't is 0.
+#[repr(C)]
+#[derive(Clone, Copy, Drop)]
+pub struct GvNews {
+    pub kind: u32,
+    pub dir: u32,
+    pub stream: u64,
+    pub code: u64,
+}
+
+impl GvNews {
+    pub(crate) fn of(news: News) -> GvNews
+        ensures { result ≡ news_of news }
+    {
+        match news {
+            News::Opened(stream) => of_stream(OPENED, stream, 0),
+            News::Readable(stream) => of_stream(READABLE, stream, 0),
+            News::Writable(stream) => of_stream(WRITABLE, stream, 0),
+            News::Stopped(stream, code) => of_stream(STOPPED, stream, code),
+            News::Finished(stream) => of_stream(FINISHED, stream, 0),
+            News::ResetAcked(stream) => of_stream(RESET_ACKED, stream, 0),
+            News::Ended(stream) => of_stream(ENDED, stream, 0),
+            News::Available(dir) => GvNews {
+                kind: AVAILABLE,
+                dir: dir_number(dir),
+                stream: 0,
+                code: 0,
+            },
+        }
+    }
+}
+
+fn of_stream(kind: u32, stream: StreamId, code: u64) -> GvNews
+    ensures { result ≡ record { kind = kind; dir = 0; stream = stream; code = code } }
+{
+    GvNews {
+        kind,
+        dir: 0,
+        stream: stream.value(),
+        code,
+    }
+}
+
+fn dir_number(dir: Dir) -> u32
+    ensures { result ≡ dir_number dir }
+{
+    match dir {
+        Dir::Bidi => 0,
+        Dir::Uni => 1,
+    }
+}
+
+pub(crate) fn of_news(answer: Result<Option<News>, NoMemory>, news: &mut GvNews) -> u32
+    ensures { (result, news.new) ≡ news_told answer news.old }
+{
+    match answer {
+        Ok(Some(told)) => {
+            *news = GvNews::of(told);
+            OK
+        }
+        Ok(None) => NONE,
+        Err(_) => NO_MEMORY,
+    }
+}
+
+pub(crate) fn of_note(answer: Result<(), NoMemory>) -> u32
+    ensures { result ≡ status_of memory_status answer }
+{
+    match answer {
+        Ok(()) => OK,
+        Err(_) => NO_MEMORY,
+    }
+}

@@ -1,0 +1,229 @@
+-- What is news at an end: the next stream that the peer opened, of those that its owner didn't hear of; and what a search for streams finds.
+use Rattle.std.proofs.Common.{◌≡◌, ◌≢◌, ℕ, zero, suc, ◌+◌, ◌-◌, ◌*◌, ◌/◌, ◌%◌, ◌<◌, ◌≤◌, ◌⊎◌, ◌==◌, Bool, true, false, nat_lt, min, IsTrue, Option, None, Some, is_some, refl, sym, ap, ◌∙◌, subst, arith, inl, inr, if◌then◌else◌}
+use Rattle.std.proofs.lemmas.Bool.Decides.{nat_tests}
+use Rattle.std.proofs.lemmas.Bool.{cases_lt, both_ways, true≢false}
+use Rattle.std.proofs.lemmas.Option.{none-some, same_Some}
+use Rattle.qs_wire.specs.Streams.{dir_of}
+use Rattle.qs_wire.specs.declared.stream_id.Role.{Role}
+use Rattle.qs_wire.specs.declared.stream_id.Role.TheVariants.{Client, Server}
+use Rattle.qs_wire.specs.declared.stream_id.Dir.{Dir}
+use Rattle.qs_wire.specs.declared.stream_id.Dir.TheVariants.{Bidi, Uni}
+use Rattle.qs_machine.specs.Ends.{End, role_bit, is_own, is_own_by, peer_type, send_lane}
+use Rattle.qs_machine.specs.Tables.{Tables, type_of, index_of, lookup}
+use Rattle.qs_machine.specs.Owner.{opened_count, accepted_by, is_read_no_more}
+use Rattle.qs_machine.specs.News.{IsLeast, IsHeld, IsReadable}
+use Rattle.qs_machine.specs.Credit.{credit_for}
+use Rattle.qs_machine.specs.Asking.{room, room_of, stop_of}
+use Rattle.qs_machine.specs.Outgoing.{IsAckedReset}
+use Rattle.qs_recv.specs.Lane.{RecvLane}
+use Rattle.qs_recv.specs.News.{is_readable}
+use Rattle.qs_send.specs.Lane.{SendLane, refusal, free_room, accepted}
+use Rattle.qs_send.specs.Writable.{is_writable}
+use Rattle.qs_send.specs.declared.parts.SendFault.{SendFault}
+use Rattle.qs_conn.specs.RecvTasks.{has_news}
+use Rattle.qs_conn.specs.Sending.{WasStopped, MayWrite}
+use Rattle.qs_machine.specs.Heard.{Hearing, IsNextOpened, heard_opened, WasResetAcked, is_told}
+use Rattle.qs_conn.specs.Marks.{least_of}
+use Rattle.qs_conn.specs.Hearing.{next_of_peer}
+use Rattle.qs_conn.specs.Marks.{IsUntold}
+use Rattle.qs_conn.specs.RecvTasks.{HasOne}
+use Rattle.qs_conn.specs.declared.recv_marks.RecvTask.TheVariants as recv_tasks
+use Rattle.qs_conn.proofs.Least.{IsClear, least_two, least_by, none_before}
+
+-- a number as its type and its index
+by_parts : (n : ℕ) → n ≡ index_of n * 4 + type_of n
+by_parts n = omega arith
+
+dir_bidi : (n : ℕ) → type_of n < 2 → dir_of n ≡ Bidi
+dir_bidi n lt = (let half : n / 2 % 2 ≡ 0 = omega (arith, lt) in grind (arith, nat_tests, half))
+
+dir_uni : (n : ℕ) → 2 ≤ type_of n → dir_of n ≡ Uni
+dir_uni n ge = (let half : n / 2 % 2 ≡ 1 = omega (arith, ge) in grind (arith, nat_tests, half))
+
+-- The streams of the peer's
+
+bit_small : (r : Role) → role_bit r < 2
+bit_small Client = omega arith
+bit_small Server = omega arith
+
+theirs : (r : Role) (n : ℕ) → is_own_by r n ≡ false → type_of n % 2 ≡ 1 - role_bit r
+theirs Client n is = grind (arith, nat_tests, is)
+theirs Server n is = grind (arith, nat_tests, is)
+
+not_own : (r : Role) (n : ℕ) → type_of n % 2 ≡ 1 - role_bit r → is_own_by r n ≡ false
+not_own Client n is = grind (arith, nat_tests, is)
+not_own Server n is = grind (arith, nat_tests, is)
+
+kind_of_theirs : (e : End) (n : ℕ) → is_own e n ≡ false → type_of n ≡ peer_type e (dir_of n)
+kind_of_theirs e n is = elim (cases_lt (type_of n) 2) [
+  | inl lt ↦ (let odd = theirs e.role n is in let small = bit_small e.role in rw (dir_bidi n lt) (omega (arith, odd, lt, small)))
+  | inr ge ↦ (let odd = theirs e.role n is in let small = bit_small e.role in rw (dir_uni n ge) (omega (arith, odd, ge, small)))
+]
+
+-- what there is of a stream of such a type
+pub record IsTheirs (e : End) (d : Dir) (n : ℕ) : Type 0 where
+  pub theirs : is_own e n ≡ false
+  pub dir : dir_of n ≡ d
+
+theirs_of_kind : (e : End) (d : Dir) (n : ℕ) → type_of n ≡ peer_type e d → IsTheirs e d n
+theirs_of_kind e Bidi n is = (let small = bit_small e.role in record { theirs = not_own e.role n (omega (arith, is, small)); dir = dir_bidi n (omega (arith, is, small)) })
+theirs_of_kind e Uni n is = (let small = bit_small e.role in record { theirs = not_own e.role n (omega (arith, is, small)); dir = dir_uni n (omega (arith, is, small)) })
+
+peer_small : (e : End) (d : Dir) → peer_type e d < 4
+peer_small e Bidi = (let small = bit_small e.role in omega (arith, small))
+peer_small e Uni = (let small = bit_small e.role in omega (arith, small))
+
+-- The next one of a direction
+abbrev NextOf : End → Hearing → Dir → ℕ → Type 0
+NextOf e h d n = IsNextOpened e h n × (dir_of n ≡ d)
+
+next_here : (e : End) (h : Hearing) (d : Dir) → heard_opened h d < opened_count e (peer_type e d) → NextOf e h d (heard_opened h d * 4 + peer_type e d)
+next_here e h d lt =
+    let n = heard_opened h d * 4 + peer_type e d in
+    let small = peer_small e d in
+    let kind : type_of n ≡ peer_type e d = omega (arith, small) in
+    let index : index_of n ≡ heard_opened h d = omega (arith, small) in
+    let is = theirs_of_kind e d n kind in
+    (record { theirs = is.theirs; opened = rw (kind, index) lt; next = rw (is.dir) index }, is.dir)
+
+-- there is no other
+next_same : (e : End) (h : Hearing) (d : Dir) (n : ℕ) → NextOf e h d n → n ≡ heard_opened h d * 4 + peer_type e d
+next_same e h d n (is, dir) =
+    let kind : type_of n ≡ peer_type e d = kind_of_theirs e n is.theirs ∙ ap (peer_type e) dir in
+    let index : index_of n ≡ heard_opened h d = is.next ∙ ap (heard_opened h) dir in
+    omega (arith, kind, index)
+
+next_opened : (e : End) (h : Hearing) (d : Dir) (n : ℕ) → NextOf e h d n → heard_opened h d < opened_count e (peer_type e d)
+next_opened e h d n (is, dir) =
+    let kind : type_of n ≡ peer_type e d = kind_of_theirs e n is.theirs ∙ ap (peer_type e) dir in
+    let index : index_of n ≡ heard_opened h d = is.next ∙ ap (heard_opened h) dir in
+    subst (λ (i : ℕ). i < opened_count e (peer_type e d)) index (subst (λ (k : ℕ). index_of n < opened_count e k) kind is.opened)
+
+least_of_dir : (e : End) (h : Hearing) (d : Dir) → IsLeast (NextOf e h d) 0 (next_of_peer e d (heard_opened h d))
+least_of_dir e h d = go (nat_lt (heard_opened h d) (opened_count e (peer_type e d))) refl
+  where
+    n : ℕ
+    n = heard_opened h d * 4 + peer_type e d
+
+    go : (b : Bool) → nat_lt (heard_opened h d) (opened_count e (peer_type e d)) ≡ b → IsLeast (NextOf e h d) 0 (if b then Some (heard_opened h d * 4 + peer_type e d) else None)
+    go true is =
+        let here = next_here e h d (grind (arith, nat_tests, is)) in
+        record {
+          found = λ m same. (omega arith, subst (NextOf e h d) (same_Some (heard_opened h d * 4 + peer_type e d) m same) here);
+          least = λ m ge p. (heard_opened h d * 4 + peer_type e d, refl, (let same = next_same e h d m p in omega (arith, same)));
+        }
+    go false is =
+        record {
+          found = λ m same. absurd (none-some m same);
+          least = λ m ge p. (let lt = next_opened e h d m p in absurd (grind (arith, nat_tests, is, lt)));
+        }
+
+dir_cases : (d : Dir) → (d ≡ Bidi) ⊎ (d ≡ Uni)
+dir_cases Bidi = inl refl
+dir_cases Uni = inr refl
+
+pub least_opened : (e : End) (h : Hearing) → IsLeast (IsNextOpened e h) 0 (least_of (next_of_peer e Bidi (heard_opened h Bidi)) (next_of_peer e Uni (heard_opened h Uni)))
+least_opened e h =
+    least_two (NextOf e h Bidi) (NextOf e h Uni) (IsNextOpened e h) 0 _ _ (λ n is. is.0) (λ n is. is.0)
+    (λ n is. elim (dir_cases (dir_of n)) [ inl bidi ↦ inl (is, bidi) | inr uni ↦ inr (is, uni) ])
+    (least_of_dir e h Bidi) (least_of_dir e h Uni)
+
+-- What a search for streams finds
+
+-- of two properties that are the same the least number is the same
+pub least_as : (P Q : ℕ → Type 0) (from : ℕ) (r : Option ℕ) → ((n : ℕ) → P n → Q n) → ((n : ℕ) → Q n → P n) → IsLeast P from r → IsLeast Q from r
+least_as P Q from r there back h = record { found = λ n is. (let f = h.found n is in (f.0, there n f.1)); least = λ n ge q. h.least n ge (back n q) }
+
+pub stopped_there : (t : Tables SendLane) (n : ℕ) → IsHeld WasStopped t n → is_some (stop_of (lookup t n)) ≡ true
+stopped_there t n (l, at, is) = rw at is
+
+pub stopped_back : (t : Tables SendLane) (n : ℕ) → is_some (stop_of (lookup t n)) ≡ true → IsHeld WasStopped t n
+stopped_back t n is = go (lookup t n) refl is
+  where
+    go : (x : Option SendLane) → lookup t n ≡ x → is_some (stop_of x) ≡ true → IsHeld WasStopped t n
+    go (Some l) at some = (l, at, some)
+    go None at some = absurd (true≢false (sym some))
+
+pub readable_there : (t : Tables RecvLane) (n : ℕ) → has_news (lookup t n) ≡ true → IsHeld (λ l. is_readable l ≡ true) t n
+readable_there t n is = go (lookup t n) refl is
+  where
+    go : (x : Option RecvLane) → lookup t n ≡ x → has_news x ≡ true → IsHeld (λ l. is_readable l ≡ true) t n
+    go (Some l) at some = (l, at, some)
+    go None at some = absurd (true≢false (sym some))
+
+pub readable_back : (t : Tables RecvLane) (n : ℕ) → IsHeld (λ l. is_readable l ≡ true) t n → has_news (lookup t n) ≡ true
+readable_back t n (l, at, is) = rw at is
+
+pub acked_there : (t : Tables SendLane) (n : ℕ) → IsAckedReset (lookup t n) → IsHeld WasResetAcked t n
+acked_there t n is = go (lookup t n) refl is
+  where
+    go : (x : Option SendLane) → lookup t n ≡ x → IsAckedReset x → IsHeld WasResetAcked t n
+    go (Some l) at acked = (l, at, acked)
+    go None at acked = absurd acked
+
+-- one that takes a byte may be written to
+pub room_is : (e : End) (n : ℕ) → 0 < room e n → IsHeld MayWrite e.sends n
+room_is e n lt = go (is_some e.closed) (send_lane e n) refl lt
+  where
+    credited : (b : Bool) (a c : ℕ) → 0 < (if b then min a c else a) → 0 < a
+    credited true a c some = omega (arith, some)
+    credited false a c some = some
+
+    accepts : (l : SendLane) (x : Option SendFault) → refusal l ≡ x → 0 < (if is_some x then 0 else accepted_by e l (free_room l)) → is_writable l ≡ true
+    accepts l None is some = (let more : 0 < accepted l (free_room l) = credited e.tuning.within_credit (accepted l (free_room l)) (credit_for e l) some in rw is (grind (arith, nat_tests, more)))
+    accepts l (Some fault) is some = absurd (omega (arith, some))
+
+    go : (b : Bool) (x : Option SendLane) → send_lane e n ≡ x → 0 < (if b then 0 else room_of e x) → IsHeld MayWrite e.sends n
+    go true x at some = absurd (omega (arith, some))
+    go false None at some = absurd (omega (arith, some))
+    go false (Some l) at some = (l, at, accepts l (refusal l) refl some)
+
+pub readable_at : (v old : End) (b r : Bool) (n : ℕ) → v ≡ old → b ≡ is_read_no_more old → b ≡ false → r ≡ has_news (lookup v.recvs n) → (IsTrue r → IsReadable old n) × (IsReadable old n → IsTrue r)
+readable_at v old b r n same is none found =
+    let at : r ≡ has_news (lookup old.recvs n) = found ∙ ap (λ (x : End). has_news (lookup x.recvs n)) same in
+    (λ yes. (sym is ∙ none, readable_there old.recvs n (sym at ∙ yes)), λ held. at ∙ readable_back old.recvs n held.1)
+
+pub readable_untold : (v old : End) (b : Bool) (told : Tables Bool) (r : Option ℕ) → v ≡ old → b ≡ is_read_no_more old → b ≡ false → IsLeast (IsUntold (IsHeld (HasOne recv_tasks.Readable) v.recvs) told) 0 r → IsLeast (λ n. IsReadable old n × (is_told told n ≡ false)) 0 r
+readable_untold v old b told r same is none h =
+    least_as (IsUntold (IsHeld (HasOne recv_tasks.Readable) old.recvs) told) (λ n. IsReadable old n × (is_told told n ≡ false)) 0 r (λ n p. ((sym is ∙ none, p.0), p.1)) (λ n q. (q.0.1, q.1))
+    (subst (λ (x : End). IsLeast (IsUntold (IsHeld (HasOne recv_tasks.Readable) x.recvs) told) 0 r) same h)
+
+-- Streams that take a byte, among those that may be written to
+
+module _ (v old : End) (same : v ≡ old) (short : Tables Bool) where
+  abbrev Takes : ℕ → Type 0
+  Takes n = (0 < room old n) × (is_told short n ≡ true)
+
+  abbrev Writable : ℕ → Type 0
+  Writable n = IsHeld MayWrite v.sends n × (is_told short n ≡ true)
+
+  may_write : (n : ℕ) → Takes n → Writable n
+  may_write n p = (subst (λ (x : End). IsHeld MayWrite x.sends n) (sym same) (room_is old n p.0), p.1)
+
+  none_to : (next m n : ℕ) → IsClear Takes 0 next → IsLeast Writable next (Some m) → n < m → Takes n → ⊥
+  none_to next m n clear h lt p = elim (cases_lt n next) [
+    | inl before ↦ clear.none n (omega arith) before p
+    | inr ge ↦ none_before Writable next (Some m) h n ge lt (may_write n p)
+  ]
+
+  pub takes_found : (next m : ℕ) → IsClear Takes 0 next → IsLeast Writable next (Some m) → 0 < room old m → IsLeast Takes 0 (Some m)
+  takes_found next m clear h lt =
+      least_by Takes 0 (Some m) (λ n is. (omega arith, subst Takes (same_Some m n is) (lt, (h.found m refl).1.1))) (λ n ge before p. none_to next m n clear h before p)
+
+  pub takes_next : (next m : ℕ) → IsClear Takes 0 next → IsLeast Writable next (Some m) → (0 < room old m → ⊥) → IsClear Takes 0 (m + 1)
+  takes_next next m clear h none =
+      record {
+        after = omega arith;
+        none = λ n ge lt p. elim (cases_lt n m) [
+          | inl before ↦ none_to next m n clear h before p
+          | inr past ↦ (let is : n ≡ m = omega (arith, lt, past) in none (subst (λ i. 0 < room old i) is p.0))
+        ];
+      }
+
+  pub takes_none : (next : ℕ) → IsClear Takes 0 next → IsLeast Writable next None → IsLeast Takes 0 None
+  takes_none next clear h =
+      least_by Takes 0 None (λ n is. absurd (none-some n is))
+      (λ n ge before p. elim (cases_lt n next) [
+        | inl lt ↦ clear.none n ge lt p
+        | inr past ↦ none_before Writable next None h n past tt (may_write n p)
+      ])

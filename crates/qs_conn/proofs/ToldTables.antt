@@ -1,0 +1,81 @@
+-- What it is to a table of marks that one of them is set or taken away.
+use Rattle.std.proofs.Common.{◌≡◌, ℕ, ◌+◌, ◌-◌, ◌/◌, ◌%◌, ◌<◌, ◌≤◌, ◌==◌, ◌&&◌, ◌||◌, not, Bool, true, false, List, ◌++◌, replicate, length, get_or, unwrap_or, refl, sym, ap, ◌∙◌, arith, inl, inr}
+use Rattle.std.proofs.Math.ListN.{set}
+use Rattle.std.proofs.lemmas.Bool.{cases_eq, eqb-true, eqb-false, eq-eqb}
+use Rattle.std.proofs.lemmas.Grind.{get_or-set_at}
+use Rattle.std.proofs.lemmas.List.{length-append, length-replicate, length-set, get_or_past, get_or-set_other}
+use Rattle.std.proofs.lemmas.Option.{unwrap_or-slice_get}
+use Rattle.qs_machine.specs.Heard.{is_told}
+use Rattle.qs_machine.specs.Sums.{tables_of}
+use Rattle.qs_machine.proofs.TableEdits.{lookup_is}
+use Rattle.qs_conn.specs.Marks.{is_marked, IsMarkedBeside, IsUnmarkedBeside}
+use Rattle.qs_conn.proofs.Words.{padded}
+
+-- One row
+
+pub marked_beside : (old mid new : List Bool) (n : ℕ) → mid ≡ old ++ replicate (n + 1 - length old) false → new ≡ set mid n true → IsMarkedBeside n old new
+marked_beside old mid new n opened is i = go (i == n) refl
+  where
+    go : (b : Bool) → (i == n) ≡ b → is_marked new i ≡ (b || is_marked old i)
+    go true e = ap (λ xs. is_marked xs i) is ∙ get_or-set_at mid n i true false (eqb-true i n e) (omega (arith, ap length opened, length-append old (replicate (n + 1 - length old) false), length-replicate (n + 1 - length old) false))
+    go false e = ap (λ xs. is_marked xs i) is ∙ get_or-set_other mid n i true false (eqb-false i n e) ∙ ap (λ xs. is_marked xs i) opened ∙ padded old (n + 1 - length old) i false
+
+pub unmarked_beside : (old new : List Bool) (n : ℕ) → n < length old → new ≡ set old n false → IsUnmarkedBeside n old new
+unmarked_beside old new n there is i = go (i == n) refl
+  where
+    go : (b : Bool) → (i == n) ≡ b → is_marked new i ≡ (not b && is_marked old i)
+    go true e = ap (λ xs. is_marked xs i) is ∙ get_or-set_at old n i false false (eqb-true i n e) there
+    go false e = ap (λ xs. is_marked xs i) is ∙ get_or-set_other old n i false false (eqb-false i n e)
+
+-- an index past the last has no mark
+pub none_unmarked : (old : List Bool) (n : ℕ) → length old ≤ n → IsUnmarkedBeside n old old
+none_unmarked old n past i = go (i == n) refl
+  where
+    go : (b : Bool) → (i == n) ≡ b → is_marked old i ≡ (not b && is_marked old i)
+    go true e = let at = eqb-true i n e in get_or_past old i false (omega (arith, past, at))
+    go false e = refl
+
+-- Four rows
+
+told_at : (ls : List (List Bool)) (m k : ℕ) (d : List Bool) → length ls ≡ 4 → k ≡ m % 4 → is_told (tables_of ls) m ≡ is_marked (get_or ls k d) (m / 4)
+told_at ls m k d len kind = ap (λ o. unwrap_or o false) (lookup_is ls m k (m / 4) d len kind refl) ∙ unwrap_or-slice_get (get_or ls k d) (m / 4) false
+
+pub told_read : (ls : List (List Bool)) (n k i : ℕ) (d : List Bool) (b : Bool) → length ls ≡ 4 → k ≡ n % 4 → i ≡ n / 4 → b ≡ is_marked (get_or ls k d) i → b ≡ is_told (tables_of ls) n
+told_read ls n k i d b len kind index is = is ∙ ap (is_marked (get_or ls k d)) index ∙ sym (told_at ls n k d len kind)
+
+same_test : (m n : ℕ) → m % 4 ≡ n % 4 → (m / 4 == n / 4) ≡ (m == n)
+same_test m n kind = go (m == n) refl
+  where
+    go : (b : Bool) → (m == n) ≡ b → (m / 4 == n / 4) ≡ b
+    go true e = let at = eqb-true m n e in eq-eqb (m / 4) (n / 4) (omega (arith, at))
+    go false e = apart (m / 4 == n / 4) refl
+      where
+        apart : (c : Bool) → (m / 4 == n / 4) ≡ c → c ≡ false
+        apart true f = let at = eqb-true (m / 4) (n / 4) f in absurd (eqb-false m n e (omega (arith, at, kind)))
+        apart false f = refl
+
+not_same : (m n : ℕ) → (m ≡ n → ⊥) → (m == n) ≡ false
+not_same m n apart = go (m == n) refl
+  where
+    go : (b : Bool) → (m == n) ≡ b → b ≡ false
+    go true e = absurd (apart (eqb-true m n e))
+    go false e = refl
+
+module _ (f : Bool → Bool → Bool) (keeps : (b : Bool) → f false b ≡ b) (ls : List (List Bool)) (n k i : ℕ) (d new : List Bool) (len : length ls ≡ 4) (kind : k ≡ n % 4) (index : i ≡ n / 4) (row : (j : ℕ) → is_marked new j ≡ f (j == i) (is_marked (get_or ls k d) j)) where
+  pub table_changed : (m : ℕ) → is_told (tables_of (set ls k new)) m ≡ f (m == n) (is_told (tables_of ls) m)
+  table_changed m =
+      elim (cases_eq (m % 4) k) [
+        | inl same ↦
+            told_at (set ls k new) m k d (length-set ls k new ∙ len) (sym same)
+            ∙ ap (λ xs. is_marked xs (m / 4)) (get_or-set_at ls k k new d refl (omega (arith, len, kind)))
+            ∙ row (m / 4)
+            ∙ ap (λ j. f (m / 4 == j) (is_marked (get_or ls k d) (m / 4))) index
+            ∙ ap (λ b. f b (is_marked (get_or ls k d) (m / 4))) (same_test m n (same ∙ kind))
+            ∙ ap (f (m == n)) (sym (told_at ls m k d len (sym same)))
+        | inr differs ↦
+            told_at (set ls k new) m (m % 4) d (length-set ls k new ∙ len) refl
+            ∙ ap (λ xs. is_marked xs (m / 4)) (get_or-set_other ls k (m % 4) new d differs)
+            ∙ sym (told_at ls m (m % 4) d len refl)
+            ∙ sym (keeps (is_told (tables_of ls) m))
+            ∙ ap (λ b. f b (is_told (tables_of ls) m)) (sym (not_same m n (λ at. differs (omega (arith, at, kind)))))
+      ]

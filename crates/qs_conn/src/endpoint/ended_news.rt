@@ -1,0 +1,97 @@
+//! Which streams came to their end, of which an owner wasn't told.
+ghost use Rattle.std.specs.Prelude.{◌≡◌, ◌≤◌, ◌<◌, ◌^◌, ◌/◌, ℕ, true, false, length, IfSome};
+ghost use Rattle.qs_machine.specs.Tables.{type_of};
+ghost use Rattle.qs_machine.specs.Heard.{is_told};
+ghost use Rattle.qs_machine.specs.News.{IsLeast, IsEnded};
+ghost use Rattle.qs_conn.specs.Marks.{IsBefore, IsUntold, IsUntoldOf, is_marked, both};
+
+use super::{Endpoint, is_uni, role_bit};
+use crate::marks::{Marks, least};
+use crate::places::index_from;
+use crate::told_streams::ToldStreams;
+use qs_wire::StreamId;
+
+impl Endpoint {
+    /// The least stream whose every half here came to its end and that wasn't told (RFC 9000, section 3).
+    pub(crate) fn next_ended_untold(&self, told: &ToldStreams) -> Option<StreamId>
+        ensures { IsLeast (IsUntold (IsEnded self.now) told.now) 0 result }
+    {
+        let bidi = least(
+            self.next_ended_untold_of(0, told),
+            self.next_ended_untold_of(1, told),
+        );
+        let uni = least(
+            self.next_ended_untold_of(2, told),
+            self.next_ended_untold_of(3, told),
+        );
+        match least(bidi, uni) {
+            Some(number) => StreamId::new(number),
+            None => None,
+        }
+    }
+
+    // The least such number among the streams of a type.
+    fn next_ended_untold_of(&self, stream_type: usize, told: &ToldStreams) -> Option<u64>
+        requires { stream_type < 4 }
+        ensures least { IsLeast (IsUntoldOf (IsEnded self.now) told.now stream_type) 0 result }
+        ensures small { IfSome result (λ n. n < 2 ^ 62) }
+    {
+        let mut next = 0;
+        while let Some(stream) = self.next_ended_marked(stream_type, told, next) {
+            if self.has_ended(stream) {
+                return Some(stream.value());
+            }
+            next = stream.value() + 1;
+        }
+        None
+    }
+
+    // The least number from one on of a stream that may be over and wasn't told. None of those between is.
+    fn next_ended_marked(
+        &self,
+        stream_type: usize,
+        told: &ToldStreams,
+        from: u64,
+    ) -> Option<StreamId>
+        requires stream_type { stream_type < 4 }
+        requires from { from ≤ 2 ^ 62 }
+        ensures found { IfSome result (λ n. (from ≤ n) × (n < 2 ^ 62) × (type_of n ≡ stream_type) × (is_told told.now n ≡ false)) }
+        ensures none { (n : ℕ) → from ≤ n → IsBefore n result → IsUntoldOf (IsEnded self.now) told.now stream_type n → ⊥ }
+    {
+        let (marks, others) = self.ended_marks(stream_type);
+        let first = index_from(stream_type, from);
+        let index = marks.next_untold(others, told.of_type(stream_type), first)?;
+        StreamId::new((index * 4 + stream_type) as u64)
+    }
+
+    // The marks of both halves of the streams of a type, by index, or twice those of the only half. One that is over has both.
+    fn ended_marks(&self, stream_type: usize) -> (&Marks, &Marks)
+        requires { stream_type < 4 }
+        ensures none { (n : ℕ) → type_of n ≡ stream_type → is_marked (both result.0.now result.1.now) (n / 4) ≡ false → IsEnded self.now n → ⊥ }
+        ensures few { length result.0.now ≤ 2 ^ 60 }
+    {
+        let receiving = self.core.recvs.ended_marks(stream_type);
+        let sending = self.core.outbox.ended_marks(stream_type);
+        if stream_type < 2 {
+            (receiving, sending)
+        } else if stream_type % 2 == role_bit(self.core.limits.role) {
+            (sending, sending)
+        } else {
+            (receiving, receiving)
+        }
+    }
+
+    // Whether every half of a stream here came to its end.
+    fn has_ended(&self, stream: StreamId) -> bool
+        ensures is { result ≡ true → IsEnded self.now stream }
+        ensures not { result ≡ false → IsEnded self.now stream → ⊥ }
+    {
+        if !is_uni(stream) {
+            self.core.recvs.has_ended(stream) && self.core.outbox.has_ended(stream)
+        } else if self.is_own(stream) {
+            self.core.outbox.has_ended(stream)
+        } else {
+            self.core.recvs.has_ended(stream)
+        }
+    }
+}

@@ -1,0 +1,123 @@
+//! What of an end is news to its owner.
+ghost use Rattle.std.specs.Prelude.{◌≡◌, ◌<◌, ◌^◌, ◌↔◌, IsTrue, true, false, is_some, ℕ, None, IfSome, IfNone, Some};
+ghost use Rattle.qs_send.specs.Lane.{SendLane};
+ghost use Rattle.qs_machine.specs.Tables.{lookup};
+ghost use Rattle.qs_machine.specs.Asking.{room, stopped_with};
+ghost use Rattle.qs_machine.specs.Credit.{send_ended};
+ghost use Rattle.qs_machine.specs.Heard.{Hearing, IsNextOpened, MayOpen, is_cut_short, WasResetAcked, is_told, wants};
+ghost use Rattle.qs_machine.specs.News.{IsLeast, IsReadable, IsEnded, IsHeld};
+ghost use Rattle.qs_conn.specs.ByDir.{IsFirstDir};
+ghost use Rattle.qs_conn.specs.Hearing.{next_of_peer};
+
+use super::Endpoint;
+use crate::by_dir::ByDir;
+use crate::marks::least;
+use crate::recv_marks::RecvTask;
+use crate::told_streams::ToldStreams;
+use qs_calls::News;
+use qs_wire::{Dir, StreamId};
+
+impl Endpoint {
+    /// The least stream of the peer's that is open and wasn't heard of, where so many of each direction were.
+    pub(crate) fn next_opened(&self, heard: ByDir<u64>) -> Option<StreamId>
+        ensures { (h : Hearing) → h.opened_bidi ≡ heard.bidi → h.opened_uni ≡ heard.uni → IsLeast (IsNextOpened self.now h) 0 result }
+    {
+        let bidi = self.next_opened_of(Dir::Bidi, heard.bidi);
+        let uni = self.next_opened_of(Dir::Uni, heard.uni);
+        match least(bidi, uni) {
+            Some(number) => StreamId::new(number),
+            None => None,
+        }
+    }
+
+    // The next one of a direction.
+    fn next_opened_of(&self, dir: Dir, heard: u64) -> Option<u64>
+        ensures value { result ≡ next_of_peer self.now dir heard }
+        ensures small { IfSome result (λ n. n < 2 ^ 62) }
+    {
+        let stream_type = self.peer_type(dir);
+        if heard >= self.opened_count(stream_type) as u64 {
+            return None;
+        }
+        Some(heard * 4 + stream_type as u64)
+    }
+
+    /// The least stream at which a read of one byte tells something new, of those without a mark.
+    pub(crate) fn next_readable_untold(&self, told: &ToldStreams) -> Option<StreamId>
+        ensures { IsLeast (λ n. IsReadable self.now n × (is_told told.now n ≡ false)) 0 result }
+    {
+        if self.is_read_no_more() {
+            return None;
+        }
+        self.core.recvs.next_untold(RecvTask::Readable, told)
+    }
+
+    /// The least stream that takes a byte, of those with a mark.
+    pub(crate) fn next_writable_of(&self, short: &ToldStreams) -> Option<StreamId>
+        ensures { IsLeast (λ n. (0 < room self.now n) × (is_told short.now n ≡ true)) 0 result }
+    {
+        let mut next = 0;
+        while let Some(stream) = self.core.outbox.next_short(short, next) {
+            if self.room(stream) > 0 {
+                return Some(stream);
+            }
+            next = stream.value() + 1;
+        }
+        None
+    }
+
+    /// The least stream that the peer stopped, of those without a mark.
+    pub(crate) fn next_stopped_untold(&self, told: &ToldStreams) -> Option<StreamId>
+        ensures { IsLeast (λ n. (is_some (stopped_with self.now n) ≡ true) × (is_told told.now n ≡ false)) 0 result }
+    {
+        self.core.outbox.next_stopped_untold(told)
+    }
+
+    /// The least stream whose sending half came to its end, of those without a mark.
+    pub(crate) fn next_sent_untold(&self, told: &ToldStreams) -> Option<StreamId>
+        ensures { IsLeast (λ n. IsHeld (λ l. send_ended l ≡ true) self.now.sends n × (is_told told.now n ≡ false)) 0 result }
+    {
+        self.core.outbox.next_ended_untold(told)
+    }
+
+    /// A direction of which a stream may be opened, of those that are wanted: bidirectional streams first.
+    pub(crate) fn next_available(&self, wanted: ByDir<bool>) -> Option<Dir>
+        ensures { (h : Hearing) → h.wants_bidi ≡ wanted.bidi → h.wants_uni ≡ wanted.uni → IsFirstDir (λ d. MayOpen self.now d × (wants h d ≡ true)) result }
+    {
+        if self.closed.is_some() {
+            return None;
+        }
+        if wanted.bidi && self.open_left(Dir::Bidi) > 0 {
+            return Some(Dir::Bidi);
+        }
+        if wanted.uni && self.open_left(Dir::Uni) > 0 {
+            return Some(Dir::Uni);
+        }
+        None
+    }
+
+    /// Whether a read of one byte tells something new.
+    pub(crate) fn is_readable(&self, stream: StreamId) -> bool
+        ensures { IsTrue result ↔ IsReadable self.now stream }
+    {
+        if self.is_read_no_more() {
+            return false;
+        }
+        self.core.recvs.is_readable(stream)
+    }
+
+    /// Whether the reset of a stream was acknowledged.
+    pub(crate) fn was_reset_acked(&self, stream: StreamId) -> bool
+        ensures reset { result ≡ true → IsHeld WasResetAcked self.now.sends stream }
+        ensures not { result ≡ false → (l : SendLane) → lookup self.now.sends stream ≡ Some l → l.reset_acked ≡ false }
+    {
+        self.core.outbox.is_reset_acked(stream)
+    }
+
+    /// Whether a write of so many bytes to a stream takes fewer.
+    pub(crate) fn is_cut_short(&self, stream: StreamId, len: usize) -> bool
+        ensures { result ≡ is_cut_short self.now stream len }
+    {
+        self.core.outbox.is_open(stream) && self.room(stream) < len as u64
+    }
+}

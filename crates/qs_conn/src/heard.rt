@@ -1,0 +1,198 @@
+//! What an owner heard of at its end, and what it hears next.
+ghost use Rattle.std.specs.Prelude.{◌≡◌, ◌<◌, ◌^◌, ◌⊎◌, ℕ, true, false, None, Some, Ok, OnOk, OnErr};
+ghost use Rattle.qs_machine.specs.Heard.{heard_nothing, heard_opened, WasResetAcked, IsFirstNews, IsHeardBy, IsNextNews, IsReadOn, WillWrite, with_opened, with_wants};
+ghost use Rattle.qs_machine.specs.News.{IsHeld};
+ghost use Rattle.qs_send.specs.Lane.{SendLane};
+ghost use Rattle.qs_machine.specs.Tables.{lookup, index_of};
+ghost use Rattle.qs_calls.specs.declared.news.News.TheVariants as News;
+ghost use Rattle.qs_wire.specs.Streams.{dir_of};
+
+use crate::by_dir::ByDir;
+use crate::endpoint::Endpoint;
+use crate::places::index_of;
+use crate::told_streams::ToldStreams;
+use qs_calls::News;
+use qs_ranges::NoMemory;
+use qs_wire::{Dir, StreamId};
+use std::alloc::Global;
+use std::marker::Model;
+
+/// What an owner heard of at its end, so that it hears of each piece of news once (RFC 9000, sections 2 to 4).
+///
+/// It stands beside the end and is kept as marks of streams: an end whose owner asks for no news pays nothing for it. Three things the
+/// end doesn't know, so its owner tells them: that it is about to write ([`will_write`](Heard::will_write)), that it waits for a stream
+/// to open ([`wants`](Heard::wants)), and that it read a stream ([`was_read`](Heard::was_read)).
+#[derive(Drop)]
+pub struct Heard {
+    opened: ByDir<u64>,
+    readable: ToldStreams,
+    short: ToldStreams,
+    stopped: ToldStreams,
+    sent: ToldStreams,
+    ended: ToldStreams,
+    wanted: ByDir<bool>,
+}
+
+impl Model for Heard {
+    ghost use Rattle.qs_machine.specs.Heard.{Hearing};
+    ghost use Rattle.qs_conn.specs.Hearing.{hearing_code};
+
+    ghost Value = { Hearing };
+
+    ghost coded = { hearing_code };
+
+    ghost view = { λ h. record {
+      opened_bidi = h.opened.bidi;
+      opened_uni = h.opened.uni;
+      readable = h.readable;
+      short = h.short;
+      stopped = h.stopped;
+      sent = h.sent;
+      ended = h.ended;
+      wants_bidi = h.wanted.bidi;
+      wants_uni = h.wanted.uni;
+    } };
+}
+
+impl Heard {
+    /// Nothing was heard, and nothing is waited for.
+    pub fn new(alloc: Global) -> Heard
+        ensures { result ≡ heard_nothing }
+    {
+        Heard {
+            opened: ByDir::new(0, 0),
+            readable: ToldStreams::new(alloc),
+            short: ToldStreams::new(alloc),
+            stopped: ToldStreams::new(alloc),
+            sent: ToldStreams::new(alloc),
+            ended: ToldStreams::new(alloc),
+            wanted: ByDir::new(false, false),
+        }
+    }
+
+    /// Tells the first piece of news of an end, and notes that it was heard. `None` only where there is none. News of a kind come before
+    /// those of the next, in the order of [`News`], and those of a lower stream first.
+    ///
+    /// `NoMemory` where there was no memory to note it; then nothing changed, and it comes again.
+    #[tactic(auto, using(crate::proofs::FirstNews::first_is_next))]
+    pub fn next_news(&mut self, end: &Endpoint) -> Result<Option<News>, NoMemory>
+        ensures { IsNextNews end.now self.old result self.new }
+    {
+        let answer = self.first(end);
+        self.hear(&answer)?;
+        Ok(answer)
+    }
+
+    /// The owner is about to write so many bytes to a stream. Where it will be cut short, it is news once the stream takes a byte again.
+    ///
+    /// `NoMemory` where there was no memory to note it; then nothing changed.
+    pub fn will_write(
+        &mut self,
+        end: &Endpoint,
+        stream: StreamId,
+        len: usize,
+    ) -> Result<(), NoMemory>
+        ensures { WillWrite end.now stream len self.old result self.new }
+    {
+        if end.is_cut_short(stream, len) {
+            return self.short.tell(stream);
+        }
+        Ok(())
+    }
+
+    /// The owner waits to open a stream of a direction: once it may that is news.
+    pub fn wants(&mut self, dir: Dir)
+        ensures { self.new ≡ with_wants self.old dir true }
+    {
+        self.wanted.set(dir, true);
+    }
+
+    /// The owner read the stream, or stopped it: where nothing is left to read it is news once something is.
+    pub fn was_read(&mut self, end: &Endpoint, stream: StreamId)
+        ensures { IsReadOn end.now stream self.old self.new }
+    {
+        if !end.is_readable(stream) {
+            self.readable.forget(stream);
+        }
+    }
+
+    // The first piece of news.
+    fn first(&self, end: &Endpoint) -> Option<News>
+        ensures { IsFirstNews end.now self.now result }
+    {
+        if let Some(stream) = end.next_opened(self.opened) {
+            return Some(News::Opened(stream));
+        }
+        if let Some(stream) = end.next_readable_untold(&self.readable) {
+            return Some(News::Readable(stream));
+        }
+        if let Some(stream) = end.next_writable_of(&self.short) {
+            return Some(News::Writable(stream));
+        }
+        if let Some(stream) = end.next_stopped_untold(&self.stopped) {
+            return Some(News::Stopped(stream, end.stopped_with(stream)?));
+        }
+        if let Some(stream) = end.next_sent_untold(&self.sent) {
+            return Some(sent_news(end, stream));
+        }
+        if let Some(stream) = end.next_ended_untold(&self.ended) {
+            return Some(News::Ended(stream));
+        }
+        match end.next_available(self.wanted) {
+            Some(dir) => Some(News::Available(dir)),
+            None => None,
+        }
+    }
+
+    // What is told, if anything, is noted.
+    fn hear(&mut self, answer: &Option<News>) -> Result<(), NoMemory>
+        requires { (n : ℕ) → answer.now ≡ Some (News.Opened n) → index_of n ≡ heard_opened self.old (dir_of n) }
+        ensures none { answer.now ≡ None → (result ≡ Ok tt) × (self.new ≡ self.old) }
+        ensures ok { OnOk result ((news : News) → answer.now ≡ Some news → IsHeardBy news self.old self.new) }
+        ensures err { OnErr result (self.new ≡ self.old) }
+    {
+        match *answer {
+            None => Ok(()),
+            Some(News::Opened(stream)) => {
+                self.hear_opened(stream);
+                Ok(())
+            }
+            Some(News::Readable(stream)) => self.readable.tell(stream),
+            Some(News::Writable(stream)) => {
+                self.short.forget(stream);
+                Ok(())
+            }
+            Some(News::Stopped(stream, _code)) => self.stopped.tell(stream),
+            Some(News::Finished(stream)) => self.sent.tell(stream),
+            Some(News::ResetAcked(stream)) => self.sent.tell(stream),
+            Some(News::Ended(stream)) => self.ended.tell(stream),
+            Some(News::Available(dir)) => {
+                self.wanted.set(dir, false);
+                Ok(())
+            }
+        }
+    }
+
+    // The next stream of its direction opened.
+    fn hear_opened(&mut self, stream: StreamId)
+        requires { index_of stream ≡ heard_opened self.old (dir_of stream) }
+        ensures { self.new ≡ with_opened self.old (dir_of stream) }
+    {
+        let count = index_of(stream) as u64 + 1;
+        match stream.dir() {
+            Dir::Bidi => self.opened.bidi = count,
+            Dir::Uni => self.opened.uni = count,
+        }
+    }
+}
+
+// The news of a sending half that came to its end.
+fn sent_news(end: &Endpoint, stream: StreamId) -> News
+    ensures { (result ≡ News.ResetAcked stream) × IsHeld WasResetAcked end.now.sends stream ⊎ (result ≡ News.Finished stream) × ((l : SendLane) → lookup end.now.sends stream ≡ Some l → l.reset_acked ≡ false) }
+{
+    if end.was_reset_acked(stream) {
+        News::ResetAcked(stream)
+    } else {
+        News::Finished(stream)
+    }
+}

@@ -1,0 +1,63 @@
+-- Of laws.
+-- What is no news, and what an owner didn't hear by it (RFC 9000, sections 2.2 to 2.4, 3 and 4.6).
+use Rattle.std.specs.Prelude.{◌≡◌, ℕ, true, Option, None, Some, Ok, Err}
+use Rattle.qs_ranges.specs.declared.NoMemory.{NoMemory}
+use Rattle.qs_wire.specs.declared.stream_id.Dir.TheVariants.{Bidi, Uni}
+use Rattle.qs_calls.specs.declared.news.News.TheVariants.{Opened, Readable, Writable, Stopped, Finished, ResetAcked, Ended, Available}
+use Rattle.qs_machine.specs.Heard.{Hearing, heard_nothing, IsNews, IsFirstNews, IsHeardBy, WillWrite, IsReadOn}
+use Rattle.qs_machine.specs.SmallEnds.{client_with, server_with, only, begun, finished, reset_half, fresh, all_came}
+use Rattle.qs_machine.specs.ExclusionsOwner.{over}
+
+-- an owner that heard of the peer's first stream, and of nothing else
+abbrev pub heard_one : Hearing
+heard_one = record heard_nothing { opened_bidi = 1 }
+
+-- that is no news
+pub record NoNews : Type 0 where
+  -- a stream that was heard of, one of its own, or one that isn't open, opens
+  pub heard_of : IsNews (server_with fresh) heard_one (Opened 0) → ⊥
+  pub own : IsNews (client_with begun) heard_nothing (Opened 0) → ⊥
+  pub unopened : IsNews (server_with fresh) heard_one (Opened 4) → ⊥
+  -- one is readable that was heard of, or to which nothing came
+  pub read_later : IsNews (server_with all_came) (record heard_one { readable = only true }) (Readable 0) → ⊥
+  pub nothing_came : IsNews (server_with fresh) heard_one (Readable 0) → ⊥
+  -- one takes a byte that nobody waits for, or has no room
+  pub unasked : IsNews (client_with begun) heard_nothing (Writable 0) → ⊥
+  pub full : IsNews (client_with (record begun { buffer = 0 })) (record heard_nothing { short = only true }) (Writable 0) → ⊥
+  -- one was stopped that wasn't, or with another code
+  pub not_stopped : IsNews (client_with begun) heard_nothing (Stopped 0 7) → ⊥
+  pub other_code : IsNews (client_with (record reset_half { stopped = Some 7 })) heard_nothing (Stopped 0 8) → ⊥
+  -- all is acknowledged of one whose end isn't, or that was reset
+  pub unacked : IsNews (client_with finished) heard_nothing (Finished 0) → ⊥
+  pub was_reset : IsNews (client_with (record reset_half { reset_acked = true })) heard_nothing (Finished 0) → ⊥
+  -- the reset of one that wasn't reset is acknowledged
+  pub not_reset : IsNews (client_with finished) heard_nothing (ResetAcked 0) → ⊥
+  -- a stream may be opened for which nobody waits, or at a closed end
+  pub not_wanted : IsNews (client_with begun) heard_nothing (Available Bidi) → ⊥
+  pub closed : IsNews (over (client_with begun)) (record heard_nothing { wants_bidi = true }) (Available Bidi) → ⊥
+
+-- the first piece of news isn't told so
+pub record NotFirst : Type 0 where
+  -- where there is some, as none
+  pub kept_back : IsFirstNews (server_with all_came) heard_nothing None → ⊥
+  -- a stream is readable before it opened
+  pub out_of_order : IsFirstNews (server_with all_came) heard_nothing (Some (Readable 0)) → ⊥
+
+-- so it isn't noted
+pub record NotNoted : Type 0 where
+  -- what was told isn't kept, or of another kind
+  pub unkept : IsHeardBy (Readable 0) heard_one heard_one → ⊥
+  pub another : IsHeardBy (Readable 0) heard_one (record heard_one { ended = only true }) → ⊥
+  -- a stream opened, and two were heard of
+  pub two_opened : IsHeardBy (Opened 0) heard_nothing (record heard_nothing { opened_bidi = 2 }) → ⊥
+  -- a write that is cut short isn't kept
+  pub short : WillWrite (client_with begun) 0 4000 heard_nothing (Ok tt) heard_nothing → ⊥
+  -- memory is asked for a write that isn't
+  pub whole : (refused : NoMemory) → WillWrite (client_with begun) 0 1 heard_nothing (Err refused) heard_nothing → ⊥
+  -- a stream that was read empty isn't heard of again
+  pub read_empty : IsReadOn (server_with fresh) 0 (record heard_one { readable = only true }) (record heard_one { readable = only true }) → ⊥
+
+pub record NotHeard : Type 0 where
+  pub news : NoNews
+  pub first : NotFirst
+  pub noted : NotNoted
