@@ -1,5 +1,5 @@
 /* Two stacks that own their packets, over a link that drops every fifth one of each. Packet numbers, ACKs, PINGs and a HANDSHAKE_DONE are
- * theirs; their ends see frames and tokens alone. */
+ * theirs; their ends see frames and tokens alone, and tell by events when there is something to read or to write. */
 #include <stdio.h>
 #include <stdlib.h>
 #include <string.h>
@@ -9,6 +9,7 @@
 enum {
   TOTAL = 1 << 20,
   ROOM = 1200,
+  AT_ONCE = 8,  /* how many frames of a packet are handed in at once */
   MOST = 32,    /* how many packets may be under way, and how many ranges an ACK has */
   REORDERED = 3 /* how many later packets are acknowledged before one counts as lost (RFC 9002, section 6.1.1) */
 };
@@ -141,28 +142,41 @@ static void note(struct stack *stack, uint64_t number) {
   stack->came[0].largest = number;
 }
 
-/* A frame of the peer's: the stack's own, or one for the end. */
-static void take_frame(struct stack *stack, const gv_frame *frame) {
-  gv_taken taken = GV_TAKEN_TOOK;
-  if (frame->kind == GV_FRAME_ACK) {
-    take_ack(stack, frame);
-    return;
+/* Whether a frame of the peer's is the stack's own, and then takes it. */
+static bool is_own(struct stack *stack, const gv_frame *frame) {
+  switch (frame->kind) {
+    case GV_FRAME_ACK: take_ack(stack, frame); return true;
+    case GV_FRAME_HANDSHAKE_DONE: stack->is_done = stack->owes_ack = true; return true;
+    case GV_FRAME_PING: stack->owes_ack = true; return true;
+    default: stack->owes_ack = true; return false;
   }
-  stack->owes_ack = true;
-  want(gv_take_frame(stack->end, frame, &taken), GV_OK, "take a frame");
-  if (taken != GV_TAKEN_NOT_OURS) return;
-  if (frame->kind == GV_FRAME_HANDSHAKE_DONE) stack->is_done = true;
-  else want(frame->kind == GV_FRAME_PING ? GV_OK : GV_INVALID, GV_OK, "a frame that this stack has no use for");
+}
+
+/* Frames of the peer's are handed to the end. */
+static void hand_in(struct stack *stack, const gv_frame *frames, size_t count) {
+  gv_taken taken = GV_TAKEN_NOT_OURS;
+  size_t went = 0;
+  if (count == 0) return;
+  want(gv_take_frames(stack->end, frames, count, &went, &taken), GV_OK, "take frames");
+  want(taken == GV_TAKEN_NOT_OURS ? GV_INVALID : GV_OK, GV_OK, "a frame that this stack has no use for");
 }
 
 /* Takes a packet in. It counts as one that came, and so is acknowledged, only once the end took each of its frames. */
 static void take(struct stack *stack, const struct packet *packet) {
   gv_frames frames = {packet->payload, packet->len, 0};
-  gv_frame frame = {.size = sizeof frame};
+  gv_frame came[AT_ONCE];
   gv_fault fault = {.size = sizeof fault};
   gv_status status;
-  while ((status = gv_frames_next(&frames, &frame, &fault)) == GV_OK) take_frame(stack, &frame);
+  size_t count = 0;
+  for (size_t i = 0; i < AT_ONCE; i++) came[i].size = sizeof *came;
+  while ((status = gv_frames_next(&frames, &came[count], &fault)) == GV_OK) {
+    if (!is_own(stack, &came[count])) count++;
+    if (count < AT_ONCE) continue;
+    hand_in(stack, came, count);
+    count = 0;
+  }
   want(status, GV_NONE, "a payload");
+  hand_in(stack, came, count);
   note(stack, packet->number);
 }
 
@@ -179,23 +193,51 @@ static void carry(struct stack *from, struct stack *to) {
 
 static uint8_t byte_at(size_t offset) { return (uint8_t)(offset * 31 + (offset >> 8)); }
 
-static size_t write_some(gv_endpoint *end, uint64_t stream, size_t written) {
+/* Writes until a write is cut short, or all is written. */
+static void write_some(gv_endpoint *end, uint64_t stream, size_t *written) {
   uint8_t bytes[4096];
-  size_t count = 0, len = TOTAL - written < sizeof bytes ? TOTAL - written : sizeof bytes;
-  if (len == 0) return written;
-  for (size_t i = 0; i < len; i++) bytes[i] = byte_at(written + i);
-  want(gv_write(end, stream, bytes, len, &count), GV_OK, "write");
-  if (written + count == TOTAL) want(gv_finish(end, stream), GV_OK, "finish");
-  return written + count;
+  size_t count, len;
+  do {
+    len = TOTAL - *written < sizeof bytes ? TOTAL - *written : sizeof bytes;
+    for (size_t i = 0; i < len; i++) bytes[i] = byte_at(*written + i);
+    want(gv_write(end, stream, bytes, len, &count), GV_OK, "write");
+    *written += count;
+  } while (count == len && *written < TOTAL);
+  if (*written == TOTAL) want(gv_finish(end, stream), GV_OK, "finish");
 }
 
-/* Reads what came, each byte of which is checked. */
+static void check(const uint8_t *bytes, size_t len, size_t *got) {
+  for (size_t i = 0; i < len; i++)
+    if (bytes[i] != byte_at((*got)++)) want(GV_INVALID, GV_OK, "byte");
+}
+
+/* What came is read where it lies, and each byte of it is checked. */
 static void read_some(gv_endpoint *end, uint64_t stream, size_t *got) {
-  uint8_t bytes[4096];
+  gv_peeked next = {.size = sizeof next};
   size_t count = 0;
-  while (gv_read(end, stream, bytes, sizeof bytes, &count, NULL) == GV_OK)
-    for (size_t i = 0; i < count; i++)
-      if (bytes[i] != byte_at((*got)++)) want(GV_INVALID, GV_OK, "byte");
+  bool at_end = false;
+  while (gv_peek(end, stream, &next, NULL) == GV_OK) {
+    check(next.front, next.front_len, got);
+    check(next.back, next.back_len, got);
+    want(gv_consume(end, stream, next.front_len + next.back_len, &count, &at_end, NULL), GV_OK, "consume");
+  }
+}
+
+struct transfer {
+  size_t written, got;
+  bool is_received; /* all that was sent is acknowledged, and its end */
+};
+
+/* Does what an end tells that there is to do. */
+static void hear(gv_endpoint *end, struct transfer *transfer) {
+  gv_event event = {.size = sizeof event};
+  gv_status status;
+  while ((status = gv_next_event(end, &event)) == GV_OK) {
+    if (event.kind == GV_EVENT_READABLE) read_some(end, event.stream, &transfer->got);
+    if (event.kind == GV_EVENT_WRITABLE) write_some(end, event.stream, &transfer->written);
+    if (event.kind == GV_EVENT_FINISHED) transfer->is_received = true;
+  }
+  want(status, GV_NONE, "events");
 }
 
 static void begin(struct stack *stack, gv_role role) {
@@ -208,28 +250,23 @@ static void begin(struct stack *stack, gv_role role) {
   stack->owes_done = role == GV_ROLE_SERVER;
 }
 
-/* Whether all that was sent on a stream is acknowledged, and its end. */
-static bool is_received(const gv_endpoint *end, uint64_t stream) {
-  gv_sending half = {.size = sizeof half};
-  return gv_sending_report(end, stream, &half) == GV_OK && half.state == GV_SEND_STATE_DATA_RECVD;
-}
-
 int main(void) {
   struct stack client, server;
   uint64_t stream = 0;
-  size_t written = 0, got = 0;
+  struct transfer transfer = {0, 0, false};
   begin(&client, GV_ROLE_CLIENT);
   begin(&server, GV_ROLE_SERVER);
   want(gv_open(client.end, GV_DIR_UNI, &stream, NULL), GV_OK, "open");
-  while (!is_received(client.end, stream) || !client.is_done) {
-    written = write_some(client.end, stream, written);
+  write_some(client.end, stream, &transfer.written);
+  while (!transfer.is_received || !client.is_done) {
     for (int turn = 0; turn < 4; turn++) carry(&client, &server);
     carry(&server, &client);
-    read_some(server.end, stream, &got);
+    hear(client.end, &transfer);
+    hear(server.end, &transfer);
   }
   gv_endpoint_free(client.end);
   gv_endpoint_free(server.end);
-  if (got != TOTAL) return 1;
-  printf("%zu bytes came, each right, in %u packets, of which %u were dropped\n", got, sent, dropped);
+  if (transfer.got != TOTAL) return 1;
+  printf("%zu bytes came, each right, in %u packets, of which %u were dropped\n", transfer.got, sent, dropped);
   return 0;
 }

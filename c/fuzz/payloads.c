@@ -146,6 +146,40 @@ static void hand_in(gv_endpoint *end, input *in) {
   in->len -= len;
 }
 
+/* Hands in the frames of some bytes together, up to the first fault. */
+static void hand_in_together(gv_endpoint *end, input *in) {
+  enum { TOGETHER = 24 };
+  size_t len = 8 * (size_t)next_byte(in), count = 0, went = 0;
+  if (len > in->len) len = in->len;
+  gv_frames frames = {in->at, len, 0};
+  gv_frame frame[TOGETHER];
+  gv_fault fault = {.size = sizeof fault};
+  gv_taken taken = GV_TAKEN_TOOK;
+  for (size_t i = 0; i < TOGETHER; i++) frame[i].size = sizeof *frame;
+  while (count < TOGETHER && gv_frames_next(&frames, &frame[count], &fault) == GV_OK) count++;
+  gv_status status = gv_take_frames(end, frame, count, &went, &taken);
+  check(status == GV_OK ? went == count : status == GV_PROTOCOL_ERROR || status == GV_CLOSED_BY_PEER, "frames are handed in");
+  check(status == GV_OK || is_closed(end), "an end that refuses a frame is closed");
+  in->at += len;
+  in->len -= len;
+}
+
+/* A look at a stream shows what a read gives. */
+static void read_some(gv_endpoint *end, uint64_t stream, size_t size) {
+  uint8_t into[MOST];
+  gv_peeked peeked = {.size = sizeof peeked};
+  uint64_t number = 0, told = 0;
+  size_t count = 0;
+  gv_status looked = gv_peek(end, stream, &peeked, &told);
+  uint8_t first = looked == GV_OK ? peeked.front[0] : 0, last = 0;
+  if (looked == GV_OK) last = peeked.back_len > 0 ? peeked.back[peeked.back_len - 1] : peeked.front[peeked.front_len - 1];
+  size_t all = peeked.front_len + peeked.back_len;
+  gv_status status = gv_read(end, stream, into, size, &count, &number);
+  if (size == 0) return;
+  check(status == looked && number == told, "a look answers as a read");
+  check(status != GV_OK || (into[0] == first && (all > count || into[all - 1] == last)), "a look shows what is read");
+}
+
 /* A token is told. */
 static void tell(gv_endpoint *end, uint64_t number, gv_status (*call)(gv_endpoint *, const gv_token *)) {
   gv_token token = {.size = sizeof token};
@@ -156,7 +190,7 @@ static void tell(gv_endpoint *end, uint64_t number, gv_status (*call)(gv_endpoin
 static void fill(gv_endpoint *end, input *in) {
   uint8_t out[MOST];
   unsigned wishes = next_byte(in);
-  gv_fill_request want = {sizeof want, wishes & 1, wishes & 2, wishes & 4, next_byte(in)};
+  gv_fill_request want = {sizeof want, wishes & 1, wishes & 2, wishes & 4, next_byte(in), wishes & 8 ? next_byte(in) : 0};
   gv_filled filled = {.size = sizeof filled};
   size_t room = 4 * (size_t)next_byte(in);
   gv_status status = gv_fill(end, &want, out, room, &filled);
@@ -173,7 +207,6 @@ static void fill(gv_endpoint *end, input *in) {
 
 static void use(gv_endpoint *end, unsigned call, input *in) {
   static const uint8_t zeros[MOST];
-  uint8_t into[MOST];
   uint64_t number, stream = next_number(in);
   size_t count = 0;
   bool ends;
@@ -184,7 +217,7 @@ static void use(gv_endpoint *end, unsigned call, input *in) {
     case 3: (void)gv_finish(end, stream); break;
     case 4: (void)gv_reset(end, stream, next_number(in)); break;
     case 5: (void)gv_stop(end, stream, next_number(in)); break;
-    case 6: (void)gv_read(end, stream, into, 4 * (size_t)next_byte(in), &count, &number); break;
+    case 6: read_some(end, stream, 4 * (size_t)next_byte(in)); break;
     case 7: (void)gv_declare_lost(end, stream); break;
     case 8: (void)gv_claim_number(end, &number); break;
     case 9: (void)gv_consume(end, stream, 4 * (size_t)next_byte(in), &count, &ends, &number); break;
@@ -192,6 +225,7 @@ static void use(gv_endpoint *end, unsigned call, input *in) {
     case 11: fill(end, in); break;
     case 12: tell(end, stream, gv_token_acked); break;
     case 13: tell(end, stream, gv_token_lost); break;
+    case 15: hand_in_together(end, in); break;
     default: close_text(end); break;
   }
 }
@@ -222,7 +256,7 @@ static int run(const uint8_t *bytes, size_t len) {
     } else if (call % 16 < 7) {
       make(end, &in);
     } else {
-      use(end, call / 16 % 15, &in);
+      use(end, call / 16, &in);
     }
     look(end, &was_closed);
   }

@@ -22,7 +22,6 @@
  */
 #ifndef GOTSAVENA_H
 #define GOTSAVENA_H
-
 #include <stdbool.h>
 #include <stddef.h>
 #include <stdint.h>
@@ -35,7 +34,6 @@
 #define GV_VERSION_PATCH 0
 /** The version of this header, as gv_version() tells that of the library: 1.2.3 is 10203. */
 #define GV_VERSION (GV_VERSION_MAJOR * 10000 + GV_VERSION_MINOR * 100 + GV_VERSION_PATCH)
-
 #ifndef GV_API
 #if defined(__GNUC__)
 #define GV_API __attribute__((visibility("default")))
@@ -43,7 +41,6 @@
 #define GV_API
 #endif
 #endif
-
 #ifdef __cplusplus
 extern "C" {
 #endif
@@ -97,6 +94,18 @@ typedef enum gv_switch {
   GV_OFF = 0, /**< it doesn't */
   GV_ON = 1   /**< it does */
 } gv_switch;
+
+/** A side of the connection, as an end sees it. */
+typedef enum gv_closer {
+  GV_CLOSER_US = 0,  /**< this side */
+  GV_CLOSER_PEER = 1 /**< the other one */
+} gv_closer;
+
+/** Of what kind a close is. The codes of the two kinds have nothing to do with each other (section 20). */
+typedef enum gv_close_kind {
+  GV_CLOSE_TRANSPORT = 0,  /**< by the transport: a CONNECTION_CLOSE of type 0x1c, or a time that ran out (sections 10.1 and 19.19) */
+  GV_CLOSE_APPLICATION = 1 /**< by the application: a CONNECTION_CLOSE of type 0x1d (section 19.19) */
+} gv_close_kind;
 
 /** States of sending halves (section 3.1). */
 typedef enum gv_send_state {
@@ -163,6 +172,19 @@ typedef enum gv_taken {
   GV_TAKEN_NOT_OURS = 2   /**< it is of a kind that is the stack's own affair, and changed nothing */
 } gv_taken;
 
+/** What an end tells of by itself, in this order, and of a kind those of a lower stream first; ::GV_EVENT_FINISHED and
+ * ::GV_EVENT_RESET_ACKED are of one kind there. A later version may have more. */
+typedef enum gv_event_kind {
+  GV_EVENT_OPENED = 0,      /**< the peer opened the stream, whether or not gv_accept() gave it out; the first of its events (section 2.1) */
+  GV_EVENT_READABLE = 1,    /**< a read of the stream tells something new: bytes, the end or a reset (sections 2.2 and 3.2) */
+  GV_EVENT_WRITABLE = 2,    /**< a write to the stream was cut short, and now one of a byte is accepted (sections 2.2 and 2.4) */
+  GV_EVENT_STOPPED = 3,     /**< the peer asked for no more of the stream, with this code first (section 3.5) */
+  GV_EVENT_FINISHED = 4,    /**< all that was written was acknowledged, and the end too (section 3.1) */
+  GV_EVENT_RESET_ACKED = 5, /**< the reset of the stream was acknowledged (section 3.1) */
+  GV_EVENT_ENDED = 6,       /**< each half that the stream has here came to its end (section 3) */
+  GV_EVENT_AVAILABLE = 7    /**< a stream of the direction may be opened, where gv_open() was refused for the limit (section 4.6) */
+} gv_event_kind;
+
 /** With so many bytes of room gv_fill() puts something in wherever something may go that it was asked for. */
 #define GV_MIN_FILL 25
 
@@ -170,7 +192,8 @@ typedef enum gv_taken {
 typedef struct gv_endpoint gv_endpoint;
 
 /** The credit that an end grants, and the size of its sending buffers: windows and sizes in bytes, counts in streams. gv_settings_init()
- * sets what stands in parentheses. An end that runs is set anew by gv_set_conn_window(), gv_set_grant() and gv_set_send_buffer(). */
+ * sets what stands in parentheses. An end that runs is set anew by gv_set_conn_window(), gv_set_grant(), gv_set_send_buffer() and
+ * gv_set_stream_window(). */
 typedef struct gv_settings {
   size_t size;            /**< of this struct */
   uint64_t conn_window;   /**< how far all received bytes may run ahead of those taken (section 4.1): 1 to 2^40 (2^20) */
@@ -185,7 +208,7 @@ typedef struct gv_settings {
 } gv_settings;
 
 /** How an end goes about what its owner may choose. gv_tuning_init() sets what stands in parentheses. A window or a grant that
- * gv_set_conn_window() or gv_set_grant() makes greater moves its limit without a wait for a step. */
+ * gv_set_conn_window(), gv_set_stream_window() or gv_set_grant() makes greater moves its limit without a wait for a step. */
 typedef struct gv_tuning {
   size_t size;            /**< of this struct */
   gv_share credit_step;   /**< how much of its window has to be taken until a limit on bytes moves (section 4.2): a share
@@ -235,18 +258,19 @@ typedef struct gv_made {
 
 /** What gv_fill() is to put in: nothing, where all of it is 0. */
 typedef struct gv_fill_request {
-  size_t size;    /**< of this struct */
-  bool items;     /**< control items: limits, resets, STOP_SENDING and what is blocked (section 13.3) */
-  bool streams;   /**< bytes and ends of streams */
-  bool alone;     /**< of the stream first alone; else from it on, and then those below it (section 2.3) */
-  uint64_t first; /**< a stream, below 2^62 */
+  size_t size;       /**< of this struct */
+  bool items;        /**< control items: limits, resets, STOP_SENDING and what is blocked (section 13.3) */
+  bool streams;      /**< bytes and ends of streams */
+  bool alone;        /**< of the stream first alone; else from it on, and then those below it (section 2.3) */
+  uint64_t first;    /**< a stream, below 2^62 */
+  size_t most_bytes; /**< so many bytes of streams at most; 0: as many as fit */
 } gv_fill_request;
 
 /** What was filled in. */
 typedef struct gv_filled {
   size_t size;          /**< of this struct */
   bool has_last_stream; /**< there is a STREAM frame */
-  bool more;            /**< more of what was asked for is due that may go */
+  bool more;            /**< more of what was asked for is due that may go; bytes that most_bytes holds back aren't counted */
   uint64_t token;       /**< the number under which the end keeps it, for gv_token_of(); no packet number of the stack's */
   size_t len;           /**< how many bytes it has */
   uint64_t last_stream; /**< where has_last_stream, the stream of the last STREAM frame, else 0; streams that take turns go on behind it */
@@ -259,6 +283,15 @@ typedef struct gv_token {
   uint64_t first;  /**< the lowest of its numbers */
   uint64_t number; /**< the highest of them */
 } gv_token;
+
+/** A piece of news of an end. */
+typedef struct gv_event {
+  size_t size;        /**< of this struct */
+  gv_event_kind kind; /**< what came about */
+  gv_dir dir;         /**< ::GV_EVENT_AVAILABLE: the direction; else 0 */
+  uint64_t stream;    /**< the stream; 0 for ::GV_EVENT_AVAILABLE */
+  uint64_t code;      /**< ::GV_EVENT_STOPPED: the peer's code; else 0 */
+} gv_event;
 
 /** A sending half. */
 typedef struct gv_sending {
@@ -274,16 +307,27 @@ typedef struct gv_sending {
 
 /** A receiving half. */
 typedef struct gv_receiving {
-  size_t size;         /**< of this struct */
-  gv_recv_state state; /**< its state */
-  bool has_final_size; /**< the final size is known (section 4.5) */
-  bool was_reset;      /**< the peer's reset was taken */
-  uint64_t read_count; /**< how many bytes were read */
-  uint64_t highest;    /**< the final size if known, else one more than the largest received offset, or 0 */
-  uint64_t limit;      /**< how many the peer may send (section 4.1) */
-  uint64_t final_size; /**< where has_final_size, else 0 */
-  uint64_t reset_code; /**< where was_reset, else 0 */
+  size_t size;          /**< of this struct */
+  gv_recv_state state;  /**< its state */
+  bool has_final_size;  /**< the final size is known (section 4.5) */
+  bool was_reset;       /**< the peer's reset was taken */
+  uint64_t read_count;  /**< how many bytes were read */
+  uint64_t highest;     /**< the final size if known, else one more than the largest received offset, or 0 */
+  uint64_t limit;       /**< how many the peer may send (section 4.1) */
+  uint64_t final_size;  /**< where has_final_size, else 0 */
+  uint64_t reset_code;  /**< where was_reset, else 0 */
+  uint64_t was_stopped; /**< 1 where this end stopped it, else 0 (section 3.5) */
+  uint64_t stop_code;   /**< where was_stopped, the first code, else 0 */
 } gv_receiving;
+
+/** The bytes that are next of a stream, where they lie: in one piece of memory, or in two. */
+typedef struct gv_peeked {
+  size_t size;          /**< of this struct */
+  size_t front_len;     /**< how many bytes the first piece has: one at least */
+  size_t back_len;      /**< how many the second has: 0 where there is none */
+  const uint8_t *front; /**< the first piece */
+  const uint8_t *back;  /**< the second, whose bytes follow those of the first */
+} gv_peeked;
 
 /** Why this end closed (section 19.19). */
 typedef struct gv_closing_info {
@@ -489,6 +533,13 @@ GV_API gv_status gv_next_newly_acked(const gv_endpoint *end, const uint8_t *payl
  * so: ::GV_PROTOCOL_ERROR, or ::GV_CLOSED_BY_PEER. ::GV_INVALID, too, where kind or dir is none, or stream isn't below 2^62. */
 GV_API gv_status gv_take_frame(gv_endpoint *end, const gv_frame *frame, gv_taken *taken);
 
+/** Takes in frames of one packet, as gv_take_frame() each of them, one after the other, but that the limits move once, as the call ends
+ * (sections 4.1 and 12.4). The count frames lie behind one another, and have the size that the first one tells. *went is count, and *taken
+ * tells ::GV_TAKEN_TOOK where one of them changed something, else ::GV_TAKEN_UNCHANGED where one was taken. ::GV_NO_MEMORY: the first *went
+ * of them went in, and the others may come again, or all of them; each was handed in alone then. Refused as gv_take_frame() is by the
+ * first frame that is refused, and those before it took effect; but ::GV_INVALID where any of them is so refused: nothing changed. */
+GV_API gv_status gv_take_frames(gv_endpoint *end, const gv_frame *frames, size_t count, size_t *went, gv_taken *taken);
+
 /** Writes frames of what is due and asked for at the front of out, which has any room, and tells it in *filled: never an ACK, which stays
  * due; control items first, then bytes of streams by turns (sections 2.3, 4, 12.4 and 13.3). ::GV_NONE: nothing that is asked for may go,
  * or the room is too little; with GV_MIN_FILL bytes it says that nothing may. ::GV_CONNECTION_CLOSED, ::GV_NUMBERS_EXHAUSTED,
@@ -516,7 +567,8 @@ GV_API gv_status gv_token_lost(gv_endpoint *end, const gv_token *token);
  * @{ */
 
 /** Opens the next stream of a direction, and writes its number to *stream (section 2.1). ::GV_STREAM_LIMIT: the peer allows no more, and
- * *limit, where limit isn't null, is how many it allows. ::GV_CONNECTION_CLOSED, ::GV_NO_MEMORY: nothing changed. */
+ * *limit, where limit isn't null, is how many it allows; gv_next_event() tells once one may be opened. ::GV_CONNECTION_CLOSED,
+ * ::GV_NO_MEMORY: nothing changed. */
 GV_API gv_status gv_open(gv_endpoint *end, gv_dir dir, uint64_t *stream, uint64_t *limit);
 
 /** Gives out each stream that the peer opened, once (section 2.1). ::GV_NONE: there is none. */
@@ -526,8 +578,9 @@ GV_API gv_status gv_accept(gv_endpoint *end, uint64_t *stream);
  * (section 2.1). ::GV_NONE: there is none. */
 GV_API gv_status gv_accept_of(gv_endpoint *end, gv_dir dir, uint64_t *stream);
 
-/** Accepts the front of the bytes for sending, and writes to *count how many (section 2.2). ::GV_CONNECTION_CLOSED, ::GV_NO_SUCH_STREAM,
- * ::GV_WRONG_DIRECTION, ::GV_SENDING_RESET, ::GV_SENDING_FINISHED, ::GV_NO_MEMORY: nothing changed. */
+/** Accepts the front of the bytes for sending, and writes to *count how many (section 2.2): where that is fewer than were handed in,
+ * gv_next_event() tells once more may be written. ::GV_CONNECTION_CLOSED, ::GV_NO_SUCH_STREAM, ::GV_WRONG_DIRECTION, ::GV_SENDING_RESET,
+ * ::GV_SENDING_FINISHED, ::GV_NO_MEMORY: no byte was taken. */
 GV_API gv_status gv_write(gv_endpoint *end, uint64_t stream, const uint8_t *bytes, size_t len, size_t *count);
 
 /** Sets anew how many bytes that aren't acknowledged the stream's sending half keeps at most: 1 to 2^30 (sections 2.2 and 13.3). No byte
@@ -535,6 +588,12 @@ GV_API gv_status gv_write(gv_endpoint *end, uint64_t stream, const uint8_t *byte
  * begins with the setting of the end (gv_settings). ::GV_CONNECTION_CLOSED, ::GV_OUT_OF_RANGE, ::GV_NO_SUCH_STREAM,
  * ::GV_WRONG_DIRECTION: nothing changed. */
 GV_API gv_status gv_set_send_buffer(gv_endpoint *end, uint64_t stream, size_t size);
+
+/** Sets the window of the stream's receiving half anew: 1 to 2^30 bytes (section 4.1). A greater one moves the stream's limit at once, be
+ * it by less than a step, and the next packet tells it. Under a smaller one the limit stands until so much was taken that it moves again:
+ * no limit falls, and none moves once the stream's length is known. A stream that opens later begins with the window of the end
+ * (gv_settings). ::GV_CONNECTION_CLOSED, ::GV_OUT_OF_RANGE, ::GV_NO_SUCH_STREAM, ::GV_WRONG_DIRECTION: nothing changed. */
+GV_API gv_status gv_set_stream_window(gv_endpoint *end, uint64_t stream, uint64_t window);
 
 /** Ends the stream after the bytes that were written so far (section 3.1). Refused as gv_write(), but never for memory. */
 GV_API gv_status gv_finish(gv_endpoint *end, uint64_t stream);
@@ -556,6 +615,11 @@ GV_API gv_status gv_stop_and_forget(gv_endpoint *end, uint64_t stream, uint64_t 
  * ::GV_END_OF_STREAM: all was read. ::GV_RESET_BY_PEER: the peer broke the stream off, and *code, where code isn't null, is its code.
  * Refused as gv_stop() is. */
 GV_API gv_status gv_read(gv_endpoint *end, uint64_t stream, uint8_t *into, size_t size, size_t *count, uint64_t *code);
+
+/** Lends the bytes that are next, where they lie, and takes none: gv_consume() does that (section 2.2). ::GV_OK: *peeked has as many as stand
+ * there in a row, one at least; what lies behind a gap isn't in. They may be read until the next call of this end that isn't a question,
+ * and may not be written. Its other answers, and its refusals, are those of gv_read(). It takes no memory. */
+GV_API gv_status gv_peek(const gv_endpoint *end, uint64_t stream, gv_peeked *peeked, uint64_t *code);
 
 /** Takes the bytes that are next, at most so many, as gv_read() into a slice of that size, and copies none: to pass over what isn't wanted
  * (sections 2.2 and 3.2). ::GV_OK: *count bytes were taken, and *at_end is whether they reach the end, which counts as told then: the
@@ -603,6 +667,23 @@ GV_API gv_status gv_unsent(const gv_endpoint *end, uint64_t stream, uint64_t *co
 /** The lowest offset of a stream that isn't acknowledged, in bytes from its start: all below it are (section 13.3). ::GV_NONE: the stream
  * has no sending half here. */
 GV_API gv_status gv_acked_below(const gv_endpoint *end, uint64_t stream, uint64_t *offset);
+
+/** @}
+ * @name Events
+ * What an end tells of by itself, so that its owner asks no stream in vain: a queue that holds nothing, since each answer is looked for
+ * where it stands. An owner may ask the questions above in its place, or beside it.
+ * @{ */
+
+/** Writes the next event of an end to *event, each once. ::GV_NONE: there is none; what the owner or the peer does next may bring one.
+ * ::GV_NO_MEMORY: there is none for the note that it was told; nothing changed, and it comes again. *event is as things stand now: an
+ * event that no longer holds, as ::GV_EVENT_READABLE of a stream that was read or stopped since, isn't told. An end keeps notes, in
+ * memory of its own, from the first call on, or from the first write that is cut short.
+ *
+ * ::GV_EVENT_READABLE comes again once a stream was read until nothing was left, and more came; until then the stream isn't told again.
+ * ::GV_EVENT_WRITABLE comes for each stream to which gv_write() accepted fewer bytes than it was handed, ::GV_EVENT_AVAILABLE for each
+ * direction of which gv_open() answered ::GV_STREAM_LIMIT, each once until that is so again. The others come at most once of a stream
+ * (sections 2 to 4). */
+GV_API gv_status gv_next_event(gv_endpoint *end, gv_event *event);
 
 /** @}
  * @name Credit
@@ -666,8 +747,13 @@ GV_API gv_status gv_closing(const gv_endpoint *end, gv_closing_info *closing);
  * close, or there is no room for it. */
 GV_API gv_status gv_close_payload(const gv_endpoint *end, uint8_t *out, size_t room, size_t *len);
 
-/** The code with which the peer closed. ::GV_NONE: it didn't (section 10.2). */
+/** The code with which the peer closed by a frame that came to this end. ::GV_NONE: it didn't (section 10.2). */
 GV_API gv_status gv_peer_closed(const gv_endpoint *end, uint64_t *code);
+
+/** Tells the end of a close that the stack above the packets saw or made itself, either side's (sections 10.2 and 19.19). The end is
+ * closed from then on, as after any close, but that gv_closing(), gv_close_payload() and gv_peer_closed() tell nothing of it; gv_receive()
+ * and gv_take_frame() answer ::GV_CLOSED_BY_PEER, or ::GV_PROTOCOL_ERROR where this side closed. One that closed before stays as it is. */
+GV_API gv_status gv_tell_closed(gv_endpoint *end, gv_closer by, gv_close_kind kind, uint64_t code);
 
 /** @}
  * @name Frames

@@ -3,19 +3,7 @@
 #include <stdalign.h>
 #include <string.h>
 
-#include "memory.h"
-#include "proved.h"
-
-struct gv_endpoint {
-  gvp_handle handle;
-  gv_allocator memory;
-  const gv_allocator *outer; /* from where the thread takes memory again once the call ends */
-  uint64_t *told;            /* where gv_receive_telling() has the numbers written */
-  size_t told_room;          /* how many have a place there */
-};
-
-/* What a struct takes up to a field, and it: what it took in the version of which this was the last field. */
-#define UP_TO(type, field) (offsetof(type, field) + sizeof((type *)0)->field)
+#include "calls.h"
 
 /* No later field may stand where a struct of today has nothing. */
 #define ENDS_WITH(type, field) _Static_assert(sizeof(type) == UP_TO(type, field), #type " ends with " #field)
@@ -24,100 +12,16 @@ ENDS_WITH(gv_tuning, epoch);
 ENDS_WITH(gv_limits, streams_uni);
 ENDS_WITH(gv_allocator, release);
 ENDS_WITH(gv_made, len);
-ENDS_WITH(gv_fill_request, first);
+ENDS_WITH(gv_fill_request, most_bytes);
 ENDS_WITH(gv_filled, last_stream);
 ENDS_WITH(gv_token, number);
+ENDS_WITH(gv_event, code);
 ENDS_WITH(gv_sending, reset_code);
-ENDS_WITH(gv_receiving, reset_code);
+ENDS_WITH(gv_receiving, stop_code);
 ENDS_WITH(gv_closing_info, place);
 ENDS_WITH(gv_frame, token);
 ENDS_WITH(gv_fault, place);
-
-enum { MOST_SIZE = 4096, TOKEN_LEN = 16 };
-
-static size_t least(size_t a, size_t b) { return a < b ? a : b; }
-
-static size_t size_of(const void *at) {
-  size_t size;
-  memcpy(&size, at, sizeof size);
-  return size;
-}
-
-/* Whether a caller's struct is there, and has a size that one may have: at least that of version 0.1. */
-static bool is_sized(const void *at, size_t first) { return at != NULL && size_of(at) >= first && size_of(at) <= MOST_SIZE; }
-
-/* Copies a caller's struct. What it hasn't is 0; false where it has something that isn't known here. */
-static bool copy_in(void *to, size_t known, const void *from, size_t first) {
-  static const uint8_t zeros[MOST_SIZE];
-  if (!is_sized(from, first)) return false;
-  size_t size = size_of(from);
-  memset(to, 0, known);
-  memcpy(to, from, least(size, known));
-  return size <= known || memcmp((const uint8_t *)from + known, zeros, size - known) == 0;
-}
-
-/* Copies to a caller's struct what it has room for, but for its size. */
-static void copy_out(void *to, const void *from, size_t known) {
-  size_t skipped = sizeof(size_t);
-  memcpy((uint8_t *)to + skipped, (const uint8_t *)from + skipped, least(size_of(to), known) - skipped);
-}
-
-/* A slice of no bytes may have no address, and the library below wants one. */
-static uint8_t none[1];
-
-static uint64_t no_numbers[1];
-
-static bool is_slice(const void *at, size_t len) { return (at != NULL || len == 0) && len <= (size_t)PTRDIFF_MAX; }
-
-static const uint8_t *read_from(const uint8_t *at, size_t len) { return len == 0 ? none : at; }
-
-static uint8_t *written_to(uint8_t *at, size_t len) { return len == 0 ? none : at; }
-
-/* A call of an end begins: until leave() memory is the end's. A question is no other: its end is const in the header alone. */
-static gvp_handle *enter(const gv_endpoint *end) {
-  gv_endpoint *own = (gv_endpoint *)end;
-  own->outer = gvp_take_from(&own->memory);
-  return &own->handle;
-}
-
-static gv_status leave(const gv_endpoint *end, uint32_t status) {
-  (void)gvp_take_from(end->outer);
-  return (gv_status)status;
-}
-
-/* The shapes of calls that a number or a bool answers. */
-
-static gv_status ask(uint32_t (*call)(gvp_handle *, uint64_t *), const gv_endpoint *end, uint64_t *answer) {
-  uint64_t got = 0;
-  if (end == NULL || answer == NULL) return GV_INVALID;
-  gv_status status = leave(end, call(enter(end), &got));
-  if (status == GV_OK) *answer = got;
-  return status;
-}
-
-static gv_status ask_of(uint32_t (*call)(gvp_handle *, uint64_t, uint64_t *), const gv_endpoint *end, uint64_t of, uint64_t *answer) {
-  uint64_t got = 0;
-  if (end == NULL || answer == NULL) return GV_INVALID;
-  gv_status status = leave(end, call(enter(end), of, &got));
-  if (status == GV_OK) *answer = got;
-  return status;
-}
-
-static gv_status ask_of_dir(uint32_t (*call)(gvp_handle *, uint32_t, uint64_t *), const gv_endpoint *end, gv_dir dir, uint64_t *answer) {
-  uint64_t got = 0;
-  if (end == NULL || answer == NULL) return GV_INVALID;
-  gv_status status = leave(end, call(enter(end), (uint32_t)dir, &got));
-  if (status == GV_OK) *answer = got;
-  return status;
-}
-
-static gv_status ask_whether(uint32_t (*call)(gvp_handle *, bool *), const gv_endpoint *end, bool *answer) {
-  bool got = false;
-  if (end == NULL || answer == NULL) return GV_INVALID;
-  gv_status status = leave(end, call(enter(end), &got));
-  if (status == GV_OK) *answer = got;
-  return status;
-}
+ENDS_WITH(gv_peeked, back);
 
 /* An end. */
 
@@ -196,7 +100,7 @@ gv_status gv_endpoint_new_tuned(gv_role role, const gv_settings *settings, const
   if (allocator != NULL && !take_allocator(&memory, allocator)) return GV_INVALID;
   gv_endpoint *end = memory.allocate(memory.context, sizeof *end, alignof(gv_endpoint));
   if (end == NULL) return GV_NO_MEMORY;
-  gv_endpoint fresh = {{false, NULL}, memory, NULL, no_numbers, 0};
+  gv_endpoint fresh = {{false, NULL}, {false, NULL}, {false, false}, memory, NULL, no_numbers, 0};
   *end = fresh;
   gv_status status = leave(end, gvp_reserve(enter(end)));
   if (status == GV_OK) status = leave(end, gvp_new(enter(end), (uint32_t)role, &own, &chosen, &limits));
@@ -225,6 +129,8 @@ void gv_endpoint_free(gv_endpoint *end) {
   if (end == NULL) return;
   gv_allocator memory = end->memory;
   free_told(end);
+  gvp_heard_drop(enter_heard(end));
+  (void)leave(end, GV_OK);
   gvp_free(enter(end));
   (void)leave(end, GV_OK);
   memory.release(memory.context, end, sizeof *end, alignof(gv_endpoint));
@@ -329,6 +235,31 @@ gv_status gv_next_newly_acked(const gv_endpoint *end, const uint8_t *payload, si
   return status;
 }
 
+/* Events. */
+
+/* What was heard is kept from the first note on; false where there is no memory for it. */
+static bool listens(gv_endpoint *end) { return end->heard.live || leave(end, gvp_heard_new(enter_heard(end))) == GV_OK; }
+
+/* A stream was read, or stopped: where nothing is left to read it is heard of again once something is. */
+static gv_status read_on(gv_endpoint *end, uint64_t stream, gv_status status) {
+  if (end->heard.live) (void)leave(end, gvp_was_read(&end->heard, enter(end), stream));
+  return status;
+}
+
+gv_status gv_next_event(gv_endpoint *end, gv_event *event) {
+  gvp_news got = {0, 0, 0, 0};
+  if (end == NULL || !is_sized(event, UP_TO(gv_event, code))) return GV_INVALID;
+  if (!listens(end)) return GV_NO_MEMORY;
+  for (uint32_t dir = GV_DIR_BIDI; dir <= GV_DIR_UNI; dir++) {
+    if (end->wants[dir]) (void)leave(end, gvp_wants(enter_heard(end), dir));
+    end->wants[dir] = false;
+  }
+  gv_status status = leave(end, gvp_next_news(&end->heard, enter(end), &got));
+  gv_event told = {0, (gv_event_kind)got.kind, (gv_dir)got.dir, got.stream, got.code};
+  if (status == GV_OK) copy_out(event, &told, sizeof told);
+  return status;
+}
+
 /* Streams. */
 
 gv_status gv_open(gv_endpoint *end, gv_dir dir, uint64_t *stream, uint64_t *limit) {
@@ -336,7 +267,9 @@ gv_status gv_open(gv_endpoint *end, gv_dir dir, uint64_t *stream, uint64_t *limi
   if (end == NULL || stream == NULL) return GV_INVALID;
   gv_status status = leave(end, gvp_open(enter(end), (uint32_t)dir, &got));
   if (status == GV_OK) *stream = got;
-  if (status == GV_STREAM_LIMIT && limit != NULL) *limit = got;
+  if (status != GV_STREAM_LIMIT) return status;
+  end->wants[dir == GV_DIR_UNI] = true;
+  if (limit != NULL) *limit = got;
   return status;
 }
 
@@ -344,17 +277,34 @@ gv_status gv_accept(gv_endpoint *end, uint64_t *stream) { return ask(gvp_accept,
 
 gv_status gv_accept_of(gv_endpoint *end, gv_dir dir, uint64_t *stream) { return ask_of_dir(gvp_accept_of, end, dir, stream); }
 
+/* Where a write will be cut short that is noted; false where there is no memory for it. */
+static bool note_write(gv_endpoint *end, uint64_t stream, size_t len) {
+  uint64_t room = 0;
+  if (gv_room(end, stream, &room) != GV_OK || room >= len) return true;
+  return listens(end) && leave(end, gvp_will_write(&end->heard, enter(end), stream, len)) != GV_NO_MEMORY;
+}
+
 gv_status gv_write(gv_endpoint *end, uint64_t stream, const uint8_t *bytes, size_t len, size_t *count) {
   size_t got = 0;
   if (end == NULL || count == NULL || !is_slice(bytes, len)) return GV_INVALID;
-  gv_status status = leave(end, gvp_write(enter(end), stream, read_from(bytes, len), len, &got));
-  if (status == GV_OK) *count = got;
-  return status;
+  /* Without memory for the note no byte is taken, and a refusal goes before. */
+  bool is_noted = note_write(end, stream, len);
+  size_t most = is_noted ? len : 0;
+  gv_status status = leave(end, gvp_write(enter(end), stream, read_from(bytes, most), most, &got));
+  if (status != GV_OK) return status;
+  if (!is_noted) return GV_NO_MEMORY;
+  *count = got;
+  return GV_OK;
 }
 
 gv_status gv_set_send_buffer(gv_endpoint *end, uint64_t stream, size_t size) {
   if (end == NULL) return GV_INVALID;
   return leave(end, gvp_set_send_buffer(enter(end), stream, size));
+}
+
+gv_status gv_set_stream_window(gv_endpoint *end, uint64_t stream, uint64_t window) {
+  if (end == NULL) return GV_INVALID;
+  return leave(end, gvp_set_stream_window(enter(end), stream, window));
 }
 
 gv_status gv_finish(gv_endpoint *end, uint64_t stream) {
@@ -369,20 +319,31 @@ gv_status gv_reset(gv_endpoint *end, uint64_t stream, uint64_t code) {
 
 gv_status gv_stop(gv_endpoint *end, uint64_t stream, uint64_t code) {
   if (end == NULL) return GV_INVALID;
-  return leave(end, gvp_stop(enter(end), stream, code));
+  return read_on(end, stream, leave(end, gvp_stop(enter(end), stream, code)));
 }
 
 gv_status gv_stop_and_forget(gv_endpoint *end, uint64_t stream, uint64_t code) {
   if (end == NULL) return GV_INVALID;
-  return leave(end, gvp_stop_and_forget(enter(end), stream, code));
+  return read_on(end, stream, leave(end, gvp_stop_and_forget(enter(end), stream, code)));
 }
 
 gv_status gv_read(gv_endpoint *end, uint64_t stream, uint8_t *into, size_t size, size_t *count, uint64_t *code) {
   uint64_t got = 0;
   if (end == NULL || count == NULL || !is_slice(into, size)) return GV_INVALID;
-  gv_status status = leave(end, gvp_read(enter(end), stream, written_to(into, size), size, &got));
+  gv_status status = read_on(end, stream, leave(end, gvp_read(enter(end), stream, written_to(into, size), size, &got)));
   if (status == GV_OK) *count = (size_t)got;
   if (status == GV_RESET_BY_PEER && code != NULL) *code = got;
+  return status;
+}
+
+gv_status gv_peek(const gv_endpoint *end, uint64_t stream, gv_peeked *peeked, uint64_t *code) {
+  gvp_pieces lent = {none, 0, none, 0};
+  uint64_t why = 0;
+  if (end == NULL || !is_sized(peeked, UP_TO(gv_peeked, back))) return GV_INVALID;
+  gv_status status = leave(end, gvp_peek(enter(end), stream, &why, &lent));
+  gv_peeked got = {0, lent.front_len, lent.back_len, lent.front, lent.back};
+  if (status == GV_OK) copy_out(peeked, &got, sizeof got);
+  if (status == GV_RESET_BY_PEER && code != NULL) *code = why;
   return status;
 }
 
@@ -390,7 +351,7 @@ gv_status gv_consume(gv_endpoint *end, uint64_t stream, size_t most, size_t *cou
   uint64_t got = 0;
   bool ends = false;
   if (end == NULL || count == NULL || at_end == NULL) return GV_INVALID;
-  gv_status status = leave(end, gvp_consume(enter(end), stream, most, &got, &ends));
+  gv_status status = read_on(end, stream, leave(end, gvp_consume(enter(end), stream, most, &got, &ends)));
   if (status == GV_OK) {
     *count = (size_t)got;
     *at_end = ends;
@@ -441,6 +402,7 @@ gv_status gv_receiving_report(const gv_endpoint *end, uint64_t stream, gv_receiv
   const gvp_receiving *r = &lane.receiving;
   gv_receiving got = {
     0, (gv_recv_state)r->state, r->has_final_size, r->was_reset, r->read_count, r->highest, r->limit, r->final_size, r->reset_code,
+    r->was_stopped, r->stop_code,
   };
   copy_out(receiving, &got, sizeof got);
   return GV_OK;
@@ -516,6 +478,11 @@ gv_status gv_close_payload(const gv_endpoint *end, uint8_t *out, size_t room, si
   gv_status status = leave(end, gvp_close_payload(enter(end), written_to(out, room), room, &got));
   if (status == GV_OK) *len = got;
   return status;
+}
+
+gv_status gv_tell_closed(gv_endpoint *end, gv_closer by, gv_close_kind kind, uint64_t code) {
+  if (end == NULL) return GV_INVALID;
+  return leave(end, gvp_tell_closed(enter(end), (uint32_t)by, (uint32_t)kind, code));
 }
 
 gv_status gv_peer_closed(const gv_endpoint *end, uint64_t *code) { return ask(gvp_peer_closed, end, code); }
@@ -659,12 +626,64 @@ gv_status gv_take_frame(gv_endpoint *end, const gv_frame *frame, gv_taken *taken
   return status;
 }
 
+/* The frames as the library below has them; false where one of them isn't a struct of the first one's size. */
+static bool take_given(gvp_given *to, const gv_frame *frames, size_t count) {
+  for (size_t i = 0; i < count; i++) {
+    const uint8_t *at = (const uint8_t *)frames + i * size_of(frames);
+    gv_frame f;
+    if (size_of(at) != size_of(frames) || !copy_in(&f, sizeof f, at, UP_TO(gv_frame, token)) || !is_slice(f.bytes, f.len)) return false;
+    gvp_given given = {frame_of(&f), read_from(f.bytes, f.len), f.len};
+    to[i] = given;
+  }
+  return true;
+}
+
+/* Memory was refused somewhere among the frames: each is handed in once more, where those that went in change nothing, up to the one
+ * that finds none. */
+static gv_status take_each(gv_endpoint *end, const gvp_given *given, size_t count, size_t *went) {
+  uint32_t taken = 0;
+  for (size_t i = 0; i < count; i++) {
+    gv_status status = leave(end, gvp_take_frame(enter(end), &given[i].frame, given[i].bytes, given[i].bytes_len, &taken));
+    if (status == GV_NO_MEMORY) *went = i;
+    if (status != GV_OK) return status;
+  }
+  return GV_OK;
+}
+
+static gv_status take_all(gv_endpoint *end, const gvp_given *given, size_t count, size_t *went, gv_taken *taken) {
+  uint32_t got = 0;
+  gv_status status = leave(end, gvp_take_frames(enter(end), given, count, &got));
+  if (status == GV_NO_MEMORY) {
+    got = GV_TAKEN_TOOK;
+    status = take_each(end, given, count, went);
+  }
+  if (status != GV_OK) return status;
+  *went = count;
+  *taken = (gv_taken)got;
+  return GV_OK;
+}
+
+gv_status gv_take_frames(gv_endpoint *end, const gv_frame *frames, size_t count, size_t *went, gv_taken *taken) {
+  enum { FEW = 16 };
+  gvp_given few[FEW], *given = few;
+  if (end == NULL || went == NULL || taken == NULL || count > PTRDIFF_MAX / sizeof *given) return GV_INVALID;
+  if (count > 0 && (!is_sized(frames, UP_TO(gv_frame, token)) || size_of(frames) % alignof(gv_frame) != 0)) return GV_INVALID;
+  if (count > FEW) given = end->memory.allocate(end->memory.context, count * sizeof *given, alignof(gvp_given));
+  if (given == NULL) {
+    *went = 0;
+    return GV_NO_MEMORY;
+  }
+  gv_status status = take_given(given, frames, count) ? take_all(end, given, count, went, taken) : GV_INVALID;
+  if (count > FEW) end->memory.release(end->memory.context, given, count * sizeof *given, alignof(gvp_given));
+  return status;
+}
+
 gv_status gv_fill(gv_endpoint *end, const gv_fill_request *want, uint8_t *out, size_t room, gv_filled *filled) {
   gv_fill_request w;
   gvp_filled got = {false, false, 0, 0, 0};
   if (end == NULL || !is_slice(out, room) || !copy_in(&w, sizeof w, want, UP_TO(gv_fill_request, first))) return GV_INVALID;
   if (!is_sized(filled, UP_TO(gv_filled, last_stream))) return GV_INVALID;
-  gvp_request given = {w.items, w.streams, w.alone, w.first};
+  gvp_request given = {w.items, w.streams, w.alone, w.first, w.most_bytes == 0 ? SIZE_MAX : w.most_bytes};
   gv_status status = leave(end, gvp_fill(enter(end), &given, written_to(out, room), room, &got));
   gv_filled told = {0, got.has_last_stream, got.more, got.token, got.len, got.last_stream};
   if (status == GV_OK) copy_out(filled, &told, sizeof told);

@@ -13,6 +13,12 @@ typedef struct gvp_handle {
   void *at;
 } gvp_handle;
 
+/* The same of what was heard at an end. */
+typedef struct gvp_heard {
+  bool live;
+  void *at;
+} gvp_heard;
+
 typedef struct gvp_settings {
   uint64_t conn_window;
   uint64_t bidi_local;
@@ -53,6 +59,7 @@ typedef struct gvp_request {
   bool streams;
   bool alone;
   uint64_t first;
+  size_t most_bytes;
 } gvp_request;
 
 typedef struct gvp_filled {
@@ -75,6 +82,13 @@ typedef struct gvp_closing_info {
   size_t place;
 } gvp_closing_info;
 
+typedef struct gvp_news {
+  uint32_t kind;
+  uint32_t dir;
+  uint64_t stream;
+  uint64_t code;
+} gvp_news;
+
 typedef struct gvp_sending {
   uint32_t state;
   bool has_final_size;
@@ -89,11 +103,13 @@ typedef struct gvp_receiving {
   uint32_t state;
   bool has_final_size;
   bool was_reset;
+  bool was_stopped;
   uint64_t read_count;
   uint64_t highest;
   uint64_t limit;
   uint64_t final_size;
   uint64_t reset_code;
+  uint64_t stop_code;
 } gvp_receiving;
 
 typedef struct gvp_lane {
@@ -140,6 +156,21 @@ typedef struct gvp_range {
   uint64_t largest;
 } gvp_range;
 
+/* A frame that is handed in, with its bytes, which have an address. */
+typedef struct gvp_given {
+  gvp_frame frame;
+  const uint8_t *bytes;
+  size_t bytes_len;
+} gvp_given;
+
+/* Bytes of a stream, in two pieces. Both have an address before a call writes them. */
+typedef struct gvp_pieces {
+  const uint8_t *front;
+  size_t front_len;
+  const uint8_t *back;
+  size_t back_len;
+} gvp_pieces;
+
 uint32_t gvp_reserve(gvp_handle *end);
 uint32_t gvp_new(gvp_handle *end, uint32_t role, const gvp_settings *settings, const gvp_tuning *tuning, const gvp_limits *peer);
 void gvp_free(gvp_handle *end);
@@ -156,17 +187,26 @@ uint32_t gvp_reset(gvp_handle *end, uint64_t stream, uint64_t code);
 uint32_t gvp_stop(gvp_handle *end, uint64_t stream, uint64_t code);
 uint32_t gvp_stop_and_forget(gvp_handle *end, uint64_t stream, uint64_t code);
 uint32_t gvp_read(gvp_handle *end, uint64_t stream, uint8_t *into, size_t size, uint64_t *number);
+uint32_t gvp_peek(gvp_handle *end, uint64_t stream, uint64_t *code, gvp_pieces *pieces);
 uint32_t gvp_consume(gvp_handle *end, uint64_t stream, size_t most, uint64_t *number, bool *at_end);
 uint32_t gvp_declare_lost(gvp_handle *end, uint64_t number);
 uint32_t gvp_take_frame(gvp_handle *end, const gvp_frame *frame, const uint8_t *bytes, size_t len, uint32_t *taken);
+uint32_t gvp_take_frames(gvp_handle *end, const gvp_given *frames, size_t count, uint32_t *taken);
 uint32_t gvp_fill(gvp_handle *end, const gvp_request *want, uint8_t *out, size_t room, gvp_filled *filled);
 uint32_t gvp_token_of(gvp_handle *end, uint64_t number, gvp_token *token);
 uint32_t gvp_token_and(const gvp_token *token, const gvp_token *next, gvp_token *both);
 uint32_t gvp_token_acked(gvp_handle *end, const gvp_token *token);
 uint32_t gvp_token_lost(gvp_handle *end, const gvp_token *token);
+uint32_t gvp_heard_new(gvp_heard *heard);
+void gvp_heard_drop(gvp_heard *heard);
+uint32_t gvp_next_news(gvp_heard *heard, gvp_handle *end, gvp_news *news);
+uint32_t gvp_will_write(gvp_heard *heard, gvp_handle *end, uint64_t stream, size_t len);
+uint32_t gvp_wants(gvp_heard *heard, uint32_t dir);
+uint32_t gvp_was_read(gvp_heard *heard, gvp_handle *end, uint64_t stream);
 uint32_t gvp_closing(gvp_handle *end, gvp_closing_info *closing);
 uint32_t gvp_close_payload(gvp_handle *end, uint8_t *out, size_t room, size_t *len);
 uint32_t gvp_peer_closed(gvp_handle *end, uint64_t *code);
+uint32_t gvp_tell_closed(gvp_handle *end, uint32_t by, uint32_t kind, uint64_t code);
 uint32_t gvp_next_readable(gvp_handle *end, uint64_t from, uint64_t *stream);
 uint32_t gvp_next_writable(gvp_handle *end, uint64_t from, uint64_t *stream);
 uint32_t gvp_next_sendable(gvp_handle *end, uint64_t from, uint64_t *stream);
@@ -195,6 +235,7 @@ uint32_t gvp_raise_limits(gvp_handle *end, const gvp_limits *limits);
 uint32_t gvp_set_conn_window(gvp_handle *end, uint64_t window);
 uint32_t gvp_set_grant(gvp_handle *end, uint32_t dir, uint64_t streams);
 uint32_t gvp_set_send_buffer(gvp_handle *end, uint64_t stream, size_t size);
+uint32_t gvp_set_stream_window(gvp_handle *end, uint64_t stream, uint64_t window);
 uint32_t gvp_ack_is_due(gvp_handle *end, bool *answer);
 uint32_t gvp_make_ack(gvp_handle *end, uint64_t delay, uint8_t *out, size_t room, gvp_made *made);
 uint32_t gvp_next_number(gvp_handle *end, uint64_t *number);

@@ -146,6 +146,8 @@ def _end_of_clauses(tokens, at):
     end = None
     while at < len(tokens) and tokens[at][0] in ("requires", "ensures"):
         at += 1
+        if at < len(tokens) and tokens[at][0] == "*":
+            at += 1
         if at < len(tokens) and _WORD.match(tokens[at][0]):
             at += 1
         at = end_of_group(tokens, at, "{")

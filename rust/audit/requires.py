@@ -96,7 +96,8 @@ def _function(tokens, at):
     at = _end_of_signature(tokens, behind)
     words = []
     while at < len(tokens) and tokens[at][0] in _CLAUSES:
-        opening = at + 1 + is_word(tokens[at + 1][0])
+        opening = at + 1 + (tokens[at + 1][0] == "*")
+        opening += is_word(tokens[opening][0])
         end = end_of_group(tokens, opening, "{")
         if end is None:
             return None

@@ -17,6 +17,35 @@ pub struct Closing {
     pub place: usize,
 }
 
+/// A side of the connection, as an end sees it.
+#[derive(Clone, Copy, Debug, PartialEq, Eq)]
+pub enum Closer {
+    /// This side.
+    Us,
+    /// The other one.
+    Peer,
+}
+
+/// Of what kind a close is. The codes of the two kinds have nothing to do with each other (RFC 9000, section 20).
+#[derive(Clone, Copy, Debug, PartialEq, Eq)]
+pub enum CloseKind {
+    /// By the transport: a CONNECTION_CLOSE of type 0x1c, or a time that ran out (RFC 9000, sections 10.1 and 19.19).
+    Transport,
+    /// By the application: a CONNECTION_CLOSE of type 0x1d (RFC 9000, section 19.19).
+    Application,
+}
+
+/// A close that an end was told of by [`Endpoint::tell_closed`](crate::Endpoint::tell_closed).
+#[derive(Clone, Copy, Debug, PartialEq, Eq)]
+pub struct ToldClose {
+    /// Who closed.
+    pub by: Closer,
+    /// How.
+    pub kind: CloseKind,
+    /// With which code. That of a time that ran out is 0.
+    pub code: u64,
+}
+
 /// What came of a payload that didn't make this end close.
 #[derive(Clone, Copy, Debug, PartialEq, Eq)]
 pub enum Received {
@@ -209,6 +238,8 @@ pub struct RecvReport {
     pub final_size: Option<u64>,
     /// The code of the peer's reset, once it was taken.
     pub reset_code: Option<u64>,
+    /// The code with which the owner stopped it first (RFC 9000, section 3.5).
+    pub stop_code: Option<u64>,
 }
 
 /// The states of a sending half (RFC 9000, section 3.1).
@@ -263,6 +294,36 @@ impl Closing {
             code: closing.code,
             frame_type: closing.frame_type,
             place: closing.place,
+        }
+    }
+}
+
+impl ToldClose {
+    pub(crate) fn of(close: calls::ToldClose) -> ToldClose {
+        ToldClose {
+            by: match close.by {
+                calls::Closer::Us => Closer::Us,
+                calls::Closer::Peer => Closer::Peer,
+            },
+            kind: match close.kind {
+                calls::CloseKind::Transport => CloseKind::Transport,
+                calls::CloseKind::Application => CloseKind::Application,
+            },
+            code: close.code,
+        }
+    }
+
+    pub(crate) fn inner(self) -> calls::ToldClose {
+        calls::ToldClose {
+            by: match self.by {
+                Closer::Us => calls::Closer::Us,
+                Closer::Peer => calls::Closer::Peer,
+            },
+            kind: match self.kind {
+                CloseKind::Transport => calls::CloseKind::Transport,
+                CloseKind::Application => calls::CloseKind::Application,
+            },
+            code: self.code,
         }
     }
 }
@@ -359,6 +420,7 @@ impl RecvReport {
             limit: report.limit,
             final_size: report.final_size,
             reset_code: report.reset_code,
+            stop_code: report.stop_code,
         }
     }
 }

@@ -1,9 +1,10 @@
 //! One end of a connection.
 
+mod hearing;
 mod stream_setting;
 
 use crate::answers::{
-    Closing, Consumed, Held, Made, Peek, Read, Received, StreamReport, Taken, Token,
+    Closing, Consumed, Held, Made, Peek, Read, Received, StreamReport, Taken, Token, ToldClose,
 };
 use crate::faults::{
     LostFault, MakeFault, OpenFault, RaiseFault, ReceiveFault, SetFault, SetupFault, TakeFault,
@@ -19,6 +20,7 @@ use crate::shim::alloc::Global;
 use crate::streams::{RecvStream, SendStream};
 use crate::tuning::Tuning;
 use core::{array, fmt};
+use hearing::Hearing;
 
 /// The least room of a packet's payload, in bytes.
 pub const MIN_ROOM: usize = 128;
@@ -61,6 +63,8 @@ const FEW_FRAMES: usize = 16;
 /// ```
 pub struct Endpoint {
     inner: conn::Endpoint,
+    // It stands beside the end, which has no state for it.
+    hearing: Hearing,
 }
 
 impl Endpoint {
@@ -98,7 +102,10 @@ impl Endpoint {
     ) -> Result<Endpoint, SetupFault> {
         let (settings, peer) = (settings.inner(), peer.inner());
         match conn::Endpoint::new_wide(Global, role.inner(), settings, tuning.inner(), peer) {
-            Ok(inner) => Ok(Endpoint { inner }),
+            Ok(inner) => Ok(Endpoint {
+                inner,
+                hearing: Hearing::new(),
+            }),
             Err(fault) => Err(SetupFault::of(fault)),
         }
     }
@@ -176,10 +183,12 @@ impl Endpoint {
     ///
     /// `Closed`; `Blocked` with the peer's count where as many were opened; and `NoMemory`, and then nothing changed.
     pub fn open(&mut self, dir: Dir) -> Result<StreamId, OpenFault> {
-        self.inner
-            .open(dir.inner())
-            .map(StreamId::of)
-            .map_err(OpenFault::of)
+        let opened = self.inner.open(dir.inner()).map_err(OpenFault::of);
+        if matches!(opened, Err(OpenFault::Blocked(_))) {
+            // The end doesn't know that its owner waits from now on.
+            self.hearing.wants(dir);
+        }
+        opened.map(StreamId::of)
     }
 
     /// Gives out each stream that the peer opened, once: bidirectional ones first, lower numbers first. `None` where
@@ -204,11 +213,26 @@ impl Endpoint {
     /// # Errors
     ///
     /// `Closed`; `NoSuchStream` or `WrongDirection` where the stream has no sending half here; `WasReset`; `Finished`;
-    /// and `NoMemory`. Then nothing changed.
+    /// and `NoMemory`, also where it is still to be noted for [`next_event`](Endpoint::next_event) that the write before was
+    /// cut short. Then nothing changed.
+    #[inline]
     pub fn write(&mut self, stream: StreamId, bytes: &[u8]) -> Result<usize, UseFault> {
-        self.inner
-            .write(stream.inner(), bytes)
-            .map_err(UseFault::of)
+        // A write that was cut short is noted for `next_event` behind it, where that is known. One that couldn't be noted holds the
+        // next one up: what else refuses that goes before the want of memory.
+        let is_noted = self.hearing.catch_up(&self.inner).is_ok();
+        let offered = if is_noted { bytes } else { &[] };
+        match self.inner.write(stream.inner(), offered) {
+            Ok(count) => {
+                if count < bytes.len() {
+                    if !is_noted {
+                        return Err(UseFault::NoMemory);
+                    }
+                    self.hearing.was_cut_short(&self.inner, stream);
+                }
+                Ok(count)
+            }
+            Err(fault) => Err(UseFault::of(fault)),
+        }
     }
 
     /// Asks for the end of the stream after the bytes written so far.
@@ -242,11 +266,11 @@ impl Endpoint {
     ///
     /// `Closed`, but where [`reads_when_closed`](crate::Tuning::reads_when_closed) was chosen; `NoSuchStream` or
     /// `WrongDirection` where the stream has no receiving half here. Then nothing changed.
+    #[inline]
     pub fn read(&mut self, stream: StreamId, into: &mut [u8]) -> Result<Read, UseFault> {
-        self.inner
-            .read(stream.inner(), into)
-            .map(Read::of)
-            .map_err(UseFault::of)
+        let read = self.inner.read(stream.inner(), into);
+        self.hearing.was_read(&self.inner, stream);
+        read.map(Read::of).map_err(UseFault::of)
     }
 
     /// Tells what [`Endpoint::read`] would, and changes nothing: the bytes that are next stay where they are, in one piece of
@@ -319,10 +343,9 @@ impl Endpoint {
     ///
     /// Those of [`Endpoint::read`].
     pub fn consume(&mut self, stream: StreamId, most: usize) -> Result<Consumed, UseFault> {
-        self.inner
-            .consume(stream.inner(), most)
-            .map(Consumed::of)
-            .map_err(UseFault::of)
+        let consumed = self.inner.consume(stream.inner(), most);
+        self.hearing.was_read(&self.inner, stream);
+        consumed.map(Consumed::of).map_err(UseFault::of)
     }
 
     /// Throws the stream's bytes away, those stored and those still to come, and asks the peer to stop sending with the
@@ -336,7 +359,10 @@ impl Endpoint {
         if code > MAX_VARINT {
             return Err(UseFault::Invalid);
         }
-        self.inner.stop(stream.inner(), code).map_err(UseFault::of)
+        let stopped = self.inner.stop(stream.inner(), code);
+        // What came before is thrown away, so what comes next is news.
+        self.hearing.was_read(&self.inner, stream);
+        stopped.map_err(UseFault::of)
     }
 
     /// Stops the stream as [`Endpoint::stop`] does, and tells nothing more of it: it counts as read to its end as soon as
@@ -377,6 +403,7 @@ impl Endpoint {
         if code > MAX_VARINT {
             return Err(UseFault::Invalid);
         }
+        // (it is no news to a reader any more)
         self.inner
             .stop_and_forget(stream.inner(), code)
             .map_err(UseFault::of)
@@ -1031,9 +1058,38 @@ impl Endpoint {
         self.inner.next_newly_acked(payload, from)
     }
 
-    /// The code with which the peer closed, `None` where it didn't (RFC 9000, section 10.2).
+    /// The code with which the peer closed by a frame that came to this end, `None` where it didn't (RFC 9000, section
+    /// 10.2).
     pub fn peer_closed(&self) -> Option<u64> {
         self.inner.peer_closed()
+    }
+
+    /// Tells the end of a close that the stack above the packets saw or made itself, either side's, by the transport or by
+    /// the application (RFC 9000, sections 10.2 and 19.19). The end is closed from then on, as after any close, and
+    /// [`told_close`](Endpoint::told_close) tells with what. It has no [`close_payload`](Endpoint::close_payload): such a
+    /// stack tells its peer itself. `receive` and `take_frame` say so again: the peer's close by its code, its own as a
+    /// [`Closing`](crate::Closing) of frame type 0 at place 0. An end that closed before stays as it is.
+    ///
+    /// ```
+    /// use gotsavena::{CloseKind, Closer, Endpoint, Role, Settings, ToldClose, UseFault, Dir, OpenFault};
+    ///
+    /// let own = Settings::small();
+    /// let mut end = Endpoint::new(Role::Client, own, own.limits())?;
+    /// // H3_NO_ERROR, not a TLS alert.
+    /// let close = ToldClose { by: Closer::Peer, kind: CloseKind::Application, code: 0x100 };
+    /// end.tell_closed(close);
+    /// assert_eq!((end.told_close(), end.peer_closed()), (Some(close), None));
+    /// assert_eq!(end.open(Dir::Uni), Err(OpenFault::Closed));
+    /// # Ok::<(), gotsavena::SetupFault>(())
+    /// ```
+    pub fn tell_closed(&mut self, close: ToldClose) {
+        self.inner.tell_closed(close.inner());
+    }
+
+    /// The close that the end was told of by [`tell_closed`](Endpoint::tell_closed), `None` where it closed otherwise or is
+    /// open.
+    pub fn told_close(&self) -> Option<ToldClose> {
+        self.inner.told_close().map(ToldClose::of)
     }
 
     /// The least stream at or above `from` at which a write of one byte is accepted, if there is memory for it: it wasn't

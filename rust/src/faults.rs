@@ -112,6 +112,14 @@ pub enum TokenFault {
     Closed,
 }
 
+/// Why no news was told. Nothing changed.
+#[derive(Clone, Copy, Debug, PartialEq, Eq)]
+#[non_exhaustive]
+pub enum EventFault {
+    /// Memory was refused.
+    NoMemory,
+}
+
 /// Why a payload wasn't taken in.
 #[derive(Clone, Copy, Debug, PartialEq, Eq)]
 #[non_exhaustive]
@@ -344,6 +352,14 @@ impl fmt::Display for TokenFault {
     }
 }
 
+impl fmt::Display for EventFault {
+    fn fmt(&self, f: &mut fmt::Formatter<'_>) -> fmt::Result {
+        f.write_str(match self {
+            EventFault::NoMemory => NO_MEMORY,
+        })
+    }
+}
+
 impl fmt::Display for ReceiveFault {
     fn fmt(&self, f: &mut fmt::Formatter<'_>) -> fmt::Result {
         match self {
@@ -371,6 +387,7 @@ impl Error for UseFault {}
 impl Error for MakeFault {}
 impl Error for LostFault {}
 impl Error for TokenFault {}
+impl Error for EventFault {}
 impl Error for PutFault {}
 
 impl Error for RaiseFault {

@@ -54,6 +54,15 @@ impl Fill {
         }
     }
 
+    /// The same, with so many bytes of streams at most: the chunk that would pass that is cut, and then no stream has another
+    /// turn. With 0 no byte goes in, and an end only where all bytes of its stream went and no stream before it has any.
+    #[must_use]
+    pub fn at_most(self, bytes: usize) -> Fill {
+        Fill {
+            inner: self.inner.at_most(bytes),
+        }
+    }
+
     pub(crate) fn inner(&self) -> &calls::Fill {
         &self.inner
     }
@@ -68,7 +77,8 @@ pub struct Filled {
     pub len: usize,
     /// The stream of the last STREAM frame, if there is one. An owner whose streams send by turns goes on behind it.
     pub last_stream: Option<StreamId>,
-    /// Whether more of what was asked for is due that may go.
+    /// Whether more of what was asked for is due that may go. What the cap of [`Fill::at_most`] holds back isn't counted: once
+    /// that is used up, control items alone are.
     pub more: bool,
 }
 

@@ -14,9 +14,9 @@
 //! An [`Endpoint`] is one end. [`Endpoint::receive`] takes a payload in, [`Endpoint::make_packet`] makes the next one,
 //! [`Endpoint::declare_lost`] tells that one was lost. The owner [opens](Endpoint::open) and
 //! [accepts](Endpoint::accept) streams, [writes](Endpoint::write), [finishes](Endpoint::finish),
-//! [resets](Endpoint::reset), [reads](Endpoint::read) and [stops](Endpoint::stop) them; [`SendStream`] and
-//! [`RecvStream`] are one stream's halves, and std's `Write` and `Read`. [`frames`], [`put`] and [`put_ack`] read and
-//! write payloads without an end.
+//! [resets](Endpoint::reset), [reads](Endpoint::read) and [stops](Endpoint::stop) them, and [`Endpoint::next_event`] tells
+//! it what became of them; [`SendStream`] and [`RecvStream`] are one stream's halves, and std's `Write` and `Read`.
+//! [`frames`], [`put`] and [`put_ack`] read and write payloads without an end.
 //!
 //! # What the layer beneath brings
 //!
@@ -71,6 +71,7 @@ extern crate std;
 
 mod answers;
 mod endpoint;
+mod event;
 mod faults;
 mod filling;
 mod frame;
@@ -83,13 +84,14 @@ mod streams;
 mod tuning;
 
 pub use answers::{
-    Closing, Consumed, Held, Made, Peek, Read, Received, RecvReport, RecvState, SendReport,
-    SendState, StreamReport, Taken, Token,
+    CloseKind, Closer, Closing, Consumed, Held, Made, Peek, Read, Received, RecvReport, RecvState,
+    SendReport, SendState, StreamReport, Taken, Token, ToldClose,
 };
 pub use endpoint::{Endpoint, MAX_PAYLOAD, MAX_ROOM, MIN_ROOM};
+pub use event::Event;
 pub use faults::{
-    LostFault, MakeFault, OpenFault, PutFault, RaiseFault, ReceiveFault, SetFault, SetupFault,
-    TakeFault, TokenFault, UseFault,
+    EventFault, LostFault, MakeFault, OpenFault, PutFault, RaiseFault, ReceiveFault, SetFault,
+    SetupFault, TakeFault, TokenFault, UseFault,
 };
 pub use filling::{Fill, Filled, MIN_FILL};
 pub use frame::{

@@ -166,6 +166,24 @@ fn reports_tell_resets_and_limits() {
     assert_eq!(send.expect("bidirectional").reset_code, None);
 }
 
+#[test]
+fn a_report_tells_the_owners_stop() {
+    let (mut client, mut server) = ends(Settings::small());
+    let stream = client.open(Dir::Bidi).expect("granted");
+    client.write(stream, b"abc").expect("room");
+    pass(&mut client, &mut server).expect("due");
+    let stop_code = |end: &Endpoint| {
+        let report = end.report(stream).expect("open");
+        report.recv.expect("bidirectional").stop_code
+    };
+    assert_eq!(stop_code(&server), None);
+    server.stop(stream, 7).expect("open");
+    server.stop(stream, 8).expect("open");
+    assert_eq!(stop_code(&server), Some(7));
+    pass(&mut server, &mut client).expect("due");
+    assert_eq!(stop_code(&client), None);
+}
+
 fn limits(max_data: u64, stream: u64, streams: u64) -> PeerLimits {
     PeerLimits {
         max_data,

@@ -111,6 +111,57 @@ fn more_tells_what_the_room_left_out() {
     assert!(!filled.more);
 }
 
+fn bytes_in(text: &[u8]) -> usize {
+    let len = |frame: Frame<'_>| match frame {
+        Frame::Stream { bytes, .. } => bytes.len(),
+        _ => 0,
+    };
+    frames(text)
+        .map(|placed| len(placed.expect("whole").frame))
+        .sum()
+}
+
+#[test]
+fn a_cap_cuts_the_chunk_that_would_pass_it() {
+    let (mut one, streams) = busy();
+    let want = Fill::all().from(streams[1]).at_most(13);
+    let (filled, text) = fill(&mut one, 100, want).expect("due");
+    assert!(has_items(&text) && bytes_in(&text) == 13);
+    assert_eq!(streams_of(&text), streams[1..]);
+    assert!(!filled.more, "what the cap holds back isn't counted");
+    let want = Fill::all().only(streams[2]).at_most(5);
+    let (filled, text) = fill(&mut one, 100, want).expect("due");
+    assert_eq!((bytes_in(&text), filled.more), (5, false));
+    let (filled, text) = fill(&mut one, 100, Fill::all().at_most(10)).expect("due");
+    assert_eq!((bytes_in(&text), filled.more), (2, false));
+    assert!(fill(&mut one, 100, Fill::all()).is_none());
+}
+
+#[test]
+fn more_counts_what_goes_below_the_cap() {
+    let (mut one, streams) = busy();
+    let want = Fill::data().only(streams[1]).at_most(9);
+    let (filled, text) = fill(&mut one, 7, want).expect("due");
+    assert!(filled.more && bytes_in(&text) < 9);
+    let (filled, _text) = fill(&mut one, 7, Fill::all().at_most(1)).expect("the reset is due");
+    assert!(filled.more, "one byte may go");
+}
+
+#[test]
+fn a_cap_of_none_lets_items_and_ends_in() {
+    let (mut one, streams) = busy();
+    let (filled, text) = fill(&mut one, 100, Fill::all().at_most(0)).expect("the reset is due");
+    assert!(has_items(&text) && streams_of(&text).is_empty() && !filled.more);
+    assert!(fill(&mut one, 100, Fill::data().at_most(0)).is_none());
+    fill(&mut one, 100, Fill::data().only(streams[1])).expect("bytes are due");
+    one.finish(streams[1]).expect("open");
+    one.finish(streams[2]).expect("open");
+    let (_filled, text) = fill(&mut one, 100, Fill::data().at_most(0)).expect("an end is due");
+    assert_eq!((streams_of(&text), bytes_in(&text)), (vec![streams[1]], 0));
+    let (_filled, text) = fill(&mut one, 100, Fill::data()).expect("bytes are due");
+    assert_eq!((streams_of(&text), bytes_in(&text)), (vec![streams[2]], 10));
+}
+
 #[test]
 fn the_ack_stays_due() {
     let (mut one, streams) = busy();

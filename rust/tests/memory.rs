@@ -1,54 +1,13 @@
 //! Each allocation is refused in turn: nothing aborts, the call answers that it found no memory, and after one more try
 //! every later answer is the same. And no call asks for memory but those that are listed.
 
+#[path = "support/refusing.rs"]
+mod refusing;
 mod support;
 
 use gotsavena::{Dir, Endpoint, Fill, Filled, MakeFault, Role, Settings, StreamId};
-use std::alloc::{GlobalAlloc, Layout, System};
-use std::cell::Cell;
+use refusing::{ASKED, IS_CALLED, REFUSED};
 use support::{Player, Random};
-
-/// Refuses one allocation of those that are asked for while a call of an end runs.
-struct Refusing;
-
-thread_local! {
-    static IS_CALLED: Cell<bool> = const { Cell::new(false) };
-    static ASKED: Cell<u64> = const { Cell::new(0) };
-    static REFUSED: Cell<u64> = const { Cell::new(u64::MAX) };
-}
-
-// Whether this allocation is the one.
-fn is_refused() -> bool {
-    if !IS_CALLED.get() {
-        return false;
-    }
-    ASKED.set(ASKED.get() + 1);
-    ASKED.get() - 1 == REFUSED.get()
-}
-
-// Safety: each call is handed on to the system's allocator, or refused.
-unsafe impl GlobalAlloc for Refusing {
-    unsafe fn alloc(&self, layout: Layout) -> *mut u8 {
-        if is_refused() {
-            return std::ptr::null_mut();
-        }
-        unsafe { System.alloc(layout) }
-    }
-
-    unsafe fn dealloc(&self, place: *mut u8, layout: Layout) {
-        unsafe { System.dealloc(place, layout) }
-    }
-
-    unsafe fn realloc(&self, place: *mut u8, layout: Layout, size: usize) -> *mut u8 {
-        if is_refused() {
-            return std::ptr::null_mut();
-        }
-        unsafe { System.realloc(place, layout, size) }
-    }
-}
-
-#[global_allocator]
-static ALLOCATOR: Refusing = Refusing;
 
 /// The lines of a script in which much happens. It is made while it is played, as it has to know how many packets there
 /// are.

@@ -177,6 +177,76 @@ fn small_steps_need_narrower_windows() {
     );
 }
 
+/// The window of a stream that grows by itself: where as much as a window was taken in less than two round trips, it may be
+/// what holds the sender back, and it doubles. The connection's stays above it.
+struct Growing {
+    window: u64,
+    taken: u64,
+    since: u64,
+}
+
+impl Growing {
+    const MOST: u64 = 1 << 26;
+
+    fn look(&mut self, end: &mut Endpoint, stream: StreamId, now: u64) {
+        let taken = end.taken(stream).unwrap_or(0);
+        if taken - self.taken < self.window {
+            return;
+        }
+        if now - self.since < 2 * ROUND_TRIP && self.window < Self::MOST {
+            self.window *= 2;
+            end.set_stream_window(stream, self.window).expect("open");
+            end.set_conn_window(2 * self.window).expect("open");
+        }
+        (self.taken, self.since) = (taken, now);
+    }
+}
+
+/// The same transfer, with a window that begins so small and grows. Answers its time and the window at its end.
+fn growing_transfer(window: u64) -> (u64, u64) {
+    let settings = Settings::small()
+        .conn_window(2 * window)
+        .stream_windows(window)
+        .send_buffer(SIZE);
+    let tuning = Tuning::default().credit_step(Share::Eighth);
+    let [mut client, mut server] = [Role::Client, Role::Server].map(|role| {
+        Endpoint::new_wide(role, settings, tuning, settings.limits()).expect("in range")
+    });
+    let (mut there, mut back) = (Path::default(), Path::default());
+    let stream = client.open(Dir::Uni).expect("a stream");
+    assert_eq!(client.write(stream, &vec![7; SIZE]), Ok(SIZE));
+    client.finish(stream).expect("open");
+    let mut growing = Growing {
+        window,
+        taken: 0,
+        since: 0,
+    };
+    let mut bytes = vec![0; 1 << 16];
+    let mut now = 0;
+    while !is_over(&client, stream) {
+        there.arrive(&mut server, now);
+        back.arrive(&mut client, now);
+        while let Ok(Read::Bytes(_)) = server.read(stream, &mut bytes) {}
+        growing.look(&mut server, stream, now);
+        there.leave(&mut client, now);
+        back.leave(&mut server, now);
+        now = there.next(now).min(back.next(now));
+    }
+    (now, growing.window)
+}
+
+#[test]
+fn a_window_that_grows_uses_up_a_long_fat_path() {
+    let (took, window) = growing_transfer(1 << 18);
+    // Seven doublings, a round trip for each, to more than what is in flight in one. A window that stays takes a round trip for each
+    // 256 KiB: 14 seconds.
+    assert!(took <= SENDING + 8 * ROUND_TRIP, "{took} nanoseconds");
+    assert!(
+        (1 << 24..=Growing::MOST).contains(&window),
+        "{window} bytes"
+    );
+}
+
 #[test]
 fn a_limit_moves_once_its_share_was_read() {
     for (step, parts) in [

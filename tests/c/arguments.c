@@ -163,6 +163,13 @@ static void set_buffer(gv_endpoint *end) {
   want(gv_set_send_buffer(end, 0, ((size_t)1 << 30) + 1), GV_OUT_OF_RANGE, "a buffer above all");
   want(gv_set_send_buffer(end, 4, 1), GV_NO_SUCH_STREAM, "buffer elsewhere");
   want(gv_set_send_buffer(end, 3, 1), GV_WRONG_DIRECTION, "buffer of what is read");
+  want(gv_set_stream_window(NULL, 3, 1), GV_INVALID, "window of no end");
+  want(gv_set_stream_window(end, UINT64_C(1) << 62, 1), GV_INVALID, "window of no stream");
+  want(gv_set_stream_window(end, 3, 0), GV_OUT_OF_RANGE, "no window of a stream");
+  want(gv_set_stream_window(end, 3, (UINT64_C(1) << 30) + 1), GV_OUT_OF_RANGE, "a window above all of a stream");
+  want(gv_set_stream_window(end, 4, 1), GV_NO_SUCH_STREAM, "window elsewhere");
+  want(gv_set_stream_window(end, 3, UINT64_C(1) << 30), GV_OK, "a wide window of a stream");
+  want(gv_set_stream_window(end, 3, 1), GV_OK, "a narrow window of a stream");
   want(gv_set_send_buffer(end, 0, 5), GV_OK, "a small buffer");
   want(gv_write(end, 0, bytes, sizeof bytes, &count), GV_OK, "write");
   want(count == 5 ? GV_OK : GV_INVALID, GV_OK, "it takes as many bytes");
@@ -209,6 +216,7 @@ static void set_anew(void) {
   want(gv_set_conn_window(end, 0), GV_CONNECTION_CLOSED, "window once closed");
   want(gv_set_grant(end, GV_DIR_BIDI, 1), GV_CONNECTION_CLOSED, "grant once closed");
   want(gv_set_send_buffer(end, 0, 1), GV_CONNECTION_CLOSED, "buffer once closed");
+  want(gv_set_stream_window(end, 3, 1), GV_CONNECTION_CLOSED, "window of a stream once closed");
   want(gv_stop_and_forget(end, 3, 7), GV_CONNECTION_CLOSED, "forget once closed");
   want(gv_kept_sum(end, &number), GV_OK, "a closed end is asked");
   gv_endpoint_free(end);

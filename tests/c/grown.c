@@ -41,6 +41,19 @@ static void drop(void *at, size_t size) {
 #endif
 #define DROP(at) (LATER(at), drop((at), sizeof *(at)))
 
+/* Of the tuning of before, which has no epoch, no byte behind is touched, and the epoch is as before. */
+static void of_before(gv_role role, const gv_settings *settings, const gv_limits *limits) {
+  size_t size = offsetof(gv_tuning, epoch);
+  gv_tuning *tuning = block_of(sizeof *tuning);
+  gv_token token = {.size = sizeof token, .epoch = 9};
+  gv_endpoint *end = NULL;
+  check(gv_tuning_init(tuning, size) == GV_OK && tuning->size == size && tuning->credit_step == GV_SHARE_HALF, "tuning of before");
+  check(gv_endpoint_new_tuned(role, settings, tuning, limits, NULL, &end) == GV_OK && gv_token_of(end, 0, &token) == GV_OK, "an end of before");
+  check(token.epoch == 0, "its epoch");
+  gv_endpoint_free(end);
+  drop(tuning, size);
+}
+
 static gv_endpoint *new_end(gv_role role, uint64_t grant) {
   gv_settings *settings = block_of(sizeof *settings);
   gv_limits *limits = block_of(sizeof *limits), *none = block_of(sizeof *none);
@@ -65,6 +78,7 @@ static gv_endpoint *new_end(gv_role role, uint64_t grant) {
   check(gv_endpoint_new_tuned(role, settings, tuning, limits, NULL, &end) == GV_OK, "a tuned end");
   gv_endpoint_free(end);
   check(gv_endpoint_new(role, settings, limits, &end) == GV_OK && gv_raise_limits(end, limits) == GV_OK, "an end");
+  of_before(role, settings, limits);
   settings->size = 79;
   check(gv_endpoint_new(role, settings, limits, &end) == GV_INVALID, "too small a struct");
   settings->size = 4097;
@@ -157,9 +171,39 @@ static void of_fills(gv_endpoint *from, gv_endpoint *to) {
   check(gv_take_frame(to, frame, &taken) == GV_INVALID, "too small a frame");
   frame->size = size;
   check(gv_take_frame(to, frame, &taken) == GV_OK && taken == GV_TAKEN_TOOK, "it is handed in");
+  gv_frame both[2] = {*frame, *frame};
+  check(gv_take_frames(to, both, 2, &count, &taken) == GV_OK && count == 2 && taken == GV_TAKEN_UNCHANGED, "it is handed in twice");
+#ifdef GROWN
+  both[1].later = 1;
+  check(gv_take_frames(to, both, 2, &count, &taken) == (has_later ? GV_OK : GV_INVALID), "a frame's field that isn't known");
+#endif
   drop(want, sizeof *want);
   DROP(filled);
   drop(frame, sizeof *frame);
+}
+
+/* Bytes that are lent. */
+static void of_pieces(const gv_endpoint *end, uint64_t stream) {
+  gv_peeked *peeked = NEW(gv_peeked);
+  size_t size = peeked->size;
+  peeked->size = 39;
+  check(gv_peek(end, stream, peeked, NULL) == GV_INVALID, "too small a place for pieces");
+  peeked->size = size;
+  check(gv_peek(end, stream, peeked, NULL) == GV_OK && peeked->size == size, "pieces");
+  printf("lent %zu and %zu bytes, the first %02x\n", peeked->front_len, peeked->back_len, peeked->front[0]);
+  DROP(peeked);
+}
+
+/* What an end tells of by itself. */
+static void of_events(gv_endpoint *end) {
+  gv_event *event = NEW(gv_event);
+  size_t size = event->size;
+  event->size = 31;
+  check(gv_next_event(end, event) == GV_INVALID, "an event without room");
+  event->size = size;
+  check(gv_next_event(end, event) == GV_OK && event->size == size, "an event");
+  printf("event %d of stream %" PRIu64 ", direction %d, code %" PRIu64 "\n", (int)event->kind, event->stream, (int)event->dir, event->code);
+  DROP(event);
 }
 
 static void of_frames(void) {
@@ -198,7 +242,9 @@ int main(int count, char **words) {
   check(gv_open(client, GV_DIR_BIDI, &stream, NULL) == GV_OK, "open");
   check(gv_write(client, stream, (const uint8_t *)"hello", 5, &taken) == GV_OK && gv_finish(client, stream) == GV_OK, "write");
   of_packets(client, server, stream);
+  of_pieces(server, stream);
   of_fills(client, server);
+  of_events(server);
   of_frames();
   of_closing(server);
   gv_endpoint_free(client);

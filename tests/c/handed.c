@@ -17,10 +17,14 @@ static void holds(bool is, const char *what) { want(is ? GV_OK : GV_INVALID, GV_
 
 static bool is_refused; /* whether memory is */
 
+static int left = -1; /* or how often it is still given, where that isn't negative */
+
 static void *allocate(void *context, size_t size, size_t align) {
   (void)context;
   (void)align;
-  return is_refused ? NULL : malloc(size);
+  if (is_refused || left == 0) return NULL;
+  if (left > 0) left--;
+  return malloc(size);
 }
 
 static void release(void *context, void *at, size_t size, size_t align) {
@@ -106,6 +110,99 @@ static void frames(gv_endpoint *end) {
   want(gv_peer_closed(end, &stream), GV_NONE, "is, too");
 }
 
+enum { MANY = 40, LEN = 20 };
+
+/* Frames of one stream, every second one first, so that there are gaps between them. */
+static void many_frames(gv_frame *many) {
+  static uint8_t bytes[MANY * LEN];
+  for (size_t i = 0; i < sizeof bytes; i++) bytes[i] = (uint8_t)(i * 7);
+  for (size_t i = 0; i < MANY; i++) {
+    size_t place = i < MANY / 2 ? 2 * i : 2 * (i - MANY / 2) + 1;
+    gv_frame frame = {.size = sizeof frame, .kind = GV_FRAME_STREAM, .stream = 3, .offset = place * LEN, .fin = place == MANY - 1};
+    frame.bytes = bytes + place * LEN;
+    frame.len = LEN;
+    many[i] = frame;
+  }
+}
+
+/* What may not be handed in at once, and what comes of what may. */
+static void at_once(void) {
+  gv_endpoint *end = new_end();
+  gv_taken taken = untouched;
+  size_t went = 9;
+  gv_frame two[2] = {first, first}, ping = {.size = sizeof ping, .kind = GV_FRAME_PING};
+  want(gv_take_frames(NULL, two, 2, &went, &taken), GV_INVALID, "frames to no end");
+  want(gv_take_frames(end, NULL, 1, &went, &taken), GV_INVALID, "frames at null");
+  want(gv_take_frames(end, two, 2, NULL, &taken), GV_INVALID, "how many to null");
+  want(gv_take_frames(end, two, 2, &went, NULL), GV_INVALID, "what came to null");
+  want(gv_take_frames(end, two, SIZE_MAX, &went, &taken), GV_INVALID, "more than there can be");
+  two[1].size++;
+  want(gv_take_frames(end, two, 2, &went, &taken), GV_INVALID, "of two sizes");
+  two[0].size = two[1].size;
+  want(gv_take_frames(end, two, 2, &went, &taken), GV_INVALID, "of a size that none has");
+  two[0] = two[1] = first;
+  two[1].kind = (gv_frame_kind)21;
+  want(gv_take_frames(end, two, 2, &went, &taken), GV_INVALID, "no frame behind one");
+  two[1] = first;
+  two[1].bytes = NULL;
+  want(gv_take_frames(end, two, 2, &went, &taken), GV_INVALID, "bytes at null behind a frame");
+  holds(went == 9 && taken == untouched, "nothing was told");
+  want(gv_take_frames(end, NULL, 0, &went, &taken), GV_OK, "none");
+  holds(went == 0 && taken == GV_TAKEN_NOT_OURS, "none is taken");
+  two[1] = ping;
+  want(gv_take_frames(end, two, 2, &went, &taken), GV_OK, "two");
+  holds(went == 2 && taken == GV_TAKEN_TOOK, "one took effect");
+  want(gv_take_frames(end, two, 2, &went, &taken), GV_OK, "two again");
+  holds(went == 2 && taken == GV_TAKEN_UNCHANGED, "one was taken");
+  want(gv_take_frames(end, &ping, 1, &went, &taken), GV_OK, "a PING alone");
+  holds(taken == GV_TAKEN_NOT_OURS, "is the stack's own");
+  two[1] = first;
+  two[1].offset = 1000;
+  taken = untouched;
+  want(gv_take_frames(end, two, 2, &went, &taken), GV_PROTOCOL_ERROR, "past the end of the stream");
+  want(gv_take_frames(end, two, 1, &went, &taken), GV_PROTOCOL_ERROR, "it is closed");
+  holds(taken == untouched, "nothing was told");
+  gv_endpoint_free(end);
+}
+
+/* Each allocation of many frames is refused in turn: as many as are told went in, and all of them may come again. */
+static void where_memory_ends(void) {
+  gv_frame many[MANY];
+  uint8_t into[MANY * LEN];
+  bool is_given = false;
+  int somewhere = 0;
+  many_frames(many);
+  for (int gives = 0; !is_given; gives++) {
+    gv_endpoint *end = new_end();
+    gv_taken taken = untouched;
+    size_t went = MANY, count = 0;
+    left = gives;
+    gv_status status = gv_take_frames(end, many, MANY, &went, &taken);
+    is_given = status == GV_OK;
+    left = -1;
+    if (!is_given) {
+      want(status, GV_NO_MEMORY, "memory ends");
+      holds(went < MANY && taken == untouched, "not all went in");
+      somewhere += went > 0;
+      is_refused = true;
+      for (size_t i = 0; i < went; i++) {
+        want(gv_take_frame(end, &many[i], &taken), GV_OK, "one that went in");
+        holds(taken == GV_TAKEN_UNCHANGED, "changes nothing");
+      }
+      want(gv_take_frame(end, &many[went], &taken), GV_NO_MEMORY, "the next one didn't");
+      is_refused = false;
+      want(gv_take_frames(end, many + went, MANY - went, &went, &taken), GV_OK, "the others");
+    }
+    holds(taken == GV_TAKEN_TOOK, "they took effect");
+    want(gv_read(end, 3, into, sizeof into, &count, NULL), GV_OK, "all is read");
+    holds(count == sizeof into, "all of it");
+    for (size_t i = 0; i < sizeof into; i++) holds(into[i] == (uint8_t)(i * 7), "a byte");
+    want(gv_read(end, 3, into, sizeof into, &count, NULL), GV_END_OF_STREAM, "to the end");
+    gv_endpoint_free(end);
+  }
+  holds(somewhere > 0, "memory ended between two frames");
+}
+
 /* So much room that the record of what may go in wants memory. */
 static uint8_t wide[100000];
 
@@ -152,7 +249,7 @@ static void fills(gv_endpoint *end) {
   want(gv_fill(end, NULL, out, sizeof out, &filled), GV_INVALID, "asked by null");
   want(gv_fill(end, &all, NULL, sizeof out, &filled), GV_INVALID, "to null");
   want(gv_fill(end, &all, out, sizeof out, NULL), GV_INVALID, "told to null");
-  low.size = sizeof low - 1;
+  low.size = sizeof low - sizeof low.most_bytes - 1;
   want(gv_fill(end, &low, out, sizeof out, &filled), GV_INVALID, "a small request");
   low = all;
   low.first = big;
@@ -169,6 +266,10 @@ static void fills(gv_endpoint *end) {
   low = all;
   low.alone = true;
   low.first = other;
+  low.most_bytes = 1;
+  want(gv_fill(end, &low, out, sizeof out, &filled), GV_OK, "one byte of one stream");
+  holds(filled.len > 1 && out[filled.len - 1] == 'h' && !filled.more && out[filled.len] == 0xee, "the byte");
+  low.most_bytes = 0;
   want(gv_fill(end, &low, out, sizeof out, &filled), GV_OK, "of one stream");
   holds(filled.has_last_stream && filled.last_stream == other && filled.len > 4 && out[filled.len] == 0xee, "its bytes");
   uint64_t token = filled.token;
@@ -204,6 +305,23 @@ static void closes(gv_endpoint *end) {
   want(gv_fill(end, &all, out, sizeof out, &filled), GV_CONNECTION_CLOSED, "and fills nothing");
 }
 
+static void is_told(gv_endpoint *end) {
+  gv_closing_info why = {.size = sizeof why};
+  gv_taken taken = untouched;
+  uint64_t code = 0;
+  uint8_t out[200];
+  size_t len = 0;
+  want(gv_tell_closed(NULL, GV_CLOSER_US, GV_CLOSE_TRANSPORT, 0), GV_INVALID, "no end");
+  want(gv_tell_closed(end, (gv_closer)2, GV_CLOSE_TRANSPORT, 0), GV_INVALID, "no side");
+  want(gv_tell_closed(end, GV_CLOSER_US, (gv_close_kind)2, 0), GV_INVALID, "no kind");
+  want(gv_tell_closed(end, GV_CLOSER_PEER, GV_CLOSE_APPLICATION, 0x100), GV_OK, "the peer closed");
+  want(gv_tell_closed(end, GV_CLOSER_US, GV_CLOSE_TRANSPORT, 1), GV_OK, "and is closed already");
+  want(gv_take_frame(end, &first, &taken), GV_CLOSED_BY_PEER, "it says so again");
+  want(gv_peer_closed(end, &code), GV_NONE, "but no frame did it");
+  want(gv_closing(end, &why), GV_NONE, "nor this end");
+  want(gv_close_payload(end, out, sizeof out, &len), GV_NONE, "so it has no payload");
+}
+
 static void is_closed_by_peer(gv_endpoint *end) {
   static const uint8_t payload[] = {0x1c, 0x05, 0x00, 0x00};
   gv_taken taken = untouched;
@@ -215,13 +333,17 @@ static void is_closed_by_peer(gv_endpoint *end) {
 }
 
 int main(void) {
-  gv_endpoint *end = new_end(), *other = new_end();
+  gv_endpoint *end = new_end(), *other = new_end(), *third = new_end();
+  at_once();
+  where_memory_ends();
   no_frames(end);
   frames(end);
   fills(end);
   closes(end);
   is_closed_by_peer(other);
+  is_told(third);
   gv_endpoint_free(end);
   gv_endpoint_free(other);
+  gv_endpoint_free(third);
   return failed;
 }

@@ -9,6 +9,14 @@ room=$work/$kind
 below=$libs/cargo/c/libgotsavena_c.a
 if [ "$kind" = proved ]; then below=$root/crates/qs_c/out/libqs_c.a; fi
 
+# What make said as it built the library, and that it asked for no prover.
+if [ "$kind" = erased ]; then
+  says_erased() { grep -q 'the proved source with its ghosts erased' "$work/built"; }
+  try 'what make says of this kind' says_erased
+  asked_no_prover() { [ ! -e "$work/asked" ]; }
+  try 'no prover was asked' asked_no_prover
+fi
+
 # What can be seen from without is what the header declares, and nothing else.
 sed -n 's/^GV_API .*\b\(gv_[a-z_]*\)(.*/\1/p' "$root/c/include/gotsavena.h" | sort >"$room/wanted"
 names() { awk '$2 ~ /[A-Z]/ { print $3 }' | sort | cmp - "$room/wanted"; }
@@ -16,6 +24,8 @@ seen_in_archive() { nm -g --defined-only "$archive" | grep -v '^$\|:$' | names; 
 seen_in_shared() { nm -D --defined-only "$shared" | names; }
 in_symbols() { sed -n 's/^ \(gv_[a-z_]*\)@Base .*/\1/p' "$root/debian/libgotsavena0.symbols" | sort | cmp - "$room/wanted"; }
 try 'what the archive shows' seen_in_archive
+is_one_object() { [ "$(ar t "$archive")" = gotsavena.o ]; }
+try 'the archive is one object' is_one_object
 try 'what the shared library shows' seen_in_shared
 try 'what the list of symbols has' in_symbols
 has_soname() { readelf -d "$shared" >"$room/dynamic" && grep -q 'SONAME.*\[libgotsavena\.so\.0\]' "$room/dynamic" && ! grep -q TEXTREL "$room/dynamic"; }
@@ -38,12 +48,14 @@ compile stack "$root/c/examples/stack.c"
 compile arguments "$tests/arguments.c"
 compile settings "$tests/settings.c"
 compile handed "$tests/handed.c"
+compile events "$tests/events.c"
 compile written "$tests/written.c"
+compile lent "$tests/lent.c"
 compile play "$tests/play.c"
 compile payloads "$root/c/fuzz/payloads.c"
 compile refused "$tests/refused.c"
 compile allocators "$tests/allocators.c" -pthread -Wl,--wrap=malloc -Wl,--wrap=realloc
-for name in pipe stack arguments handed written refused allocators; do
+for name in pipe stack arguments handed events written lent refused allocators; do
   try "$name" timeout 300 "$room/$name"
 done
 like_rust() { "$room/settings" | cmp - <(cargo run -q --offline --release --manifest-path "$root/rust/Cargo.toml" -p gotsavena --example settings); }
@@ -64,13 +76,17 @@ plain() {
 sed -n '/^```c$/,/^```$/p' "$root/README.md" | sed '/^```/d' >"$room/readme.c"
 plain readme "$room/readme.c"
 plain pipe "$root/c/examples/pipe.c"
+plain arguments "$tests/arguments.c"
+plain handed "$tests/handed.c"
+plain written "$tests/written.c"
 plain stack "$root/c/examples/stack.c"
+plain lent "$tests/lent.c"
 plain refused "$tests/refused.c"
 plain allocators "$tests/allocators.c" -pthread -Wl,--wrap=malloc -Wl,--wrap=realloc
 says_hello() { [ "$("$1")" = hello ]; }
 for form in a so; do
   try "what the README prints ($form)" says_hello "$room/readme-$form"
-  for name in pipe stack refused allocators; do
+  for name in readme pipe stack arguments handed written lent refused allocators; do
     if has valgrind "$name under valgrind"; then
       try "$name under valgrind ($form)" timeout 600 valgrind -q --error-exitcode=1 --leak-check=full "$room/$name-$form"
     fi
@@ -93,10 +109,11 @@ fi
 later=$room/later
 mkdir -p "$later/include" "$later/src"
 cp "$root"/c/src/*.[ch] "$later/src"
-sed 's/^} gv_\(settings\|tuning\|limits\|allocator\|made\|fill_request\|filled\|token\|sending\|receiving\|closing_info\|frame\|fault\);/  uint64_t later;\n&/' "$root/c/include/gotsavena.h" >"$later/include/gotsavena.h"
+mapfile -t growing < <(awk '/^typedef struct/ { name = $3 } /^  size_t size; / { print name }' "$root/c/include/gotsavena.h")
+sed -E "s/^\} ($(IFS='|' && echo "${growing[*]}"));/  uint64_t later;\n&/" "$root/c/include/gotsavena.h" >"$later/include/gotsavena.h"
 sed -i 's/^ENDS_WITH(\([a-z_]*\), .*/ENDS_WITH(\1, later);/' "$later/src/calls.c"
-has_grown() { [ "$(grep -c '^  uint64_t later;' "$later/include/gotsavena.h")" = 13 ] && [ "$(grep -c ', later);' "$later/src/calls.c")" = 13 ]; }
-try 'thirteen structs of the later header have one field more' has_grown
+has_grown() { [ "$(grep -c '^  uint64_t later;' "$later/include/gotsavena.h")" = "${#growing[@]}" ] && [ "$(grep -c ', later);' "$later/src/calls.c")" = "${#growing[@]}" ]; }
+try 'each struct of the later header that may grow has one field more' has_grown
 make_later() {
   local name
   for name in calls memory about; do
@@ -194,6 +211,20 @@ if has cmake 'a program by CMake'; then
     try 'a program by CMake, of what CMake installed' by_cmake again "-DCMAKE_PREFIX_PATH=$room/by-cmake"
   fi
 fi
+# In other folders; and below a DESTDIR, where what is told is where it will lie.
+elsewhere() {
+  local folders=(LIBDIR="$1/usr/lib/here" INCLUDEDIR="$1/usr/include/there") found
+  make -s -C "$root/c" install DESTDIR="$2" PREFIX="$1/usr" "${folders[@]}" && [ -e "$2$1/usr/include/there/gotsavena.h" ] || return 1
+  if command -v pkg-config >/dev/null; then
+    found=$(PKG_CONFIG_LIBDIR=$2$1/usr/lib/here/pkgconfig PKG_CONFIG_SYSROOT_DIR=$2 pkg-config --cflags --libs gotsavena) || return 1
+    # shellcheck disable=SC2086  # (words)
+    "$C" -std=c11 "$root/c/examples/pipe.c" $found "-Wl,-rpath,$2$1/usr/lib/here" -o "$room/elsewhere" && "$room/elsewhere" || return 1
+  fi
+  if [ -z "$2" ] && command -v cmake >/dev/null; then by_cmake elsewhere-by-cmake "-Dgotsavena_DIR=$1/usr/lib/here/cmake/gotsavena" || return 1; fi
+  make -s -C "$root/c" uninstall DESTDIR="$2" PREFIX="$1/usr" "${folders[@]}" && [ -z "$(find "$2$1/usr" ! -type d)" ]
+}
+try 'in other folders' elsewhere "$room/other" ''
+try 'below a DESTDIR' elsewhere '' "$room/root"
 python=/usr/bin/python3
 if [ -x "$python" ] && "$python" -c 'import cffi' 2>/dev/null; then
   in_python() {

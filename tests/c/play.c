@@ -135,12 +135,29 @@ static void write_stream(gv_endpoint *end, uint64_t stream, const uint8_t *bytes
   }
 }
 
+static size_t least(size_t a, size_t b) { return a < b ? a : b; }
+
+/* What a look at the stream shows, copied: what it lends may not be read once the bytes are. */
+static gv_status look(const gv_endpoint *end, uint64_t stream, uint8_t *into, size_t *count, uint64_t *code) {
+  gv_peeked peeked = {.size = sizeof peeked};
+  gv_status status = gv_peek(end, stream, &peeked, code);
+  if (status != GV_OK) return status;
+  check(peeked.front_len > 0, "a look shows a byte at least");
+  size_t front = least(peeked.front_len, MOST), back = least(peeked.back_len, MOST - front);
+  memcpy(into, peeked.front, front);
+  memcpy(into + front, peeked.back, back);
+  *count = front + back;
+  return status;
+}
+
 static void read_stream(gv_endpoint *end, uint64_t stream, size_t size) {
-  static uint8_t into[MOST];
+  static uint8_t into[MOST], shown[MOST];
   bool has = names(gv_next_readable, end, stream);
-  size_t count = 0;
-  uint64_t code = 0;
+  size_t count = 0, lent = 0;
+  uint64_t code = 0, told = 0;
+  gv_status looked = look(end, stream, shown, &lent, &told);
   gv_status status = gv_read(end, stream, into, size, &count, &code);
+  if (size > 0) check(looked == status && told == code && memcmp(shown, into, least(lent, count)) == 0, "a look shows what a read gives");
   if (has) check(status == GV_OK || status == GV_END_OF_STREAM || status == GV_RESET_BY_PEER, "a readable stream has news");
   if (status == GV_NOTHING_YET) check(!has, "what waits has no news");
   if (status == GV_OK) {

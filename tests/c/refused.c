@@ -152,10 +152,24 @@ static bool read_some(gv_endpoint *end, uint64_t stream, size_t *got) {
   return status == GV_END_OF_STREAM;
 }
 
+/* Each event comes once, though memory for its note is refused. */
+static void hear(gv_endpoint *end, unsigned *heard) {
+  gv_event event = {.size = sizeof event};
+  gv_status status;
+  for (;;) {
+    AGAIN(status, gv_next_event(end, &event));
+    if (status != GV_OK) break;
+    if (event.kind == GV_EVENT_OPENED && (*heard & 1u << GV_EVENT_OPENED) != 0) want(GV_INVALID, GV_OK, "opened once");
+    *heard |= 1u << event.kind;
+  }
+  want(status, GV_NONE, "events");
+}
+
 static void transfer(void) {
   gv_endpoint *client = new_end(GV_ROLE_CLIENT), *server = new_end(GV_ROLE_SERVER);
   uint64_t stream, other = 0;
   size_t sent = 0, got = 0;
+  unsigned by_client = 0, by_server = 0;
   acks of_client = {{false}}, of_server = {{false}};
   gv_status status;
   AGAIN(status, gv_open(client, GV_DIR_BIDI, &stream, NULL));
@@ -163,11 +177,15 @@ static void transfer(void) {
   for (bool is_open = false, is_over = false; !is_over;) {
     if (sent < TOTAL) sent = write_some(client, stream, sent);
     while (carry(client, server, &of_server) || carry(server, client, &of_client)) {}
+    hear(server, &by_server);
     if (!is_open) is_open = gv_accept(server, &other) == GV_OK;
     if (is_open) is_over = read_some(server, other, &got);
+    hear(client, &by_client);
   }
   want(got == TOTAL ? GV_OK : GV_INVALID, GV_OK, "length");
   want(of_client.told[0] == !by_frames ? GV_OK : GV_INVALID, GV_OK, "what was acknowledged is told");
+  want(by_server == (1u << GV_EVENT_OPENED | 1u << GV_EVENT_READABLE) ? GV_OK : GV_INVALID, GV_OK, "what the server hears");
+  want(by_client == 1u << GV_EVENT_FINISHED ? GV_OK : GV_INVALID, GV_OK, "what the client hears");
   gv_endpoint_free(client);
   gv_endpoint_free(server);
 }

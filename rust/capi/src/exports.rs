@@ -3,12 +3,17 @@
 use crate::proved::qs_c;
 use crate::proved::qs_c::acks::GvRange;
 use crate::proved::qs_c::frame::{GvFault, GvFrame};
+use crate::proved::qs_c::giving::GvGiven;
 use crate::proved::qs_c::handle::Handle;
 use crate::proved::qs_c::lane::GvLane;
+use crate::proved::qs_c::listener_handle::ListenerHandle;
+use crate::proved::qs_c::news::GvNews;
+use crate::proved::qs_c::peeking;
 use crate::proved::qs_c::structs::{
     GvClosing, GvFilled, GvLimits, GvMade, GvRequest, GvSettings, GvToken, GvTuning,
 };
 use crate::shim::alloc::Global;
+use core::mem::MaybeUninit;
 use core::slice;
 
 /// Exports a call of each name: what C passes, and what the proved call is handed.
@@ -58,6 +63,8 @@ exports! {
     gvp_declare_lost(end: &mut Handle, number: u64) = (Global, end, number);
     gvp_take_frame(end: &mut Handle, frame: &GvFrame, bytes: *const u8, len: usize, taken: &mut u32)
         = (Global, end, frame, read!(bytes, len), taken);
+    gvp_take_frames(end: &mut Handle, frames: *const GvGiven<'_>, count: usize, taken: &mut u32)
+        = (Global, end, read!(frames, count), taken);
     gvp_fill(end: &mut Handle, want: &GvRequest, out: *mut u8, room: usize, filled: &mut GvFilled)
         = (Global, end, want, write!(out, room), filled);
     gvp_token_of(end: &mut Handle, number: u64, token: &mut GvToken) = (Global, end, number, token);
@@ -69,6 +76,7 @@ exports! {
     gvp_set_conn_window(end: &mut Handle, window: u64) = (Global, end, window);
     gvp_set_grant(end: &mut Handle, dir: u32, streams: u64) = (Global, end, dir, streams);
     gvp_set_send_buffer(end: &mut Handle, stream: u64, size: usize) = (Global, end, stream, size);
+    gvp_set_stream_window(end: &mut Handle, stream: u64, window: u64) = (Global, end, stream, window);
 
     gvp_open(end: &mut Handle, dir: u32, number: &mut u64) = (Global, end, dir, number);
     gvp_accept(end: &mut Handle, stream: &mut u64) = (Global, end, stream);
@@ -84,10 +92,18 @@ exports! {
     gvp_consume(end: &mut Handle, stream: u64, most: usize, number: &mut u64, at_end: &mut bool)
         = (Global, end, stream, most, number, at_end);
 
+    gvp_heard_new(heard: &mut ListenerHandle) = (Global, heard);
+    gvp_next_news(heard: &mut ListenerHandle, end: &mut Handle, news: &mut GvNews) = (Global, heard, end, news);
+    gvp_will_write(heard: &mut ListenerHandle, end: &mut Handle, stream: u64, len: usize)
+        = (Global, heard, end, stream, len);
+    gvp_wants(heard: &mut ListenerHandle, dir: u32) = (Global, heard, dir);
+    gvp_was_read(heard: &mut ListenerHandle, end: &mut Handle, stream: u64) = (Global, heard, end, stream);
+
     gvp_closing(end: &mut Handle, closing: &mut GvClosing) = (Global, end, closing);
     gvp_close_payload(end: &mut Handle, out: *mut u8, room: usize, len: &mut usize)
         = (Global, end, write!(out, room), len);
     gvp_peer_closed(end: &mut Handle, code: &mut u64) = (Global, end, code);
+    gvp_tell_closed(end: &mut Handle, by: u32, kind: u32, code: u64) = (Global, end, by, kind, code);
     gvp_next_readable(end: &mut Handle, from: u64, stream: &mut u64) = (Global, end, from, stream);
     gvp_next_writable(end: &mut Handle, from: u64, stream: &mut u64) = (Global, end, from, stream);
     gvp_next_sendable(end: &mut Handle, from: u64, stream: &mut u64) = (Global, end, from, stream);
@@ -129,8 +145,60 @@ exports! {
         = (read!(ranges, count), delay, write!(out, room), taken, len);
 }
 
+/// A slice, and the words that it is.
+union Slice {
+    bytes: &'static [u8],
+    words: [MaybeUninit<usize>; 2],
+}
+
+// C passes a slice in a struct as its address and then its length, which Rust's slices are, though it promises it nowhere.
+// SAFETY: the second word is a number.
+const _: () = assert!(unsafe { Slice { bytes: b"abc" }.words[1].assume_init() } == 3);
+
+/// What a call answers that did what it says.
+const DONE: u32 = 0;
+
+/// Bytes of a stream, in two pieces of memory, as C has their addresses.
+#[repr(C)]
+pub struct GvPieces {
+    front: *const u8,
+    front_len: usize,
+    back: *const u8,
+    back_len: usize,
+}
+
+/// Tells what a read would. The bytes stay where they are until the next call that changes the end.
+#[unsafe(no_mangle)]
+pub extern "C" fn gvp_peek(
+    end: &mut Handle,
+    stream: u64,
+    code: &mut u64,
+    pieces: &mut GvPieces,
+) -> u32 {
+    let mut lent = peeking::GvPieces {
+        front: &[],
+        back: &[],
+    };
+    let status = qs_c::gvp_peek(end, stream, code, &mut lent);
+    if status == DONE {
+        *pieces = GvPieces {
+            front: lent.front.as_ptr(),
+            front_len: lent.front.len(),
+            back: lent.back.as_ptr(),
+            back_len: lent.back.len(),
+        };
+    }
+    status
+}
+
 /// Drops the end that a handle holds.
 #[unsafe(no_mangle)]
 pub extern "C" fn gvp_free(end: &mut Handle) {
     qs_c::gvp_free(Global, end);
+}
+
+/// Drops what a handle of what was heard holds.
+#[unsafe(no_mangle)]
+pub extern "C" fn gvp_heard_drop(heard: &mut ListenerHandle) {
+    qs_c::gvp_heard_drop(Global, heard);
 }

@@ -2,7 +2,8 @@
 //! erased**. `c/src/proved.h` declares them.
 //!
 //! `unsafe` stands in this package alone: where C's pointers are read ([`exports`]), where memory comes from C ([`memory`]), where a box is
-//! made of its address (`shim::Box`), and where the proved source does that (`loose`). Nothing of std is in it.
+//! made of its address (`shim::Box`), and where the proved source does that (`loose`) or lends what lies there (`lending`). Nothing of std
+//! is in it.
 #![no_std]
 #![deny(missing_docs)]
 

@@ -210,7 +210,7 @@ impl<'a> Eraser<'a> {
         }
         let mut body = end;
         while matches!(self.word(body), "requires" | "ensures") {
-            let open = body + 1 + usize::from(self.is_name(body + 1));
+            let open = self.opening(body);
             if self.word(open) != "{" {
                 return self.unknown(body, "a clause");
             }
@@ -237,6 +237,12 @@ impl<'a> Eraser<'a> {
         Ok(body)
     }
 
+    /// Where the braces of a clause open: behind its star, where it speaks of what is owned, and its name.
+    fn opening(&self, clause: usize) -> usize {
+        let star = clause + 1 + usize::from(self.word(clause + 1) == "*");
+        star + usize::from(self.is_name(star))
+    }
+
     /// What a contract asks of numbers stands as tests before the body.
     fn tests(&mut self, at: usize, end: usize, body: usize) -> Erased<()> {
         if self.word(body) != "{" {
@@ -253,7 +259,7 @@ impl<'a> Eraser<'a> {
         let mut clause = end;
         let mut tests = String::new();
         while clause < body {
-            let open = clause + 1 + usize::from(self.is_name(clause + 1));
+            let open = self.opening(clause);
             let close = self.close(open)?;
             if self.word(clause) == "requires" {
                 let words = self.words(open + 1, close);

@@ -32,6 +32,10 @@ fn a_contract_goes() {
     );
     is_made("fn f(a: u8)\n    requires { a < 4 };\n", "fn f(a: u8);\n");
     is_made(
+        "fn f(a: &mut u8) -> &mut u8\n    ensures* writes_back { follows a result }\n{\n    a\n}\n",
+        "fn f(a: &mut u8) -> &mut u8 {\n    a\n}\n",
+    );
+    is_made(
         "fn f(a: u64, b: &mut [u8])\n    requires { (a ≤ 2 ^ 4) × (1 ≤ length b.old) }\n    requires other { a < length b.old }\n{\n}\n",
         "fn f(a: u64, b: &mut [u8]) {\n    debug_assert!(a <= 1 << 4);\n    debug_assert!(1 <= b.len());\n}\n",
     );

@@ -31,4 +31,33 @@ impl Endpoint {
             .set_send_buffer(stream.inner(), size)
             .map_err(SetFault::of)
     }
+
+    /// Sets the window of the stream's receiving half anew, from 1 to 2^30 bytes (RFC 9000, section 4.1): how far what comes
+    /// may run ahead of what is taken of it. A greater window moves the stream's limit at once, be it by less than a step,
+    /// and the next packet tells it. Under a smaller one the limit stands until so much was taken that it moves again: no
+    /// limit falls, and none moves once the stream's length is known. A stream that opens later begins with the window that
+    /// the peer was told as the end was made. It takes no memory, and gives none back.
+    ///
+    /// # Errors
+    ///
+    /// `Closed`; `OutOfRange`; `NoSuchStream` or `WrongDirection` where the stream has no receiving half here. Then nothing
+    /// changed.
+    ///
+    /// ```
+    /// # use gotsavena::{Dir, Endpoint, Role, Settings};
+    /// # let settings = Settings::small().bidi_local_window(1000);
+    /// # let mut end = Endpoint::new(Role::Client, settings, settings.limits())?;
+    /// let stream = end.open(Dir::Bidi)?;
+    /// let limit = |end: &Endpoint| end.report(stream).unwrap().recv.unwrap().limit;
+    /// end.set_stream_window(stream, 1001)?;
+    /// assert_eq!(limit(&end), 1001);
+    /// end.set_stream_window(stream, 10)?;
+    /// assert_eq!(limit(&end), 1001);
+    /// # Ok::<(), Box<dyn std::error::Error>>(())
+    /// ```
+    pub fn set_stream_window(&mut self, stream: StreamId, window: u64) -> Result<(), SetFault> {
+        self.inner
+            .set_stream_window(stream.inner(), window)
+            .map_err(SetFault::of)
+    }
 }

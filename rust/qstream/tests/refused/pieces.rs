@@ -115,8 +115,8 @@ fn a_sending_half_survives_refusals() {
 
 /// What an end keeps of each stream that is over, or never carried a byte; what is live stands in a box.
 #[test]
-fn a_sending_half_takes_72_bytes() {
-    assert!(size_of::<SendHalf>() <= 72);
+fn a_sending_half_takes_64_bytes() {
+    assert!(size_of::<SendHalf>() <= 64);
 }
 
 fn look_at_recv<A: Assembly>(half: &RecvHalf<A>) -> impl Debug + PartialEq + use<A> {
@@ -189,6 +189,6 @@ fn a_ring_survives_refusals() {
 
 /// What an end keeps of each stream that is over, or never carried a byte.
 #[test]
-fn a_receiving_half_takes_56_bytes() {
-    assert!(size_of::<RecvHalf<RingAssembly>>() <= 56);
+fn a_receiving_half_takes_64_bytes() {
+    assert!(size_of::<RecvHalf<RingAssembly>>() <= 64);
 }

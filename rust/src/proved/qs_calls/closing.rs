@@ -10,6 +10,32 @@ pub struct Closing {
     pub place: usize,
 }
 
+/// A side of the connection, as an end sees it.
+#[derive(Clone, Copy, Debug, PartialEq, Eq)]
+pub enum Closer {
+    /// This side.
+    Us,
+    /// The other one.
+    Peer,
+}
+
+/// Of what kind a close is. The codes of the two kinds have nothing to do with each other (RFC 9000, section 20).
+#[derive(Clone, Copy, Debug, PartialEq, Eq)]
+pub enum CloseKind {
+    /// By the transport: a CONNECTION_CLOSE of type 0x1c, or a time that ran out (RFC 9000, sections 10.1 and 19.19).
+    Transport,
+    /// By the application: a CONNECTION_CLOSE of type 0x1d (RFC 9000, section 19.19).
+    Application,
+}
+
+/// A close that an end was told of, since the stack above the packets saw it or made it itself.
+#[derive(Clone, Copy, Debug, PartialEq, Eq)]
+pub struct ToldClose {
+    pub by: Closer,
+    pub kind: CloseKind,
+    pub code: u64,
+}
+
 /// An end that is closed stays so.
 #[derive(Clone, Copy, Debug, PartialEq, Eq)]
 pub enum Closed {
@@ -17,6 +43,8 @@ pub enum Closed {
     ByUs(Closing),
     /// It saw its peer close, with this code.
     ByPeer(u64),
+    /// It was told so.
+    Told(ToldClose),
 }
 
 /// What came of a payload that did not close the connection.

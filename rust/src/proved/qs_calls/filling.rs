@@ -21,7 +21,13 @@ pub struct Fill {
     pub first: StreamId,
     /// Of that stream alone.
     pub alone: bool,
+    /// So many bytes of streams at most; `NO_CAP` stands for as many as fit. A chunk is cut where it would pass that, and then no stream
+    /// has another turn. With 0 no byte goes in, and an end only where all bytes of its stream went and no stream before it has any.
+    pub most_bytes: usize,
 }
+
+/// As many bytes of streams as fit: a slice has fewer than that.
+pub const NO_CAP: usize = usize::MAX;
 
 impl Fill {
     /// All that is due, from stream 0 on.
@@ -31,6 +37,7 @@ impl Fill {
             streams: true,
             first: first_stream(),
             alone: false,
+            most_bytes: NO_CAP,
         }
     }
 
@@ -41,6 +48,7 @@ impl Fill {
             streams: false,
             first: first_stream(),
             alone: false,
+            most_bytes: NO_CAP,
         }
     }
 
@@ -51,6 +59,7 @@ impl Fill {
             streams: true,
             first: first_stream(),
             alone: false,
+            most_bytes: NO_CAP,
         }
     }
 
@@ -61,6 +70,7 @@ impl Fill {
             streams: self.streams,
             first: stream,
             alone: false,
+            most_bytes: self.most_bytes,
         }
     }
 
@@ -71,6 +81,18 @@ impl Fill {
             streams: self.streams,
             first: stream,
             alone: true,
+            most_bytes: self.most_bytes,
+        }
+    }
+
+    /// The same, with so many bytes of streams at most.
+    pub fn at_most(self, bytes: usize) -> Fill {
+        Fill {
+            items: self.items,
+            streams: self.streams,
+            first: self.first,
+            alone: self.alone,
+            most_bytes: bytes,
         }
     }
 }
@@ -82,7 +104,8 @@ pub struct Filled {
     pub len: usize,
     /// The stream of the last STREAM frame, if there is one. An owner whose streams send by turns goes on behind it.
     pub last_stream: Option<StreamId>,
-    /// Whether more of what was asked for is due that may go.
+    /// Whether more of what was asked for is due that may go. What is held back by the cap of bytes isn't counted: once that is used up,
+    /// control items alone are.
     pub more: bool,
 }
 

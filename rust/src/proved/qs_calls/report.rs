@@ -39,4 +39,6 @@ pub struct RecvReport {
     pub final_size: Option<u64>,
     /// The code of the peer's RESET_STREAM, once it was taken.
     pub reset_code: Option<u64>,
+    /// The code with which the owner stopped it first (section 3.5).
+    pub stop_code: Option<u64>,
 }

@@ -129,6 +129,54 @@ impl Bits {
     }
 }
 
+impl Bits {
+    /// Whether each index of a word is marked.
+    pub(crate) fn is_full(&self, place: usize) -> bool {
+        self.word(place) == u64::MAX
+    }
+
+    /// The least index from one on that is marked here and there and wasn't told, in the word of that index.
+    pub(crate) fn next_untold_in_word(
+        &self,
+        others: &Bits,
+        told: &Bits,
+        from: usize,
+    ) -> Option<usize> {
+        let place = from / FLAGS_PER_WORD;
+        let word = self.untold_word(others, told, place);
+        match lowest_bit(word, from % FLAGS_PER_WORD) {
+            Some(marked) => Some(place * FLAGS_PER_WORD + marked),
+            None => None,
+        }
+    }
+
+    /// The least index from one on that is marked here and there and wasn't told.
+    pub(crate) fn next_untold(&self, others: &Bits, told: &Bits, from: usize) -> Option<usize> {
+        let mut bit = from % FLAGS_PER_WORD;
+        for place in from / FLAGS_PER_WORD..self.words.len().min(others.words.len()) {
+            let word = self.untold_word(others, told, place);
+            if let Some(marked) = lowest_bit(word, bit) {
+                return Some(place * FLAGS_PER_WORD + marked);
+            }
+            bit = 0;
+        }
+        None
+    }
+
+    // The marks here and there of a word that weren't told.
+    fn untold_word(&self, others: &Bits, told: &Bits, place: usize) -> u64 {
+        self.word(place) & others.word(place) & !told.word(place)
+    }
+
+    // The marks of a word: past the last one there is none.
+    fn word(&self, place: usize) -> u64 {
+        if place >= self.words.len() {
+            return 0;
+        }
+        self.words[place]
+    }
+}
+
 /// Whether a bit of a word is set.
 fn has_bit(word: u64, bit: usize) -> bool {
     debug_assert!(bit < 64);

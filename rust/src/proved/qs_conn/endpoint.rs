@@ -20,8 +20,10 @@ mod ack_alone;
 mod alone;
 mod asking;
 mod claiming;
+mod ended_news;
 mod filling;
 mod frames;
+mod hearing;
 mod losing;
 mod making;
 mod newly;
@@ -33,6 +35,7 @@ mod receiving;
 mod recording;
 mod setting;
 mod taking;
+mod telling;
 mod tokens;
 
 /// One end of a connection. It takes in the payloads of packets and makes packets, and its owner opens, accepts, writes,
@@ -206,6 +209,11 @@ impl Endpoint {
     // The window of a receiving half, which is its first limit too.
     fn window(&self, stream: StreamId) -> u64 {
         self.core.limits.window(stream)
+    }
+
+    // How many bytes a sending half keeps at most as it begins.
+    fn send_buffer(&self) -> u32 {
+        self.core.limits.settings.send_buffer as u32
     }
 
     // The limit with which a sending half begins.

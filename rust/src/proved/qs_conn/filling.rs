@@ -19,6 +19,17 @@ pub(crate) struct Packet {
     pub is_full: bool,
 }
 
+/// How far a packet is while bytes of streams go in.
+#[derive(Clone, Copy)]
+pub(crate) struct Course {
+    /// How many bytes it has.
+    pub len: usize,
+    /// How many bytes of streams may go in still.
+    pub quota: usize,
+    /// Nothing more goes in: something didn't fit, or the cap of bytes held some back.
+    pub is_full: bool,
+}
+
 /// What a packet is to hold: of what is due what is asked for, and whether an ACK, and the delay that it tells.
 #[derive(Clone, Copy)]
 pub(crate) struct Wish {
@@ -98,6 +109,24 @@ pub(crate) fn is_covered(outbox: &Outbox, item: &Item) -> bool {
         return true;
     }
     outbox.is_acked(*item)
+}
+
+/// A packet that is full, with so many bytes of streams left of the cap.
+pub(crate) fn full_at(len: usize, quota: usize) -> Course {
+    Course {
+        len,
+        quota,
+        is_full: true,
+    }
+}
+
+/// The first bytes of a chunk that has more.
+pub(crate) fn cut_to(chunk: Chunk, bytes: usize) -> Chunk {
+    Chunk {
+        offset: chunk.offset,
+        len: bytes,
+        fin: false,
+    }
 }
 
 /// Puts a chunk into the packet that is known to fit, and answers how many bytes there are then.

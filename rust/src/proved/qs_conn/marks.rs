@@ -2,6 +2,7 @@
 //! Which streams of one type may have something to send or to tell.
 
 use crate::proved::qs_conn::bits::{Bits, FLAGS_PER_WORD};
+use crate::proved::qs_conn::told_marks::ToldMarks;
 use crate::proved::qs_ranges::NoMemory;
 use crate::shim::alloc::Global;
 
@@ -38,6 +39,16 @@ impl Marks {
     /// How many indexes there are.
     pub(crate) fn len(&self) -> usize {
         self.marks.len()
+    }
+
+    /// Whether each index of a word is marked.
+    pub(crate) fn is_full(&self, place: usize) -> bool {
+        self.marks.is_full(place)
+    }
+
+    /// The bits of the marks.
+    pub(crate) fn bits(&self) -> &Bits {
+        &self.marks
     }
 
     /// Takes the memory for the indexes below a count.
@@ -117,6 +128,29 @@ impl Marks {
         while let Some(word) = self.words.next_both(&others.words, next) {
             let first = word * FLAGS_PER_WORD;
             if let Some(index) = self.marks.next_both_in_word(&others.marks, first) {
+                return Some(index);
+            }
+            next = word + 1;
+        }
+        None
+    }
+}
+
+impl Marks {
+    /// The least index from one on that is marked here and there and wasn't told. Where only these marks count, they are both.
+    pub(crate) fn next_untold(&self, others: &Marks, told: &ToldMarks, from: usize) -> Option<usize> {
+        if self.most == 0 {
+            return None;
+        }
+        let marks = told.bits();
+        if let Some(index) = self.marks.next_untold_in_word(&others.marks, marks, from) {
+            return Some(index);
+        }
+        let full = told.full();
+        let mut next = from / FLAGS_PER_WORD + 1;
+        while let Some(word) = self.words.next_untold(&others.words, full, next) {
+            let first = word * FLAGS_PER_WORD;
+            if let Some(index) = self.marks.next_untold_in_word(&others.marks, marks, first) {
                 return Some(index);
             }
             next = word + 1;

@@ -7,6 +7,7 @@ mod by_dir;
 mod ended;
 mod endpoint;
 mod filling;
+mod heard;
 mod held;
 mod limits;
 mod marks;
@@ -26,14 +27,18 @@ mod slot;
 mod stream_values;
 mod told;
 mod told_index;
+mod told_marks;
+mod told_streams;
 mod touches;
 mod untold;
 
 pub use endpoint::Endpoint;
+pub use heard::Heard;
 pub use held::Held;
 pub use newly_told::Told;
 pub use crate::proved::qs_calls::{
-    Closed, Closing, LaneReport, LostFault, Made, MakeFault, OpenFault, PeerLimits, RaiseFault,
-    Received, RecvReport, SendReport, SetFault, Settings, SetupFault, Share, Tuning, UseFault,
+    Closed, Closing, LaneReport, LostFault, Made, MakeFault, News, OpenFault, PeerLimits,
+    RaiseFault, Received, RecvReport, SendReport, SetFault, Settings, SetupFault, Share, Tuning,
+    UseFault,
 };
 pub use crate::proved::qs_machine::laws;

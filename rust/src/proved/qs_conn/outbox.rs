@@ -164,7 +164,7 @@ impl Outbox {
     pub(crate) fn open_to(
         &mut self,
         limit: u64,
-        buffer: usize,
+        buffer: u32,
         stream: StreamId,
     ) -> Result<(), NoMemory> {
         debug_assert!(limit <= 0x3fff_ffff_ffff_ffff);
@@ -222,7 +222,7 @@ impl Outbox {
     }
 
     /// Sets how many bytes an open stream keeps at most.
-    pub(crate) fn set_buffer(&mut self, stream: StreamId, size: usize) {
+    pub(crate) fn set_buffer(&mut self, stream: StreamId, size: u32) {
         let lanes = &mut self.types[type_of(stream)];
         lanes.set_buffer(index_of(stream), size);
     }

@@ -4,6 +4,7 @@ use crate::shim::Vec;
 
 use crate::proved::qs_conn::marks::Marks;
 use crate::proved::qs_conn::recv_marks::{RecvMarks, RecvTask, has};
+use crate::proved::qs_conn::told_marks::ToldMarks;
 use crate::proved::qs_conn::touches::Touches;
 use crate::proved::qs_conn::untold::Untold;
 use crate::proved::qs_calls::RecvReport;
@@ -214,6 +215,14 @@ impl RecvLanes {
         self.news.may_tell(index)
     }
 
+    /// Whether a read of one byte of a lane tells something new.
+    pub(crate) fn is_readable(&self, index: usize) -> bool {
+        match self.halves.get(index) {
+            Some(half) => half.is_readable(),
+            None => false,
+        }
+    }
+
     /// Reads at an open lane.
     pub(crate) fn read(&mut self, index: usize, into: &mut [u8]) -> Read {
         let half = &mut self.halves[index];
@@ -268,6 +277,19 @@ impl RecvLanes {
         self.touched.touch(index);
     }
 
+    /// Sets the window of an open lane.
+    pub(crate) fn set_window(&mut self, index: usize, window: u64) {
+        debug_assert!(1 <= window);
+        debug_assert!(window <= 1 << 30);
+        let half = &mut self.halves[index];
+        let was = measure(half);
+        half.set_window(window);
+        let is = measure(half);
+        self.news.look(index, half);
+        self.tally = moved(self.tally, was, is);
+        self.touched.touch(index);
+    }
+
     /// Whether a lane is in Data Read or Reset Read (RFC 9000, section 3.2).
     pub(crate) fn has_ended(&self, index: usize) -> bool {
         let Some(half) = self.halves.get(index) else {
@@ -289,6 +311,7 @@ impl RecvLanes {
             limit: half.limit(),
             final_size: half.final_size(),
             reset_code: half.reset_code(),
+            stop_code: half.stop_code(),
         })
     }
 
@@ -336,6 +359,20 @@ impl RecvLanes {
     pub(crate) fn next_with(&self, task: RecvTask, from: usize) -> Option<usize> {
         let mut next = from;
         while let Some(index) = self.news.next(task, next) {
+            if has(task, &self.halves[index]) {
+                return Some(index);
+            }
+            next = index + 1;
+        }
+        None
+    }
+}
+
+impl RecvLanes {
+    /// The least index whose lane has an answer for its owner that wasn't told.
+    pub(crate) fn next_untold(&self, task: RecvTask, told: &ToldMarks) -> Option<usize> {
+        let mut next = 0;
+        while let Some(index) = self.news.next_untold(task, told, next) {
             if has(task, &self.halves[index]) {
                 return Some(index);
             }

@@ -2,6 +2,7 @@
 //! Which receiving halves of one type wait for their owner, and which are over.
 
 use crate::proved::qs_conn::marks::Marks;
+use crate::proved::qs_conn::told_marks::ToldMarks;
 use crate::proved::qs_ranges::NoMemory;
 use crate::proved::qs_recv::{RecvHalf, RecvState, RingAssembly};
 use crate::shim::alloc::Global;
@@ -73,6 +74,14 @@ impl RecvMarks {
         match task {
             RecvTask::Readable => self.readable.next(from),
             RecvTask::Ended => self.ended.next(from),
+        }
+    }
+
+    /// The least marked index from one on that wasn't told.
+    pub(crate) fn next_untold(&self, task: RecvTask, told: &ToldMarks, from: usize) -> Option<usize> {
+        match task {
+            RecvTask::Readable => self.readable.next_untold(&self.readable, told, from),
+            RecvTask::Ended => self.ended.next_untold(&self.ended, told, from),
         }
     }
 }

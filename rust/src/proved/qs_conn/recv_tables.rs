@@ -5,6 +5,7 @@ use crate::proved::qs_conn::marks::{Marks, least};
 use crate::proved::qs_conn::places::{index_from, index_of, type_of};
 use crate::proved::qs_conn::recv_lanes::RecvLanes;
 use crate::proved::qs_conn::recv_marks::RecvTask;
+use crate::proved::qs_conn::told_streams::ToldStreams;
 use crate::proved::qs_conn::untold::Untold;
 use crate::proved::qs_calls::RecvReport;
 use crate::proved::qs_machine::Tally;
@@ -154,6 +155,12 @@ impl RecvTables {
         lanes.may_tell(index_of(stream))
     }
 
+    /// Whether a read of one byte of a stream tells something new.
+    pub(crate) fn is_readable(&self, stream: StreamId) -> bool {
+        let lanes = &self.types[type_of(stream)];
+        lanes.is_readable(index_of(stream))
+    }
+
     /// Reads at an open stream.
     pub(crate) fn read(&mut self, stream: StreamId, into: &mut [u8]) -> Read {
         let lanes = &mut self.types[type_of(stream)];
@@ -184,6 +191,14 @@ impl RecvTables {
         debug_assert!(code <= 0x3fff_ffff_ffff_ffff);
         let lanes = &mut self.types[type_of(stream)];
         lanes.stop_and_forget(index_of(stream), code);
+    }
+
+    /// Sets the window of an open stream.
+    pub(crate) fn set_window(&mut self, stream: StreamId, window: u64) {
+        debug_assert!(1 <= window);
+        debug_assert!(window <= 1 << 30);
+        let lanes = &mut self.types[type_of(stream)];
+        lanes.set_window(index_of(stream), window);
     }
 
     /// Whether a stream's receiving half is in Data Read or Reset Read (RFC 9000, section 3.2).
@@ -247,6 +262,32 @@ impl RecvTables {
         debug_assert!(from <= 1 << 62);
         let lanes = &self.types[stream_type];
         match lanes.next_with(task, index_from(stream_type, from)) {
+            Some(index) => Some((index * 4 + stream_type) as u64),
+            None => None,
+        }
+    }
+
+    /// The least number of a stream whose receiving half has an answer for its owner that wasn't told.
+    pub(crate) fn next_untold(&self, task: RecvTask, told: &ToldStreams) -> Option<StreamId> {
+        let bidi = least(
+            self.next_untold_of(task, 0, told),
+            self.next_untold_of(task, 1, told),
+        );
+        let uni = least(
+            self.next_untold_of(task, 2, told),
+            self.next_untold_of(task, 3, told),
+        );
+        match least(bidi, uni) {
+            Some(number) => StreamId::new(number),
+            None => None,
+        }
+    }
+
+    // The least such number among the streams of a type.
+    fn next_untold_of(&self, task: RecvTask, stream_type: usize, told: &ToldStreams) -> Option<u64> {
+        debug_assert!(stream_type < 4);
+        let lanes = &self.types[stream_type];
+        match lanes.next_untold(task, told.of_type(stream_type)) {
             Some(index) => Some((index * 4 + stream_type) as u64),
             None => None,
         }

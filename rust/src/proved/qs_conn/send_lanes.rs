@@ -3,7 +3,8 @@
 use crate::shim::Vec;
 
 use crate::proved::qs_conn::marks::Marks;
-use crate::proved::qs_conn::send_marks::{SendMarks, Task, has};
+use crate::proved::qs_conn::send_marks::{Search, SendMarks, Task, has};
+use crate::proved::qs_conn::told_marks::ToldMarks;
 use crate::proved::qs_ranges::NoMemory;
 use crate::proved::qs_send::{Chunk, SendFault, SendHalf, SendState};
 use crate::proved::qs_wire::StreamId;
@@ -67,7 +68,7 @@ impl SendLanes {
         &mut self,
         stream_type: u64,
         limit: u64,
-        buffer: usize,
+        buffer: u32,
         count: usize,
     ) -> Result<(), NoMemory> {
         debug_assert!(stream_type < 4);
@@ -152,7 +153,7 @@ impl SendLanes {
         let (after, has) = (promised(half), kept(half));
         self.promised = self.promised - before + after;
         self.kept = self.kept - had + has;
-        self.marks.look(index, half);
+        self.marks.look_stopped(index, half);
     }
 
     /// Takes in that the peer allows the offsets of an open half below a limit.
@@ -164,7 +165,7 @@ impl SendLanes {
     }
 
     /// Sets how many bytes an open half keeps at most.
-    pub(crate) fn set_buffer(&mut self, index: usize, size: usize) {
+    pub(crate) fn set_buffer(&mut self, index: usize, size: u32) {
         let half = &mut self.halves[index];
         half.set_buffer(size);
         self.marks.look(index, half);
@@ -234,6 +235,18 @@ impl SendLanes {
         let mut next = from;
         while let Some(index) = self.marks.next(task, next) {
             if has(task, &self.halves[index]) {
+                return Some(index);
+            }
+            next = index + 1;
+        }
+        None
+    }
+
+    /// The least index from one on whose half is sought.
+    pub(crate) fn next_sought(&self, search: Search, told: &ToldMarks, from: usize) -> Option<usize> {
+        let mut next = from;
+        while let Some(index) = self.marks.next_sought(search, told, next) {
+            if has(search.task, &self.halves[index]) {
                 return Some(index);
             }
             next = index + 1;

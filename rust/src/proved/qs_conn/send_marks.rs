@@ -2,6 +2,7 @@
 //! Which sending halves of one type have something for a packet, by what it is.
 
 use crate::proved::qs_conn::marks::Marks;
+use crate::proved::qs_conn::told_marks::ToldMarks;
 use crate::proved::qs_ranges::NoMemory;
 use crate::proved::qs_send::{SendHalf, SendState};
 use crate::shim::alloc::Global;
@@ -17,6 +18,15 @@ pub(crate) enum Task {
     Writable,
     /// Its end: Data Recvd or Reset Recvd.
     Ended,
+    /// A STOP_SENDING that came.
+    Stopped,
+}
+
+/// What a search looks for: halves that have something of a task, of streams that an owner was told of, or of those that it wasn't.
+#[derive(Clone, Copy)]
+pub(crate) struct Search {
+    pub(crate) task: Task,
+    pub(crate) is_told: bool,
 }
 
 /// The halves of one type that have a task, for each task. A half without a mark has none.
@@ -25,6 +35,7 @@ pub(crate) struct SendMarks {
     again: Marks,
     writable: Marks,
     ended: Marks,
+    stopped: Marks,
 }
 
 impl SendMarks {
@@ -34,6 +45,7 @@ impl SendMarks {
             again: Marks::new(alloc),
             writable: Marks::new(alloc),
             ended: Marks::new(alloc),
+            stopped: Marks::new(alloc),
         }
     }
 
@@ -42,12 +54,14 @@ impl SendMarks {
         self.bytes.reserve(count)?;
         self.again.reserve(count)?;
         self.writable.reserve(count)?;
-        self.ended.reserve(count)
+        self.ended.reserve(count)?;
+        self.stopped.reserve(count)
     }
 
     /// Makes room for all indexes below a count: the new ones have no mark but that they may be written to.
     pub(crate) fn open_to(&mut self, count: usize) -> Result<(), NoMemory> {
-        let (bytes, again, writable) = (self.bytes.len(), self.again.len(), self.writable.len());
+        let (bytes, again) = (self.bytes.len(), self.again.len());
+        let (writable, ended) = (self.writable.len(), self.ended.len());
         self.bytes.open_to(count)?;
         if let Err(refused) = self.again.open_to(count) {
             self.bytes.close_to(bytes);
@@ -64,6 +78,13 @@ impl SendMarks {
             self.writable.close_to(writable);
             return Err(refused);
         }
+        if let Err(refused) = self.stopped.open_to(count) {
+            self.bytes.close_to(bytes);
+            self.again.close_to(again);
+            self.writable.close_to(writable);
+            self.ended.close_to(ended);
+            return Err(refused);
+        }
         Ok(())
     }
 
@@ -73,14 +94,21 @@ impl SendMarks {
         self.again.close_to(count);
         self.writable.close_to(count);
         self.ended.close_to(count);
+        self.stopped.close_to(count);
     }
 
-    /// Looks again at a half that changed.
+    /// Looks again at a half that changed, but by no STOP_SENDING.
     pub(crate) fn look(&mut self, index: usize, half: &SendHalf) {
         self.bytes.set(index, may_send(half));
         self.again.set(index, may_send_again(half));
         self.writable.set(index, half.is_writable());
         self.ended.set(index, has_ended(half));
+    }
+
+    /// Looks again at a half of which a STOP_SENDING came.
+    pub(crate) fn look_stopped(&mut self, index: usize, half: &SendHalf) {
+        self.stopped.set(index, half.stop_code().is_some());
+        self.look(index, half);
     }
 
     /// Looks again at a half that was given bytes: that moves neither what was sent before nor its end.
@@ -110,12 +138,7 @@ impl SendMarks {
 
     /// Whether any index may be marked.
     pub(crate) fn may_have(&self, task: Task) -> bool {
-        match task {
-            Task::Bytes => self.bytes.may_have(),
-            Task::Again => self.again.may_have(),
-            Task::Writable => self.writable.may_have(),
-            Task::Ended => self.ended.may_have(),
-        }
+        self.of(task).may_have()
     }
 
     /// The marks of those that came to their end.
@@ -125,11 +148,31 @@ impl SendMarks {
 
     /// The least marked index from one on.
     pub(crate) fn next(&self, task: Task, from: usize) -> Option<usize> {
+        self.of(task).next(from)
+    }
+
+    /// The least marked index from one on that is sought.
+    pub(crate) fn next_sought(&self, search: Search, told: &ToldMarks, from: usize) -> Option<usize> {
+        let marks = self.of(search.task);
+        if !search.is_told {
+            return marks.next_untold(marks, told, from);
+        }
+        let others = told.marks();
+        if !others.may_have() {
+            return None;
+        }
+        marks.next_both(others, from)
+    }
+
+    // The marks for a task.
+    #[inline(always)]
+    fn of(&self, task: Task) -> &Marks {
         match task {
-            Task::Bytes => self.bytes.next(from),
-            Task::Again => self.again.next(from),
-            Task::Writable => self.writable.next(from),
-            Task::Ended => self.ended.next(from),
+            Task::Bytes => &self.bytes,
+            Task::Again => &self.again,
+            Task::Writable => &self.writable,
+            Task::Ended => &self.ended,
+            Task::Stopped => &self.stopped,
         }
     }
 }
@@ -152,6 +195,7 @@ pub(crate) fn has(task: Task, half: &SendHalf) -> bool {
         Task::Again => may_send_again(half),
         Task::Writable => half.is_writable(),
         Task::Ended => has_ended(half),
+        Task::Stopped => half.stop_code().is_some(),
     }
 }
 

@@ -22,6 +22,9 @@ pub trait Assembly {
     /// Throws the stored bytes away, and those that come from now on.
     fn discard(&mut self);
 
+    /// From now on as many bytes past those that were read are stored as the greater window has.
+    fn widen(&mut self, window: u64);
+
     /// Gives back memory in which nothing is stored.
     fn give_back(&mut self);
 

@@ -28,6 +28,18 @@ pub fn next_limit(limit: u64, taken: u64, window: u64, share: Share) -> u64 {
     }
 }
 
+/// The limit under another window: a greater one moves it at once, and under a smaller one it stands (RFC 9000, section 4.2).
+pub(crate) fn limit_with(present: u64, granted: u64, taken: u64, window: u64) -> u64 {
+    debug_assert!(granted <= 0x3fff_ffff_ffff_ffff);
+    debug_assert!(taken <= 0x3fff_ffff_ffff_ffff);
+    debug_assert!(window <= 1 << 40);
+    if present < window {
+        granted.max((taken + window).min(MAX_VARINT))
+    } else {
+        granted
+    }
+}
+
 /// Such a share of a window or of a grant, and 1 at least: by so much a limit or a count moves.
 pub fn step_of(share: Share, whole: u64) -> u64 {
     let part = match share {

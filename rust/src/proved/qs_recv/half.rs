@@ -63,7 +63,7 @@ pub enum RecvState {
 /// The receiving half of a stream, over any assembly. Offsets and sizes count bytes from the start of the stream.
 ///
 /// One that never carried a byte, one that was reset, and one of which a reader was told the end or that was forgotten, while no
-/// offset is missing, is a record of 56 bytes; the first byte that is stored takes the box.
+/// offset is missing, is a record of 64 bytes; the first byte that is stored takes the box.
 pub struct RecvHalf<A: Assembly> {
     alloc: Global,
     parts: Parts<A>,
@@ -201,6 +201,17 @@ impl<A: Assembly> RecvHalf<A> {
         match &mut self.parts {
             Parts::Resting(rest) => rest.raise(),
             Parts::Live(live) => live.raise(),
+        }
+    }
+
+    /// Sets another window (section 4.2): a greater one moves the limit at once, be it by less than the half's share of it, and
+    /// under a smaller one the limit stands until so much was taken that it moves again. Once the final size is known it stays.
+    pub fn set_window(&mut self, window: u64) {
+        debug_assert!(1 <= window);
+        debug_assert!(window <= 1 << 30);
+        match &mut self.parts {
+            Parts::Resting(rest) => rest.set_window(window),
+            Parts::Live(live) => live.set_window(window),
         }
     }
 

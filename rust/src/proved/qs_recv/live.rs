@@ -2,19 +2,21 @@
 //! A receiving half that may store bytes.
 
 use crate::proved::qs_recv::assembly::{Assembly, Peeking, Skipping};
-use crate::proved::qs_recv::credit::{Share, next_limit};
+use crate::proved::qs_recv::credit::{Share, limit_with, next_limit};
 use crate::proved::qs_recv::half::{Highest, Peek, Read, RecvFault, RecvState};
 use crate::proved::qs_recv::rest::{Rest, given};
-use crate::proved::qs_recv::window::Window;
+use crate::proved::qs_recv::window::Windows;
 use crate::shim::alloc::Global;
 
 /// A receiving half with its assembly. `RecvHalf` tells what the calls do.
 pub(crate) struct LiveHalf<A: Assembly> {
     assembly: A,
-    window: u64,
+    // The greatest window that was set.
+    widest: u64,
     read_count: u64,
     received_end: u64,
     limit: u64,
+    window: u64,
     final_size: Option<u64>,
     reset_code: Option<u64>,
     stop_code: Option<u64>,
@@ -25,21 +27,22 @@ pub(crate) struct LiveHalf<A: Assembly> {
 impl<A: Assembly> LiveHalf<A> {
     /// The same half as one at rest. It takes no memory.
     pub(crate) fn revived(alloc: Global, rest: &Rest) -> Self {
-        let window = rest.window.size();
+        let widest = rest.windows.widest();
         let reset_code = given(rest.is_reset, rest.reset);
         let stop_code = given(rest.is_stopped, rest.stop);
         let is_over = is_either(reset_code, stop_code);
         LiveHalf {
-            assembly: A::at_rest(alloc, window, rest.read_count, rest.received_end, is_over),
-            window,
+            assembly: A::at_rest(alloc, widest, rest.read_count, rest.received_end, is_over),
+            widest,
             read_count: rest.read_count,
             received_end: rest.received_end,
             limit: rest.limit,
+            window: rest.windows.size(),
             final_size: given(rest.is_sized, rest.size),
             reset_code,
             stop_code,
             told: rest.told,
-            share: rest.window.share(),
+            share: rest.windows.share(),
         }
     }
 
@@ -55,7 +58,7 @@ impl<A: Assembly> LiveHalf<A> {
             size: self.final_size.unwrap_or(0),
             reset: self.reset_code.unwrap_or(0),
             stop: self.stop_code.unwrap_or(0),
-            window: Window::new(self.window, self.share),
+            windows: Windows::new(self.widest, self.window, self.share),
             is_sized: self.final_size.is_some(),
             is_reset: self.reset_code.is_some(),
             is_stopped: self.stop_code.is_some(),
@@ -151,7 +154,7 @@ impl<A: Assembly> LiveHalf<A> {
             size,
             reset: code,
             stop: self.stop_code.unwrap_or(0),
-            window: Window::new(self.window, self.share),
+            windows: Windows::new(self.widest, self.window, self.share),
             is_sized: true,
             is_reset: true,
             is_stopped: self.stop_code.is_some(),
@@ -208,6 +211,18 @@ impl<A: Assembly> LiveHalf<A> {
         }
         self.limit = next;
         Some(next)
+    }
+
+    pub(crate) fn set_window(&mut self, window: u64) {
+        debug_assert!(1 <= window);
+        debug_assert!(window <= 1 << 30);
+        let taken = self.taken();
+        if self.final_size.is_none() {
+            self.limit = limit_with(self.window, self.limit, taken, window);
+        }
+        self.assembly.widen(window);
+        self.widest = self.widest.max(window);
+        self.window = window;
     }
 
     pub(crate) fn is_lawful(&self) {

@@ -1,9 +1,9 @@
 // Made from crates/qs_recv/src/rest.rt by rust/erase; not edited by hand.
 //! A receiving half that stores nothing, in few bytes.
 
-use crate::proved::qs_recv::credit::{Share, next_limit};
+use crate::proved::qs_recv::credit::{Share, limit_with, next_limit};
 use crate::proved::qs_recv::half::{Peek, Read};
-use crate::proved::qs_recv::window::Window;
+use crate::proved::qs_recv::window::Windows;
 
 /// A receiving half that stores nothing, and of which the offsets that came are those below `received_end`: one that never
 /// carried a byte, or that is over. An `Option<u64>` would take twice the bytes of its number.
@@ -14,7 +14,7 @@ pub(crate) struct Rest {
     pub(crate) size: u64,
     pub(crate) reset: u64,
     pub(crate) stop: u64,
-    pub(crate) window: Window,
+    pub(crate) windows: Windows,
     pub(crate) is_sized: bool,
     pub(crate) is_reset: bool,
     pub(crate) is_stopped: bool,
@@ -33,7 +33,7 @@ impl Rest {
             size: 0,
             reset: 0,
             stop: 0,
-            window: Window::new(window, share),
+            windows: Windows::new(window, window, share),
             is_sized: false,
             is_reset: false,
             is_stopped: false,
@@ -126,14 +126,26 @@ impl Rest {
         let next = next_limit(
             self.limit,
             self.taken(),
-            self.window.size(),
-            self.window.share(),
+            self.windows.size(),
+            self.windows.share(),
         );
         if next <= self.limit {
             return None;
         }
         self.limit = next;
         Some(next)
+    }
+
+    /// Sets another window.
+    pub(crate) fn set_window(&mut self, window: u64) {
+        debug_assert!(1 <= window);
+        debug_assert!(window <= 1 << 30);
+        let taken = self.taken();
+        if !self.is_sized {
+            self.limit = limit_with(self.windows.size(), self.limit, taken, window);
+        }
+        let widest = self.windows.widest().max(window);
+        self.windows = Windows::new(widest, window, self.windows.share());
     }
 
     /// What holds of the half at all times.

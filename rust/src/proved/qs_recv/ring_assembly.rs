@@ -135,6 +135,10 @@ impl Assembly for RingAssembly {
         self.discarding = true;
     }
 
+    fn widen(&mut self, window: u64) {
+        self.window = self.window.max(window);
+    }
+
     fn give_back(&mut self) {
         if self.stored == 0 {
             self.ring = Ring::none(self.alloc);

@@ -21,9 +21,9 @@ pub struct SendHalf {
     id: StreamId,
     offsets: Offsets,
     limit: u64,
-    buffer: usize,
+    buffer: u32,
     // The greatest buffer so far.
-    widest: usize,
+    widest: u32,
     // The code of the reset, whose size is the sent end.
     reset_code: MaybeNumber,
     // The code of the first STOP_SENDING that came.
@@ -39,7 +39,7 @@ pub struct SendHalf {
 impl SendHalf {
     /// A half in the state Ready, which may send the offsets below `limit` and keeps at most `buffer`
     /// bytes. It takes no memory yet.
-    pub fn new(alloc: Global, id: StreamId, limit: u64, buffer: usize) -> Self {
+    pub fn new(alloc: Global, id: StreamId, limit: u64, buffer: u32) -> Self {
         debug_assert!(limit <= 0x3fff_ffff_ffff_ffff);
         let _number = id.value();
         Self {
@@ -78,7 +78,7 @@ impl SendHalf {
             return Ok(0);
         }
         let (taken, _) = bytes.split_at(len);
-        if let Err(_) = self.offsets.write(taken, self.widest) {
+        if let Err(_) = self.offsets.write(taken, self.widest as usize) {
             return Err(SendFault::NoMemory);
         }
         Ok(len)
@@ -150,7 +150,7 @@ impl SendHalf {
 
     /// Keeps at most so many bytes from now on. What is kept stays: where it is more, no byte is accepted until enough of it is
     /// acknowledged.
-    pub fn set_buffer(&mut self, size: usize) {
+    pub fn set_buffer(&mut self, size: u32) {
         self.buffer = size;
         self.widest = self.widest.max(size);
     }
@@ -252,7 +252,7 @@ impl SendHalf {
 
     /// How many bytes the buffer can take: none while more are kept than it is set to.
     pub fn room(&self) -> usize {
-        self.buffer.saturating_sub(self.offsets.kept_len())
+        (self.buffer as usize).saturating_sub(self.offsets.kept_len())
     }
 
     /// How many bytes of memory the buffer takes: at least those that are kept. While some are it takes up to twice the most that it
@@ -279,7 +279,7 @@ impl SendHalf {
         if self.refusal().is_some() {
             return false;
         }
-        self.offsets.kept_len() < self.buffer && self.offsets.written() < MAX_VARINT
+        self.offsets.kept_len() < self.buffer as usize && self.offsets.written() < MAX_VARINT
     }
 
     fn was_reset(&self) -> bool {

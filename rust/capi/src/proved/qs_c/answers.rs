@@ -2,13 +2,14 @@
 //! The numbers that the calls answer.
 
 use crate::proved::qs_c::lane::GvLane;
+use crate::proved::qs_c::peeking::GvPieces;
 use crate::proved::qs_c::structs::{GvClosing, GvFilled, GvMade};
 use crate::proved::qs_calls::{Consumed, Filled, TakeFault, Taken, TokenFault};
 use crate::proved::qs_conn::{
     Closing, LaneReport, LostFault, Made, MakeFault, OpenFault, RaiseFault, Received, SetFault,
     SetupFault, UseFault,
 };
-use crate::proved::qs_recv::Read;
+use crate::proved::qs_recv::{Peek, Read};
 use crate::proved::qs_wire::StreamId;
 
 pub(crate) const OK: u32 = 0;
@@ -122,6 +123,26 @@ pub(crate) fn of_consumed(
             Read::End => END,
             Read::Wait => WAIT,
         },
+        Err(fault) => of_fault(fault),
+    }
+}
+
+pub(crate) fn of_peek<'a>(
+    answer: Result<Peek<'a>, UseFault>,
+    code: &mut u64,
+    pieces: &mut GvPieces<'a>,
+) -> u32 {
+    match answer {
+        Ok(Peek::Bytes(front, back)) => {
+            *pieces = GvPieces { front, back };
+            OK
+        }
+        Ok(Peek::Reset(of)) => {
+            *code = of;
+            RESET
+        }
+        Ok(Peek::End) => END,
+        Ok(Peek::Wait) => WAIT,
         Err(fault) => of_fault(fault),
     }
 }

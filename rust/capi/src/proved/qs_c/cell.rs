@@ -8,7 +8,7 @@ use crate::shim::alloc::Global;
 /// Room for a box's address. Where there is one it owns what the box owned.
 #[repr(C)]
 pub struct Cell {
-    at: *mut u8,
+    pub(crate) at: *mut u8,
     alloc: Global,
 }
 

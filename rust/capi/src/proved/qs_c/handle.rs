@@ -32,6 +32,14 @@ impl Handle {
         };
     }
 
+    /// The end that the handle holds, lent as long as the handle is.
+    pub(crate) fn held(&mut self) -> Option<&Thing> {
+        if !self.live {
+            return None;
+        }
+        Some(self.cell.lend())
+    }
+
     fn none(alloc: Global) -> Handle {
         let at = null_mut();
         let cell = Cell::empty(at, alloc);

@@ -23,11 +23,13 @@ pub struct GvReceiving {
     pub state: u32,
     pub has_final_size: bool,
     pub was_reset: bool,
+    pub was_stopped: bool,
     pub read_count: u64,
     pub highest: u64,
     pub limit: u64,
     pub final_size: u64,
     pub reset_code: u64,
+    pub stop_code: u64,
 }
 
 #[repr(C)]
@@ -64,11 +66,13 @@ const NOT_RECEIVING: GvReceiving = GvReceiving {
     state: 0,
     has_final_size: false,
     was_reset: false,
+    was_stopped: false,
     read_count: 0,
     highest: 0,
     limit: 0,
     final_size: 0,
     reset_code: 0,
+    stop_code: 0,
 };
 
 fn sending_of(report: Option<SendReport>) -> GvSending {
@@ -94,11 +98,13 @@ fn receiving_of(report: Option<RecvReport>) -> GvReceiving {
         state: recv_number(half.state),
         has_final_size: half.final_size.is_some(),
         was_reset: half.reset_code.is_some(),
+        was_stopped: half.stop_code.is_some(),
         read_count: half.read_count,
         highest: half.highest,
         limit: half.limit,
         final_size: half.final_size.unwrap_or(0),
         reset_code: half.reset_code.unwrap_or(0),
+        stop_code: half.stop_code.unwrap_or(0),
     }
 }
 

@@ -43,6 +43,21 @@ pub fn gvp_set_send_buffer(
     status
 }
 
+/// How far what comes of a stream may run ahead of what is taken of it.
+pub fn gvp_set_stream_window(
+    alloc: Global,
+    end: &mut Handle,
+    stream: u64,
+    window: u64,
+) -> u32 {
+    let Some(mut thing) = end.take(alloc) else {
+        return INVALID;
+    };
+    let status = thing.set_stream_window(stream, window);
+    end.put(thing);
+    status
+}
+
 impl Thing {
     pub(crate) fn set_conn_window(&mut self, window: u64) -> u32 {
         of_set(self.end.set_conn_window(window))
@@ -60,5 +75,12 @@ impl Thing {
             return INVALID;
         };
         of_set(self.end.set_send_buffer(id, size))
+    }
+
+    pub(crate) fn set_stream_window(&mut self, stream: u64, window: u64) -> u32 {
+        let Some(id) = StreamId::new(stream) else {
+            return INVALID;
+        };
+        of_set(self.end.set_stream_window(id, window))
     }
 }

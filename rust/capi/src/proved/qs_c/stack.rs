@@ -63,6 +63,7 @@ impl Thing {
             streams: want.streams,
             first,
             alone: want.alone,
+            most_bytes: want.most_bytes,
         };
         of_filled(self.end.fill(out, &wanted), filled)
     }

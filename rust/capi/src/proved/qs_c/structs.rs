@@ -59,6 +59,7 @@ pub struct GvRequest {
     pub streams: bool,
     pub alone: bool,
     pub first: u64,
+    pub most_bytes: usize,
 }
 
 #[repr(C)]

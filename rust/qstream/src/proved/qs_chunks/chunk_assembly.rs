@@ -87,6 +87,10 @@ impl Assembly for ChunkAssembly {
         self.discarding = true;
     }
 
+    fn widen(&mut self, window: u64) {
+        self.window = self.window.max(window);
+    }
+
     // Chunks that are read are gone.
     fn give_back(&mut self) {}
 

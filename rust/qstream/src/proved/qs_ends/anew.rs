@@ -88,3 +88,71 @@ fn nothing_out_of_range_is_set() -> Result<(), Fail> {
           set-grant bidi 1 -> closed",
     )
 }
+
+// A greater window of a stream moves its limit at once, by less than a step too, and the next packet tells it.
+#[test]
+fn a_greater_window_of_a_stream_moves_its_limit() -> Result<(), Fail> {
+    let rt = HostRuntime::new();
+    play_rows(
+        rt.alloc(),
+        b"server bidi_remote=10
+          receive 0 0a00026162 -> done
+          read 0 16 -> bytes 6162
+          set-stream-window 0 11 -> ok
+          make 1200 -> 0 020000000011000d
+          set-stream-window 0 11 -> ok
+          make 1200 -> none",
+    )
+}
+
+// Under a smaller one the limit stands until so much was taken that it moves by a step of the smaller window, and a stream that opens
+// later begins with the window that the peer was told.
+#[test]
+fn a_smaller_window_of_a_stream_lets_its_limit_stand() -> Result<(), Fail> {
+    let rt = HostRuntime::new();
+    play_rows(
+        rt.alloc(),
+        b"server bidi_remote=10
+          receive 0 0a000461626364 -> done
+          set-stream-window 0 4 -> ok
+          read 0 16 -> bytes 61626364
+          make 1200 -> 0 0200000000
+          receive 1 0e00040465666768 -> done
+          read 0 16 -> bytes 65666768
+          make 1200 -> 1 020100000111000c
+          receive 2 0a040a61626364656667686970 -> done
+          read 4 5 -> bytes 6162636465
+          make 1200 -> 2 020200000211040f",
+    )
+}
+
+// Once its length is known no limit moves.
+#[test]
+fn of_a_stream_of_known_length_the_window_changes_alone() -> Result<(), Fail> {
+    let rt = HostRuntime::new();
+    play_rows(
+        rt.alloc(),
+        b"server bidi_remote=10
+          receive 0 0b00026162 -> done
+          set-stream-window 0 100 -> ok
+          make 1200 -> 0 0200000000",
+    )
+}
+
+#[test]
+fn a_window_of_a_stream_is_not_set() -> Result<(), Fail> {
+    let rt = HostRuntime::new();
+    play_rows(
+        rt.alloc(),
+        b"server
+          open uni -> 3
+          receive 0 0a020161 -> done
+          set-stream-window 0 4 -> no-such-stream
+          set-stream-window 3 4 -> wrong-direction
+          set-stream-window 2 0 -> out-of-range
+          set-stream-window 2 1073741825 -> out-of-range
+          set-stream-window 2 1073741824 -> ok
+          receive 1 1c070000 -> peer-closed 7
+          set-stream-window 2 0 -> closed",
+    )
+}

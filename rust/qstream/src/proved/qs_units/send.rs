@@ -39,7 +39,7 @@ enum Step<'a> {
     TakesMemory(bool),
 }
 
-fn half(alloc: Global, number: u32, limit: u32, buffer: usize) -> SendHalf {
+fn half(alloc: Global, number: u32, limit: u32, buffer: u32) -> SendHalf {
     match StreamId::new(u64::from(number)) {
         Some(id) => SendHalf::new(alloc, id, u64::from(limit), buffer),
         None => unreachable!(),

@@ -30,6 +30,7 @@ const NEVER_RECEIVED: RecvReport = RecvReport {
     limit: 0,
     final_size: None,
     reset_code: None,
+    stop_code: None,
 };
 
 /// What came of two ends and their log, of which the report has a copy.

@@ -1,10 +1,11 @@
 // Made from crates/qs_conn/src/endpoint/alone.rt by rust/erase; not edited by hand.
 //! Frames are taken in without their packet.
 
+use super::receiving::told_of_us;
 use super::{Endpoint, is_uni};
 use crate::proved::qs_conn::newly_told::Silent;
 use crate::proved::qs_conn::seen::{SeenFrame, has_text, is_ours, seen, type_number};
-use crate::proved::qs_calls::{Closed, Closing, TakeFault, Taken};
+use crate::proved::qs_calls::{Closed, Closer, Closing, TakeFault, Taken, ToldClose};
 use crate::proved::qs_send::Item;
 use crate::proved::qs_wire::{Frame, StreamId};
 
@@ -153,8 +154,17 @@ impl Endpoint {
         match self.closed {
             Some(Closed::ByUs(closing)) => Some(TakeFault::Closing(closing)),
             Some(Closed::ByPeer(code)) => Some(TakeFault::PeerClosed(code)),
+            Some(Closed::Told(close)) => Some(told_fault(close)),
             None => None,
         }
+    }
+}
+
+// What an end that was told of a close says again.
+fn told_fault(close: ToldClose) -> TakeFault {
+    match close.by {
+        Closer::Us => TakeFault::Closing(told_of_us(close.code)),
+        Closer::Peer => TakeFault::PeerClosed(close.code),
     }
 }
 

@@ -2,7 +2,7 @@
 //! What an end's owner, and the layer beneath, may ask of it. Nothing changes.
 
 use super::Endpoint;
-use crate::proved::qs_calls::{Closed, UseFault};
+use crate::proved::qs_calls::{Closed, ToldClose, UseFault};
 use crate::proved::qs_recv::Peek;
 use crate::proved::qs_wire::{Dir, StreamId};
 
@@ -16,10 +16,18 @@ impl Endpoint {
         self.core.has_frame()
     }
 
-    /// The code with which the peer closed, `None` where it didn't (RFC 9000, section 10.2).
+    /// The code with which the peer closed by a frame that came to this end, `None` where it didn't (RFC 9000, section 10.2).
     pub fn peer_closed(&self) -> Option<u64> {
         match self.closed {
             Some(Closed::ByPeer(code)) => Some(code),
+            _ => None,
+        }
+    }
+
+    /// The close that the end was told of by `tell_closed`, `None` where it closed otherwise or is open (RFC 9000, section 10.2).
+    pub fn told_close(&self) -> Option<ToldClose> {
+        match self.closed {
+            Some(Closed::Told(close)) => Some(close),
             _ => None,
         }
     }

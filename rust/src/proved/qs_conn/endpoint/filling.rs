@@ -32,7 +32,8 @@ impl Endpoint {
             delay: 0,
             ack_due: false,
         };
-        let len = self.core.fill(&self.done, &wish, out);
+        let packet = self.core.fill(&self.done, &wish, out);
+        let len = packet.len;
         if len == 0 {
             return Ok(None);
         }
@@ -40,7 +41,8 @@ impl Endpoint {
         let last_stream = self.core.outbox.last_stream();
         self.core.outbox.commit();
         self.settle();
-        let more = self.has_more(want, near);
+        let rest = still_asked(want, packet.quota);
+        let more = self.has_more(&rest, near);
         Ok(Some(Filled {
             token,
             len,
@@ -60,5 +62,19 @@ impl Endpoint {
     // Whether something that is asked for is due that no limit holds back. The stream that sent last is asked first.
     fn has_more(&self, want: &Fill, last: Option<StreamId>) -> bool {
         self.core.has_wanted(want, last)
+    }
+}
+
+// What is asked for still, where so many bytes of streams may go.
+fn still_asked(want: &Fill, quota: usize) -> Fill {
+    if quota > 0 {
+        return *want;
+    }
+    Fill {
+        items: want.items,
+        streams: false,
+        first: want.first,
+        alone: want.alone,
+        most_bytes: want.most_bytes,
     }
 }

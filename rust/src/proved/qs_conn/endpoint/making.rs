@@ -3,7 +3,7 @@
 
 use super::Endpoint;
 use crate::proved::qs_conn::filling::Wish;
-use crate::proved::qs_calls::{Fill, Made, MakeFault};
+use crate::proved::qs_calls::{Fill, Made, MakeFault, NO_CAP};
 use crate::proved::qs_wire::StreamId;
 
 /// The largest packet number (RFC 9000, section 12.3).
@@ -46,6 +46,7 @@ impl Endpoint {
     ) -> Result<Option<Made>, MakeFault> {
         debug_assert!(delay < 1 << 62);
         debug_assert!(128 <= out.len());
+        debug_assert!(out.len() <= 16383);
         if self.closed.is_some() {
             return Err(MakeFault::Closed);
         }
@@ -62,13 +63,14 @@ impl Endpoint {
             streams: true,
             first,
             alone: false,
+            most_bytes: NO_CAP,
         };
         let wish = Wish {
             want,
             delay,
             ack_due: self.ack_due,
         };
-        let len = self.core.fill(&self.done, &wish, out);
+        let len = self.core.fill(&self.done, &wish, out).len;
         if len == 0 {
             return Ok(None);
         }

@@ -106,7 +106,7 @@ impl Endpoint {
         let limit = self.first_send_limit(stream);
         let window = self.window(stream);
         let share = self.core.limits.tuning.credit_step;
-        let buffer = self.core.limits.settings.send_buffer;
+        let buffer = self.send_buffer();
         self.core.outbox.are_of_open();
         let before = self.core.outbox.count(stream);
         self.core.outbox.are_of_open();
@@ -189,7 +189,7 @@ fn open_sends(
     outbox: &mut Outbox,
     absent: bool,
     limit: u64,
-    buffer: usize,
+    buffer: u32,
     stream: StreamId,
 ) -> Result<(), NoMemory> {
     debug_assert!(limit <= 0x3fff_ffff_ffff_ffff);

@@ -4,7 +4,7 @@
 use super::Endpoint;
 use crate::proved::qs_conn::newly_told::{Silent, Told};
 use crate::proved::qs_conn::seen::{SeenFrame, asks_ack, seen};
-use crate::proved::qs_calls::{Closed, Closing, Received};
+use crate::proved::qs_calls::{Closed, Closer, Closing, Received, ToldClose};
 use crate::proved::qs_wire::{Frames, Placed, WireFault};
 
 /// What one frame does to the processing of its payload. Where it goes on, the frame may ask for an ACK.
@@ -52,6 +52,7 @@ impl Endpoint {
         match self.closed {
             Some(Closed::ByUs(closing)) => return Err(closing),
             Some(Closed::ByPeer(code)) => return Ok(Received::PeerClosed(code)),
+            Some(Closed::Told(close)) => return told_receive(close),
             None => {}
         }
         if number < self.floor {
@@ -140,5 +141,22 @@ impl Endpoint {
         };
         self.closed = Some(Closed::ByUs(closing));
         closing
+    }
+}
+
+// What an end that was told of a close says again.
+fn told_receive(close: ToldClose) -> Result<Received, Closing> {
+    match close.by {
+        Closer::Us => Err(told_of_us(close.code)),
+        Closer::Peer => Ok(Received::PeerClosed(close.code)),
+    }
+}
+
+// An end's own close that it was told of is no frame's fault.
+pub(super) fn told_of_us(code: u64) -> Closing {
+    Closing {
+        code,
+        frame_type: 0,
+        place: 0,
     }
 }

@@ -58,7 +58,32 @@ impl Endpoint {
         if !self.core.outbox.is_open(stream) {
             return Err(no_half_to_set(self.core.recvs.is_open(stream)));
         }
-        self.core.outbox.set_buffer(stream, size);
+        self.core.outbox.set_buffer(stream, size as u32);
+        self.settle();
+        Ok(())
+    }
+
+    /// Sets the window of the stream's receiving half anew (RFC 9000, section 4.1), within the range of
+    /// [`Settings::uni`]: how far, in bytes, what is received may run ahead of what is taken. A greater window moves the stream's limit at
+    /// once, be it by less than a step; under a smaller one the limit stands until so much was taken that it moves again. No limit falls,
+    /// and none moves once the final size is known. A stream that opens later begins with the window that the peer was told at first. In
+    /// constant time, beside what any call looks at; it takes no memory.
+    ///
+    /// Refused, and then unchanged: `Closed`; `OutOfRange` below 1 and above 2^30; `NoSuchStream` or `WrongDirection` where the stream
+    /// has no receiving half.
+    pub fn set_stream_window(&mut self, stream: StreamId, size: u64) -> Result<(), SetFault> {
+        if self.closed.is_some() {
+            return Err(SetFault::Closed);
+        }
+        if !is_between(1, MAX_STREAM_WINDOW, size) {
+            return Err(SetFault::OutOfRange);
+        }
+        if !self.core.recvs.is_open(stream) {
+            return Err(no_half_to_set(self.core.outbox.is_open(stream)));
+        }
+        self.core.recvs.set_window(stream, size);
+        self.core.untold_recvs.set(stream, true);
+        self.is_settled = false;
         self.settle();
         Ok(())
     }
@@ -79,6 +104,8 @@ impl Endpoint {
 }
 
 const MAX_CONN_WINDOW: u64 = 1 << 40;
+
+const MAX_STREAM_WINDOW: u64 = 1 << 30;
 
 const MAX_GRANT: u64 = 1 << 17;
 

@@ -3,7 +3,8 @@
 
 use super::Core;
 use crate::proved::qs_conn::filling::{
-    LEAST_STREAM_FRAME, Packet, Wish, is_covered, put_ack_if, put_chunk, put_item,
+    Course, LEAST_STREAM_FRAME, Packet, Wish, cut_to, full_at, is_covered, put_ack_if, put_chunk,
+    put_item,
 };
 use crate::proved::qs_conn::send_marks::Task;
 use crate::proved::qs_conn::slot::{Kind, Slot};
@@ -14,17 +15,16 @@ use crate::proved::qs_wire::{Dir, StreamId};
 const OWN_ITEMS: usize = 6;
 
 impl Core {
-    /// Fills a packet from its first byte on with what is asked for, and answers how many bytes it has: the ACK, control items, and the
+    /// Fills a packet from its first byte on with what is asked for, and answers how far it is: the ACK, control items, and the
     /// bytes of streams (RFC 9000, sections 4, 13.2 and 13.3).
-    pub(crate) fn fill(&mut self, done: &RangeSet, wish: &Wish, out: &mut [u8]) -> usize {
+    pub(crate) fn fill(&mut self, done: &RangeSet, wish: &Wish, out: &mut [u8]) -> Course {
         let len = put_ack_if(done, wish, out);
         let start = Packet {
             len,
             is_full: false,
         };
         let packet = self.put_items(wish, out, start);
-        let packet = self.put_streams(wish, out, packet);
-        packet.len
+        self.put_streams(wish, out, packet)
     }
 
     /// How many pieces a packet of that many bytes holds at most: each takes two or more, and where nothing of a stream is due there are
@@ -113,7 +113,12 @@ impl Core {
 
     // Puts the bytes of the streams into the packet that are asked for: of one alone, or of those from it on before the others and lower
     // numbers first, as far as the limits and the room allow.
-    fn put_streams(&mut self, wish: &Wish, out: &mut [u8], packet: Packet) -> Packet {
+    fn put_streams(&mut self, wish: &Wish, out: &mut [u8], packet: Packet) -> Course {
+        let packet = Course {
+            len: packet.len,
+            quota: wish.want.most_bytes,
+            is_full: packet.is_full,
+        };
         if !wish.want.streams {
             return packet;
         }
@@ -128,7 +133,7 @@ impl Core {
     }
 
     // Puts the bytes of the streams of a way into the packet, lower numbers first, as far as the limits and the room allow.
-    fn put_way(&mut self, first: StreamId, around: bool, out: &mut [u8], packet: Packet) -> Packet {
+    fn put_way(&mut self, first: StreamId, around: bool, out: &mut [u8], packet: Course) -> Course {
         if packet.is_full {
             return packet;
         }
@@ -159,30 +164,45 @@ impl Core {
     }
 
     // Puts chunks of a stream into the packet, if it is one that can send.
-    fn put_open(&mut self, stream: StreamId, out: &mut [u8], packet: Packet) -> Packet {
+    fn put_open(&mut self, stream: StreamId, out: &mut [u8], packet: Course) -> Course {
         if self.outbox.is_open(stream) {
             return self.put_chunks(stream, out, packet);
         }
         packet
     }
 
-    // Puts chunks of a stream into the packet, one for each run of due offsets, as far as the limits and the room allow.
-    fn put_chunks(&mut self, stream: StreamId, out: &mut [u8], packet: Packet) -> Packet {
+    // Puts chunks of a stream into the packet, one for each run of due offsets, as far as the limits, the room and the cap allow.
+    fn put_chunks(&mut self, stream: StreamId, out: &mut [u8], packet: Course) -> Course {
         if packet.is_full {
             return packet;
         }
         let mut len = packet.len;
+        let mut quota = packet.quota;
         let mut fresh = self.limits.known_data - self.outbox.sent_sum();
         while let Some(chunk) = self.outbox.next_chunk(stream, out.len() - len, fresh) {
+            if chunk.len > quota {
+                if quota == 0 {
+                    return full_at(len, 0);
+                }
+                let part = cut_to(chunk, quota);
+                let end = put_chunk(&mut self.outbox, stream, part, out, len);
+                self.untold_sends.look_blocked(&self.outbox, stream);
+                return full_at(end, 0);
+            }
             len = put_chunk(&mut self.outbox, stream, chunk, out, len);
+            quota -= chunk.len;
             self.untold_sends.look_blocked(&self.outbox, stream);
             if out.len() - len < LEAST_STREAM_FRAME {
-                return Packet { len, is_full: true };
+                return full_at(len, quota);
             }
             fresh = self.limits.known_data - self.outbox.sent_sum();
         }
         let is_full = self.outbox.is_held_by_room(stream, out.len() - len, fresh);
-        Packet { len, is_full }
+        Course {
+            len,
+            quota,
+            is_full,
+        }
     }
 }
 

@@ -4,7 +4,8 @@
 use crate::proved::qs_conn::marks::least;
 use crate::proved::qs_conn::places::{index_from, index_of, type_of};
 use crate::proved::qs_conn::send_lanes::SendLanes;
-use crate::proved::qs_conn::send_marks::Task;
+use crate::proved::qs_conn::send_marks::{Search, Task};
+use crate::proved::qs_conn::told_streams::ToldStreams;
 use crate::proved::qs_send::SendHalf;
 use crate::proved::qs_wire::StreamId;
 
@@ -81,6 +82,46 @@ pub(super) fn next_with_of(
     debug_assert!(from <= 1 << 62);
     let lanes = &types[stream_type];
     match lanes.next_with(task, index_from(stream_type, from)) {
+        Some(index) => Some((index * 4 + stream_type) as u64),
+        None => None,
+    }
+}
+
+/// The least number from one on of a stream whose half is sought.
+pub(super) fn next_sought(
+    types: &[SendLanes; 4],
+    search: Search,
+    told: &ToldStreams,
+    from: u64,
+) -> Option<StreamId> {
+    debug_assert!(from <= 1 << 62);
+    let bidi = least(
+        next_sought_of(types, search, told, 0, from),
+        next_sought_of(types, search, told, 1, from),
+    );
+    let uni = least(
+        next_sought_of(types, search, told, 2, from),
+        next_sought_of(types, search, told, 3, from),
+    );
+    match least(bidi, uni) {
+        Some(number) => StreamId::new(number),
+        None => None,
+    }
+}
+
+// The least such number among the streams of a type.
+fn next_sought_of(
+    types: &[SendLanes; 4],
+    search: Search,
+    told: &ToldStreams,
+    stream_type: usize,
+    from: u64,
+) -> Option<u64> {
+    debug_assert!(stream_type < 4);
+    debug_assert!(from <= 1 << 62);
+    let lanes = &types[stream_type];
+    let marks = told.of_type(stream_type);
+    match lanes.next_sought(search, marks, index_from(stream_type, from)) {
         Some(index) => Some((index * 4 + stream_type) as u64),
         None => None,
     }

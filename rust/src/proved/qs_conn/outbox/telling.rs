@@ -2,9 +2,12 @@
 //! What an end has to tell of its sending side.
 
 use super::Outbox;
-use super::halves::{half_of, is_open, least_marked, may_have, next_with, next_with_of};
+use super::halves::{
+    half_of, is_open, least_marked, may_have, next_sought, next_with, next_with_of,
+};
 use crate::proved::qs_conn::marks::Marks;
-use crate::proved::qs_conn::send_marks::Task;
+use crate::proved::qs_conn::send_marks::{Search, Task};
+use crate::proved::qs_conn::told_streams::ToldStreams;
 use crate::proved::qs_send::{Item, MAX_VARINT, Reset, SendState};
 use crate::proved::qs_wire::StreamId;
 
@@ -23,7 +26,8 @@ impl Outbox {
         self.told.is_acked(item)
     }
 
-    fn is_reset_acked(&self, stream: StreamId) -> bool {
+    /// Whether the reset of a stream was acknowledged.
+    pub(crate) fn is_reset_acked(&self, stream: StreamId) -> bool {
         if !is_open(&self.types, stream) {
             return false;
         }
@@ -162,6 +166,37 @@ impl Outbox {
         debug_assert!(from <= 1 << 62);
         let _next = self.next;
         next_with(&self.types, Task::Writable, from)
+    }
+
+    /// The least number from one on of a stream that may be written to, of those in `short`.
+    pub(crate) fn next_short(&self, short: &ToldStreams, from: u64) -> Option<StreamId> {
+        debug_assert!(from <= 1 << 62);
+        let _next = self.next;
+        let search = Search {
+            task: Task::Writable,
+            is_told: true,
+        };
+        next_sought(&self.types, search, short, from)
+    }
+
+    /// The least number of a stream whose sending half came to its end and wasn't told.
+    pub(crate) fn next_ended_untold(&self, told: &ToldStreams) -> Option<StreamId> {
+        let _next = self.next;
+        let search = Search {
+            task: Task::Ended,
+            is_told: false,
+        };
+        next_sought(&self.types, search, told, 0)
+    }
+
+    /// The least number of a stream of which a STOP_SENDING came that wasn't told.
+    pub(crate) fn next_stopped_untold(&self, told: &ToldStreams) -> Option<StreamId> {
+        let _next = self.next;
+        let search = Search {
+            task: Task::Stopped,
+            is_told: false,
+        };
+        next_sought(&self.types, search, told, 0)
     }
 
     /// The marks of the streams of a type, by index, whose sending half may have come to its end. One without a mark hasn't.

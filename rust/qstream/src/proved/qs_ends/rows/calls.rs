@@ -54,6 +54,7 @@ fn setting(end: &mut Endpoint, words: Words, answer: &mut String) -> Result<(), 
         b"set-window" => tell_set(answer, end.set_conn_window(number(words[1])?)),
         b"set-grant" => tell_set(answer, end.set_grant(dir(words[1])?, number(words[2])?)),
         b"set-buffer" => set_buffer(end, words, answer),
+        b"set-stream-window" => set_stream_window(end, words, answer),
         _ => question(end, words, answer),
     }
 }
@@ -244,6 +245,16 @@ fn forget(end: &mut Endpoint, words: Words, answer: &mut String) -> Result<(), R
 fn set_buffer(end: &mut Endpoint, words: Words, answer: &mut String) -> Result<(), RowFault> {
     let size = size(words[2])?;
     let done = end.set_send_buffer(stream(words[1])?, size);
+    tell_set(answer, done)
+}
+
+fn set_stream_window(
+    end: &mut Endpoint,
+    words: Words,
+    answer: &mut String,
+) -> Result<(), RowFault> {
+    let window = number(words[2])?;
+    let done = end.set_stream_window(stream(words[1])?, window);
     tell_set(answer, done)
 }
 

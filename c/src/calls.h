@@ -1,0 +1,117 @@
+/* An end's handle, and what the public calls have in common: how structs are copied, how a call begins and ends, and the shapes of calls
+ * that a number or a bool answers. */
+#ifndef GOTSAVENA_CALLS_H
+#define GOTSAVENA_CALLS_H
+
+#include <stddef.h>
+#include <string.h>
+
+#include "memory.h"
+#include "proved.h"
+
+struct gv_endpoint {
+  gvp_handle handle;
+  gvp_heard heard; /* what its owner heard of, and waits for, once there is something to note */
+  bool wants[2];   /* of which directions an opening was refused since an event was asked for: no memory is taken to refuse it */
+  gv_allocator memory;
+  const gv_allocator *outer; /* from where the thread takes memory again once the call ends */
+  uint64_t *told;            /* where gv_receive_telling() has the numbers written */
+  size_t told_room;          /* how many have a place there */
+};
+
+/* What a struct takes up to a field, and it: what it took in the version of which this was the last field. */
+#define UP_TO(type, field) (offsetof(type, field) + sizeof((type *)0)->field)
+
+enum { MOST_SIZE = 4096, TOKEN_LEN = 16 };
+
+static size_t least(size_t a, size_t b) { return a < b ? a : b; }
+
+static size_t size_of(const void *at) {
+  size_t size;
+  memcpy(&size, at, sizeof size);
+  return size;
+}
+
+/* Whether a caller's struct is there, and has a size that one may have: at least that of version 0.1. */
+static bool is_sized(const void *at, size_t first) { return at != NULL && size_of(at) >= first && size_of(at) <= MOST_SIZE; }
+
+/* Copies a caller's struct. What it hasn't is 0; false where it has something that isn't known here. */
+static bool copy_in(void *to, size_t known, const void *from, size_t first) {
+  static const uint8_t zeros[MOST_SIZE];
+  if (!is_sized(from, first)) return false;
+  size_t size = size_of(from);
+  memset(to, 0, known);
+  memcpy(to, from, least(size, known));
+  return size <= known || memcmp((const uint8_t *)from + known, zeros, size - known) == 0;
+}
+
+/* Copies to a caller's struct what it has room for, but for its size. */
+static void copy_out(void *to, const void *from, size_t known) {
+  size_t skipped = sizeof(size_t);
+  memcpy((uint8_t *)to + skipped, (const uint8_t *)from + skipped, least(size_of(to), known) - skipped);
+}
+
+/* A slice of no bytes may have no address, and the library below wants one. */
+static uint8_t none[1];
+
+static uint64_t no_numbers[1];
+
+static bool is_slice(const void *at, size_t len) { return (at != NULL || len == 0) && len <= (size_t)PTRDIFF_MAX; }
+
+static const uint8_t *read_from(const uint8_t *at, size_t len) { return len == 0 ? none : at; }
+
+static uint8_t *written_to(uint8_t *at, size_t len) { return len == 0 ? none : at; }
+
+/* A call of an end begins: until leave() memory is the end's. A question is no other: its end is const in the header alone. */
+static gvp_handle *enter(const gv_endpoint *end) {
+  gv_endpoint *own = (gv_endpoint *)end;
+  own->outer = gvp_take_from(&own->memory);
+  return &own->handle;
+}
+
+/* The same for a call that wants what was heard alone. */
+static gvp_heard *enter_heard(gv_endpoint *end) {
+  (void)enter(end);
+  return &end->heard;
+}
+
+static gv_status leave(const gv_endpoint *end, uint32_t status) {
+  (void)gvp_take_from(end->outer);
+  return (gv_status)status;
+}
+
+/* The shapes of calls that a number or a bool answers. */
+
+static gv_status ask(uint32_t (*call)(gvp_handle *, uint64_t *), const gv_endpoint *end, uint64_t *answer) {
+  uint64_t got = 0;
+  if (end == NULL || answer == NULL) return GV_INVALID;
+  gv_status status = leave(end, call(enter(end), &got));
+  if (status == GV_OK) *answer = got;
+  return status;
+}
+
+static gv_status ask_of(uint32_t (*call)(gvp_handle *, uint64_t, uint64_t *), const gv_endpoint *end, uint64_t of, uint64_t *answer) {
+  uint64_t got = 0;
+  if (end == NULL || answer == NULL) return GV_INVALID;
+  gv_status status = leave(end, call(enter(end), of, &got));
+  if (status == GV_OK) *answer = got;
+  return status;
+}
+
+static gv_status ask_of_dir(uint32_t (*call)(gvp_handle *, uint32_t, uint64_t *), const gv_endpoint *end, gv_dir dir, uint64_t *answer) {
+  uint64_t got = 0;
+  if (end == NULL || answer == NULL) return GV_INVALID;
+  gv_status status = leave(end, call(enter(end), (uint32_t)dir, &got));
+  if (status == GV_OK) *answer = got;
+  return status;
+}
+
+static gv_status ask_whether(uint32_t (*call)(gvp_handle *, bool *), const gv_endpoint *end, bool *answer) {
+  bool got = false;
+  if (end == NULL || answer == NULL) return GV_INVALID;
+  gv_status status = leave(end, call(enter(end), &got));
+  if (status == GV_OK) *answer = got;
+  return status;
+}
+
+#endif

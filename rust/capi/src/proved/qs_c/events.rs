@@ -1,0 +1,154 @@
+// Made from crates/qs_c/src/events.rt by rust/erase; not edited by hand.
+//! What an owner hears of its end, and what it tells for that. What was heard has a handle of its own, beside that of the end.
+use crate::shim::Box;
+
+use crate::proved::qs_c::answers::{INVALID, NO_MEMORY, OK};
+use crate::proved::qs_c::calls::dir_of;
+use crate::proved::qs_c::handle::Handle;
+use crate::proved::qs_c::listener::Listener;
+use crate::proved::qs_c::listener_handle::ListenerHandle;
+use crate::proved::qs_c::news::{GvNews, of_news, of_note};
+use crate::proved::qs_c::thing::Thing;
+use crate::proved::qs_conn::{Endpoint, Heard};
+use crate::proved::qs_wire::StreamId;
+use crate::shim::alloc::Global;
+
+/// Takes the memory for what an owner heard: the handle holds it then, and nothing was heard. A handle that holds some loses it.
+pub fn gvp_heard_new(alloc: Global, heard: &mut ListenerHandle) -> u32 {
+    let nothing = Heard::new(alloc);
+    let Ok(boxed) = Box::new(alloc, Listener { heard: nothing }) else {
+        return NO_MEMORY;
+    };
+    heard.put(boxed);
+    OK
+}
+
+/// Drops what a handle holds.
+pub fn gvp_heard_drop(alloc: Global, heard: &mut ListenerHandle) {
+    let _gone = heard.take(alloc);
+}
+
+/// Tells the first piece of news of an end, and notes that it was heard.
+pub fn gvp_next_news(
+    alloc: Global,
+    heard: &mut ListenerHandle,
+    end: &mut Handle,
+    news: &mut GvNews,
+) -> u32 {
+    let Some(thing) = end.take(alloc) else {
+        return INVALID;
+    };
+    let status = thing.next_news(alloc, heard, news);
+    end.put(thing);
+    status
+}
+
+/// So many bytes are about to be written to a stream of the end.
+pub fn gvp_will_write(
+    alloc: Global,
+    heard: &mut ListenerHandle,
+    end: &mut Handle,
+    stream: u64,
+    len: usize,
+) -> u32 {
+    let Some(thing) = end.take(alloc) else {
+        return INVALID;
+    };
+    let status = thing.will_write(alloc, heard, stream, len);
+    end.put(thing);
+    status
+}
+
+/// A stream of a direction is to be opened once one may.
+pub fn gvp_wants(alloc: Global, heard: &mut ListenerHandle, dir: u32) -> u32 {
+    let Some(mut listener) = heard.take(alloc) else {
+        return INVALID;
+    };
+    let status = listener.wants(dir);
+    heard.put(listener);
+    status
+}
+
+/// A stream of the end was read, or stopped.
+pub fn gvp_was_read(
+    alloc: Global,
+    heard: &mut ListenerHandle,
+    end: &mut Handle,
+    stream: u64,
+) -> u32 {
+    let Some(thing) = end.take(alloc) else {
+        return INVALID;
+    };
+    let status = thing.was_read(alloc, heard, stream);
+    end.put(thing);
+    status
+}
+
+impl Thing {
+    pub(crate) fn next_news(
+        &self,
+        alloc: Global,
+        heard: &mut ListenerHandle,
+        news: &mut GvNews,
+    ) -> u32 {
+        let Some(mut listener) = heard.take(alloc) else {
+            return INVALID;
+        };
+        let status = listener.next_news(&self.end, news);
+        heard.put(listener);
+        status
+    }
+
+    pub(crate) fn will_write(
+        &self,
+        alloc: Global,
+        heard: &mut ListenerHandle,
+        stream: u64,
+        len: usize,
+    ) -> u32 {
+        let Some(mut listener) = heard.take(alloc) else {
+            return INVALID;
+        };
+        let status = listener.will_write(&self.end, stream, len);
+        heard.put(listener);
+        status
+    }
+
+    pub(crate) fn was_read(&self, alloc: Global, heard: &mut ListenerHandle, stream: u64) -> u32 {
+        let Some(mut listener) = heard.take(alloc) else {
+            return INVALID;
+        };
+        let status = listener.was_read(&self.end, stream);
+        heard.put(listener);
+        status
+    }
+}
+
+impl Listener {
+    pub(crate) fn next_news(&mut self, end: &Endpoint, news: &mut GvNews) -> u32 {
+        of_news(self.heard.next_news(end), news)
+    }
+
+    pub(crate) fn will_write(&mut self, end: &Endpoint, stream: u64, len: usize) -> u32 {
+        let Some(id) = StreamId::new(stream) else {
+            return INVALID;
+        };
+        of_note(self.heard.will_write(end, id, len))
+    }
+
+    pub(crate) fn wants(&mut self, dir: u32) -> u32 {
+        let Some(way) = dir_of(dir) else {
+            return INVALID;
+        };
+        self.heard.wants(way);
+        OK
+    }
+
+    pub(crate) fn was_read(&mut self, end: &Endpoint, stream: u64) -> u32 {
+        let Some(id) = StreamId::new(stream) else {
+            return INVALID;
+        };
+        self.heard.was_read(end, id);
+        OK
+    }
+}

@@ -1,0 +1,47 @@
+//! What an end tells of by itself.
+
+use crate::ids::{Dir, StreamId};
+use crate::proved::qs_conn as conn;
+
+/// A piece of news, as [`Endpoint::next_event`](crate::Endpoint::next_event) tells it.
+#[derive(Clone, Copy, Debug, PartialEq, Eq)]
+#[non_exhaustive]
+pub enum Event {
+    /// The peer opened the stream, by a frame on it or on a higher one of its type (RFC 9000, section 2.1). It comes before
+    /// all other news of the stream. [`Endpoint::accept`](crate::Endpoint::accept) gives the stream out still, to an owner
+    /// that asks for it: neither needs the other.
+    Opened(StreamId),
+    /// A read of one byte tells something new: bytes, the end or a reset (section 2.2). It comes again once the stream was
+    /// read until nothing was left, or stopped, and something came since. After a read that left something it doesn't.
+    Readable(StreamId),
+    /// A write took fewer bytes than were offered, and now one of one byte is accepted, if there is memory for it (sections
+    /// 2.2, 2.4 and 4.1). It comes once for all writes that were cut short before it.
+    Writable(StreamId),
+    /// The peer asked for no more of the stream, with this code: that of its first STOP_SENDING (section 3.5). The sending
+    /// half was reset by that, unless it was over before.
+    Stopped(StreamId, u64),
+    /// All that was written was acknowledged, and the end too: Data Recvd (section 3.1).
+    Finished(StreamId),
+    /// The reset was acknowledged, the owner's or that of a STOP_SENDING: Reset Recvd (section 3.1).
+    ResetAcked(StreamId),
+    /// Each half that the stream has here came to its end: all that was sent is acknowledged, or the reset, and the reader was
+    /// told the end or a reset (section 3).
+    Ended(StreamId),
+    /// An [`open`](crate::Endpoint::open) was `Blocked`, and now a stream of that direction may be opened (section 4.6).
+    Available(Dir),
+}
+
+impl Event {
+    pub(crate) fn of(news: conn::News) -> Event {
+        match news {
+            conn::News::Opened(stream) => Event::Opened(StreamId::of(stream)),
+            conn::News::Readable(stream) => Event::Readable(StreamId::of(stream)),
+            conn::News::Writable(stream) => Event::Writable(StreamId::of(stream)),
+            conn::News::Stopped(stream, code) => Event::Stopped(StreamId::of(stream), code),
+            conn::News::Finished(stream) => Event::Finished(StreamId::of(stream)),
+            conn::News::ResetAcked(stream) => Event::ResetAcked(StreamId::of(stream)),
+            conn::News::Ended(stream) => Event::Ended(StreamId::of(stream)),
+            conn::News::Available(dir) => Event::Available(Dir::of(dir)),
+        }
+    }
+}

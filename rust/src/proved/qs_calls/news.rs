@@ -1,0 +1,25 @@
+// Made from crates/qs_calls/src/news.rt by rust/erase; not edited by hand.
+//! What an end tells of by itself.
+
+use crate::proved::qs_wire::{Dir, StreamId};
+
+/// A piece of news: what its owner waits for at an end, told once (RFC 9000, sections 2 to 4).
+#[derive(Clone, Copy, Debug, PartialEq, Eq)]
+pub enum News {
+    /// The peer opened the stream. It comes before all other news of that stream.
+    Opened(StreamId),
+    /// A read of one byte tells something new: bytes, the end or a reset.
+    Readable(StreamId),
+    /// A write was cut short, and now one of one byte is accepted, if there is memory for it.
+    Writable(StreamId),
+    /// The peer asked for no more of the stream, with this code first (section 3.5).
+    Stopped(StreamId, u64),
+    /// All that was written was acknowledged, and the end too: Data Recvd (section 3.1).
+    Finished(StreamId),
+    /// The reset was acknowledged: Reset Recvd (section 3.1).
+    ResetAcked(StreamId),
+    /// Each half that the stream has here came to its end.
+    Ended(StreamId),
+    /// A stream of that direction may be opened, where one couldn't for the peer's count (section 4.6).
+    Available(Dir),
+}

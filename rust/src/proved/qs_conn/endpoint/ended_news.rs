@@ -1,0 +1,79 @@
+// Made from crates/qs_conn/src/endpoint/ended_news.rt by rust/erase; not edited by hand.
+//! Which streams came to their end, of which an owner wasn't told.
+
+use super::{Endpoint, is_uni, role_bit};
+use crate::proved::qs_conn::marks::{Marks, least};
+use crate::proved::qs_conn::places::index_from;
+use crate::proved::qs_conn::told_streams::ToldStreams;
+use crate::proved::qs_wire::StreamId;
+
+impl Endpoint {
+    /// The least stream whose every half here came to its end and that wasn't told (RFC 9000, section 3).
+    pub(crate) fn next_ended_untold(&self, told: &ToldStreams) -> Option<StreamId> {
+        let bidi = least(
+            self.next_ended_untold_of(0, told),
+            self.next_ended_untold_of(1, told),
+        );
+        let uni = least(
+            self.next_ended_untold_of(2, told),
+            self.next_ended_untold_of(3, told),
+        );
+        match least(bidi, uni) {
+            Some(number) => StreamId::new(number),
+            None => None,
+        }
+    }
+
+    // The least such number among the streams of a type.
+    fn next_ended_untold_of(&self, stream_type: usize, told: &ToldStreams) -> Option<u64> {
+        debug_assert!(stream_type < 4);
+        let mut next = 0;
+        while let Some(stream) = self.next_ended_marked(stream_type, told, next) {
+            if self.has_ended(stream) {
+                return Some(stream.value());
+            }
+            next = stream.value() + 1;
+        }
+        None
+    }
+
+    // The least number from one on of a stream that may be over and wasn't told. None of those between is.
+    fn next_ended_marked(
+        &self,
+        stream_type: usize,
+        told: &ToldStreams,
+        from: u64,
+    ) -> Option<StreamId> {
+        debug_assert!(stream_type < 4);
+        debug_assert!(from <= 1 << 62);
+        let (marks, others) = self.ended_marks(stream_type);
+        let first = index_from(stream_type, from);
+        let index = marks.next_untold(others, told.of_type(stream_type), first)?;
+        StreamId::new((index * 4 + stream_type) as u64)
+    }
+
+    // The marks of both halves of the streams of a type, by index, or twice those of the only half. One that is over has both.
+    fn ended_marks(&self, stream_type: usize) -> (&Marks, &Marks) {
+        debug_assert!(stream_type < 4);
+        let receiving = self.core.recvs.ended_marks(stream_type);
+        let sending = self.core.outbox.ended_marks(stream_type);
+        if stream_type < 2 {
+            (receiving, sending)
+        } else if stream_type % 2 == role_bit(self.core.limits.role) {
+            (sending, sending)
+        } else {
+            (receiving, receiving)
+        }
+    }
+
+    // Whether every half of a stream here came to its end.
+    fn has_ended(&self, stream: StreamId) -> bool {
+        if !is_uni(stream) {
+            self.core.recvs.has_ended(stream) && self.core.outbox.has_ended(stream)
+        } else if self.is_own(stream) {
+            self.core.outbox.has_ended(stream)
+        } else {
+            self.core.recvs.has_ended(stream)
+        }
+    }
+}

@@ -1,0 +1,93 @@
+// Made from crates/qs_conn/src/endpoint/hearing.rt by rust/erase; not edited by hand.
+//! What of an end is news to its owner.
+
+use super::Endpoint;
+use crate::proved::qs_conn::by_dir::ByDir;
+use crate::proved::qs_conn::marks::least;
+use crate::proved::qs_conn::recv_marks::RecvTask;
+use crate::proved::qs_conn::told_streams::ToldStreams;
+use crate::proved::qs_calls::News;
+use crate::proved::qs_wire::{Dir, StreamId};
+
+impl Endpoint {
+    /// The least stream of the peer's that is open and wasn't heard of, where so many of each direction were.
+    pub(crate) fn next_opened(&self, heard: ByDir<u64>) -> Option<StreamId> {
+        let bidi = self.next_opened_of(Dir::Bidi, heard.bidi);
+        let uni = self.next_opened_of(Dir::Uni, heard.uni);
+        match least(bidi, uni) {
+            Some(number) => StreamId::new(number),
+            None => None,
+        }
+    }
+
+    // The next one of a direction.
+    fn next_opened_of(&self, dir: Dir, heard: u64) -> Option<u64> {
+        let stream_type = self.peer_type(dir);
+        if heard >= self.opened_count(stream_type) as u64 {
+            return None;
+        }
+        Some(heard * 4 + stream_type as u64)
+    }
+
+    /// The least stream at which a read of one byte tells something new, of those without a mark.
+    pub(crate) fn next_readable_untold(&self, told: &ToldStreams) -> Option<StreamId> {
+        if self.is_read_no_more() {
+            return None;
+        }
+        self.core.recvs.next_untold(RecvTask::Readable, told)
+    }
+
+    /// The least stream that takes a byte, of those with a mark.
+    pub(crate) fn next_writable_of(&self, short: &ToldStreams) -> Option<StreamId> {
+        let mut next = 0;
+        while let Some(stream) = self.core.outbox.next_short(short, next) {
+            if self.room(stream) > 0 {
+                return Some(stream);
+            }
+            next = stream.value() + 1;
+        }
+        None
+    }
+
+    /// The least stream that the peer stopped, of those without a mark.
+    pub(crate) fn next_stopped_untold(&self, told: &ToldStreams) -> Option<StreamId> {
+        self.core.outbox.next_stopped_untold(told)
+    }
+
+    /// The least stream whose sending half came to its end, of those without a mark.
+    pub(crate) fn next_sent_untold(&self, told: &ToldStreams) -> Option<StreamId> {
+        self.core.outbox.next_ended_untold(told)
+    }
+
+    /// A direction of which a stream may be opened, of those that are wanted: bidirectional streams first.
+    pub(crate) fn next_available(&self, wanted: ByDir<bool>) -> Option<Dir> {
+        if self.closed.is_some() {
+            return None;
+        }
+        if wanted.bidi && self.open_left(Dir::Bidi) > 0 {
+            return Some(Dir::Bidi);
+        }
+        if wanted.uni && self.open_left(Dir::Uni) > 0 {
+            return Some(Dir::Uni);
+        }
+        None
+    }
+
+    /// Whether a read of one byte tells something new.
+    pub(crate) fn is_readable(&self, stream: StreamId) -> bool {
+        if self.is_read_no_more() {
+            return false;
+        }
+        self.core.recvs.is_readable(stream)
+    }
+
+    /// Whether the reset of a stream was acknowledged.
+    pub(crate) fn was_reset_acked(&self, stream: StreamId) -> bool {
+        self.core.outbox.is_reset_acked(stream)
+    }
+
+    /// Whether a write of so many bytes to a stream takes fewer.
+    pub(crate) fn is_cut_short(&self, stream: StreamId, len: usize) -> bool {
+        self.core.outbox.is_open(stream) && self.room(stream) < len as u64
+    }
+}

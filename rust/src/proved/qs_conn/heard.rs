@@ -1,0 +1,146 @@
+// Made from crates/qs_conn/src/heard.rt by rust/erase; not edited by hand.
+//! What an owner heard of at its end, and what it hears next.
+
+use crate::proved::qs_conn::by_dir::ByDir;
+use crate::proved::qs_conn::endpoint::Endpoint;
+use crate::proved::qs_conn::places::index_of;
+use crate::proved::qs_conn::told_streams::ToldStreams;
+use crate::proved::qs_calls::News;
+use crate::proved::qs_ranges::NoMemory;
+use crate::proved::qs_wire::{Dir, StreamId};
+use crate::shim::alloc::Global;
+
+/// What an owner heard of at its end, so that it hears of each piece of news once (RFC 9000, sections 2 to 4).
+///
+/// It stands beside the end and is kept as marks of streams: an end whose owner asks for no news pays nothing for it. Three things the
+/// end doesn't know, so its owner tells them: that it is about to write ([`will_write`](Heard::will_write)), that it waits for a stream
+/// to open ([`wants`](Heard::wants)), and that it read a stream ([`was_read`](Heard::was_read)).
+pub struct Heard {
+    opened: ByDir<u64>,
+    readable: ToldStreams,
+    short: ToldStreams,
+    stopped: ToldStreams,
+    sent: ToldStreams,
+    ended: ToldStreams,
+    wanted: ByDir<bool>,
+}
+
+impl Heard {
+    /// Nothing was heard, and nothing is waited for.
+    pub fn new(alloc: Global) -> Heard {
+        Heard {
+            opened: ByDir::new(0, 0),
+            readable: ToldStreams::new(alloc),
+            short: ToldStreams::new(alloc),
+            stopped: ToldStreams::new(alloc),
+            sent: ToldStreams::new(alloc),
+            ended: ToldStreams::new(alloc),
+            wanted: ByDir::new(false, false),
+        }
+    }
+
+    /// Tells the first piece of news of an end, and notes that it was heard. `None` only where there is none. News of a kind come before
+    /// those of the next, in the order of [`News`], and those of a lower stream first.
+    ///
+    /// `NoMemory` where there was no memory to note it; then nothing changed, and it comes again.
+    pub fn next_news(&mut self, end: &Endpoint) -> Result<Option<News>, NoMemory> {
+        let answer = self.first(end);
+        self.hear(&answer)?;
+        Ok(answer)
+    }
+
+    /// The owner is about to write so many bytes to a stream. Where it will be cut short, it is news once the stream takes a byte again.
+    ///
+    /// `NoMemory` where there was no memory to note it; then nothing changed.
+    pub fn will_write(
+        &mut self,
+        end: &Endpoint,
+        stream: StreamId,
+        len: usize,
+    ) -> Result<(), NoMemory> {
+        if end.is_cut_short(stream, len) {
+            return self.short.tell(stream);
+        }
+        Ok(())
+    }
+
+    /// The owner waits to open a stream of a direction: once it may that is news.
+    pub fn wants(&mut self, dir: Dir) {
+        self.wanted.set(dir, true);
+    }
+
+    /// The owner read the stream, or stopped it: where nothing is left to read it is news once something is.
+    pub fn was_read(&mut self, end: &Endpoint, stream: StreamId) {
+        if !end.is_readable(stream) {
+            self.readable.forget(stream);
+        }
+    }
+
+    // The first piece of news.
+    fn first(&self, end: &Endpoint) -> Option<News> {
+        if let Some(stream) = end.next_opened(self.opened) {
+            return Some(News::Opened(stream));
+        }
+        if let Some(stream) = end.next_readable_untold(&self.readable) {
+            return Some(News::Readable(stream));
+        }
+        if let Some(stream) = end.next_writable_of(&self.short) {
+            return Some(News::Writable(stream));
+        }
+        if let Some(stream) = end.next_stopped_untold(&self.stopped) {
+            return Some(News::Stopped(stream, end.stopped_with(stream)?));
+        }
+        if let Some(stream) = end.next_sent_untold(&self.sent) {
+            return Some(sent_news(end, stream));
+        }
+        if let Some(stream) = end.next_ended_untold(&self.ended) {
+            return Some(News::Ended(stream));
+        }
+        match end.next_available(self.wanted) {
+            Some(dir) => Some(News::Available(dir)),
+            None => None,
+        }
+    }
+
+    // What is told, if anything, is noted.
+    fn hear(&mut self, answer: &Option<News>) -> Result<(), NoMemory> {
+        match *answer {
+            None => Ok(()),
+            Some(News::Opened(stream)) => {
+                self.hear_opened(stream);
+                Ok(())
+            }
+            Some(News::Readable(stream)) => self.readable.tell(stream),
+            Some(News::Writable(stream)) => {
+                self.short.forget(stream);
+                Ok(())
+            }
+            Some(News::Stopped(stream, _code)) => self.stopped.tell(stream),
+            Some(News::Finished(stream)) => self.sent.tell(stream),
+            Some(News::ResetAcked(stream)) => self.sent.tell(stream),
+            Some(News::Ended(stream)) => self.ended.tell(stream),
+            Some(News::Available(dir)) => {
+                self.wanted.set(dir, false);
+                Ok(())
+            }
+        }
+    }
+
+    // The next stream of its direction opened.
+    fn hear_opened(&mut self, stream: StreamId) {
+        let count = index_of(stream) as u64 + 1;
+        match stream.dir() {
+            Dir::Bidi => self.opened.bidi = count,
+            Dir::Uni => self.opened.uni = count,
+        }
+    }
+}
+
+// The news of a sending half that came to its end.
+fn sent_news(end: &Endpoint, stream: StreamId) -> News {
+    if end.was_reset_acked(stream) {
+        News::ResetAcked(stream)
+    } else {
+        News::Finished(stream)
+    }
+}

@@ -1,0 +1,86 @@
+// Made from crates/qs_conn/src/told_marks.rt by rust/erase; not edited by hand.
+//! Which indexes of the streams of one type an owner was told of.
+
+use crate::proved::qs_conn::bits::{Bits, FLAGS_PER_WORD};
+use crate::proved::qs_conn::marks::Marks;
+use crate::proved::qs_ranges::NoMemory;
+use crate::shim::alloc::Global;
+
+/// A mark for each index, and a flag for each word of marks of which every index has one: so a search for what wasn't told passes
+/// 4,096 indexes that were by one look.
+pub(crate) struct ToldMarks {
+    marks: Marks,
+    // Each index of a word with a flag is marked.
+    full: Bits,
+}
+
+impl ToldMarks {
+    /// Nothing was told.
+    pub(crate) fn new(alloc: Global) -> Self {
+        ToldMarks {
+            marks: Marks::new(alloc),
+            full: Bits::new(alloc),
+        }
+    }
+
+    /// How many indexes there are.
+    pub(crate) fn len(&self) -> usize {
+        self.marks.len()
+    }
+
+    /// Whether an index was told: one past the last wasn't.
+    pub(crate) fn has(&self, index: usize) -> bool {
+        if index >= self.marks.len() {
+            return false;
+        }
+        self.marks.has(index)
+    }
+
+    /// Makes room for all indexes below a count: the new ones weren't told.
+    pub(crate) fn open_to(&mut self, count: usize) -> Result<(), NoMemory> {
+        // More flags than there are words of marks tell of the same words.
+        self.full.open_to(count.div_ceil(FLAGS_PER_WORD))?;
+        self.marks.open_to(count)
+    }
+
+    /// An index was told, or may be told again.
+    pub(crate) fn set(&mut self, index: usize, is_marked: bool) {
+        // Most stay as they are.
+        if self.marks.has(index) == is_marked {
+            return;
+        }
+        self.marks.set(index, is_marked);
+        let word = index / FLAGS_PER_WORD;
+        self.full.set(word, self.marks.is_full(word));
+    }
+
+    /// An index was told: all up to it get room.
+    pub(crate) fn tell(&mut self, index: usize) -> Result<(), NoMemory> {
+        debug_assert!(index < 1 << 60);
+        self.open_to(index + 1)?;
+        self.set(index, true);
+        Ok(())
+    }
+
+    /// An index may be told again.
+    pub(crate) fn forget(&mut self, index: usize) {
+        if index < self.len() {
+            self.set(index, false);
+        }
+    }
+
+    /// The marks.
+    pub(crate) fn marks(&self) -> &Marks {
+        &self.marks
+    }
+
+    /// Their bits.
+    pub(crate) fn bits(&self) -> &Bits {
+        self.marks.bits()
+    }
+
+    /// The words that were told whole.
+    pub(crate) fn full(&self) -> &Bits {
+        &self.full
+    }
+}

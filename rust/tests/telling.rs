@@ -1,0 +1,85 @@
+//! An end is told that the connection closed.
+
+use gotsavena::{
+    CloseKind, Closer, Dir, Endpoint, Fill, Frame, MakeFault, OpenFault, Read, ReceiveFault,
+    Received, Role, Settings, TakeFault, ToldClose, Tuning, UseFault,
+};
+
+fn end() -> Endpoint {
+    let settings = Settings::small();
+    Endpoint::new(Role::Client, settings, settings.limits()).expect("within range")
+}
+
+const BY_PEER: ToldClose = ToldClose {
+    by: Closer::Peer,
+    kind: CloseKind::Application,
+    code: 0x100,
+};
+
+const BY_US: ToldClose = ToldClose {
+    by: Closer::Us,
+    kind: CloseKind::Transport,
+    code: u64::MAX,
+};
+
+#[test]
+fn the_end_is_closed() {
+    let mut one = end();
+    let stream = one.open(Dir::Uni).expect("granted");
+    one.write(stream, b"abc").expect("room");
+    one.tell_closed(BY_PEER);
+    assert_eq!(one.told_close(), Some(BY_PEER));
+    assert_eq!((one.peer_closed(), one.closing()), (None, None));
+    assert_eq!(one.close_payload(&mut [0; 128]), None);
+    assert!(!one.is_sendable());
+    assert_eq!(one.open(Dir::Uni), Err(OpenFault::Closed));
+    assert_eq!(one.write(stream, b"d"), Err(UseFault::Closed));
+    let filled = one.fill(&mut [0; 100], &Fill::all());
+    assert_eq!(filled, Err(MakeFault::Closed));
+}
+
+#[test]
+fn it_says_so_again() {
+    let mut one = end();
+    one.tell_closed(BY_PEER);
+    assert_eq!(one.receive(0, &[1]), Ok(Received::PeerClosed(0x100)));
+    let taken = one.take_frame(&Frame::Ping);
+    assert_eq!(taken, Err(TakeFault::PeerClosed(0x100)));
+    let mut other = end();
+    other.tell_closed(BY_US);
+    let Err(ReceiveFault::Closing(closing)) = other.receive(0, &[1]) else {
+        panic!("this side closed");
+    };
+    assert_eq!(
+        (closing.code, closing.frame_type, closing.place),
+        (u64::MAX, 0, 0)
+    );
+    let taken = other.take_frame(&Frame::Ping);
+    assert_eq!(taken, Err(TakeFault::Closing(closing)));
+}
+
+#[test]
+fn one_that_closed_stays() {
+    let mut one = end();
+    one.tell_closed(BY_US);
+    one.tell_closed(BY_PEER);
+    assert_eq!(one.told_close(), Some(BY_US));
+    let mut other = end();
+    other.receive(0, &[0x1c, 5, 0, 0]).expect("the peer closes");
+    other.tell_closed(BY_US);
+    assert_eq!((other.told_close(), other.peer_closed()), (None, Some(5)));
+}
+
+#[test]
+fn what_came_in_is_read_on_by_choice() {
+    let settings = Settings::small();
+    let tuning = Tuning::default().reads_when_closed(true);
+    let limits = settings.limits();
+    let mut one = Endpoint::new_wide(Role::Server, settings, tuning, limits).expect("in range");
+    // STREAM of stream 2, with its end.
+    one.receive(0, &[0x0b, 2, 2, b'h', b'i']).expect("lawful");
+    let stream = one.accept().expect("it came");
+    one.tell_closed(BY_PEER);
+    let mut read = [0; 8];
+    assert_eq!(one.read(stream, &mut read), Ok(Read::Bytes(2)));
+}

@@ -1,0 +1,211 @@
+/* What ends tell of by themselves: each event once, in the order that the header says, and none that no longer holds; and what comes where
+ * there is no memory to note it. */
+#include <inttypes.h>
+#include <stdio.h>
+#include <stdlib.h>
+#include <string.h>
+
+#include "gotsavena.h"
+
+static int failed;
+
+static void want(gv_status status, gv_status wanted, const char *what) {
+  if (status == wanted) return;
+  fprintf(stderr, "%s: %s, not %s\n", what, gv_strerror(status), gv_strerror(wanted));
+  failed = 1;
+}
+
+static void holds(bool is, const char *what) { want(is ? GV_OK : GV_INVALID, GV_OK, what); }
+
+static bool is_refused; /* whether memory is */
+
+static void *allocate(void *context, size_t size, size_t align) {
+  (void)context;
+  (void)align;
+  return is_refused ? NULL : malloc(size);
+}
+
+static void release(void *context, void *at, size_t size, size_t align) {
+  (void)context;
+  (void)size;
+  (void)align;
+  free(at);
+}
+
+/* One stream of each direction at a time, and buffers of 16 bytes. */
+static gv_endpoint *new_end(gv_role role) {
+  gv_settings settings = {sizeof settings, 4096, 1024, 1024, 1024, 16, 1, 1, 8, 8};
+  gv_limits limits = {.size = sizeof limits};
+  gv_allocator memory = {.size = sizeof memory, .allocate = allocate, .release = release};
+  gv_endpoint *end = NULL;
+  want(gv_limits_of(&settings, &limits), GV_OK, "limits");
+  want(gv_endpoint_new_with(role, &settings, &limits, &memory, &end), GV_OK, "new");
+  return end;
+}
+
+static bool carry_one(gv_endpoint *from, gv_endpoint *to) {
+  uint8_t payload[1200];
+  gv_made made = {.size = sizeof made};
+  gv_status status = gv_make_packet(from, payload, sizeof payload, &made);
+  if (status == GV_NONE) return false;
+  want(status, GV_OK, "make");
+  want(gv_receive(to, made.number, payload, made.len), GV_OK, "receive");
+  return status == GV_OK;
+}
+
+/* All that may go, until both are quiet. */
+static void carry(gv_endpoint *a, gv_endpoint *b) {
+  bool some;
+  do {
+    some = carry_one(a, b);
+    some = carry_one(b, a) || some;
+  } while (some);
+}
+
+/* All events of an end, in words. */
+static void hears(gv_endpoint *end, const char *wanted, const char *what) {
+  static const char *const kinds[] = {"opened", "readable", "writable", "stopped", "finished", "reset-acked", "ended", "available"};
+  char text[400] = "";
+  gv_event event = {.size = sizeof event};
+  gv_status status;
+  while ((status = gv_next_event(end, &event)) == GV_OK && strlen(text) < 300) {
+    char *at = text + strlen(text);
+    size_t room = sizeof text - strlen(text);
+    if (event.kind == GV_EVENT_AVAILABLE) snprintf(at, room, "%s %s;", kinds[event.kind], event.dir == GV_DIR_UNI ? "uni" : "bidi");
+    else if (event.kind == GV_EVENT_STOPPED) snprintf(at, room, "stopped %" PRIu64 " %" PRIu64 ";", event.stream, event.code);
+    else snprintf(at, room, "%s %" PRIu64 ";", kinds[event.kind], event.stream);
+    if (event.kind != GV_EVENT_AVAILABLE) holds(event.dir == GV_DIR_BIDI, "no direction");
+    if (event.kind != GV_EVENT_STOPPED) holds(event.code == 0, "no code");
+  }
+  want(status, GV_NONE, what);
+  if (strcmp(text, wanted) == 0) return;
+  fprintf(stderr, "%s: '%s', not '%s'\n", what, text, wanted);
+  failed = 1;
+}
+
+static void write_all(gv_endpoint *end, uint64_t stream, const char *bytes, size_t accepted, const char *what) {
+  size_t count = 99;
+  want(gv_write(end, stream, (const uint8_t *)bytes, strlen(bytes), &count), GV_OK, what);
+  holds(count == accepted, what);
+}
+
+static void read_all(gv_endpoint *end, uint64_t stream, const char *bytes, gv_status then, const char *what) {
+  uint8_t into[32];
+  size_t count = 0;
+  want(gv_read(end, stream, into, sizeof into, &count, NULL), GV_OK, what);
+  holds(count == strlen(bytes) && memcmp(into, bytes, count) == 0, what);
+  want(gv_read(end, stream, into, sizeof into, &count, NULL), then, what);
+}
+
+static void arguments(void) {
+  gv_endpoint *end = new_end(GV_ROLE_CLIENT);
+  gv_event event = {.size = sizeof event, .code = 77};
+  want(gv_next_event(NULL, &event), GV_INVALID, "of no end");
+  want(gv_next_event(end, NULL), GV_INVALID, "told to null");
+  want(gv_next_event(end, &event), GV_NONE, "nothing came about");
+  event.size = sizeof event - 1;
+  want(gv_next_event(end, &event), GV_INVALID, "told to a small struct");
+  holds(event.code == 77, "nothing is told");
+  gv_endpoint_free(end);
+}
+
+/* A stream from its opening to its end. */
+static void a_stream(gv_endpoint *client, gv_endpoint *server) {
+  gv_event event = {.size = sizeof event};
+  uint64_t stream = 99;
+  want(gv_open(client, GV_DIR_BIDI, &stream, NULL), GV_OK, "open");
+  is_refused = true;
+  want(gv_open(client, GV_DIR_BIDI, &stream, NULL), GV_STREAM_LIMIT, "one at a time, though memory is refused");
+  is_refused = false;
+  hears(client, "", "what a client does is no news to it");
+  write_all(client, 0, "0123456789abcdefXYZ", 16, "a write is cut short");
+  hears(client, "", "no room yet");
+  carry(client, server);
+  hears(client, "writable 0;", "what was written is acknowledged");
+  is_refused = true;
+  want(gv_next_event(server, &event), GV_NO_MEMORY, "no notes can be kept");
+  is_refused = false;
+  want(gv_next_event(server, &event), GV_OK, "the client opened a stream");
+  holds(event.kind == GV_EVENT_OPENED && event.stream == 0, "which it is");
+  is_refused = true;
+  want(gv_next_event(server, &event), GV_NO_MEMORY, "its bytes can't be noted");
+  holds(event.kind == GV_EVENT_OPENED, "and aren't told");
+  is_refused = false;
+  hears(server, "readable 0;", "they come again");
+  hears(server, "", "each once");
+  write_all(client, 0, "XY", 2, "more bytes");
+  carry(client, server);
+  hears(client, "", "no write was cut short");
+  hears(server, "", "the stream wasn't read since");
+  read_all(server, 0, "0123456789abcdefXY", GV_NOTHING_YET, "read");
+  write_all(client, 0, "Z", 1, "the last byte");
+  carry(client, server);
+  hears(server, "readable 0;", "there is more to read");
+  read_all(server, 0, "Z", GV_NOTHING_YET, "read it");
+  want(gv_finish(client, 0), GV_OK, "finish");
+  carry(client, server);
+  hears(client, "finished 0;", "all was acknowledged");
+  hears(server, "readable 0;", "there is the end to read");
+  write_all(server, 0, "answer", 6, "the answer");
+  want(gv_finish(server, 0), GV_OK, "its end");
+  carry(client, server);
+  hears(server, "finished 0;", "the end isn't told again");
+  hears(client, "readable 0;", "the answer");
+  read_all(client, 0, "answer", GV_END_OF_STREAM, "read the answer");
+  hears(client, "ended 0;", "the client's stream is over");
+}
+
+/* A stream that is refused by who reads it, and one whose owner breaks it off. */
+static void broken_off(gv_endpoint *client, gv_endpoint *server) {
+  uint8_t into[8];
+  uint64_t stream = 99;
+  size_t count = 0;
+  want(gv_read(server, 0, into, sizeof into, &count, NULL), GV_END_OF_STREAM, "the server reads the end");
+  carry(client, server);
+  hears(server, "ended 0;", "the server's stream is over");
+  hears(client, "available bidi;", "another stream may be opened");
+  want(gv_open(client, GV_DIR_BIDI, &stream, NULL), GV_OK, "open");
+  write_all(client, stream, "ab", 2, "two bytes");
+  carry(client, server);
+  want(gv_stop(server, stream, 9), GV_OK, "they aren't wanted");
+  hears(server, "opened 4;", "they aren't told any more");
+  carry(client, server);
+  hears(client, "stopped 4 9;reset-acked 4;", "the peer stopped the stream");
+  hears(server, "readable 4;", "the reset is to be read");
+  want(gv_reset(server, stream, 8), GV_OK, "the server breaks off, too");
+  want(gv_read(server, stream, into, sizeof into, &count, NULL), GV_RESET_BY_PEER, "the reset is read");
+  carry(client, server);
+  hears(server, "reset-acked 4;ended 4;", "the server's is over");
+  hears(client, "readable 4;", "the client reads the reset");
+}
+
+/* Memory is refused where something is to be noted. */
+static void refused(gv_endpoint *client, gv_endpoint *server) {
+  uint64_t stream = 99, room = 0;
+  size_t count = 77;
+  want(gv_open(server, GV_DIR_UNI, &stream, NULL), GV_OK, "the server's stream");
+  is_refused = true;
+  want(gv_write(server, stream, (const uint8_t *)"0123456789abcdefXYZ", 19, &count), GV_NO_MEMORY, "a write that would be cut short");
+  is_refused = false;
+  want(gv_room(server, stream, &room), GV_OK, "room");
+  holds(count == 77 && room == 16, "no byte was taken");
+  write_all(server, stream, "ab", 2, "a write");
+  want(gv_finish(server, stream), GV_OK, "finish");
+  is_refused = true;
+  want(gv_write(server, stream, (const uint8_t *)"c", 1, &count), GV_SENDING_FINISHED, "the refusal goes before");
+  is_refused = false;
+  carry(client, server);
+  hears(server, "finished 3;ended 3;", "and no more of the write that was refused");
+  hears(client, "opened 3;readable 3;", "the client is told, but not of stream 4 again");
+}
+
+int main(void) {
+  gv_endpoint *client = new_end(GV_ROLE_CLIENT), *server = new_end(GV_ROLE_SERVER);
+  arguments();
+  a_stream(client, server);
+  broken_off(client, server);
+  refused(client, server);
+  gv_endpoint_free(client);
+  gv_endpoint_free(server);
+  return failed;
+}
