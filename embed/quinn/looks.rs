@@ -1,7 +1,11 @@
 //! What quinn's own tests of its streams look at, told by the layer's calls.
+use std::collections::VecDeque;
+
 use gotsavena::{Fill, Frame, RecvState};
 
-use super::{code_of, ours, quinns, theirs, Carried, Retransmits, ShouldTransmit, StreamsState};
+use super::{
+    code_of, ours, quinns, theirs, Carried, Retransmits, ShouldTransmit, StreamEvent, StreamsState,
+};
 use crate::{frame, Dir, Side, StreamId};
 
 /// The receiving halves that aren't over, those that the peer may open too.
@@ -46,6 +50,12 @@ impl Levels {
 impl StreamsState {
     pub fn can_send_stream_data(&self) -> bool {
         self.end.next_sendable(ours(StreamId(0))).is_some()
+    }
+
+    /// The news that the application would be told.
+    pub fn events(&mut self) -> &mut VecDeque<StreamEvent> {
+        self.hear();
+        &mut self.events
     }
 
     pub fn recv(&self) -> Halves<'_> {

@@ -4,3 +4,4 @@ s/\b(client|server)\.(recv|pending|receive_window|receive_window_shrink_debt)\b(
 s/\brecv\.pending\.(stop_sending|max_data)/recv.state.due().\1/
 s/([^.])\bpending\.(stop_sending|max_data|max_stream_id)/\1client.due().\2/
 s/([^.])\bpending\.reset_stream/\1server.due().reset_stream/
+s/\.events\b/.events()/

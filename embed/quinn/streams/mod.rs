@@ -129,7 +129,6 @@ impl SendStream<'_> {
             return Ok(());
         }
         let reset = self.state.end.reset(ours(self.id), error_code.into());
-        self.state.gaps.came = true;
         reset.map_err(|_| UnknownStream(()))
     }
 

@@ -1,18 +1,18 @@
 //! What quinn's connection calls: frames in, packets out, acknowledged and lost.
-use std::collections::VecDeque;
+use std::collections::{BTreeSet, VecDeque};
 use std::ops::Range;
 use std::{iter, mem};
 
 use bytes::Bytes;
 use gotsavena::{
-    Closing, Endpoint, Fill, Frame, PeerLimits, RecvState, Role, SendState, Settings, Share, TakeFault,
+    Closing, Endpoint, Event, Fill, Frame, PeerLimits, Role, SendState, Settings, Share, TakeFault,
     Token, Tuning, MIN_FILL,
 };
 use rustc_hash::FxHashMap;
 use tinyvec::TinyVec;
 
 use super::gaps::Gaps;
-use super::{ours, quinns, theirs, Retransmits, ShouldTransmit, StreamEvent};
+use super::{code_of, ours, quinns, theirs, Retransmits, ShouldTransmit, StreamEvent};
 use crate::coding::Codec;
 use crate::connection::spaces::ThinRetransmits;
 use crate::connection::stats::FrameStats;
@@ -32,9 +32,11 @@ pub struct StreamsState {
     pub(super) side: Side,
     pub(super) settings: Settings,
     pub(super) window: u64,
-    // How many bytes all streams may keep until they are acknowledged.
+    // How many bytes all streams may keep until they are acknowledged, and the streams that wait for that alone: the bound is
+    // quinn's, and not the layer's.
     pub(super) send_window: u64,
-    events: VecDeque<StreamEvent>,
+    pub(super) bounded: BTreeSet<StreamId>,
+    pub(super) events: VecDeque<StreamEvent>,
     opened: [bool; 2],
     // Priorities that were set, and the stream from which on bytes go into the next packet.
     pub(super) priorities: FxHashMap<StreamId, i32>,
@@ -44,12 +46,11 @@ pub struct StreamsState {
     pub(super) gaps: Gaps,
 }
 
-/// What a packet carries, kept beside its number: the tokens of its fills, and the streams that its frames speak of.
+/// What a packet carries, kept beside its number: the tokens of its fills, and the stream of each STREAM frame.
 #[derive(Clone, Debug, Default)]
 pub struct Carried {
     tokens: Range<u64>,
     pub(super) streams: TinyVec<[StreamMeta; 1]>,
-    stream_frames: usize,
 }
 
 /// What the peer may be told of a setting: no more than the layer grants.
@@ -60,10 +61,8 @@ pub fn told(setting: VarInt, most: u64) -> VarInt {
 fn new_end(side: Side, settings: Settings) -> Endpoint {
     let role = if side.is_client() { Role::Client } else { Role::Server };
     // The peer's limits come with the handshake, or are remembered.
-    let tuning = Tuning::default()
-        .within_credit(true)
-        .credit_step(Share::Eighth)
-        .reads_when_closed(true);
+    let tuning =
+        Tuning::default().within_credit(true).credit_step(Share::Eighth).reads_when_closed(true);
     Endpoint::new_wide(role, settings, tuning, PeerLimits::default()).expect("in range")
 }
 
@@ -88,6 +87,7 @@ impl StreamsState {
             settings,
             window: settings.limits().max_data,
             send_window,
+            bounded: BTreeSet::new(),
             events: VecDeque::new(),
             opened: [false; 2],
             priorities: FxHashMap::default(),
@@ -109,7 +109,6 @@ impl StreamsState {
             streams_uni: params.initial_max_streams_uni.into(),
         };
         self.end.raise_limits(limits).expect("quinn read them, and the end is open");
-        self.gaps.came = true;
     }
 
     // This end's
@@ -133,6 +132,7 @@ impl StreamsState {
         self.end = new_end(self.side, self.settings);
         self.window = self.settings.limits().max_data;
         self.priorities.clear();
+        self.bounded.clear();
         self.gaps = Gaps::default();
     }
 
@@ -153,7 +153,7 @@ impl StreamsState {
         _payload: usize,
     ) -> Result<ShouldTransmit, TransportError> {
         let stream = ours(frame.id);
-        self.take_and_tell(
+        self.take_of(
             frame.id,
             Frame::Stream { stream, offset: frame.offset, fin: frame.fin, bytes: &frame.data },
         )
@@ -165,7 +165,7 @@ impl StreamsState {
     ) -> Result<ShouldTransmit, TransportError> {
         let stream = ours(frame.id);
         let (code, final_size) = (frame.error_code.into(), frame.final_offset.into());
-        self.take_and_tell(frame.id, Frame::ResetStream { stream, code, final_size })
+        self.take_of(frame.id, Frame::ResetStream { stream, code, final_size })
     }
 
     pub fn received_stop_sending(&mut self, id: StreamId, error_code: VarInt) {
@@ -176,16 +176,13 @@ impl StreamsState {
         let was_stopped = self.end.stopped_with(stream).is_some();
         // (quinn asked before whether the frame breaks a rule)
         let _ = self.take(frame);
-        self.gaps.came = true;
         if !was_over && !was_stopped {
             self.gaps.stopped.insert(id);
-            self.events.push_back(StreamEvent::Stopped { id, error_code });
         }
     }
 
     pub fn received_max_data(&mut self, n: VarInt) {
         let _ = self.take(Frame::MaxData { maximum: n.into() });
-        self.gaps.came = true;
     }
 
     pub fn received_max_stream_data(
@@ -193,9 +190,7 @@ impl StreamsState {
         id: StreamId,
         offset: u64,
     ) -> Result<(), TransportError> {
-        self.take(Frame::MaxStreamData { stream: ours(id), maximum: offset })?;
-        self.gaps.came = true;
-        Ok(())
+        self.take(Frame::MaxStreamData { stream: ours(id), maximum: offset })
     }
 
     pub fn received_max_streams(&mut self, dir: Dir, count: u64) -> Result<(), TransportError> {
@@ -211,8 +206,8 @@ impl StreamsState {
         self.end.report(ours(id)).is_none()
     }
 
-    // Takes a frame in that tells of bytes, an end or a reset, and tells the application.
-    fn take_and_tell(
+    // Takes a frame in that tells of bytes, an end or a reset.
+    fn take_of(
         &mut self,
         id: StreamId,
         frame: Frame<'_>,
@@ -221,31 +216,17 @@ impl StreamsState {
         if id.initiator() != self.side && id.index() >= self.end.granted_streams(theirs(dir)) {
             return Err(TransportError::STREAM_LIMIT_ERROR(""));
         }
-        let opened = self.take(frame)?;
-        let half = self.end.report(ours(id)).and_then(|report| report.recv);
-        if half.is_some_and(|half| half.state == RecvState::DataRead || half.reset_code.is_some()) {
-            self.gaps.thrown_away.remove(&id);
-        }
-        if !opened && self.end.next_readable(ours(id)) == Some(ours(id)) {
-            self.events.push_back(StreamEvent::Readable { id });
-        }
+        self.take(frame)?;
         // What is due is asked for by `is_sendable`.
         Ok(ShouldTransmit(false))
     }
 
-    // Takes a frame in, and tells whether the peer opened a stream by it.
-    fn take(&mut self, frame: Frame<'_>) -> Result<bool, TransportError> {
-        let left = |end: &Endpoint| [Dir::Bi, Dir::Uni].map(|dir| end.streams_left(theirs(dir)));
-        let before = left(&self.end);
-        self.end.take_frame(&frame).map_err(|fault| match fault {
-            TakeFault::Closing(closing) => error_of(closing),
-            _ => TransportError::INTERNAL_ERROR("no memory"),
-        })?;
-        let after = left(&self.end);
-        for dir in [0, 1] {
-            self.opened[dir] |= after[dir] < before[dir];
+    fn take(&mut self, frame: Frame<'_>) -> Result<(), TransportError> {
+        match self.end.take_frame(&frame) {
+            Ok(_taken) => Ok(()),
+            Err(TakeFault::Closing(closing)) => Err(error_of(closing)),
+            Err(_) => Err(TransportError::INTERNAL_ERROR("no memory")),
         }
-        Ok(after != before)
     }
 
     /// Whether anything of streams or of their limits is due.
@@ -310,25 +291,9 @@ impl StreamsState {
     }
 
     pub fn received_ack_of(&mut self, packet: Carried) {
-        let streams = packet.streams.iter();
-        let mut streams: Vec<_> = streams.map(|meta| (meta.id, self.send_state(meta.id))).collect();
-        streams.sort_by_key(|&(id, _)| id);
-        streams.dedup();
         for number in packet.tokens {
             let _ = self.end.acked(self.end.token_of(number));
         }
-        for (id, before) in streams {
-            match self.send_state(id) {
-                now if now == before || self.gaps.stopped.contains(&id) => {}
-                Some(SendState::DataRecvd) => {
-                    self.over(id);
-                    self.events.push_back(StreamEvent::Finished { id });
-                }
-                Some(SendState::ResetRecvd) => self.over(id),
-                _ => {}
-            }
-        }
-        self.gaps.came = true;
     }
 
     pub fn retransmit(&mut self, packet: Carried) {
@@ -338,20 +303,59 @@ impl StreamsState {
     }
 
     // A sending half is over.
-    fn over(&mut self, id: StreamId) {
+    pub(super) fn over(&mut self, id: StreamId) {
         self.priorities.remove(&id);
-        self.gaps.blocked.remove(&id);
         self.gaps.send_streams -= 1;
     }
 
     pub fn poll(&mut self) -> Option<StreamEvent> {
+        self.hear();
         if let Some(dir) = Dir::iter().find(|&dir| mem::take(&mut self.opened[dir as usize])) {
             return Some(StreamEvent::Opened { dir });
         }
-        for id in self.now_writable() {
-            self.events.push_back(StreamEvent::Writable { id });
-        }
         self.events.pop_front()
+    }
+
+    // Takes the layer's news in.
+    pub(super) fn hear(&mut self) {
+        let mut opened = Vec::new();
+        while let Ok(Some(event)) = self.end.next_event() {
+            let told = match event {
+                Event::Opened(stream) => {
+                    self.opened[quinns(stream).dir() as usize] = true;
+                    opened.push(stream);
+                    None
+                }
+                // (who hears that a stream opened reads it)
+                Event::Readable(stream) if opened.binary_search(&stream).is_ok() => None,
+                Event::Readable(stream) => Some(StreamEvent::Readable { id: quinns(stream) }),
+                Event::Writable(stream) => Some(StreamEvent::Writable { id: quinns(stream) }),
+                Event::Stopped(stream, code) => self.stopped(quinns(stream), code_of(code)),
+                Event::Finished(stream) => {
+                    self.over(quinns(stream));
+                    Some(StreamEvent::Finished { id: quinns(stream) })
+                }
+                Event::ResetAcked(stream) => {
+                    self.reset_is_known(quinns(stream));
+                    None
+                }
+                Event::Ended(stream) => {
+                    self.gaps.thrown_away.remove(&quinns(stream));
+                    None
+                }
+                // (that another one may be opened is told as the peer says so, asked for or not)
+                _ => None,
+            };
+            self.events.extend(told);
+        }
+        if self.end.kept_sum() < self.send_window {
+            for id in mem::take(&mut self.bounded) {
+                match self.end.room(ours(id)) {
+                    0 => self.wait(id, 0),
+                    _ => self.events.push_back(StreamEvent::Writable { id }),
+                }
+            }
+        }
     }
 
     pub fn reset_acked(&mut self, _id: StreamId) {}
@@ -378,19 +382,15 @@ impl Carried {
         let first = if self.is_empty() { token.number } else { self.tokens.start };
         self.tokens = first..token.number + 1;
         for placed in gotsavena::frames(frames).flatten() {
-            let (stream, count) = match placed.frame {
-                Frame::Stream { stream, .. } => (stream, 1),
-                Frame::ResetStream { stream, .. } => (stream, 0),
-                _ => continue,
-            };
-            self.streams.push(StreamMeta { id: quinns(stream), ..StreamMeta::default() });
-            self.stream_frames += count;
+            if let Frame::Stream { stream, .. } = placed.frame {
+                self.streams.push(StreamMeta { id: quinns(stream), ..StreamMeta::default() });
+            }
         }
     }
 
     // (of STREAM frames)
     pub fn len(&self) -> usize {
-        self.stream_frames
+        self.streams.len()
     }
 
     pub fn is_empty(&self) -> bool {

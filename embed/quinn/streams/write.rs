@@ -23,10 +23,10 @@ impl StreamsState {
             return Err(WriteError::UnknownStream);
         }
         // (the end writes within the peer's limits)
-        let kept = self.send_window.saturating_sub(self.end.kept_sum());
-        let mut left = self.end.room(ours(id)).min(kept) as usize;
+        let room = self.end.room(ours(id));
+        let mut left = room.min(self.send_window.saturating_sub(self.end.kept_sum())) as usize;
         if left == 0 {
-            self.gaps.blocked.insert(id);
+            self.wait(id, room);
             return Err(WriteError::Blocked);
         }
         let mut written = Written::default();
@@ -42,6 +42,16 @@ impl StreamsState {
             left -= bytes.len();
         }
         Ok(written)
+    }
+
+    // Nothing is written: an event tells once something may be.
+    pub(super) fn wait(&mut self, id: StreamId, room: u64) {
+        if room > 0 {
+            self.bounded.insert(id);
+        } else {
+            // A write that takes nothing is cut short, which the layer notes.
+            let _ = self.end.write(ours(id), &[0]);
+        }
     }
 
     pub(super) fn send_report(&self, id: StreamId) -> Option<SendReport> {
