@@ -220,6 +220,11 @@ typedef struct gv_tuning {
   gv_switch reads_when_closed; /**< whether what came in is read on once the end closed (GV_OFF) */
   uint64_t epoch;              /**< what its tokens have beside their numbers: an end that takes another one's place, as after a
                                     rejected 0-RTT, takes none of that one's tokens where the epochs differ (0) */
+  uint64_t send_window;        /**< how many bytes all streams together keep until they are acknowledged (section 13.3), beside
+                                    send_buffer of each: a write takes no more than that leaves beside gv_kept_sum(). 0: no bound (0) */
+  gv_switch answers_stops;     /**< whether the owner answers a STOP_SENDING, which ::GV_EVENT_STOPPED tells, by its own reset or the
+                                    end; else the end resets the stream at once, with the peer's code (section 3.5) (GV_OFF) */
+  gv_switch spare;             /**< of a later choice: GV_OFF (GV_OFF) */
 } gv_tuning;
 
 /** What the peer grants at first, by its transport parameters (section 18.2). local and remote are seen from the peer. */
@@ -648,8 +653,8 @@ GV_API gv_status gv_sending_report(const gv_endpoint *end, uint64_t stream, gv_s
 /** How the receiving half of a stream stands. Refused as gv_sending_report() is (section 3.2). */
 GV_API gv_status gv_receiving_report(const gv_endpoint *end, uint64_t stream, gv_receiving *receiving);
 
-/** The code of the first STOP_SENDING that came of a stream, whatever became of its sending half since. ::GV_NONE: none came
- * (section 3.5). */
+/** The code of the first STOP_SENDING that came of a stream while its sending half could be reset, whatever became of that since.
+ * ::GV_NONE: none came (section 3.5). */
 GV_API gv_status gv_stopped_with(const gv_endpoint *end, uint64_t stream, uint64_t *code);
 
 /** Whether bytes were written to the stream that weren't sent, and credit alone holds them back; of a closed end nothing waits (section
@@ -657,7 +662,8 @@ GV_API gv_status gv_stopped_with(const gv_endpoint *end, uint64_t stream, uint64
 GV_API gv_status gv_is_blocked(const gv_endpoint *end, uint64_t stream, bool *answer);
 
 /** How many bytes gv_write() accepts of a stream now, however many are written: 0 where it is refused (sections 2.2 and 2.4). Credit
- * doesn't count, since what is written beyond it waits, but for an end of which it is chosen (gv_tuning, within_credit). */
+ * doesn't count, since what is written beyond it waits, but for an end of which it is chosen (gv_tuning, within_credit); nor does what
+ * other streams keep, but where all together are bounded (send_window). */
 GV_API gv_status gv_room(const gv_endpoint *end, uint64_t stream, uint64_t *count);
 
 /** How many bytes were written to a stream that are still to be sent for the first time: 0 after a reset, and where the stream has no
@@ -754,6 +760,9 @@ GV_API gv_status gv_peer_closed(const gv_endpoint *end, uint64_t *code);
  * closed from then on, as after any close, but that gv_closing(), gv_close_payload() and gv_peer_closed() tell nothing of it; gv_receive()
  * and gv_take_frame() answer ::GV_CLOSED_BY_PEER, or ::GV_PROTOCOL_ERROR where this side closed. One that closed before stays as it is. */
 GV_API gv_status gv_tell_closed(gv_endpoint *end, gv_closer by, gv_close_kind kind, uint64_t code);
+
+/** The close that gv_tell_closed() told the end of: whose it was, its kind and its code. ::GV_NONE: the end is open, or closed otherwise. */
+GV_API gv_status gv_told_close(const gv_endpoint *end, gv_closer *by, gv_close_kind *kind, uint64_t *code);
 
 /** @}
  * @name Frames

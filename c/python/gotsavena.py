@@ -1,12 +1,11 @@
 """Gotsavena from Python: an endpoint over the shared library, by cffi (Debian: python3-cffi) and the header itself.
 
-    from gotsavena import CLIENT, SERVER, BIDI, Endpoint
-
 GOTSAVENA_HEADER and GOTSAVENA_LIBRARY name the header and the library, where they aren't the installed ones.
 """
 
 import os
 import re
+from pathlib import Path
 
 from cffi import FFI
 
@@ -15,11 +14,8 @@ CLIENT, SERVER, BIDI, UNI = 0, 1, 0, 1
 
 def _declarations(path):
     """The header without what the preprocessor takes."""
-    with open(path, encoding="utf-8") as header:
-        text = header.read()
-    text = re.sub(r"/\*.*?\*/", "", text, flags=re.S)
-    text = re.sub(r"^\s*#.*$|^(_S|s)tatic_assert.*$|extern \"C\" \{|^\}$", "", text, flags=re.M)
-    return text.replace("GV_API ", "")
+    text = re.sub(r"/\*.*?\*/|GV_API ", "", Path(path).read_text(encoding="utf-8"), flags=re.S)
+    return re.sub(r"^\s*#.*$|^(_S|s)tatic_assert.*$|extern \"C\" \{|^\}$", "", text, flags=re.M)
 
 
 ffi = FFI()
@@ -35,17 +31,16 @@ class Refused(Exception):
         self.status = status
 
 
-def check(status):
-    """Raises what isn't GV_OK."""
-    if status != lib.GV_OK:
+def check(status, none=lib.GV_OK):
+    """Raises what is neither GV_OK nor the status that says there is none, and answers whether it is GV_OK."""
+    if status not in (lib.GV_OK, none):
         raise Refused(status)
+    return status == lib.GV_OK
 
 
 def sized(kind):
     """A struct that has its size."""
-    it = ffi.new(kind + " *")
-    it.size = ffi.sizeof(kind)
-    return it
+    return ffi.new(kind + " *", {"size": ffi.sizeof(kind)})
 
 
 class Endpoint:
@@ -69,9 +64,7 @@ class Endpoint:
 
     def open(self, direction=BIDI):
         """Opens a stream, and answers its number."""
-        stream = ffi.new("uint64_t *")
-        check(lib.gv_open(self._end, direction, stream, ffi.NULL))
-        return stream[0]
+        return self._number(lambda *given: lib.gv_open(*given, ffi.NULL), direction)
 
     def accept(self):
         """The next stream that the peer opened."""
@@ -88,10 +81,7 @@ class Endpoint:
     def read(self, stream, size=65536):
         """The bytes that are next: none at the end of the stream."""
         into, count = ffi.new("uint8_t[]", size), ffi.new("size_t *")
-        status = lib.gv_read(self._end, stream, into, size, count, ffi.NULL)
-        if status == lib.GV_END_OF_STREAM:
-            return b""
-        check(status)
+        check(lib.gv_read(self._end, stream, into, size, count, ffi.NULL), none=lib.GV_END_OF_STREAM)
         return bytes(ffi.buffer(into, count[0]))
 
     def receive(self, number, payload):
@@ -101,11 +91,8 @@ class Endpoint:
     def make_packet(self, room=1200):
         """The next packet, as its number and its payload; None where nothing may go."""
         out, made = ffi.new("uint8_t[]", room), sized("gv_made")
-        status = lib.gv_make_packet(self._end, out, room, made)
-        if status == lib.GV_NONE:
-            return None
-        check(status)
-        return made.number, bytes(ffi.buffer(out, made.len))
+        is_made = check(lib.gv_make_packet(self._end, out, room, made), none=lib.GV_NONE)
+        return (made.number, bytes(ffi.buffer(out, made.len))) if is_made else None
 
     def declare_lost(self, number):
         """Declares a packet lost."""

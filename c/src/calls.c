@@ -8,7 +8,7 @@
 /* No later field may stand where a struct of today has nothing. */
 #define ENDS_WITH(type, field) _Static_assert(sizeof(type) == UP_TO(type, field), #type " ends with " #field)
 ENDS_WITH(gv_settings, lifetime_uni);
-ENDS_WITH(gv_tuning, epoch);
+ENDS_WITH(gv_tuning, spare);
 ENDS_WITH(gv_limits, streams_uni);
 ENDS_WITH(gv_allocator, release);
 ENDS_WITH(gv_made, len);
@@ -33,7 +33,7 @@ gv_status gv_settings_init(gv_settings *settings, size_t size) {
   return GV_OK;
 }
 
-static const gv_tuning untuned = {sizeof untuned, GV_SHARE_HALF, GV_SHARE_NONE, GV_OFF, GV_OFF, 0};
+static const gv_tuning untuned = {sizeof untuned, GV_SHARE_HALF, GV_SHARE_NONE, GV_OFF, GV_OFF, 0, 0, GV_OFF, GV_OFF};
 
 gv_status gv_tuning_init(gv_tuning *tuning, size_t size) {
   if (tuning == NULL || size < UP_TO(gv_tuning, reads_when_closed) || size > MOST_SIZE) return GV_INVALID;
@@ -64,7 +64,11 @@ static bool take_tuning(gvp_tuning *to, const gv_tuning *from) {
   gv_tuning t;
   if (!copy_in(&t, sizeof t, from, UP_TO(gv_tuning, reads_when_closed))) return false;
   if ((unsigned)t.within_credit > GV_ON || (unsigned)t.reads_when_closed > GV_ON) return false;
-  gvp_tuning own = {(uint32_t)t.credit_step, (uint32_t)t.count_step, t.within_credit == GV_ON, t.reads_when_closed == GV_ON, t.epoch};
+  if ((unsigned)t.answers_stops > GV_ON || t.spare != GV_OFF) return false;
+  gvp_tuning own = {
+    (uint32_t)t.credit_step, (uint32_t)t.count_step, t.within_credit == GV_ON, t.reads_when_closed == GV_ON, t.epoch, t.send_window,
+    t.answers_stops == GV_ON,
+  };
   *to = own;
   return true;
 }
@@ -483,6 +487,17 @@ gv_status gv_close_payload(const gv_endpoint *end, uint8_t *out, size_t room, si
 gv_status gv_tell_closed(gv_endpoint *end, gv_closer by, gv_close_kind kind, uint64_t code) {
   if (end == NULL) return GV_INVALID;
   return leave(end, gvp_tell_closed(enter(end), (uint32_t)by, (uint32_t)kind, code));
+}
+
+gv_status gv_told_close(const gv_endpoint *end, gv_closer *by, gv_close_kind *kind, uint64_t *code) {
+  gvp_told told = {0, 0, 0};
+  if (end == NULL || by == NULL || kind == NULL || code == NULL) return GV_INVALID;
+  gv_status status = leave(end, gvp_told_close(enter(end), &told));
+  if (status != GV_OK) return status;
+  *by = (gv_closer)told.by;
+  *kind = (gv_close_kind)told.kind;
+  *code = told.code;
+  return GV_OK;
 }
 
 gv_status gv_peer_closed(const gv_endpoint *end, uint64_t *code) { return ask(gvp_peer_closed, end, code); }

@@ -37,6 +37,8 @@ typedef struct gvp_tuning {
   bool within_credit;
   bool reads_when_closed;
   uint64_t epoch;
+  uint64_t send_window;
+  bool answers_stops;
 } gvp_tuning;
 
 typedef struct gvp_limits {
@@ -81,6 +83,12 @@ typedef struct gvp_closing_info {
   uint64_t frame_type;
   size_t place;
 } gvp_closing_info;
+
+typedef struct gvp_told {
+  uint32_t by;
+  uint32_t kind;
+  uint64_t code;
+} gvp_told;
 
 typedef struct gvp_news {
   uint32_t kind;
@@ -207,6 +215,7 @@ uint32_t gvp_closing(gvp_handle *end, gvp_closing_info *closing);
 uint32_t gvp_close_payload(gvp_handle *end, uint8_t *out, size_t room, size_t *len);
 uint32_t gvp_peer_closed(gvp_handle *end, uint64_t *code);
 uint32_t gvp_tell_closed(gvp_handle *end, uint32_t by, uint32_t kind, uint64_t code);
+uint32_t gvp_told_close(gvp_handle *end, gvp_told *told);
 uint32_t gvp_next_readable(gvp_handle *end, uint64_t from, uint64_t *stream);
 uint32_t gvp_next_writable(gvp_handle *end, uint64_t from, uint64_t *stream);
 uint32_t gvp_next_sendable(gvp_handle *end, uint64_t from, uint64_t *stream);

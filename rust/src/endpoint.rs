@@ -208,7 +208,9 @@ impl Endpoint {
     /// many: 0 where the buffer is full. Where writes keep within credit
     /// ([`within_credit`](crate::Tuning::within_credit)) it takes no more than may be sent at once: by the stream's limit
     /// and the connection's, beside all that waits to be sent (RFC 9000, section 4.1). Then no byte waits for credit, so no
-    /// STREAM_DATA_BLOCKED or DATA_BLOCKED is due: the answer tells that the write was cut short.
+    /// STREAM_DATA_BLOCKED or DATA_BLOCKED is due: the answer tells that the write was cut short. Where all streams together
+    /// are bounded ([`send_window`](crate::Tuning::send_window)) it takes no more than that leaves beside all that they keep
+    /// ([`kept_sum`](Endpoint::kept_sum)).
     ///
     /// # Errors
     ///
@@ -276,8 +278,8 @@ impl Endpoint {
     /// Tells what [`Endpoint::read`] would, and changes nothing: the bytes that are next stay where they are, in one piece of
     /// memory or two, until [`Endpoint::consume`] takes them (RFC 9000, section 2.2). What lies behind a gap isn't in.
     ///
-    /// Where bytes are next it shows one at least, and as many as stand there in a row: an owner takes what it saw, and looks
-    /// again until it is told to wait. It takes no memory.
+    /// Where bytes are next it shows all of them: an owner takes what it saw, and looks again once it hears of more. It takes
+    /// no memory.
     ///
     /// ```
     /// use gotsavena::{Dir, Endpoint, Peek, Role, Settings};
@@ -959,7 +961,8 @@ impl Endpoint {
     /// How many bytes [`write`](Endpoint::write) accepts of a stream now, however many are written: 0 where it is refused,
     /// as where the stream has no sending half here (RFC 9000, sections 2.2 and 2.4). Credit doesn't count, and what is
     /// written beyond it waits; but where writes keep within credit ([`within_credit`](crate::Tuning::within_credit)) it
-    /// does (section 4.1).
+    /// does (section 4.1). What other streams keep counts where all together are bounded
+    /// ([`send_window`](crate::Tuning::send_window)).
     ///
     /// ```
     /// use gotsavena::{Dir, Endpoint, Role, Settings};
@@ -1004,7 +1007,8 @@ impl Endpoint {
 
     /// How many bytes of all streams are kept until they are acknowledged (RFC 9000, section 13.3): of each those from the
     /// lowest offset on that isn't, and none after a reset. A sum that is no u64 is the greatest one. It takes constant time.
-    /// A cap over all streams is built of it: an owner writes no more than the cap leaves beside this sum.
+    /// Where all streams together are bounded ([`send_window`](crate::Tuning::send_window)) a write takes no more than that
+    /// leaves beside this sum.
     ///
     /// ```
     /// use gotsavena::{Dir, Endpoint, Role, Settings};
@@ -1031,9 +1035,9 @@ impl Endpoint {
         self.inner.acked_below(stream.inner())
     }
 
-    /// The code of the peer's STOP_SENDING for a stream, of the first one that came; `None` where none did. It stays,
-    /// whatever became of the sending half: reset before by its owner, acknowledged whole, or reset by the STOP_SENDING
-    /// itself (RFC 9000, section 3.5).
+    /// The code of the peer's STOP_SENDING for a stream, of the first one that came while the sending half could be reset;
+    /// `None` where none did. It stays, whatever becomes of the half: reset by the STOP_SENDING itself or by its owner, or
+    /// acknowledged whole (RFC 9000, section 3.5).
     pub fn stopped_with(&self, stream: StreamId) -> Option<u64> {
         self.inner.stopped_with(stream.inner())
     }

@@ -71,6 +71,14 @@ impl Tuning {
         self
     }
 
+    /// Whether the owner answers a STOP_SENDING (RFC 9000, section 3.5): the event [`Stopped`](crate::Event::Stopped) tells it, and the
+    /// stream goes on until its owner resets it, with a code of its own, or finishes it. Else, and by default, the end resets the
+    /// stream at once with the peer's code. Where no owner answers, a peer that stopped reading waits for good.
+    pub fn answers_stops(mut self, is_chosen: bool) -> Tuning {
+        self.0.answers_stops = is_chosen;
+        self
+    }
+
     /// Whether what came in is read on once the end closed: [`read`](crate::Endpoint::read),
     /// [`consume`](crate::Endpoint::consume) and [`next_readable`](crate::Endpoint::next_readable) answer then as before
     /// the closing, and nothing else does. Not by default.
@@ -83,6 +91,26 @@ impl Tuning {
     /// takes the place of one whose 0-RTT was refused gets another one.
     pub fn epoch(mut self, epoch: u64) -> Tuning {
         self.0.epoch = epoch;
+        self
+    }
+
+    /// How many bytes all streams together keep until they are acknowledged (RFC 9000, section 13.3), beside what each of them
+    /// keeps by [`send_buffer`](crate::Settings::send_buffer): a [`write`](crate::Endpoint::write) takes no more than that
+    /// leaves beside [`kept_sum`](crate::Endpoint::kept_sum), and [`room`](crate::Endpoint::room) tells how many those are.
+    /// `None`, the default: each stream keeps what it may keep alone.
+    ///
+    /// ```
+    /// use gotsavena::{Dir, Endpoint, Role, Settings, Tuning};
+    ///
+    /// let settings = Settings::default();
+    /// let tuning = Tuning::default().send_window(Some(5));
+    /// let mut end = Endpoint::new_wide(Role::Client, settings, tuning, settings.limits()).expect("in range");
+    /// let (one, other) = (end.open(Dir::Uni).expect("granted"), end.open(Dir::Bidi).expect("granted"));
+    /// assert_eq!((end.write(one, b"abc"), end.write(other, b"def")), (Ok(3), Ok(2)));
+    /// assert_eq!((end.room(one), end.write(one, b"g")), (0, Ok(0)));
+    /// ```
+    pub fn send_window(mut self, bytes: Option<u64>) -> Tuning {
+        self.0.send_window = bytes;
         self
     }
 

@@ -1,37 +1,12 @@
 //! Windows and grants that an owner sets anew while the connection lasts.
 
 use gotsavena::{
-    Dir, Endpoint, Frame, OpenFault, Read, Received, Role, SetFault, Settings, StreamId, frames,
+    Dir, Endpoint, Frame, OpenFault, Read, Received, SetFault, Settings, StreamId, frames,
 };
 
 mod support;
 use support::Random;
-
-fn ends(settings: Settings) -> (Endpoint, Endpoint) {
-    let end = |role| Endpoint::new_wide(role, settings, Default::default(), settings.limits());
-    (
-        end(Role::Client).expect("in range"),
-        end(Role::Server).expect("in range"),
-    )
-}
-
-/// What is due goes across.
-fn carry(from: &mut Endpoint, to: &mut Endpoint) -> usize {
-    let mut payload = [0; 1200];
-    let mut packets = 0;
-    while let Some(made) = from.make_packet(&mut payload).expect("memory") {
-        assert_eq!(
-            to.receive(made.number, &payload[..made.len]),
-            Ok(Received::Done)
-        );
-        packets += 1;
-    }
-    packets
-}
-
-fn rest(a: &mut Endpoint, b: &mut Endpoint) {
-    while carry(a, b) + carry(b, a) > 0 {}
-}
+use support::pairs::{carry, ends, rest};
 
 /// All that is there of a stream is read. Answers how many bytes, and whether the end came.
 fn read_all(end: &mut Endpoint, stream: StreamId) -> (usize, bool) {

@@ -419,9 +419,9 @@ fn newly_acknowledged_packets_are_told_of_each_ack_that_is_read() {
     assert_eq!(newly_acked(&client, &low), [0]);
 }
 
-// The first code that came stays, and is told of a half that was reset before, or that was acknowledged whole.
+// The first code that came stays; of a half that was reset before, or that was acknowledged whole, none is told.
 #[test]
-fn the_code_of_a_stop_is_told_whatever_became_of_the_half() {
+fn the_code_of_a_stop_is_told_of_a_half_that_was_not_over() {
     let (mut client, mut server) = ends(Settings::small());
     let streams: Vec<_> = (0..4)
         .map(|_| client.open(Dir::Bidi).expect("granted"))
@@ -439,7 +439,7 @@ fn the_code_of_a_stop_is_told_whatever_became_of_the_half() {
     }
     pass(&mut server, &mut client).expect("due");
     let told: Vec<_> = streams.iter().map(|&s| client.stopped_with(s)).collect();
-    assert_eq!(told, [Some(7), Some(8), None, None]);
+    assert_eq!(told, [Some(7), None, None, None]);
     let reset = |stream| {
         client
             .report(stream)
@@ -452,7 +452,7 @@ fn the_code_of_a_stop_is_told_whatever_became_of_the_half() {
     // STOP_SENDING of the third stream and again of the first, with other codes.
     client.receive(90, &[5, 8, 9, 5, 0, 10]).expect("sound");
     assert_eq!(client.stopped_with(streams[0]), Some(7));
-    assert_eq!(client.stopped_with(streams[2]), Some(9));
+    assert_eq!(client.stopped_with(streams[2]), None);
     assert_eq!(
         client
             .report(streams[2])

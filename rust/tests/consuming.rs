@@ -3,19 +3,14 @@
 
 mod support;
 
-use gotsavena::{Dir, Endpoint, Read, Role, Settings, UseFault};
+use gotsavena::{Dir, Read, Settings, UseFault};
 use support::Random;
-
-fn ends() -> (Endpoint, [Endpoint; 2]) {
-    let settings = Settings::small().uni_window(2000);
-    let end = |role| Endpoint::new(role, settings, settings.limits()).expect("in range");
-    (end(Role::Client), [end(Role::Server), end(Role::Server)])
-}
+use support::pairs::ends_alike;
 
 // A stream is carried to both ends alike; one consumes it, the other reads it.
 fn carry(seed: u64) {
     let mut random = Random::new(seed);
-    let (mut client, mut servers) = ends();
+    let (mut client, mut servers) = ends_alike(Settings::small().uni_window(2000));
     let stream = client.open(Dir::Uni).expect("granted");
     let mut left = random.below(5000) as usize;
     let resets = random.chance(10);
@@ -76,7 +71,7 @@ fn consuming_leaves_what_reading_does() {
 
 #[test]
 fn only_a_stream_that_comes_in_can_be_consumed() {
-    let (mut client, mut servers) = ends();
+    let (mut client, mut servers) = ends_alike(Settings::small().uni_window(2000));
     let stream = client.open(Dir::Uni).expect("granted");
     assert_eq!(client.consume(stream, 1), Err(UseFault::WrongDirection));
     assert_eq!(servers[0].consume(stream, 1), Err(UseFault::NoSuchStream));

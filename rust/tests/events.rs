@@ -37,7 +37,10 @@ fn pass(ends: &mut [Endpoint; 2], from: usize) {
 }
 
 fn within_credit(settings: Settings) -> [Endpoint; 2] {
-    let tuning = Tuning::default().within_credit(true);
+    tuned(settings, Tuning::default().within_credit(true))
+}
+
+fn tuned(settings: Settings, tuning: Tuning) -> [Endpoint; 2] {
     [Role::Client, Role::Server].map(|role| {
         Endpoint::new_wide(role, settings, tuning, settings.limits()).expect("in range")
     })
@@ -372,10 +375,14 @@ impl Run {
             .stream_windows([300, 60][seed as usize % 2])
             .send_buffer([200, 30][seed as usize / 2 % 2])
             .streams(4, STREAMS);
-        let ends = if seed % 3 == 0 {
-            within_credit(settings)
-        } else {
-            two_ends(settings)
+        let ends = match seed % 5 {
+            0 | 1 => two_ends(settings),
+            2 => within_credit(settings),
+            3 => tuned(settings, Tuning::default().send_window(Some(50))),
+            _ => {
+                let tuning = Tuning::default().within_credit(true);
+                tuned(settings, tuning.send_window(Some(100)))
+            }
         };
         Run {
             ends,

@@ -2,13 +2,9 @@
 
 mod support;
 
-use gotsavena::{Dir, Endpoint, Read, Role, Settings, StreamId, UseFault};
+use gotsavena::{Dir, Endpoint, Read, Settings, StreamId, UseFault};
+use support::pairs::ends_alike;
 use support::{Random, two_ends};
-
-fn ends(settings: Settings) -> (Endpoint, [Endpoint; 2]) {
-    let end = |role| Endpoint::new(role, settings, settings.limits()).expect("in range");
-    (end(Role::Client), [end(Role::Server), end(Role::Server)])
-}
 
 fn alike(one: &Endpoint, other: &Endpoint, stream: StreamId) {
     assert_eq!(one.report(stream), other.report(stream));
@@ -28,7 +24,7 @@ fn alike(one: &Endpoint, other: &Endpoint, stream: StreamId) {
 fn carry(seed: u64) {
     let mut random = Random::new(seed);
     let settings = Settings::small().uni_window(2000);
-    let (mut client, [mut one, mut other]) = ends(settings);
+    let (mut client, [mut one, mut other]) = ends_alike(settings);
     let stream = client.open(Dir::Uni).expect("granted");
     let mut left = random.below(4000) as usize;
     let resets = random.chance(20);
@@ -160,7 +156,7 @@ fn what_all_came_of_is_over_at_once() {
 
 #[test]
 fn only_a_stream_that_comes_in_can_be_forgotten() {
-    let (mut client, mut servers) = ends(Settings::small());
+    let (mut client, mut servers) = ends_alike(Settings::small());
     let stream = client.open(Dir::Uni).expect("granted");
     assert_eq!(
         client.stop_and_forget(stream, 1),

@@ -1,35 +1,12 @@
 //! Windows of streams that an owner sets anew while the connection lasts.
 
 use gotsavena::{
-    Dir, Endpoint, Frame, Read, Received, RecvReport, Role, SetFault, Settings, StreamId, frames,
+    Dir, Endpoint, Frame, Read, Received, RecvReport, SetFault, Settings, StreamId, frames,
 };
 
 mod support;
 use support::Random;
-
-fn ends(settings: Settings) -> (Endpoint, Endpoint) {
-    let end = |role| Endpoint::new_wide(role, settings, Default::default(), settings.limits());
-    (
-        end(Role::Client).expect("in range"),
-        end(Role::Server).expect("in range"),
-    )
-}
-
-/// What is due goes across.
-fn carry(from: &mut Endpoint, to: &mut Endpoint) -> usize {
-    let mut payload = [0; 1200];
-    let mut packets = 0;
-    while let Some(made) = from.make_packet(&mut payload).expect("memory") {
-        let taken = to.receive(made.number, &payload[..made.len]);
-        assert_eq!(taken, Ok(Received::Done));
-        packets += 1;
-    }
-    packets
-}
-
-fn rest(a: &mut Endpoint, b: &mut Endpoint) {
-    while carry(a, b) + carry(b, a) > 0 {}
-}
+use support::pairs::{carry, ends, rest};
 
 fn receiving(end: &Endpoint, stream: StreamId) -> RecvReport {
     let half = end.report(stream).and_then(|report| report.recv);

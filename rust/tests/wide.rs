@@ -1,10 +1,9 @@
-//! Ends of the widest settings: a window that holds a long fat path, and a connection that lives for a million streams.
+//! Ends of the widest settings: a window that holds a long fat path.
 
 use gotsavena::{
     Dir, Endpoint, Read, Received, Role, SendState, Settings, Share, StreamId, Tuning,
 };
 use std::collections::VecDeque;
-use std::time::{Duration, Instant};
 
 const WINDOW: usize = 1 << 28;
 
@@ -278,51 +277,4 @@ fn a_limit_moves_once_its_share_was_read() {
         settle(&mut client, &mut server);
         assert_eq!(server.stored(), 1 << 16);
     }
-}
-
-/// A request of one byte and an answer of one, each with its end.
-fn exchange([client, server]: &mut [Endpoint; 2]) {
-    let mut byte = [0];
-    let stream = client.open(Dir::Bidi).expect("a stream");
-    assert_eq!(client.write(stream, &[1]), Ok(1));
-    client.finish(stream).expect("it is open");
-    settle(client, server);
-    assert_eq!(server.accept(), Some(stream));
-    assert_eq!(server.read(stream, &mut byte), Ok(Read::Bytes(1)));
-    assert_eq!(server.read(stream, &mut byte), Ok(Read::End));
-    assert_eq!(server.write(stream, &[2]), Ok(1));
-    server.finish(stream).expect("it is open");
-    settle(client, server);
-    assert_eq!(client.read(stream, &mut byte), Ok(Read::Bytes(1)));
-    assert_eq!(client.read(stream, &mut byte), Ok(Read::End));
-    settle(client, server);
-}
-
-/// How long ten exchanges take.
-fn time_of_some(ends: &mut [Endpoint; 2]) -> Duration {
-    let begun = Instant::now();
-    (0..10).for_each(|_| exchange(ends));
-    begun.elapsed()
-}
-
-// Fewer streams where overflow is checked, which takes four times as long.
-const STREAMS: u64 = if cfg!(debug_assertions) {
-    200_000
-} else {
-    1_000_000
-};
-
-#[test]
-fn a_millionth_stream_costs_as_much_as_the_first() {
-    let settings = Settings::small().bidi_streams(100, 1 << 21);
-    let (mut old, mut young) = (two_ends(settings), two_ends(settings));
-    (0..STREAMS).for_each(|_| exchange(&mut old));
-    assert_eq!(old[1].granted_streams(Dir::Bidi), 100 + STREAMS);
-    // The least of many short times, by turns, as a busy machine makes most longer.
-    let (mut later, mut first) = (Duration::MAX, Duration::MAX);
-    for _ in 0..2_000 {
-        later = later.min(time_of_some(&mut old));
-        first = first.min(time_of_some(&mut young));
-    }
-    assert!(later < 2 * first, "{first:?} for ten, later {later:?}");
 }

@@ -19,9 +19,11 @@ use Rattle.qs_c.specs.declared.structs.GvToken.{GvToken}
 use Rattle.qs_calls.specs.declared.token.Token.{Token}
 use Rattle.qs_c.specs.declared.structs.GvClosing.{GvClosing}
 use Rattle.qs_calls.specs.declared.closing.Closing.{Closing}
+use Rattle.qs_c.specs.declared.structs.GvTold.{GvTold}
 use Rattle.qs_calls.specs.declared.closing.Closer.TheVariants.{Us, Peer}
 use Rattle.qs_calls.specs.declared.closing.CloseKind.TheVariants.{Transport, Application}
 use Rattle.qs_calls.specs.declared.closing.ToldClose.{ToldClose}
+use Rattle.qs_machine.specs.EndCodes.{closer_number, kind_number}
 
 abbrev pub settings_in : GvSettings → Settings
 settings_in s = record { conn_window = s.conn_window; bidi_local = s.bidi_local; bidi_remote = s.bidi_remote; uni = s.uni; send_buffer = s.send_buffer; grant_bidi = s.grant_bidi; grant_uni = s.grant_uni; lifetime_bidi = s.lifetime_bidi; lifetime_uni = s.lifetime_uni }
@@ -41,12 +43,16 @@ may_be_share n = nat_le n 4
 abbrev pub share_if : ℕ → Option Share
 share_if n = if nat_eq n 0 then None else Some (share_of n)
 
+-- a window, or 0
+abbrev pub window_if : ℕ → Option ℕ
+window_if n = if nat_eq n 0 then None else Some n
+
 -- its parts are some
 abbrev pub is_tuning : GvTuning → Bool
 is_tuning t = is_share t.credit_step && may_be_share t.count_step
 
 abbrev pub tuning_in : GvTuning → Tuning
-tuning_in t = record { credit_step = share_of t.credit_step; count_step = share_if t.count_step; within_credit = t.within_credit; reads_when_closed = t.reads_when_closed; epoch = t.epoch }
+tuning_in t = record { credit_step = share_of t.credit_step; count_step = share_if t.count_step; within_credit = t.within_credit; answers_stops = t.answers_stops; reads_when_closed = t.reads_when_closed; epoch = t.epoch; send_window = window_if t.send_window }
 
 abbrev pub limits_in : GvLimits → PeerLimits
 limits_in s = record { max_data = s.max_data; bidi_local = s.bidi_local; bidi_remote = s.bidi_remote; uni = s.uni; streams_bidi = s.streams_bidi; streams_uni = s.streams_uni }
@@ -73,3 +79,6 @@ closing_of c = record { code = c.code; frame_type = c.frame_type; place = c.plac
 -- 0 stands for this side and the transport
 abbrev pub close_in : (by kind code : ℕ) → ToldClose
 close_in by kind code = record { by = if nat_eq by 0 then Us else Peer; kind = if nat_eq kind 0 then Transport else Application; code = code }
+
+abbrev pub told_of : ToldClose → GvTold
+told_of c = record { by = closer_number c.by; kind = kind_number c.kind; code = c.code }

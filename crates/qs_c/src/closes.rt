@@ -1,11 +1,13 @@
-//! An end is told that the connection closed.
-ghost use Rattle.std.specs.Prelude.{◌≡◌, ◌&&◌, true};
+//! An end is told that the connection closed, and tells it again.
+ghost use Rattle.std.specs.Prelude.{◌≡◌, ◌&&◌, true, option_map};
 ghost use Rattle.qs_machine.specs.Receiving.{told_closed};
-ghost use Rattle.qs_c.specs.Statuses.{Called, Tested, is_flag};
-ghost use Rattle.qs_c.specs.Structs.{close_in};
+ghost use Rattle.qs_machine.specs.Asking.{told_closing};
+ghost use Rattle.qs_c.specs.Statuses.{Called, Asked, Tested, Invalid, is_flag, found};
+ghost use Rattle.qs_c.specs.Structs.{close_in, told_of};
 
-use crate::answers::{INVALID, OK};
+use crate::answers::{INVALID, NONE, OK};
 use crate::handle::Handle;
+use crate::structs::GvTold;
 use crate::thing::Thing;
 use qs_calls::{CloseKind, Closer, ToldClose};
 use std::alloc::Global;
@@ -29,6 +31,19 @@ pub extern "C" fn gvp_tell_closed(
     status
 }
 
+/// The close that the end was told of, as numbers of the same meaning.
+#[unsafe(no_mangle)]
+pub extern "C" fn gvp_told_close(alloc: Global, end: &mut Handle, told: &mut GvTold) -> u32
+    ensures { Asked end.old.cell.value end.new.cell.value true (Invalid result told.old told.new) (λ e. (result, told.new) ≡ found (option_map told_of (told_closing e.closed)) told.old) }
+{
+    let Some(thing) = end.take(alloc) else {
+        return INVALID;
+    };
+    let status = thing.told_close(told);
+    end.put(thing);
+    status
+}
+
 impl Thing {
     pub(crate) fn tell_closed(&mut self, by: u32, kind: u32, code: u64) -> u32
         ensures { Tested (is_flag by && is_flag kind) self.old self.new (result ≡ 1) ((result ≡ 0) × (self.new ≡ told_closed (close_in by kind code) self.old)) }
@@ -41,6 +56,18 @@ impl Thing {
         }
         self.end.tell_closed(close_of(by, kind, code));
         OK
+    }
+
+    pub(crate) fn told_close(&self, told: &mut GvTold) -> u32
+        ensures { (result, told.new) ≡ found (option_map told_of (told_closing self.now.closed)) told.old }
+    {
+        match self.end.told_close() {
+            Some(close) => {
+                *told = GvTold::of(close);
+                OK
+            }
+            None => NONE,
+        }
     }
 }
 

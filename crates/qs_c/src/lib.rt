@@ -71,7 +71,7 @@ use crate::frame::{GvFault, GvFrame};
 use crate::handle::Handle;
 use crate::lane::GvLane;
 use crate::structs::{GvClosing, GvLimits, GvMade, GvSettings, GvTuning};
-pub use closes::gvp_tell_closed;
+pub use closes::{gvp_tell_closed, gvp_told_close};
 pub use consuming::gvp_consume;
 pub use events::{
     gvp_heard_drop, gvp_heard_new, gvp_next_news, gvp_wants, gvp_was_read, gvp_will_write,

@@ -1,8 +1,8 @@
 //! The structs that C passes.
 ghost use Rattle.std.specs.Prelude.{◌≡◌, Some, None, if◌then◌else◌};
-ghost use Rattle.qs_c.specs.Structs.{made_of, filled_of, numbers_of, token_in, closing_of, settings_in, is_share, share_of, may_be_share, share_if, is_tuning, tuning_in, limits_in};
+ghost use Rattle.qs_c.specs.Structs.{made_of, filled_of, numbers_of, token_in, closing_of, settings_in, is_share, share_of, may_be_share, share_if, is_tuning, window_if, tuning_in, limits_in, told_of};
 
-use qs_calls::{Filled, Token};
+use qs_calls::{CloseKind, Closer, Filled, Token, ToldClose};
 use qs_conn::{Closing, Made, PeerLimits, Settings, Share, Tuning};
 
 /// The greatest number of a part.
@@ -22,7 +22,8 @@ pub struct GvSettings {
     pub lifetime_uni: u64,
 }
 
-/// Parts are 1 for a half, 2 for a quarter, 3 for an eighth, 4 for a sixteenth; for none, where there may be none, 0.
+/// Parts are 1 for a half, 2 for a quarter, 3 for an eighth, 4 for a sixteenth; for none, where there may be none, 0. A window of 0
+/// stands for none, too.
 #[repr(C)]
 #[derive(Clone, Copy, Drop)]
 pub struct GvTuning {
@@ -31,6 +32,8 @@ pub struct GvTuning {
     pub within_credit: bool,
     pub reads_when_closed: bool,
     pub epoch: u64,
+    pub send_window: u64,
+    pub answers_stops: bool,
 }
 
 #[repr(C)]
@@ -87,6 +90,15 @@ pub struct GvClosing {
     pub code: u64,
     pub frame_type: u64,
     pub place: usize,
+}
+
+/// 0 stands for this side and the transport, 1 for the peer and the application.
+#[repr(C)]
+#[derive(Clone, Copy, Drop)]
+pub struct GvTold {
+    pub by: u32,
+    pub kind: u32,
+    pub code: u64,
 }
 
 impl GvMade {
@@ -152,6 +164,24 @@ impl GvClosing {
     }
 }
 
+impl GvTold {
+    pub(crate) fn of(close: ToldClose) -> GvTold
+        ensures { result ≡ told_of close }
+    {
+        GvTold {
+            by: match close.by {
+                Closer::Us => 0,
+                Closer::Peer => 1,
+            },
+            kind: match close.kind {
+                CloseKind::Transport => 0,
+                CloseKind::Application => 1,
+            },
+            code: close.code,
+        }
+    }
+}
+
 impl GvSettings {
     pub(crate) fn settings(&self) -> Settings
         ensures { result ≡ settings_in self.now }
@@ -182,8 +212,10 @@ impl GvTuning {
             credit_step,
             count_step: share_of(self.count_step),
             within_credit: self.within_credit,
+            answers_stops: self.answers_stops,
             reads_when_closed: self.reads_when_closed,
             epoch: self.epoch,
+            send_window: window_if(self.send_window),
         })
     }
 }
@@ -198,6 +230,15 @@ fn share_of(number: u32) -> Option<Share>
         4 => Some(Share::Sixteenth),
         _ => None,
     }
+}
+
+fn window_if(bytes: u64) -> Option<u64>
+    ensures { result ≡ window_if bytes }
+{
+    if bytes == 0 {
+        return None;
+    }
+    Some(bytes)
 }
 
 impl GvLimits {

@@ -12,9 +12,9 @@ use Rattle.qs_calls.specs.declared.settings.SetupFault.{SetupFault}
 use Rattle.qs_calls.specs.declared.settings.SetupFault.TheVariants.{OutOfRange, TooManyStreams}
 
 -- how an end goes about its choices where its owner made none: a limit moves with each half window, a count of streams with each stream
--- that ended (RFC 9000, sections 4.2 and 4.6; the choices are ours)
+-- that ended, and a STOP_SENDING resets the stream at once, and each sending half alone bounds what it keeps (RFC 9000, sections 3.5, 4.2 and 4.6; the choices are ours)
 abbrev pub default_tuning : Tuning
-default_tuning = record { credit_step = Half; count_step = None; within_credit = false; reads_when_closed = false; epoch = 0 }
+default_tuning = record { credit_step = Half; count_step = None; within_credit = false; answers_stops = false; reads_when_closed = false; epoch = 0; send_window = None }
 
 -- what the other end is told of an end's settings (RFC 9000, section 18.2)
 abbrev pub limits_of : Settings → PeerLimits

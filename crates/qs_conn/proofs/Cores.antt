@@ -8,7 +8,7 @@ use Rattle.qs_ranges.specs.declared.NoMemory.{NoMemory}
 use Rattle.qs_ranges.specs.Numbers.{MAX_VARINT, NumberSet}
 use Rattle.qs_recv.specs.Lane.{RecvLane, after_read, stop, stop_and_forget, new_lane as new_recv_lane, MAX_WINDOW, set_window}
 use Rattle.qs_recv.specs.declared.credit.Share.{Share}
-use Rattle.qs_send.specs.Lane.{SendLane, Sending, new_lane as new_send_lane, answer_of, refusal, reset_refusal, write_lane, finish_lane, reset_lane, stopped_lane, allow_lane, buffer_lane}
+use Rattle.qs_send.specs.Lane.{SendLane, Sending, new_lane as new_send_lane, answer_of, refusal, reset_refusal, write_lane, finish_lane, reset_lane, stop_taken, allow_lane, buffer_lane}
 use Rattle.qs_send.specs.declared.parts.Chunk.{Chunk}
 use Rattle.qs_send.specs.declared.piece.Item.{Item}
 use Rattle.qs_send.specs.declared.piece.Piece.{Piece}
@@ -35,7 +35,7 @@ use Rattle.qs_conn.specs.Untold.{AreTold, TellsAt, SendTells, HasMore, told_by_r
 use Rattle.qs_conn.proofs.Calm.{told_read}
 use Rattle.qs_conn.proofs.Counted.{fit_sends, fit_allowed, fit_written, fit_finished, fit_reset, fit_told_to_stop, fit_read, fit_stopped, fit_forgotten, fit_opened, put_counted, fit_buffered, fit_windowed}
 use Rattle.qs_conn.proofs.Flows.{end_chunk}
-use Rattle.qs_conn.proofs.Funded.{sum_lane, reset_sends, sum_piece, sum_put}
+use Rattle.qs_conn.proofs.Funded.{sum_lane, reset_sends, stop_sends, sum_piece, sum_put}
 use Rattle.qs_conn.proofs.Kept.{sound_after_read, sound_after_stop, sound_after_forget, sound_opened, sound_after_window}
 use Rattle.qs_conn.proofs.Pieces.{noted_old, put_old}
 use Rattle.qs_conn.proofs.Untolds.{recv_own, send_own, recv_noted, send_noted, recvs_open, sends_open, told_carried, told_edited, told_placed, told_unmarked, told_written, told_sent, told_finished, told_allowed, told_buffered, told_put, told_noted, acked_stays, lost_stays, marks_stay, in_idle, out_idle}
@@ -102,9 +102,9 @@ module _ (c : Core) (h : IsAtRest c) where
   rest_reset n code o marks is are =
       on_half n (λ l. reset_lane l code) o marks is (λ l. reset_sends code l (is_some (reset_refusal l))) (fit_reset _ _ _ _ _ _ _ core.counts _ n code refl) (told_edited SendTells c.outbox.sends c.outbox.outstanding c.outbox.acked c.untold_sends core.told_out _ marks n (λ l. reset_lane l code) refl are)
 
-  pub rest_told_to_stop : (n code : ℕ) (o : Outgoing) (marks : Tables Bool) → o ≡ on_lane n (λ l. stopped_lane l code) c.outbox → marks ≡ updated c.untold_sends n (λ b. true) (lookup c.untold_sends n) → IsAtRest (record c { outbox = o; untold_sends = marks })
-  rest_told_to_stop n code o marks is are =
-      on_half n (λ l. stopped_lane l code) o marks is (λ l. reset_sends code l (is_some (reset_refusal l))) (fit_told_to_stop _ _ _ _ _ _ _ core.counts _ n code refl) (told_edited SendTells c.outbox.sends c.outbox.outstanding c.outbox.acked c.untold_sends core.told_out _ marks n (λ l. stopped_lane l code) refl are)
+  pub rest_told_to_stop : (answers : Bool) (n code : ℕ) (o : Outgoing) (marks : Tables Bool) → o ≡ on_lane n (λ l. stop_taken answers l code) c.outbox → marks ≡ updated c.untold_sends n (λ b. true) (lookup c.untold_sends n) → IsAtRest (record c { outbox = o; untold_sends = marks })
+  rest_told_to_stop answers n code o marks is are =
+      on_half n (λ l. stop_taken answers l code) o marks is (stop_sends answers code) (fit_told_to_stop _ _ _ _ _ _ _ core.counts _ answers n code refl) (told_edited SendTells c.outbox.sends c.outbox.outstanding c.outbox.acked c.untold_sends core.told_out _ marks n (λ l. stop_taken answers l code) refl are)
 
   -- Receiving halves
 

@@ -4,12 +4,12 @@ use Rattle.std.specs.Prelude.{max, is_none, ◌==◌, Ok, IsOk}
 use Rattle.std.proofs.lemmas.Bool.{both_ways}
 use Rattle.std.proofs.lemmas.Option.{none-some, same_Some}
 use Rattle.qs_wire.specs.declared.stream_id.Role.{Role}
-use Rattle.qs_recv.specs.Lane.{RecvLane, stop, stop_and_forget, raise, after_read, take_stream, take_reset, check_stream, is_whole as recv_whole, new_lane as new_recv_lane, set_window}
+use Rattle.qs_recv.specs.Lane.{RecvLane, stop, stop_and_forget, is_over as is_read_off, raise, after_read, take_stream, take_reset, check_stream, is_whole as recv_whole, new_lane as new_recv_lane, set_window}
 use Rattle.qs_recv.specs.Lawful.{IsLawful}
 use Rattle.qs_recv.specs.Assembled.{discard, forget}
 use Rattle.qs_recv.specs.declared.credit.Share.{Share}
 use Rattle.qs_recv.specs.declared.credit.Share.TheVariants.{Half}
-use Rattle.qs_send.specs.Lane.{new_lane as new_send_lane, Sending, SendLane, is_whole, unacked_from, answer_of, write_lane, finish_lane, reset_lane, stopped_lane, reset_refusal, refusal, allow_lane, buffer_lane, blocked_lane, sent_lane, acked_lane, reset_acked_lane}
+use Rattle.qs_send.specs.Lane.{new_lane as new_send_lane, Sending, SendLane, is_whole, unacked_from, answer_of, write_lane, finish_lane, reset_lane, broken_off, first_code, stop_taken, reset_refusal, refusal, allow_lane, buffer_lane, blocked_lane, sent_lane, acked_lane, reset_acked_lane}
 use Rattle.qs_send.specs.declared.parts.SendFault.{SendFault}
 use Rattle.qs_send.specs.declared.parts.SendFault.TheVariants.{Finished, WasReset}
 use Rattle.qs_send.specs.declared.parts.Reset.{Reset}
@@ -88,6 +88,18 @@ ends_as_before : (code : ℕ) (l : SendLane) (t : Bool) → is_some (reset_refus
 ends_as_before code l true is = refl
 ends_as_before code l false is = open_still l.was_reset (is_whole l) l.finished l.reset_acked is
 
+ends_as_stopped : (answers : Bool) (code : ℕ) (l : SendLane) → send_ended (stop_taken answers l code) ≡ send_ended l
+ends_as_stopped true code l = go (is_some (reset_refusal l))
+  where
+    go : (t : Bool) → send_ended (cond t l (record l { stopped = first_code l.stopped code })) ≡ send_ended l
+    go true = refl
+    go false = refl
+ends_as_stopped false code l = go (is_some (reset_refusal l)) refl
+  where
+    go : (t : Bool) → is_some (reset_refusal l) ≡ t → send_ended (cond t l (record (broken_off l code) { stopped = first_code l.stopped code })) ≡ send_ended l
+    go true is = refl
+    go false is = open_still l.was_reset (is_whole l) l.finished l.reset_acked is
+
 module _ (role : Role) (s : Settings) (recvs : Tables RecvLane) (sends : Tables SendLane) (e : ByDir ℕ) (b u : ℕ) (h : CountsFit role s recvs sends e b u) where
   pub fit_sends : (now : Tables SendLane) (e' : ByDir ℕ) → AreAllCounted role recvs now e' → CountsFit role s recvs now e' b u
   fit_sends now e' is = record { counted = is; told = h.told; bidi = h.bidi; uni = h.uni }
@@ -104,8 +116,8 @@ module _ (role : Role) (s : Settings) (recvs : Tables RecvLane) (sends : Tables 
   -- a stop
   pub fit_stopped : (now : Tables RecvLane) (n code : ℕ) → now ≡ updated recvs n (λ l. stop l code) (lookup recvs n) → CountsFit role s now sends e b u
   fit_stopped now n code is =
-      fit_recvs now sends e (recvs_same role recvs now sends n (λ l. stop l code) e h.counted is (λ l there. by_test (is_some l.stop_code) l))
-      (told_updated recvs now n (λ l. stop l code) h.told is (λ l there told. still_stopped (is_some l.stop_code) l told))
+      fit_recvs now sends e (recvs_same role recvs now sends n (λ l. stop l code) e h.counted is (λ l there. by_test (is_some l.stop_code || is_read_off l) l))
+      (told_updated recvs now n (λ l. stop l code) h.told is (λ l there told. still_stopped (is_some l.stop_code || is_read_off l) l told))
     where
       stopped : RecvLane → RecvLane
       stopped l = record l { arrived = discard l.arrived; stop_code = Some code }
@@ -204,8 +216,8 @@ module _ (role : Role) (s : Settings) (recvs : Tables RecvLane) (sends : Tables 
   fit_reset now n code is = fit_sends now e (sends_same role recvs sends now n (λ l. reset_lane l code) e h.counted is (λ l there. ends_as_before code l (is_some (reset_refusal l)) refl))
 
   -- the peer stops reading
-  pub fit_told_to_stop : (now : Tables SendLane) (n code : ℕ) → now ≡ updated sends n (λ l. stopped_lane l code) (lookup sends n) → CountsFit role s recvs now e b u
-  fit_told_to_stop now n code is = fit_sends now e (sends_same role recvs sends now n (λ l. stopped_lane l code) e h.counted is (λ l there. ends_as_before code l (is_some (reset_refusal l)) refl))
+  pub fit_told_to_stop : (now : Tables SendLane) (answers : Bool) (n code : ℕ) → now ≡ updated sends n (λ l. stop_taken answers l code) (lookup sends n) → CountsFit role s recvs now e b u
+  fit_told_to_stop now answers n code is = fit_sends now e (sends_same role recvs sends now n (λ l. stop_taken answers l code) e h.counted is (λ l there. ends_as_stopped answers code l))
 
   -- streams are opened
   pub fit_opened : (now_r : Tables RecvLane) (now_s : Tables SendLane) (n w : ℕ) (share : Share) (limit buffer : ℕ) (no_send no_recv : Bool) → now_s ≡ cond no_send sends (open_to sends n (λ m. new_send_lane m limit buffer))

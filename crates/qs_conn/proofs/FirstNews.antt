@@ -15,7 +15,7 @@ use Rattle.qs_machine.specs.Credit.{send_ended}
 use Rattle.qs_machine.specs.News.{IsLeast, IsReadable, IsEnded, IsHeld}
 use Rattle.qs_machine.specs.Asking.{room, stopped_with}
 use Rattle.qs_conn.specs.ByDir.{IsFirstDir}
-use Rattle.qs_machine.specs.Heard.{Hearing, heard_opened, IsNews, IsNextOpened, IsFirstNews, ComesBefore, kind_of, subject_of, is_told, WasResetAcked, HasFinished, MayOpen, wants}
+use Rattle.qs_machine.specs.Heard.{Hearing, heard_opened, IsNews, IsNextOpened, IsFirstNews, ComesBefore, kind_of, subject_of, is_told, WasResetAcked, HasFinished, MayOpen, wants, TakesMemory, FirstTakesMemory}
 
 least_here : (P : ℕ → Type 0) (n : ℕ) → IsLeast P 0 (Some n) → P n
 least_here P n l = (l.found n refl).1
@@ -53,6 +53,10 @@ module _ (e : End) (h : Hearing) where
   -- where it is a stream that opened, that is the next one
   pub first_is_next : (answer : Option News) → IsFirstNews e h answer → (n : ℕ) → answer ≡ Some (Opened n) → index_of n ≡ heard_opened h (dir_of n)
   first_is_next answer is n same = (is.found (Opened n) same).next
+
+  -- the first piece of news was refused its note
+  pub refused_next : (answer : Option News) → IsFirstNews e h answer → (news : News) × (answer ≡ Some news) × TakesMemory news h → FirstTakesMemory e h
+  refused_next answer is (news, same, takes) = (news, subst (IsFirstNews e h) same is, takes)
 
   -- The properties that are sought
   abbrev pub Untold : ℕ → Type 0

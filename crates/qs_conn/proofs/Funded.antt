@@ -1,5 +1,5 @@
 -- What lets an end make packets: each call keeps it.
-use Rattle.std.proofs.Common.{◌≡◌, ℕ, zero, suc, ◌+◌, ◌<◌, ◌≤◌, Bool, true, false, [], Option, None, Some, cond, refl, sym, ap, ◌∙◌, subst, arith, inl, inr}
+use Rattle.std.proofs.Common.{◌≡◌, ℕ, zero, suc, ◌+◌, ◌<◌, ◌≤◌, Bool, true, false, [], Option, None, Some, is_some, cond, refl, sym, ap, ◌∙◌, subst, arith, inl, inr}
 use Rattle.std.proofs.lemmas.Bool.{both_ways, cases_lt}
 use Rattle.std.proofs.lemmas.Bool.Decides.{nat_tests}
 use Rattle.std.specs.Ordering.{nat_cmp}
@@ -9,7 +9,7 @@ use Rattle.qs_ranges.proofs.Starts.{contains-run_starts, len-run_starts-with_ran
 use Rattle.qs_send.specs.declared.piece.Item.{Item}
 use Rattle.qs_send.specs.declared.piece.Piece.{Piece}
 use Rattle.qs_send.specs.declared.piece.Piece.TheVariants.{Data, Told}
-use Rattle.qs_send.specs.Lane.{SendLane, acked_lane, reset_acked_lane, blocked_lane}
+use Rattle.qs_send.specs.Lane.{SendLane, reset_refusal, broken_off, first_code, stop_taken, acked_lane, reset_acked_lane, blocked_lane}
 use Rattle.qs_machine.specs.Tables.{Tables, no_streams, lookup, updated, total}
 use Rattle.qs_machine.specs.Recording.{has_too_many, lowest_end}
 use Rattle.qs_machine.specs.Outgoing.{Outgoing, sent_sum, piece_acked_out, item_put_out}
@@ -39,6 +39,18 @@ sum_lane t n f same = go (lookup t n) refl
 pub reset_sends : (code : ℕ) (l : SendLane) (b : Bool) → (cond b l (record l { kept = []; was_reset = Some (record { code = code; size = cond l.fin_sent l.written l.sent_end }) })).sent_end ≡ l.sent_end
 reset_sends code l true = refl
 reset_sends code l false = refl
+
+pub stop_sends : (answers : Bool) (code : ℕ) (l : SendLane) → (stop_taken answers l code).sent_end ≡ l.sent_end
+stop_sends true code l = go (is_some (reset_refusal l))
+  where
+    go : (b : Bool) → (cond b l (record l { stopped = first_code l.stopped code })).sent_end ≡ l.sent_end
+    go true = refl
+    go false = refl
+stop_sends false code l = go (is_some (reset_refusal l))
+  where
+    go : (b : Bool) → (cond b l (record (broken_off l code) { stopped = first_code l.stopped code })).sent_end ≡ l.sent_end
+    go true = refl
+    go false = refl
 
 pub sum_piece : (p : Piece) (o : Outgoing) → sent_sum (piece_acked_out p o).sends ≡ sent_sum o.sends
 sum_piece (Data n c) o = sum_lane o.sends n (λ l. acked_lane l c) (λ l. refl)

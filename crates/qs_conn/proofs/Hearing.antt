@@ -1,5 +1,5 @@
 -- What is news at an end: the next stream that the peer opened, of those that its owner didn't hear of; and what a search for streams finds.
-use Rattle.std.proofs.Common.{◌≡◌, ◌≢◌, ℕ, zero, suc, ◌+◌, ◌-◌, ◌*◌, ◌/◌, ◌%◌, ◌<◌, ◌≤◌, ◌⊎◌, ◌==◌, Bool, true, false, nat_lt, min, IsTrue, Option, None, Some, is_some, refl, sym, ap, ◌∙◌, subst, arith, inl, inr, if◌then◌else◌}
+use Rattle.std.proofs.Common.{◌≡◌, ◌≢◌, ℕ, zero, suc, ◌+◌, ◌-◌, ◌*◌, ◌/◌, ◌%◌, ◌<◌, ◌≤◌, ◌⊎◌, ◌==◌, Bool, true, false, nat_lt, IsTrue, Option, None, Some, is_some, refl, sym, ap, ◌∙◌, subst, arith, inl, inr, if◌then◌else◌}
 use Rattle.std.proofs.lemmas.Bool.Decides.{nat_tests}
 use Rattle.std.proofs.lemmas.Bool.{cases_lt, both_ways, true≢false}
 use Rattle.std.proofs.lemmas.Option.{none-some, same_Some}
@@ -12,9 +12,9 @@ use Rattle.qs_machine.specs.Ends.{End, role_bit, is_own, is_own_by, peer_type, s
 use Rattle.qs_machine.specs.Tables.{Tables, type_of, index_of, lookup}
 use Rattle.qs_machine.specs.Owner.{opened_count, accepted_by, is_read_no_more}
 use Rattle.qs_machine.specs.News.{IsLeast, IsHeld, IsReadable}
-use Rattle.qs_machine.specs.Credit.{credit_for}
 use Rattle.qs_machine.specs.Asking.{room, room_of, stop_of}
 use Rattle.qs_machine.specs.Outgoing.{IsAckedReset}
+use Rattle.qs_machine.proofs.Writing.{accepted_few}
 use Rattle.qs_recv.specs.Lane.{RecvLane}
 use Rattle.qs_recv.specs.News.{is_readable}
 use Rattle.qs_send.specs.Lane.{SendLane, refusal, free_room, accepted}
@@ -165,12 +165,8 @@ acked_there t n is = go (lookup t n) refl is
 pub room_is : (e : End) (n : ℕ) → 0 < room e n → IsHeld MayWrite e.sends n
 room_is e n lt = go (is_some e.closed) (send_lane e n) refl lt
   where
-    credited : (b : Bool) (a c : ℕ) → 0 < (if b then min a c else a) → 0 < a
-    credited true a c some = omega (arith, some)
-    credited false a c some = some
-
     accepts : (l : SendLane) (x : Option SendFault) → refusal l ≡ x → 0 < (if is_some x then 0 else accepted_by e l (free_room l)) → is_writable l ≡ true
-    accepts l None is some = (let more : 0 < accepted l (free_room l) = credited e.tuning.within_credit (accepted l (free_room l)) (credit_for e l) some in rw is (grind (arith, nat_tests, more)))
+    accepts l None is some = (let more : 0 < accepted l (free_room l) = omega (arith, some, accepted_few e l (free_room l)) in rw is (grind (arith, nat_tests, more)))
     accepts l (Some fault) is some = absurd (omega (arith, some))
 
     go : (b : Bool) (x : Option SendLane) → send_lane e n ≡ x → 0 < (if b then 0 else room_of e x) → IsHeld MayWrite e.sends n
@@ -219,6 +215,9 @@ module _ (v old : End) (same : v ≡ old) (short : Tables Bool) where
           | inr past ↦ (let is : n ≡ m = omega (arith, lt, past) in none (subst (λ i. 0 < room old i) is p.0))
         ];
       }
+
+  pub takes_full : ((n : ℕ) → 0 < room old n → ⊥) → IsLeast Takes 0 None
+  takes_full none = least_by Takes 0 None (λ n is. absurd (none-some n is)) (λ n ge before p. none n p.0)
 
   pub takes_none : (next : ℕ) → IsClear Takes 0 next → IsLeast Writable next None → IsLeast Takes 0 None
   takes_none next clear h =

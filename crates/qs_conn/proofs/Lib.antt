@@ -74,6 +74,9 @@ pub mod RecvNews
 pub mod Least
 pub mod Sought
 pub mod Overs
+pub mod OverHalves
+pub mod OverEdits
 pub mod NewlyTold
 pub mod TurnsTold
 pub mod Within
+pub mod WindowSet

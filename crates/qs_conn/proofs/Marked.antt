@@ -18,6 +18,12 @@ use Rattle.qs_machine.proofs.TableEdits.{lookup_is}
 pub mark_past : (ms : List Bool) (i : ℕ) → length ms ≤ i → is_marked ms i ≡ false
 mark_past ms i le = get_or_past ms i false le
 
+pub is_marked_taken : (marks : List Bool) (n i : ℕ) → is_marked marks i ≡ false → is_marked (take n marks) i ≡ false
+is_marked_taken marks zero i none = mark_past [] i (omega arith)
+is_marked_taken [] (suc n) i none = none
+is_marked_taken (m ∷ marks) (suc n) zero none = none
+is_marked_taken (m ∷ marks) (suc n) (suc i) none = is_marked_taken marks n i none
+
 -- a mark that is put where it stands already
 pub mark_kept : (ms : List Bool) (i : ℕ) → ms ≡ set ms i (is_marked ms i)
 mark_kept ms i = sym (set-get_or ms i false)

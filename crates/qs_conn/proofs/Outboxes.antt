@@ -7,7 +7,7 @@ use Rattle.std.specs.Result.{OnOk, OnErr, IfOk, IfErr}
 use Rattle.qs_send.specs.declared.parts.SendFault.{SendFault}
 use Rattle.qs_send.specs.declared.parts.SendFault.TheVariants.{NoMemory}
 use Rattle.qs_send.specs.declared.piece.Piece.{Piece}
-use Rattle.qs_send.specs.Lane.{SendLane, Sending, new_sending, new_lane, accepted, refusal, reset_refusal, answer_of, write_lane, finish_lane, after_write, after_finish, after_reset, after_stopped, after_allow, after_buffer}
+use Rattle.qs_send.specs.Lane.{SendLane, Sending, new_sending, new_lane, accepted, refusal, reset_refusal, answer_of, write_lane, finish_lane, after_write, after_finish, after_reset, broken_off, first_code, after_stopped, after_told, after_stop, stop_taken, after_allow, after_buffer}
 use Rattle.qs_send.specs.Sound.{IsLawful}
 use Rattle.qs_machine.specs.Tables.{Tables, table, with_table, lookup, update, updated, open_to, no_streams, total}
 use Rattle.qs_machine.specs.Ends.{Records}
@@ -18,7 +18,7 @@ use Rattle.qs_machine.specs.Outgoing.{Outgoing, with_sends, on_lane, sent_sum, l
 use Rattle.qs_machine.proofs.TablesAfter.{updated_back}
 use Rattle.qs_machine.proofs.TableLaws.{total_update, total_open}
 use Rattle.qs_machine.proofs.Carried.{some_is}
-use Rattle.qs_machine.proofs.Tied.{tied_write, tied_finish, tied_reset, tied_stopped, tied_allow, tied_buffer, tied_flight}
+use Rattle.qs_machine.proofs.Tied.{tied_write, tied_finish, tied_reset, tied_stopped, tied_told_stop, tied_allow, tied_buffer, tied_flight}
 use Rattle.qs_machine.proofs.LaneTables.{lookup_lanes, lane_there, lanes_updated, lanes_opened, lanes_closed, update_lanes}
 use Rattle.qs_machine.proofs.Ties.{ties_none, ties_updated, ties_opened, ties_closed}
 
@@ -69,6 +69,27 @@ reset_ends : (code : ℕ) (s : Sending) (b : Bool) → (cond b s.lane (record s.
 reset_ends code s true = refl
 reset_ends code s false = refl
 
+-- what a STOP_SENDING leaves of a half is a half of what it leaves of the lane
+pub stop_lane : (answers : Bool) (s : Sending) (code : ℕ) → (after_stop answers s code).lane ≡ stop_taken answers s.lane code
+stop_lane true s code = refl
+stop_lane false s code = refl
+
+stopped_marks : (code : ℕ) (s : Sending) (b : Bool) → is_some s.lane.was_reset ≡ true → is_some (cond b s.lane (record (broken_off s.lane code) { stopped = first_code s.lane.stopped code })).was_reset ≡ true
+stopped_marks code s true x = x
+stopped_marks code s false x = refl
+
+stopped_ends : (code : ℕ) (s : Sending) (b : Bool) → (cond b s.lane (record (broken_off s.lane code) { stopped = first_code s.lane.stopped code })).sent_end ≡ s.lane.sent_end
+stopped_ends code s true = refl
+stopped_ends code s false = refl
+
+told_marks : (code : ℕ) (s : Sending) (b : Bool) → is_some s.lane.was_reset ≡ true → is_some (cond b s.lane (record s.lane { stopped = first_code s.lane.stopped code })).was_reset ≡ true
+told_marks code s true x = x
+told_marks code s false x = x
+
+told_ends : (code : ℕ) (s : Sending) (b : Bool) → (cond b s.lane (record s.lane { stopped = first_code s.lane.stopped code })).sent_end ≡ s.lane.sent_end
+told_ends code s true = refl
+told_ends code s false = refl
+
 module _ (t t' : Tables Sending) (m : Records) (r : Bool) (ps : List Piece) (k sent spare free : ℕ) (h : IsOutbox t m r ps k sent spare free) where
   pub box_same : t' ≡ t → IsOutbox t' m r ps k sent spare free
   box_same is = subst (λ (x : Tables Sending). IsOutbox x m r ps k sent spare free) (sym is) h
@@ -117,12 +138,17 @@ module _ (t t' : Tables Sending) (m : Records) (r : Bool) (ps : List Piece) (k s
       box_updated n s (after_reset s code) at (is ∙ ap (updated t n (λ s. after_reset s code)) at) (tied_reset (with_pending m k ps) n s (h.tied.lanes n s at) code)
       (λ x. reset_marks code s (is_some (reset_refusal s.lane)) x) (reset_ends code s (is_some (reset_refusal s.lane)))
 
-  pub box_stopped : (n code : ℕ) → is_some (lookup t n) ≡ true → t' ≡ updated t n (λ s. after_stopped s code) (lookup t n) → IsOutbox t' m r ps k sent spare free
-  box_stopped n code there is =
+  pub box_stopped : (answers : Bool) (n code : ℕ) → is_some (lookup t n) ≡ true → t' ≡ updated t n (λ s. after_stop answers s code) (lookup t n) → IsOutbox t' m r ps k sent spare free
+  box_stopped true n code there is =
+      let s = or_no_sending (lookup t n) in
+      let at = half_found t n there in
+      box_updated n s (after_told s code) at (is ∙ ap (updated t n (λ s. after_told s code)) at) (tied_told_stop (with_pending m k ps) n s (h.tied.lanes n s at) code)
+      (λ x. told_marks code s (is_some (reset_refusal s.lane)) x) (told_ends code s (is_some (reset_refusal s.lane)))
+  box_stopped false n code there is =
       let s = or_no_sending (lookup t n) in
       let at = half_found t n there in
       box_updated n s (after_stopped s code) at (is ∙ ap (updated t n (λ s. after_stopped s code)) at) (tied_stopped (with_pending m k ps) n s (h.tied.lanes n s at) code)
-      (λ x. reset_marks code s (is_some (reset_refusal s.lane)) x) (reset_ends code s (is_some (reset_refusal s.lane)))
+      (λ x. stopped_marks code s (is_some (reset_refusal s.lane)) x) (stopped_ends code s (is_some (reset_refusal s.lane)))
 
   pub box_written : (n : ℕ) (bytes : List ℕ) (s : Sending) (res : Result ℕ SendFault) → lookup t n ≡ Some s → IsLawful s
       → IfOk res (λ j. (refusal (or_no_sending (lookup t n)).lane ≡ None) × (j ≡ accepted (or_no_sending (lookup t n)).lane (length bytes)) × (t' ≡ updated t n (λ s. after_write s (take j bytes)) (lookup t n)))

@@ -1,14 +1,14 @@
 -- Marks and the flags that sum them up by words.
-use Rattle.std.proofs.Common.{◌≡◌, ℕ, zero, suc, ◌+◌, ◌-◌, ◌*◌, ◌/◌, ◌^◌, ◌<◌, ◌≤◌, Bool, true, false, List, [], ◌∷◌, ◌++◌, take, length, replicate, Result, Ok, Err, None, Some, sym, ap, ◌∙◌, subst, refl, inl, inr, arith}
+use Rattle.std.proofs.Common.{◌≡◌, ℕ, zero, suc, ◌+◌, ◌-◌, ◌*◌, ◌/◌, ◌^◌, ◌<◌, ◌≤◌, Bool, true, false, List, [], ◌∷◌, ◌++◌, take, length, replicate, Result, Ok, Err, Option, None, Some, max, sym, ap, ◌∙◌, subst, refl, inl, inr, arith}
 use Rattle.std.specs.Result.{OnOk, OnErr}
 use Rattle.std.proofs.lemmas.Bool.{cases_lt, both_ways}
 use Rattle.std.proofs.lemmas.Grind.{get_or-set_at}
 use Rattle.std.proofs.lemmas.List.{length-append, length-replicate, length-set, length-take, get_or_past, get_or-set_other}
 use Rattle.std.proofs.lemmas.Option.{none-some, same_Some}
-use Rattle.qs_conn.proofs.Marked.{mark_past}
+use Rattle.qs_conn.proofs.Marked.{mark_past, is_marked_taken}
 use Rattle.qs_conn.proofs.Words.{padded}
 use Rattle.std.proofs.Math.ListN.{set}
-use Rattle.qs_conn.specs.Marks.{is_marked, IsNextMark, IsNextInWord, HasNoMark, AreSummed}
+use Rattle.qs_conn.specs.Marks.{is_marked, IsNextMark, IsNextInWord, HasNoMark, AreSummed, IsClearBelow}
 
 -- a flag that is set stands within the flags
 pub marked_below : (marks : List Bool) (i : ℕ) → is_marked marks i ≡ true → i < length marks
@@ -40,12 +40,6 @@ module _ (marks words : List Bool) (are : AreSummed marks words) where
 
 -- Closing
 
-is_marked_taken : (marks : List Bool) (n i : ℕ) → is_marked marks i ≡ false → is_marked (take n marks) i ≡ false
-is_marked_taken marks zero i none = mark_past [] i (omega arith)
-is_marked_taken [] (suc n) i none = none
-is_marked_taken (m ∷ marks) (suc n) zero none = none
-is_marked_taken (m ∷ marks) (suc n) (suc i) none = is_marked_taken marks n i none
-
 pub summed_taken : (marks words marks_now : List Bool) (n : ℕ) → AreSummed marks words → marks_now ≡ take n marks → AreSummed marks_now words
 summed_taken marks words marks_now n are is =
     record {
@@ -55,6 +49,17 @@ summed_taken marks words marks_now n are is =
     }
 
 -- A search
+
+-- one that begins past what has no mark finds what one from before does
+pub next_past : (marks : List Bool) (from least past : ℕ) (answer : Option ℕ) → from ≤ past → past ≤ max from least → IsClearBelow marks least → IsNextMark marks past answer → IsNextMark marks from answer
+next_past marks from least past answer le within below next =
+    record {
+      found = λ n is. (let f = next.found n is in (omega (arith, le, f.0), f.1));
+      unmarked = λ i at before. elim (cases_lt i past) [
+        | inl lt ↦ below i (omega (arith, lt, within, at))
+        | inr ge ↦ next.unmarked i ge before
+      ];
+    }
 
 -- no index from one on, below a word, is marked
 abbrev pub IsClearTo : List Bool → ℕ → ℕ → Type 0

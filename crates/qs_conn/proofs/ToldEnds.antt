@@ -1,10 +1,10 @@
 -- A reader is told of the end only where the half came to it, or was stopped.
-use Rattle.std.proofs.Common.{◌≡◌, ℕ, zero, suc, option_map, ◌/◌, ◌%◌, Bool, true, false, cond, Option, None, Some, is_some, ◌⊎◌, inl, inr, refl, sym, ◌∙◌, subst, arith, slice_get}
+use Rattle.std.proofs.Common.{◌≡◌, ℕ, zero, suc, option_map, ◌/◌, ◌%◌, Bool, true, false, cond, ◌||◌, Option, None, Some, is_some, ◌⊎◌, inl, inr, refl, sym, ◌∙◌, subst, arith, slice_get}
 use Rattle.std.specs.FinSet as set
-use Rattle.std.proofs.lemmas.Bool.{both_ways, or_left, or_right}
+use Rattle.std.proofs.lemmas.Bool.{both_ways, and_parts, or_left, or_right}
 use Rattle.std.proofs.lemmas.Bool.Decides.{nat_tests}
 use Rattle.qs_ranges.proofs.Sets.{covers-of}
-use Rattle.qs_recv.specs.Lane.{RecvLane, new_lane, is_whole, whole_to, at_final_size, answer_by, read_answer, after_answer, after_read, stop_and_forget, raise}
+use Rattle.qs_recv.specs.Lane.{RecvLane, new_lane, is_whole, whole_to, at_final_size, answer_by, read_answer, after_answer, after_read, stop_and_forget, is_over as recv_over, raise}
 use Rattle.qs_recv.specs.Assembled.{discard}
 use Rattle.qs_recv.specs.Lawful.{IsLawful}
 use Rattle.qs_recv.specs.declared.half.Read.{Read}
@@ -25,13 +25,15 @@ IsTold l = l.told ≡ true → (recv_ended l ≡ true) ⊎ (is_some l.stop_code 
 pub still_told : (l m : RecvLane) → IsTold l → m.told ≡ l.told → RecvStays l m → (is_some l.stop_code ≡ true → is_some m.stop_code ≡ true) → IsTold m
 still_told l m told same stays stopped is = elim (told (sym same ∙ is)) [ inl ended ↦ inl (stays ended) | inr off ↦ inr (stopped off) ]
 
--- a half that is forgotten was stopped
+-- a half that is forgotten was stopped, or was over before
 pub forgotten_told : (l : RecvLane) (code : ℕ) → IsTold (stop_and_forget l code)
-forgotten_told l code is = inr (go (is_some l.stop_code) refl)
+forgotten_told l code is = go (is_some l.stop_code) (recv_over l) refl refl
   where
-    go : (b : Bool) → is_some l.stop_code ≡ b → is_some (cond b l (record l { arrived = discard l.arrived; stop_code = Some code })).stop_code ≡ true
-    go true was = was
-    go false was = refl
+    go : (b o : Bool) → is_some l.stop_code ≡ b → recv_over l ≡ o
+        → (let m : RecvLane = record (cond (b || o) l (record l { arrived = discard l.arrived; stop_code = Some code })) { told = true } in (recv_ended m ≡ true) ⊎ (is_some m.stop_code ≡ true))
+    go true o was over = inr was
+    go false true was over = inl (and_parts l.told _ over).1
+    go false false was over = inr refl
 
 -- what a reader is told
 

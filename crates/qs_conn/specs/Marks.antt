@@ -94,6 +94,10 @@ IsEndedOf e kind n = (type_of n ≡ kind) × IsEnded e n
 abbrev pub HasNoMark : List Bool → ℕ → Type 0
 HasNoMark marks word = (i : ℕ) → i / 64 ≡ word → is_marked marks i ≡ false
 
+-- no index below one is marked
+abbrev pub IsClearBelow : List Bool → ℕ → Type 0
+IsClearBelow marks least = (i : ℕ) → i < least → is_marked marks i ≡ false
+
 -- each index of a word of 64 is marked
 abbrev pub HasAllMarks : List Bool → ℕ → Type 0
 HasAllMarks marks word = (i : ℕ) → i / 64 ≡ word → is_marked marks i ≡ true

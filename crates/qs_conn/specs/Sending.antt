@@ -1,11 +1,12 @@
 -- Of private contracts.
 -- Whether anything is due that may go: what a walk over control items and streams tells.
-use Rattle.std.specs.Prelude.{◌≡◌, ℕ, ◌-◌, Bool, true, false, ◌⊎◌, List, take, Option, None, Some, is_some, if◌then◌else◌}
+use Rattle.std.specs.Prelude.{◌≡◌, ℕ, ◌-◌, Bool, true, false, ◌⊎◌, List, take, min, Option, None, Some, is_some, if◌then◌else◌}
 use Rattle.qs_send.specs.Lane.{SendLane, accepted, refusal, free_room}
 use Rattle.qs_send.specs.Writable.{is_writable}
 use Rattle.qs_send.specs.declared.piece.Item.{Item}
 use Rattle.qs_machine.specs.Ends.{End}
-use Rattle.qs_machine.specs.Credit.{send_ended, credit_for}
+use Rattle.qs_machine.specs.Credit.{send_ended, credit_for, window_left}
+use Rattle.qs_machine.specs.Sums.{or_none}
 use Rattle.qs_machine.specs.Due.{IsDueItem, StreamGoes}
 use Rattle.qs_calls.specs.declared.filling.Fill.{Fill}
 use Rattle.qs_machine.specs.Filling.{IsAsked, WantedGoes}
@@ -25,13 +26,26 @@ abbrev pub buffer_room : Option SendLane → ℕ
 buffer_room None = 0
 buffer_room (Some l) = if is_some (refusal l) then 0 else accepted l (free_room l)
 
+-- the same, and of an end that writes within credit as may be sent at once (RFC 9000, section 4.1)
+abbrev pub credit_room : End → Option SendLane → ℕ
+credit_room e o = if e.tuning.within_credit then min (buffer_room o) (credit_for e (or_none o)) else buffer_room o
+
 -- how many bytes more may be written that the half's own limit lets go (RFC 9000, section 4.1)
 abbrev pub limit_left : SendLane → ℕ
 limit_left l = l.limit - l.written
 
--- what is offered of bytes: as many as credit lets go, where writes keep within it (RFC 9000, section 4.1)
+-- as many bytes as credit lets go, where writes keep within it (RFC 9000, section 4.1)
+abbrev pub let_go : End → SendLane → List ℕ → List ℕ
+let_go e l bytes = if e.tuning.within_credit then take (credit_for e l) bytes else bytes
+
+-- as many of the bytes as are left, where that is bounded
+abbrev pub front_of : Option ℕ → List ℕ → List ℕ
+front_of None bytes = bytes
+front_of (Some left) bytes = take left bytes
+
+-- what is offered of bytes: as many as credit lets go and as the window over all halves leaves (RFC 9000, section 4.1; the window is ours)
 abbrev pub offered : End → SendLane → List ℕ → List ℕ
-offered e l bytes = if e.tuning.within_credit then take (credit_for e l) bytes else bytes
+offered e l bytes = front_of (window_left e) (let_go e l bytes)
 
 -- a half came to its end: Data Recvd or Reset Recvd (RFC 9000, section 3.1)
 abbrev pub HasSent : SendLane → Type 0

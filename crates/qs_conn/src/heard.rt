@@ -1,6 +1,6 @@
 //! What an owner heard of at its end, and what it hears next.
 ghost use Rattle.std.specs.Prelude.{◌≡◌, ◌<◌, ◌^◌, ◌⊎◌, ℕ, true, false, None, Some, Ok, OnOk, OnErr};
-ghost use Rattle.qs_machine.specs.Heard.{heard_nothing, heard_opened, WasResetAcked, IsFirstNews, IsHeardBy, IsNextNews, IsReadOn, WillWrite, with_opened, with_wants};
+ghost use Rattle.qs_machine.specs.Heard.{heard_nothing, heard_opened, WasResetAcked, IsFirstNews, IsHeardBy, IsNextNews, IsReadOn, TakesMemory, WillWrite, with_opened, with_wants};
 ghost use Rattle.qs_machine.specs.News.{IsHeld};
 ghost use Rattle.qs_send.specs.Lane.{SendLane};
 ghost use Rattle.qs_machine.specs.Tables.{lookup, index_of};
@@ -73,8 +73,9 @@ impl Heard {
     /// Tells the first piece of news of an end, and notes that it was heard. `None` only where there is none. News of a kind come before
     /// those of the next, in the order of [`News`], and those of a lower stream first.
     ///
-    /// `NoMemory` where there was no memory to note it; then nothing changed, and it comes again.
-    #[tactic(auto, using(crate::proofs::FirstNews::first_is_next))]
+    /// `NoMemory` where there was no memory to note it; then nothing changed, and it comes again. It takes memory where no mark was made
+    /// yet for its stream, or a higher one of its type, among those of its kind: never for `Opened`, `Writable` and `Available`.
+    #[tactic(auto, using(crate::proofs::FirstNews::first_is_next, crate::proofs::FirstNews::refused_next))]
     pub fn next_news(&mut self, end: &Endpoint) -> Result<Option<News>, NoMemory>
         ensures { IsNextNews end.now self.old result self.new }
     {
@@ -85,7 +86,8 @@ impl Heard {
 
     /// The owner is about to write so many bytes to a stream. Where it will be cut short, it is news once the stream takes a byte again.
     ///
-    /// `NoMemory` where there was no memory to note it; then nothing changed.
+    /// `NoMemory` where there was no memory to note it; then nothing changed. It takes memory where no write to this stream, or to a
+    /// higher one of its type, was noted before.
     pub fn will_write(
         &mut self,
         end: &Endpoint,
@@ -150,6 +152,7 @@ impl Heard {
         ensures none { answer.now ≡ None → (result ≡ Ok tt) × (self.new ≡ self.old) }
         ensures ok { OnOk result ((news : News) → answer.now ≡ Some news → IsHeardBy news self.old self.new) }
         ensures err { OnErr result (self.new ≡ self.old) }
+        ensures asks { OnErr result ((news : News) × (answer.now ≡ Some news) × TakesMemory news self.old) }
     {
         match *answer {
             None => Ok(()),

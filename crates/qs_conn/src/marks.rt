@@ -1,5 +1,5 @@
 //! Which streams of one type may have something to send or to tell.
-ghost use Rattle.std.specs.Prelude.{◌≡◌, ◌++◌, ◌*◌, ◌-◌, ◌<◌, ◌^◌, [], true, false, length, take, slice_set, replicate, OnOk, OnErr};
+ghost use Rattle.std.specs.Prelude.{◌≡◌, ◌++◌, ◌+◌, ◌*◌, ◌-◌, ◌<◌, ◌≤◌, ◌^◌, ◌⊎◌, [], true, false, length, take, slice_set, replicate, OnOk, OnErr};
 ghost use Rattle.qs_conn.specs.Marks.{is_marked, IsNextMark, HasNoMark, HasAllMarks, least_of, both, untold};
 ghost use Rattle.qs_conn.specs.Untold.{IsClear};
 
@@ -18,12 +18,14 @@ pub(crate) struct Marks {
     words: Bits,
     // No more indexes than these have a mark: without any a search needs one look.
     most: usize,
+    // No index below it has a mark: a search passes what is over at once, however many streams that are.
+    least: usize,
 }
 
 impl Model for Marks {
     ghost use Rattle.std.specs.Prelude.{◌≤◌, List, Bool};
     ghost use Rattle.std.specs.Coded.{coded_list, coded_bool};
-    ghost use Rattle.qs_conn.specs.Marks.{AreSummed, count_marked};
+    ghost use Rattle.qs_conn.specs.Marks.{AreSummed, IsClearBelow, count_marked};
 
     ghost Value = { List Bool };
 
@@ -31,7 +33,7 @@ impl Model for Marks {
 
     ghost view = { λ m. m.marks };
 
-    ghost invariant = { λ m. AreSummed m.marks m.words × (count_marked m.marks ≤ m.most) };
+    ghost invariant = { λ m. AreSummed m.marks m.words × (count_marked m.marks ≤ m.most) × IsClearBelow m.marks m.least };
 }
 
 impl Marks {
@@ -43,6 +45,7 @@ impl Marks {
             marks: Bits::new(alloc),
             words: Bits::new(alloc),
             most: 0,
+            least: 0,
         }
     }
 
@@ -134,6 +137,7 @@ impl Marks {
             return;
         }
         self.marks.set(index, is_marked);
+        self.least = least_after(self.least, index, is_marked);
         let word = index / FLAGS_PER_WORD;
         self.words.set(word, has_mark(&self.marks, word));
         if !is_marked {
@@ -150,6 +154,13 @@ impl Marks {
         if self.most == 0 {
             return None;
         }
+        self.search(from.max(self.least))
+    }
+
+    // The same, by a look at each index from that one on.
+    fn search(&self, from: usize) -> Option<usize>
+        ensures { IsNextMark self.now from result }
+    {
         if let Some(index) = self.marks.next_in_word(from) {
             return Some(index);
         }
@@ -206,6 +217,20 @@ impl Marks {
             next = word + 1;
         }
         None
+    }
+}
+
+// Below which index there is no mark, once one index is marked or its mark is taken away.
+fn least_after(least: usize, index: usize, is_marked: bool) -> usize
+    ensures marked { is_marked ≡ true → (result ≤ least) × (result ≤ index) }
+    ensures cleared { is_marked ≡ false → (result ≤ least) ⊎ ((least ≡ index) × (result ≤ index + 1)) }
+{
+    if is_marked {
+        least.min(index)
+    } else if least == index {
+        index.saturating_add(1)
+    } else {
+        least
     }
 }
 

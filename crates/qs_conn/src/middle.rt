@@ -35,6 +35,7 @@ pub(crate) struct Core {
 impl Core {
     /// Whether a stream is one of the peer's that came to its end: its receiving half, and if it has one its sending half (RFC 9000,
     /// section 3).
+    #[inline(always)]
     pub(crate) fn is_over(&self, stream: StreamId) -> bool
         ensures value { result ≡ is_over self.now.limits.role self.now.recvs self.now.outbox.sends stream }
         ensures few { (k : ℕ) → k < 4 → length (table self.now.recvs k) ≤ 2 ^ 60 }

@@ -1,7 +1,7 @@
 //! The sending side of an end.
 ghost use Rattle.std.specs.Prelude.{◌≡◌, ◌-◌, ◌≤◌, ◌^◌, ◌<◌, length, min, take, is_some, option_map, unwrap_or, true, OnOk, OnErr, IfOk, IfErr};
 ghost use Rattle.qs_ranges.specs.Numbers.{MAX_VARINT};
-ghost use Rattle.qs_send.specs.Lane.{Sending, new_lane, accepted, refusal, reset_refusal, answer_of, write_lane, finish_lane, reset_lane, stopped_lane, allow_lane, buffer_lane};
+ghost use Rattle.qs_send.specs.Lane.{Sending, new_lane, accepted, refusal, reset_refusal, answer_of, write_lane, finish_lane, reset_lane, stop_taken, allow_lane, buffer_lane};
 ghost use Rattle.qs_machine.specs.Tables.{table, with_table, lookup, open_to, total, type_of};
 ghost use Rattle.qs_machine.specs.Asking.{kept_on, stop_of};
 ghost use Rattle.qs_machine.specs.Reports.{send_report};
@@ -83,10 +83,10 @@ impl Outbox {
     {
         Outbox {
             types: [
-                SendLanes::new(alloc),
-                SendLanes::new(alloc),
-                SendLanes::new(alloc),
-                SendLanes::new(alloc),
+                SendLanes::new(alloc, 0),
+                SendLanes::new(alloc, 1),
+                SendLanes::new(alloc, 2),
+                SendLanes::new(alloc, 3),
             ],
             sent: 0,
             records: Records::new(alloc),
@@ -302,14 +302,14 @@ impl Outbox {
         lanes.reset(index_of(stream), code)
     }
 
-    /// Takes in a STOP_SENDING of an open stream.
-    pub(crate) fn stopped(&mut self, stream: StreamId, code: u64)
+    /// Takes in a STOP_SENDING of an open stream, which the owner answers or not.
+    pub(crate) fn stopped(&mut self, stream: StreamId, code: u64, owner_answers: bool)
         requires open { is_some (lookup self.old.sends stream) ≡ true }
         requires fits { code ≤ MAX_VARINT }
-        ensures { self.new ≡ on_lane stream (λ l. stopped_lane l code) self.old }
+        ensures { self.new ≡ on_lane stream (λ l. stop_taken owner_answers l code) self.old }
     {
         let lanes = &mut self.types[type_of(stream)];
-        lanes.stopped(index_of(stream), code);
+        lanes.stopped(index_of(stream), code, owner_answers);
     }
 
     /// The code of the first STOP_SENDING that came of a stream.

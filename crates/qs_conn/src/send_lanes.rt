@@ -2,7 +2,7 @@
 ghost use Rattle.std.specs.Prelude.{◌≡◌, ◌+◌, ◌-◌, ◌*◌, ◌≤◌, ◌<◌, ◌^◌, [], length, min, take, slice_get, slice_index_or, unwrap_or, ℕ, false, None, Some, OnOk, OnErr, IfOk, IfErr, IfSome};
 ghost use Rattle.std.specs.List.{sum_by};
 ghost use Rattle.qs_ranges.specs.Numbers.{MAX_VARINT};
-ghost use Rattle.qs_send.specs.Lane.{Sending, new_sending, accepted, refusal, reset_refusal, answer_of, state, after_write, after_finish, after_reset, after_stopped, after_reset_acked, after_blocked, after_allow, after_buffer, after_sent, after_acked, after_lost};
+ghost use Rattle.qs_send.specs.Lane.{Sending, new_sending, accepted, refusal, reset_refusal, answer_of, state, after_write, after_finish, after_reset, after_stop, after_reset_acked, after_blocked, after_allow, after_buffer, after_sent, after_acked, after_lost};
 ghost use Rattle.qs_send.specs.Chunks.{IsDueChunk, WasSent};
 ghost use Rattle.qs_machine.specs.Tables.{widened};
 ghost use Rattle.qs_machine.specs.Memory.{ChunkMayRunOut};
@@ -19,7 +19,7 @@ use crate::marks::Marks;
 use crate::send_marks::{Search, SendMarks, Task, has};
 use crate::told_marks::ToldMarks;
 use qs_ranges::NoMemory;
-use qs_send::{Chunk, SendFault, SendHalf, SendState};
+use qs_send::{Chunk, SendFault, SendHalf, SendHalves, SendState, SendView};
 use qs_wire::StreamId;
 use std::alloc::Global;
 use std::marker::Model;
@@ -28,7 +28,7 @@ use std::marker::Model;
 #[derive(Drop)]
 pub(crate) struct SendLanes {
     alloc: Global,
-    halves: Vec<SendHalf>,
+    halves: SendHalves,
     // How many bytes of all halves were sent or are still to be sent. A sum over 2^60 halves is no u64.
     promised: u128,
     // How many bytes of all halves are kept until they are acknowledged.
@@ -50,18 +50,20 @@ impl Model for SendLanes {
 
     ghost coded = { coded_list sending_code };
 
-    ghost view = { λ l. l.halves.items };
+    ghost view = { λ l. l.halves };
 
-    ghost invariant = { λ l. (length l.halves.items ≤ 2 ^ 60) × AreAllMarked l.halves.items l.marks × AreSums l.halves.items l.promised l.kept };
+    ghost invariant = { λ l. (length l.halves ≤ 2 ^ 60) × AreAllMarked l.halves l.marks × AreSums l.halves l.promised l.kept };
 }
 
 impl SendLanes {
-    pub(crate) fn new(alloc: Global) -> Self
+    /// None yet, of a type of streams.
+    pub(crate) fn new(alloc: Global, stream_type: u64) -> Self
+        requires { stream_type < 4 }
         ensures { result ≡ [] }
     {
         SendLanes {
             alloc,
-            halves: Vec::new(alloc),
+            halves: SendHalves::new(alloc, stream_type),
             promised: 0,
             kept: 0,
             marks: SendMarks::new(alloc),
@@ -83,7 +85,7 @@ impl SendLanes {
     {
         let mut held: u64 = 0;
         for index in 0..self.halves.len() {
-            let half = &self.halves[index];
+            let half = self.halves.at(index);
             held = held.saturating_add(half.held());
         }
         held
@@ -106,11 +108,12 @@ impl SendLanes {
     }
 
     /// An open half.
-    pub(crate) fn get(&self, index: usize) -> &SendHalf
+    #[inline(always)]
+    pub(crate) fn get(&self, index: usize) -> SendView<'_>
         requires { index < length self.now }
-        ensures { result.now ≡ slice_index_or self.now index no_sending }
+        ensures { result ≡ slice_index_or self.now index no_sending }
     {
-        &self.halves[index]
+        self.halves.at(index)
     }
 
     /// Opens the halves of all indexes below a count, in streams of that type.
@@ -150,10 +153,8 @@ impl SendLanes {
         ensures { self.new ≡ self.old }
     {
         let missing = count.saturating_sub(self.halves.len());
-        match self.halves.reserve(missing) {
-            Ok(()) => self.marks.reserve(count),
-            Err(_refused) => Err(NoMemory),
-        }
+        self.halves.reserve(missing)?;
+        self.marks.reserve(count)
     }
 
     /// Takes the halves from a count on away. Nothing of them was sent or is to be sent, and they keep nothing.
@@ -177,9 +178,11 @@ impl SendLanes {
     {
         // Of a half without room no more than the refusal is looked at.
         if !self.marks.may_write(index) {
-            return write_none(&self.halves[index]);
+            return write_none(&self.halves.at(index));
         }
-        let half = &mut self.halves[index];
+        let Some(half) = self.halves.full_mut(index) else {
+            return Err(SendFault::Finished);
+        };
         half.is_lawful();
         let answer = half.write(bytes);
         let accepted = answer.unwrap_or(0) as u128;
@@ -195,7 +198,9 @@ impl SendLanes {
         ensures answer { result ≡ answer_of (refusal (slice_index_or self.old index no_sending).lane) }
         ensures after { self.new ≡ changed self.old index after_finish (slice_get self.old index) }
     {
-        let half = &mut self.halves[index];
+        let Some(half) = self.halves.full_mut(index) else {
+            return Err(SendFault::Finished);
+        };
         let answer = half.finish();
         self.marks.look(index, half);
         answer
@@ -208,7 +213,9 @@ impl SendLanes {
         ensures answer { result ≡ answer_of (reset_refusal (slice_index_or self.old index no_sending).lane) }
         ensures after { self.new ≡ changed self.old index (λ s. after_reset s code) (slice_get self.old index) }
     {
-        let half = &mut self.halves[index];
+        let Some(half) = self.halves.full_mut(index) else {
+            return Err(SendFault::Finished);
+        };
         let (before, had) = (promised(half), kept(half));
         let answer = half.reset(code);
         let (after, has) = (promised(half), kept(half));
@@ -218,15 +225,17 @@ impl SendLanes {
         answer
     }
 
-    /// Takes in a STOP_SENDING of an open half.
-    pub(crate) fn stopped(&mut self, index: usize, code: u64)
+    /// Takes in a STOP_SENDING of an open half, which the owner answers or not.
+    pub(crate) fn stopped(&mut self, index: usize, code: u64, owner_answers: bool)
         requires there { index < length self.old }
         requires fits { code ≤ MAX_VARINT }
-        ensures { self.new ≡ changed self.old index (λ s. after_stopped s code) (slice_get self.old index) }
+        ensures { self.new ≡ changed self.old index (λ s. after_stop owner_answers s code) (slice_get self.old index) }
     {
-        let half = &mut self.halves[index];
+        let Some(half) = self.halves.full_mut(index) else {
+            return;
+        };
         let (before, had) = (promised(half), kept(half));
-        half.stopped(code);
+        take_stop(half, code, owner_answers);
         let (after, has) = (promised(half), kept(half));
         self.promised = self.promised - before + after;
         self.kept = self.kept - had + has;
@@ -239,8 +248,10 @@ impl SendLanes {
         requires limit { limit ≤ MAX_VARINT }
         ensures { self.new ≡ changed self.old index (λ s. after_allow s limit) (slice_get self.old index) }
     {
-        let half = &mut self.halves[index];
-        half.allow(limit);
+        self.halves.allow(index, limit);
+        let Some(half) = self.halves.full(index) else {
+            return;
+        };
         self.marks.look(index, half);
     }
 
@@ -249,8 +260,10 @@ impl SendLanes {
         requires { index < length self.old }
         ensures { self.new ≡ changed self.old index (λ s. after_buffer s size) (slice_get self.old index) }
     {
-        let half = &mut self.halves[index];
-        half.set_buffer(size);
+        self.halves.set_buffer(index, size);
+        let Some(half) = self.halves.full(index) else {
+            return;
+        };
         self.marks.look(index, half);
     }
 
@@ -259,8 +272,10 @@ impl SendLanes {
         requires { index < length self.old }
         ensures { self.new ≡ changed self.old index after_blocked (slice_get self.old index) }
     {
-        let half = &mut self.halves[index];
-        half.note_blocked();
+        self.halves.note_blocked(index);
+        let Some(half) = self.halves.full(index) else {
+            return;
+        };
         self.marks.look(index, half);
     }
 
@@ -270,7 +285,9 @@ impl SendLanes {
         requires sent { state (slice_index_or self.old index no_sending).lane ≡ SendState.ResetSent }
         ensures { self.new ≡ changed self.old index after_reset_acked (slice_get self.old index) }
     {
-        let half = &mut self.halves[index];
+        let Some(half) = self.halves.full_mut(index) else {
+            return;
+        };
         half.reset_acked();
         self.marks.look(index, half);
     }
@@ -281,7 +298,9 @@ impl SendLanes {
         requires due { IsDueChunk (slice_index_or self.old index no_sending) chunk }
         ensures { self.new ≡ changed self.old index (λ s. after_sent s chunk) (slice_get self.old index) }
     {
-        let half = &mut self.halves[index];
+        let Some(half) = self.halves.full_mut(index) else {
+            return;
+        };
         half.is_lawful();
         half.sent(chunk);
         self.marks.look_sent(index, half);
@@ -295,12 +314,19 @@ impl SendLanes {
         ensures err { OnErr result (self.new ≡ self.old) }
         ensures asks { OnErr result (ChunkMayRunOut (slice_index_or self.old index no_sending).lane chunk) }
     {
-        let half = &mut self.halves[index];
+        let Some(half) = self.halves.full_mut(index) else {
+            return Ok(());
+        };
         let had = kept(half);
         let answer = half.acked(chunk);
         let has = kept(half);
         self.kept = self.kept - had + has;
+        let ends = half.end_acked();
         self.marks.look_acked(index, half);
+        if !ends {
+            return answer;
+        }
+        self.halves.settle(index);
         answer
     }
 
@@ -311,7 +337,9 @@ impl SendLanes {
         ensures ok { OnOk result (self.new ≡ changed self.old index (λ s. after_lost s chunk) (slice_get self.old index)) }
         ensures err { OnErr result (self.new ≡ self.old) }
     {
-        let half = &mut self.halves[index];
+        let Some(half) = self.halves.full_mut(index) else {
+            return Ok(());
+        };
         let answer = half.lost(chunk);
         self.marks.look(index, half);
         answer
@@ -351,7 +379,7 @@ impl SendLanes {
     {
         let mut next = from;
         while let Some(index) = self.marks.next(task, next) {
-            if has(task, &self.halves[index]) {
+            if has(task, &self.halves.at(index)) {
                 return Some(index);
             }
             next = index + 1;
@@ -366,7 +394,7 @@ impl SendLanes {
     {
         let mut next = from;
         while let Some(index) = self.marks.next_sought(search, told, next) {
-            if has(search.task, &self.halves[index]) {
+            if has(search.task, &self.halves.at(index)) {
                 return Some(index);
             }
             next = index + 1;
@@ -396,8 +424,20 @@ fn kept(half: &SendHalf) -> u128
     half.kept_len() as u128
 }
 
+// A STOP_SENDING breaks a half off, or its owner answers it.
+fn take_stop(half: &mut SendHalf, code: u64, owner_answers: bool)
+    requires { code ≤ MAX_VARINT }
+    ensures { half.new ≡ after_stop owner_answers half.old code }
+{
+    if owner_answers {
+        half.told_stop(code);
+    } else {
+        half.stopped(code);
+    }
+}
+
 // A write to a half that has no room: no byte is accepted.
-fn write_none(half: &SendHalf) -> Result<usize, SendFault>
+fn write_none(half: &SendView<'_>) -> Result<usize, SendFault>
     ensures accepted { IfOk result (λ n. (refusal half.now.lane ≡ None) × (n ≡ 0)) }
     ensures refused { IfErr result (λ fault. refusal half.now.lane ≡ Some fault) }
 {

@@ -9,7 +9,7 @@ ghost use Rattle.qs_conn.specs.declared.send_marks.Task.TheVariants as tasks;
 use crate::marks::Marks;
 use crate::told_marks::ToldMarks;
 use qs_ranges::NoMemory;
-use qs_send::{SendHalf, SendState};
+use qs_send::{SendHalf, SendState, SendView};
 use std::alloc::Global;
 
 /// What a sending half may have for a packet.
@@ -245,8 +245,19 @@ fn look_again(again: &mut Marks, index: usize, half: &SendHalf)
     }
 }
 
-/// Whether a half has something of a task.
-pub(crate) fn has(task: Task, half: &SendHalf) -> bool
+/// Whether a half has something of a task. One that is over has its end alone.
+pub(crate) fn has(task: Task, half: &SendView<'_>) -> bool
+    ensures some { result ≡ true → HasTask task half.now }
+    ensures none { result ≡ false → IsQuiet task half.now }
+{
+    match half.not_over() {
+        Some(half) => full_has(task, half),
+        None => matches!(task, Task::Ended),
+    }
+}
+
+// Whether a half that isn't over has something of a task.
+fn full_has(task: Task, half: &SendHalf) -> bool
     ensures some { result ≡ true → HasTask task half.now }
     ensures none { result ≡ false → IsQuiet task half.now }
 {

@@ -1,5 +1,5 @@
 //! Which indexes of the streams of one type an owner was told of.
-ghost use Rattle.std.specs.Prelude.{◌≡◌, ◌++◌, ◌-◌, ◌<◌, ◌^◌, [], false, length, slice_set, replicate, OnOk, OnErr};
+ghost use Rattle.std.specs.Prelude.{◌≡◌, ◌++◌, ◌-◌, ◌<◌, ◌^◌, [], false, length, slice_get, slice_set, replicate, None, OnOk, OnErr};
 ghost use Rattle.qs_conn.specs.Marks.{is_marked, IsMarkedBeside, IsUnmarkedBeside, AreFull};
 
 use crate::bits::{Bits, FLAGS_PER_WORD};
@@ -59,11 +59,15 @@ impl ToldMarks {
         self.marks.has(index)
     }
 
-    /// Makes room for all indexes below a count: the new ones weren't told.
+    /// Makes room for all indexes below a count: the new ones weren't told. It takes memory where one is new.
     pub(crate) fn open_to(&mut self, count: usize) -> Result<(), NoMemory>
         ensures ok { OnOk result (self.new ≡ self.old ++ replicate (count - length self.old) false) }
         ensures err { OnErr result (self.new ≡ self.old) }
+        ensures asks { OnErr result (length self.old < count) }
     {
+        if count <= self.marks.len() {
+            return Ok(());
+        }
         // More flags than there are words of marks tell of the same words.
         self.full.open_to(count.div_ceil(FLAGS_PER_WORD))?;
         self.marks.open_to(count)
@@ -83,11 +87,12 @@ impl ToldMarks {
         self.full.set(word, self.marks.is_full(word));
     }
 
-    /// An index was told: all up to it get room.
+    /// An index was told: all up to it get room. It takes memory where it is past the last.
     pub(crate) fn tell(&mut self, index: usize) -> Result<(), NoMemory>
         requires { index < 2 ^ 60 }
         ensures ok { OnOk result (IsMarkedBeside index self.old self.new) }
         ensures err { OnErr result (self.new ≡ self.old) }
+        ensures asks { OnErr result (slice_get self.old index ≡ None) }
     {
         self.open_to(index + 1)?;
         self.set(index, true);

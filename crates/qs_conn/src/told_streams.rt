@@ -1,6 +1,6 @@
 //! Which streams an owner was told of.
-ghost use Rattle.std.specs.Prelude.{◌≡◌, ◌<◌, OnOk, OnErr};
-ghost use Rattle.qs_machine.specs.Tables.{no_streams, table};
+ghost use Rattle.std.specs.Prelude.{◌≡◌, ◌<◌, None, OnOk, OnErr};
+ghost use Rattle.qs_machine.specs.Tables.{no_streams, table, lookup};
 ghost use Rattle.qs_machine.specs.Heard.{is_told, IsToldBeside, IsForgotten};
 
 use crate::places::{index_of, type_of};
@@ -60,6 +60,7 @@ impl ToldStreams {
     pub(crate) fn tell(&mut self, stream: StreamId) -> Result<(), NoMemory>
         ensures ok { OnOk result (IsToldBeside stream self.old self.new) }
         ensures err { OnErr result (self.new ≡ self.old) }
+        ensures asks { OnErr result (lookup self.old stream ≡ None) }
     {
         let marks = &mut self.types[type_of(stream)];
         marks.tell(index_of(stream))

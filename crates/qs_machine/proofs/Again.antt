@@ -1,5 +1,5 @@
 -- Frames that took effect and come again have no fault and change nothing.
-use Rattle.std.proofs.Common.{◌≡◌, ℕ, ◌+◌, ◌-◌, ◌/◌, ◌≤◌, Bool, true, false, not, ◌&&◌, cond, List, [], ◌∷◌, length, Option, Some, None, is_some, refl, sym, ap, ◌∙◌, subst, arith, inl, inr}
+use Rattle.std.proofs.Common.{◌≡◌, ℕ, ◌+◌, ◌-◌, ◌/◌, ◌≤◌, Bool, true, false, not, ◌&&◌, cond, List, [], ◌∷◌, length, Option, Some, None, is_some, refl, ◌⊎◌, sym, ap, ◌∙◌, subst, arith, inl, inr}
 use Rattle.std.specs.Prelude.{⊤, max, nat_le, nat_lt, is_none, IsOk, Result, Ok}
 use Rattle.std.specs.FinMap as fmap
 use Rattle.std.proofs.lemmas.Option.{none-some}
@@ -11,7 +11,7 @@ use Rattle.qs_recv.specs.Lane.{RecvLane, new_lane as new_recv_lane, highest, che
 use Rattle.qs_recv.specs.declared.credit.Share.TheVariants.{Half}
 use Rattle.qs_recv.specs.declared.half.Highest.{Highest}
 use Rattle.qs_recv.specs.declared.half.RecvFault.{RecvFault}
-use Rattle.qs_send.specs.Lane.{SendLane, new_lane as new_send_lane, reset_refusal, reset_lane, first_code, stopped_lane, allow_lane}
+use Rattle.qs_send.specs.Lane.{SendLane, new_lane as new_send_lane, reset_refusal, broken_off, first_code, stop_taken, allow_lane}
 use Rattle.qs_send.specs.Records.{Among}
 use Rattle.qs_send.specs.declared.piece.Item.{Item}
 use Rattle.qs_send.specs.declared.piece.Item.TheVariants.{MaxData, MaxStreamData, MaxStreams, ResetStream, StopSending, DataBlocked, StreamDataBlocked, StreamsBlocked}
@@ -157,13 +157,17 @@ ack_stays largest a b x h =
 
 -- What a frame that took effect leaves
 
+-- a STOP_SENDING changes nothing any more: a reset can't be made, or the owner answers the one that came
+abbrev pub IsStopped : Bool → SendLane → Type 0
+IsStopped answers l = (is_some (reset_refusal l) ≡ true) ⊎ ((answers ≡ true) × (is_some l.stopped ≡ true))
+
 abbrev ItemDone : Item → End → Type 0
 ItemDone (MaxData m) e = m ≤ e.known_data
 ItemDone (MaxStreamData n m) e = (state_fault_out e n ≡ None) × WasOpened e n × (l : SendLane) × (lookup e.sends n ≡ Some l) × (m ≤ l.limit)
 ItemDone (MaxStreams Bidi m) e = m ≤ e.known_bidi
 ItemDone (MaxStreams Uni m) e = m ≤ e.known_uni
 ItemDone (ResetStream n code size) e = (state_fault_in e n ≡ None) × WasOpened e n × (l : RecvLane) × (lookup e.recvs n ≡ Some l) × HasReset l size
-ItemDone (StopSending n code) e = (state_fault_out e n ≡ None) × WasOpened e n × (l : SendLane) × (lookup e.sends n ≡ Some l) × (is_some (reset_refusal l) ≡ true) × (is_some l.stopped ≡ true)
+ItemDone (StopSending n code) e = (state_fault_out e n ≡ None) × WasOpened e n × (l : SendLane) × (lookup e.sends n ≡ Some l) × IsStopped e.tuning.answers_stops l
 ItemDone (DataBlocked m) e = ⊤
 ItemDone (StreamDataBlocked n m) e = (state_fault_in e n ≡ None) × WasOpened e n
 ItemDone (StreamsBlocked d m) e = ⊤
@@ -177,6 +181,10 @@ IsDone (Plain asks) e = ⊤
 
 -- it stays so
 
+stopped_stays : (answers : Bool) (l k : SendLane) → HalfAfter l k → IsStopped answers l → IsStopped answers k
+stopped_stays answers l k r (inl refused) = inl (r.refused refused)
+stopped_stays answers l k r (inr (chosen, told)) = inr (chosen, r.stopped told)
+
 item_stays : (i : Item) (a b : End) → IsAfter a b → ItemDone i a → ItemDone i b
 item_stays (MaxData m) a b x h = omega (arith, h, x.credit)
 item_stays (MaxStreamData n m) a b x (fine, was, l, is, le) =
@@ -187,9 +195,9 @@ item_stays (MaxStreams Uni m) a b x h = omega (arith, h, x.uni)
 item_stays (ResetStream n code size) a b x (fine, was, l, is, has) =
     let (k, there, r) = x.recvs n l is in
     (in_stays n a b x fine, opened_stays n a b x was, k, there, reset_stays l k size r has)
-item_stays (StopSending n code) a b x (fine, was, l, is, refused, told) =
+item_stays (StopSending n code) a b x (fine, was, l, is, done) =
     let (k, there, r) = x.sends n l is in
-    (out_stays n a b x fine, opened_stays n a b x was, k, there, r.refused refused, r.stopped told)
+    (out_stays n a b x fine, opened_stays n a b x was, k, there, subst (λ t. IsStopped t.answers_stops k) (sym x.tuning) (stopped_stays a.tuning.answers_stops l k r done))
 item_stays (DataBlocked m) a b x h = tt
 item_stays (StreamDataBlocked n m) a b x (fine, was) = (in_stays n a b x fine, opened_stays n a b x was)
 item_stays (StreamsBlocked d m) a b x h = tt
@@ -212,9 +220,11 @@ the_half : (o : Option SendLane) → is_some o ≡ true → (l : SendLane) × (o
 the_half None h = absurd (both_ways false refl h)
 the_half (Some l) h = (l, refl)
 
-refused_then : (l : SendLane) (code : ℕ) → is_some (reset_refusal (reset_lane l code)) ≡ true
-refused_then l code =
-    cond_both (is_some (reset_refusal l)) l (record l { kept = []; was_reset = Some (record { code = code; size = cond l.fin_sent l.written l.sent_end }) }) (λ m. is_some (reset_refusal m) ≡ true) (λ is. is) (λ _. refl)
+stopped_then : (answers : Bool) (l : SendLane) (code : ℕ) → IsStopped answers (stop_taken answers l code)
+stopped_then true l code =
+    cond_both (is_some (reset_refusal l)) l (record l { stopped = first_code l.stopped code }) (IsStopped true) (λ is. inl is) (λ _. inr (refl, has_code l.stopped code))
+stopped_then false l code =
+    cond_both (is_some (reset_refusal l)) l (record (broken_off l code) { stopped = first_code l.stopped code }) (IsStopped false) (λ is. inl is) (λ _. inl refl)
 
 item_done : (i : Item) (e : End) → verdict e (Control i) ≡ None → IsInCredit e → ItemDone i (item_taken i e)
 unfolding verdict
@@ -235,9 +245,16 @@ item_done (ResetStream n code size) e v sound =
     (in_stays n e _ (after_twice e mid _ (after_opened n e) x) fine, opened_stays n mid _ x (was_opened n e), _, changed mid.recvs n (λ k. take_reset k code size) _ is, reset_taken _ code size (lawful_in mid n _ (sound_opened n e sound) is) ok)
 item_done (StopSending n code) e v sound =
     let mid = opened_by_peer n e in
-    let x = mid_stop n code e in
+    let answers = e.tuning.answers_stops in
+    let x = mid_stop answers n code e in
     let (l, is) = the_half (lookup mid.sends n) (out_there e mid n v refl) in
-    (out_stays n e _ (after_twice e mid _ (after_opened n e) x) v, opened_stays n mid _ x (was_opened n e), stopped_lane l code, changed mid.sends n (λ k. stopped_lane k code) l is, refused_then l code, has_code l.stopped code)
+    let y = after_twice e mid _ (after_opened n e) x in (
+      out_stays n e _ y v,
+      opened_stays n mid _ x (was_opened n e),
+      stop_taken answers l code,
+      changed mid.sends n (λ k. stop_taken answers k code) l is,
+      subst (λ t. IsStopped t.answers_stops (stop_taken answers l code)) (sym y.tuning) (stopped_then answers l code),
+    )
 item_done (DataBlocked m) e v sound = tt
 item_done (StreamDataBlocked n m) e v sound = (in_stays n e _ (after_opened n e) v, was_opened n e)
 item_done (StreamsBlocked d m) e v sound = tt
@@ -291,16 +308,16 @@ passes_last (Some code) b c h last = absurd (none-some code (sym h))
 max_known : (a m : ℕ) → m ≤ a → max a m ≡ a
 max_known a m le = omega (arith, le)
 
-refused_back : (l : SendLane) (code : ℕ) → is_some (reset_refusal l) ≡ true → reset_lane l code ≡ l
-refused_back l code is = ap (λ b. cond b l (record l { kept = []; was_reset = Some (record { code = code; size = cond l.fin_sent l.written l.sent_end }) })) is
-
 first_stays : (o : Option ℕ) (code : ℕ) → is_some o ≡ true → first_code o code ≡ o
 first_stays None code h = absurd (both_ways false refl h)
 first_stays (Some first) code h = refl
 
-pub stopped_back : (l : SendLane) (code : ℕ) → is_some (reset_refusal l) ≡ true → is_some l.stopped ≡ true → stopped_lane l code ≡ l
-stopped_back l code refused told =
-    ap (λ (k : SendLane). record k { stopped = first_code l.stopped code }) (refused_back l code refused) ∙ ap (λ o. record l { stopped = o }) (first_stays l.stopped code told)
+pub stopped_back : (answers : Bool) (l : SendLane) (code : ℕ) → IsStopped answers l → stop_taken answers l code ≡ l
+stopped_back true l code (inl refused) = ap (λ b. cond b l (record l { stopped = first_code l.stopped code })) refused
+stopped_back true l code (inr (chosen, told)) =
+    cond_both (is_some (reset_refusal l)) l (record l { stopped = first_code l.stopped code }) (λ k. k ≡ l) (λ _. refl) (λ _. ap (λ o. record l { stopped = o }) (first_stays l.stopped code told))
+stopped_back false l code (inl refused) = ap (λ b. cond b l (record (broken_off l code) { stopped = first_code l.stopped code })) refused
+stopped_back false l code (inr (chosen, told)) = absurd (both_ways false refl chosen)
 
 pub allow_back : (l : SendLane) (m : ℕ) → m ≤ l.limit → allow_lane l m ≡ l
 allow_back l m le = ap (λ k. record l { limit = k }) (max_known l.limit m le)
@@ -313,7 +330,7 @@ item_again (MaxStreams Uni m) e le sound = (refl, ap (λ k. record e { known_uni
 item_again (ResetStream n code size) e (fine, was, l, is, has) sound =
     let h = reset_again l code size has in
     (in_again n l e (λ k. check_reset k size) fine is h.0 sound, recv_back n (λ k. take_reset k code size) l e was is h.1)
-item_again (StopSending n code) e (fine, was, l, is, refused, told) sound = (fine, send_back n (λ k. stopped_lane k code) l e was is (stopped_back l code refused told))
+item_again (StopSending n code) e (fine, was, l, is, done) sound = (fine, send_back n (λ k. stop_taken e.tuning.answers_stops k code) l e was is (stopped_back e.tuning.answers_stops l code done))
 item_again (DataBlocked m) e h sound = (refl, refl)
 item_again (StreamDataBlocked n m) e (fine, was) sound = (fine, opened_back n e was)
 item_again (StreamsBlocked d m) e h sound = (refl, refl)

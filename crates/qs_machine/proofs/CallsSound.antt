@@ -1,11 +1,11 @@
 -- Every call keeps an end within the credit that it granted.
-use Rattle.std.proofs.Common.{◌≡◌, ℕ, ◌+◌, ◌≤◌, Bool, true, false, not, take, Option, Some, None, is_some, refl, arith, subst, sym}
+use Rattle.std.proofs.Common.{◌≡◌, ℕ, ◌+◌, ◌≤◌, Bool, true, false, not, ◌||◌, take, Option, Some, None, is_some, refl, arith, subst, sym}
 use Rattle.std.specs.Prelude.{cond, max, nat_le}
 use Rattle.std.proofs.lemmas.Bool.Decides.{nat_tests}
 use Rattle.std.proofs.lemmas.Option.{none-some}
 use Rattle.qs_wire.specs.declared.stream_id.Dir.TheVariants.{Bidi, Uni}
 use Rattle.qs_recv.specs.Assembled.{discard}
-use Rattle.qs_recv.specs.Lane.{MAX_CONN_WINDOW, RecvLane, highest, after_read, after_answer, read_answer, stop, stop_and_forget, MAX_WINDOW, limit_with, set_window}
+use Rattle.qs_recv.specs.Lane.{MAX_CONN_WINDOW, RecvLane, highest, after_read, after_answer, read_answer, stop, stop_and_forget, is_over, MAX_WINDOW, limit_with, set_window}
 use Rattle.qs_recv.specs.Laws.{ReadUpTo, StopWith, ForgetWith, SetWindow}
 use Rattle.qs_recv.specs.declared.half.Read.{Read}
 use Rattle.qs_recv.specs.declared.half.Read.TheVariants as reads
@@ -58,7 +58,7 @@ sound_stop n code e h =
     let stopped : RecvLane → RecvLane = λ l. record l { arrived = discard l.arrived; stop_code = Some code } in
     keeps_updated e.role e.settings e.present e.recvs e.granted h n (λ l. stop l code) (λ l is lawful.
     let g = grows_after_call l (StopWith code) lawful tt in
-    (lawful_after_call l (StopWith code) lawful tt, stopped_lane (is_some l.stop_code) l (stopped l) refl, g.taken_grows, omega (arith, stop_highest (is_some l.stop_code) l (stopped l) refl, h.spent)))
+    (lawful_after_call l (StopWith code) lawful tt, stopped_lane (is_some l.stop_code || is_over l) l (stopped l) refl, g.taken_grows, omega (arith, stop_highest (is_some l.stop_code || is_over l) l (stopped l) refl, h.spent)))
 
 -- a setting that isn't refused lies in its range
 settable : (closed b : Bool) (f g : SetFault) (o : Option SetFault) → first_refusal (refuse_if closed f) (first_refusal (refuse_if (not b) g) o) ≡ None → b ≡ true
@@ -108,7 +108,7 @@ sound_forget n code e h =
     let stopped : RecvLane → RecvLane = λ l. record l { arrived = discard l.arrived; stop_code = Some code } in
     keeps_updated e.role e.settings e.present e.recvs e.granted h n (λ l. stop_and_forget l code) (λ l is lawful.
     let g = grows_after_call l (ForgetWith code) lawful tt in
-    (lawful_after_call l (ForgetWith code) lawful tt, stopped_lane (is_some l.stop_code) l (stopped l) refl, g.taken_grows, omega (arith, stop_highest (is_some l.stop_code) l (stopped l) refl, h.spent)))
+    (lawful_after_call l (ForgetWith code) lawful tt, stopped_lane (is_some l.stop_code || is_over l) l (stopped l) refl, g.taken_grows, omega (arith, stop_highest (is_some l.stop_code || is_over l) l (stopped l) refl, h.spent)))
 
 pub sound_change : (old : End) (call : Call) (c : Change) (e : End) → Comes old call e c → IsInCredit e → IsInCredit (changed c e)
 sound_change old call (Wanted Uni count) e comes h = h

@@ -15,8 +15,8 @@ use Rattle.qs_recv.specs.declared.credit.Share.TheVariants.{Half}
 use Rattle.qs_recv.specs.Changes.{stream_changes}
 use Rattle.qs_recv.proofs.AssembledLaws.{contains-with_run}
 use Rattle.qs_recv.proofs.LawfulLaws.{unbroken}
-use Rattle.qs_send.specs.Lane.{SendLane, reset_refusal, reset_lane, first_code, stopped_lane, allow_lane, is_whole as is_sent_whole}
-use Rattle.qs_send.specs.Changes.{stop_changes}
+use Rattle.qs_send.specs.Lane.{SendLane, reset_refusal, broken_off, first_code, stopped_lane, stop_taken, allow_lane, is_whole as is_sent_whole}
+use Rattle.qs_send.specs.Changes.{changes_by_stop}
 use Rattle.qs_send.specs.declared.parts.Reset.{Reset}
 use Rattle.qs_send.specs.declared.parts.SendFault.{SendFault}
 use Rattle.qs_send.specs.declared.parts.SendFault.TheVariants.{WasReset, Finished}
@@ -44,6 +44,10 @@ neither false b h = (refl, h)
 both_true : (a b : Bool) → (a && b) ≡ true → (a ≡ true) × (b ≡ true)
 both_true true b h = (refl, h)
 both_true false b h = absurd (both_ways false refl h)
+
+one_false : (a b : Bool) → (a && b) ≡ false → (a ≡ false) ⊎ (b ≡ false)
+one_false true b h = inr h
+one_false false b h = inl refl
 
 not_false : (b : Bool) → not b ≡ false → b ≡ true
 not_false true h = refl
@@ -129,24 +133,28 @@ allow_same l m none = allow_back l m (grind (arith, nat_tests))
 allow_differs : (l : SendLane) (m : ℕ) → nat_lt l.limit m ≡ true → allow_lane l m ≡ l → ⊥
 allow_differs l m some same = let e : max l.limit m ≡ l.limit = ap (λ (k : SendLane). k.limit) same in grind (arith, nat_tests)
 
-stop_same : (l : SendLane) (code : ℕ) → stop_changes l ≡ false → stopped_lane l code ≡ l
-stop_same l code none = let (told, refused) = neither _ _ none in stopped_back l code (is_there (reset_refusal l) refused) (is_there l.stopped told)
-
-stop_differs : (l : SendLane) (code : ℕ) → stop_changes l ≡ true → stopped_lane l code ≡ l → ⊥
-stop_differs l code some same =
-    elim (or_cases _ _ some) [
-      | inl none ↦ no_code l.stopped none (ap (λ (k : SendLane). k.stopped) same)
-      | inr open_still ↦
-          let none = is_missing (reset_refusal l) open_still in
-          let now : is_some (stopped_lane l code).was_reset ≡ true =
-          ap (λ o. is_some (cond (is_some o) l (record l { kept = []; was_reset = Some (record { code = code; size = cond l.fin_sent l.written l.sent_end }) })).was_reset) none in
-          both_ways (is_some l.was_reset) (was_none WasReset Finished l.was_reset (is_sent_whole l) none) (sym (ap (λ (k : SendLane). is_some k.was_reset) same) ∙ now)
+stop_same : (answers : Bool) (l : SendLane) (code : ℕ) → changes_by_stop answers l ≡ false → stop_taken answers l code ≡ l
+stop_same true l code none =
+    elim (one_false (is_none (reset_refusal l)) (is_none l.stopped) none) [
+      | inl refused ↦ stopped_back true l code (inl (is_there (reset_refusal l) refused))
+      | inr told ↦ stopped_back true l code (inr (refl, is_there l.stopped told))
     ]
+stop_same false l code none = stopped_back false l code (inl (is_there (reset_refusal l) none))
+
+stop_differs : (answers : Bool) (l : SendLane) (code : ℕ) → changes_by_stop answers l ≡ true → stop_taken answers l code ≡ l → ⊥
+stop_differs true l code some same =
+    let open_still = both_true (is_none (reset_refusal l)) (is_none l.stopped) some in
+    let none = is_missing (reset_refusal l) open_still.0 in
+    no_code l.stopped open_still.1 (sym (ap (λ o. (cond (is_some o) l (record l { stopped = first_code l.stopped code })).stopped) none) ∙ ap (λ (k : SendLane). k.stopped) same)
   where
     no_code : (o : Option ℕ) → is_none o ≡ true → first_code o code ≡ o → ⊥
     no_code None h is = none-some code (sym is)
     no_code (Some first) h is = both_ways false refl h
-
+stop_differs false l code some same =
+    let none = is_missing (reset_refusal l) some in
+    let now : is_some (stopped_lane l code).was_reset ≡ true = ap (λ o. is_some (cond (is_some o) l (record (broken_off l code) { stopped = first_code l.stopped code })).was_reset) none in
+    both_ways (is_some l.was_reset) (was_none WasReset Finished l.was_reset (is_sent_whole l) none) (sym (ap (λ (k : SendLane). is_some k.was_reset) same) ∙ now)
+  where
     was_none : (a b : SendFault) (o : Option Reset) (whole : Bool) → cond (is_some o) (Some a) (cond whole (Some b) None) ≡ None → is_some o ≡ false
     was_none a b None whole h = refl
     was_none a b (Some r) whole h = absurd (none-some a (sym h))
@@ -249,7 +257,8 @@ item_same (ResetStream n code size) e v none =
     recv_same n (λ l. take_reset l code size) e (reset_in e n code size v) yet (λ l is. reset_same l code size (half_false reset_changes (recv_lane e n) l is half))
 item_same (StopSending n code) e v none =
     let (yet, half) = neither _ _ none in
-    send_same n (λ l. stopped_lane l code) e v yet (λ l is. stop_same l code (half_false stop_changes (send_lane e n) l is half))
+    let answers = e.tuning.answers_stops in
+    send_same n (λ l. stop_taken answers l code) e v yet (λ l is. stop_same answers l code (half_false (changes_by_stop answers) (send_lane e n) l is half))
 item_same (DataBlocked m) e v none = refl
 item_same (StreamDataBlocked n m) e v none = opened_back n e (was_opened n e none)
 item_same (StreamsBlocked d m) e v none = refl
@@ -271,8 +280,11 @@ item_differs (ResetStream n code size) e v some same =
     ]
 item_differs (StopSending n code) e v some same =
     elim (or_cases _ _ some) [
-      | inl yet ↦ on_send_differs n (λ l. stopped_lane l code) e yet same
-      | inr half ↦ (let (l, is, more) = half_true stop_changes (send_lane e n) half in send_differs n (λ l. stopped_lane l code) e l is (stop_differs l code more) same)
+      | inl yet ↦ on_send_differs n (λ l. stop_taken e.tuning.answers_stops l code) e yet same
+      | inr half ↦
+          let answers = e.tuning.answers_stops in
+          let (l, is, more) = half_true (changes_by_stop answers) (send_lane e n) half in
+          send_differs n (λ l. stop_taken answers l code) e l is (stop_differs answers l code more) same
     ]
 item_differs (DataBlocked m) e v some same = both_ways false refl some
 item_differs (StreamDataBlocked n m) e v some same = open_differs n e (opened_by_peer n e) some (λ is. is) (λ is. is) same

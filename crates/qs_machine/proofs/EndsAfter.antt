@@ -9,7 +9,7 @@ use Rattle.qs_wire.specs.declared.stream_id.Dir.TheVariants.{Bidi, Uni}
 use Rattle.qs_recv.specs.Lane.{RecvLane, new_lane as new_recv_lane, check_stream, check_reset, take_stream, take_reset, raise}
 use Rattle.qs_recv.specs.declared.credit.Share.TheVariants.{Half}
 use Rattle.qs_recv.specs.Lawful.{IsLawful}
-use Rattle.qs_send.specs.Lane.{SendLane, new_lane as new_send_lane, reset_refusal, is_whole, acked_lane, reset_lane, first_code, stopped_lane, reset_acked_lane, allow_lane}
+use Rattle.qs_send.specs.Lane.{SendLane, new_lane as new_send_lane, reset_refusal, is_whole, acked_lane, reset_lane, first_code, stop_taken, reset_acked_lane, allow_lane}
 use Rattle.qs_send.specs.Records.{Among, IsCarried, without_first}
 use Rattle.qs_send.specs.declared.parts.Chunk.{Chunk}
 use Rattle.qs_send.specs.declared.parts.SendFault.{SendFault}
@@ -64,10 +64,13 @@ pub has_code : (o : Option ℕ) (code : ℕ) → is_some (first_code o code) ≡
 has_code None code = refl
 has_code (Some first) code = refl
 
-half_stopped : (l : SendLane) (code : ℕ) → HalfAfter l (stopped_lane l code)
-half_stopped l code =
-    let r = half_reset l code in
-    record { limit = r.limit; written = r.written; refused = r.refused; stopped = λ is. has_code l.stopped code; ended = r.ended }
+half_stopped : (answers : Bool) (l : SendLane) (code : ℕ) → HalfAfter l (stop_taken answers l code)
+half_stopped true l code =
+    cond_both (is_some (reset_refusal l)) l (record l { stopped = first_code l.stopped code }) (HalfAfter l) (λ _. half_same l) (λ _.
+    record { limit = omega arith; written = omega arith; refused = λ is. is; stopped = λ is. has_code l.stopped code; ended = λ is. is })
+half_stopped false l code =
+    cond_both (is_some (reset_refusal l)) l (record (reset_by code l) { stopped = first_code l.stopped code }) (HalfAfter l) (λ _. half_same l) (λ allowed.
+    record { limit = omega arith; written = omega arith; refused = λ is. refl; stopped = λ is. has_code l.stopped code; ended = new_reset_keeps code l allowed })
 
 half_reset_acked : (l : SendLane) → HalfAfter l (reset_acked_lane l)
 half_reset_acked l = record { limit = omega arith; written = omega arith; refused = λ is. is; stopped = λ is. is; ended = reset_acked_keeps l }
@@ -372,8 +375,8 @@ mid_reset n code size e v sound =
 pub mid_allow : (n m : ℕ) (e : End) → IsAfter (opened_by_peer n e) (on_send n (λ l. allow_lane l m) (opened_by_peer n e))
 mid_allow n m e = after_send n (λ l. allow_lane l m) (opened_by_peer n e) (λ l is. half_allow l m)
 
-pub mid_stop : (n code : ℕ) (e : End) → IsAfter (opened_by_peer n e) (on_send n (λ l. stopped_lane l code) (opened_by_peer n e))
-mid_stop n code e = after_send n (λ l. stopped_lane l code) (opened_by_peer n e) (λ l is. half_stopped l code)
+pub mid_stop : (answers : Bool) (n code : ℕ) (e : End) → IsAfter (opened_by_peer n e) (on_send n (λ l. stop_taken answers l code) (opened_by_peer n e))
+mid_stop answers n code e = after_send n (λ l. stop_taken answers l code) (opened_by_peer n e) (λ l is. half_stopped answers l code)
 
 after_item : (i : Item) (e : End) → verdict e (Control i) ≡ None → IsInCredit e → IsAfter e (item_taken i e)
 after_item (MaxData m) e v h = after_known e _ e.known_bidi e.known_uni (omega arith) (omega arith) (omega arith)
@@ -381,7 +384,7 @@ after_item (MaxStreamData n m) e v h = after_twice e (opened_by_peer n e) _ (aft
 after_item (MaxStreams Bidi m) e v h = after_known e e.known_data _ e.known_uni (omega arith) (omega arith) (omega arith)
 after_item (MaxStreams Uni m) e v h = after_known e e.known_data e.known_bidi _ (omega arith) (omega arith) (omega arith)
 after_item (ResetStream n code size) e v h = after_twice e (opened_by_peer n e) _ (after_opened n e) (mid_reset n code size e v h)
-after_item (StopSending n code) e v h = after_twice e (opened_by_peer n e) _ (after_opened n e) (mid_stop n code e)
+after_item (StopSending n code) e v h = after_twice e (opened_by_peer n e) _ (after_opened n e) (mid_stop e.tuning.answers_stops n code e)
 after_item (DataBlocked m) e v h = after_same e
 after_item (StreamDataBlocked n m) e v h = after_opened n e
 after_item (StreamsBlocked d m) e v h = after_same e

@@ -9,14 +9,14 @@ use Rattle.qs_recv.specs.Assembled.{front, same, store}
 use Rattle.qs_recv.specs.Bytes.{byte_at}
 use Rattle.qs_recv.proofs.AssembledLaws.{contains-with_run, get-keep_from, get-store, is_in_run}
 use Rattle.qs_recv.proofs.SameLaws.{same_none, same_true}
-use Rattle.qs_send.specs.Lane.{SendLane, new_lane, write_lane, sent_lane, reset_lane, stopped_lane, unacked_from, state}
+use Rattle.qs_send.specs.Lane.{SendLane, new_lane, write_lane, sent_lane, stopped_lane, told_lane, unacked_from, state}
 use Rattle.qs_send.specs.declared.parts.SendFault.TheVariants.{Finished}
 use Rattle.qs_ranges.specs.Numbers.{numbers, end_of}
 use Rattle.qs_ranges.proofs.Sets.{end_of-empty, end_of-with_range}
 use Rattle.qs_machine.specs.Tables.{lookup, update, open_to, each, total}
 use Rattle.qs_machine.specs.Verdicts.{verdict}
 use Rattle.qs_machine.specs.FrameStep.{frame_taken}
-use Rattle.qs_machine.specs.Examples.{RangesHold, StreamLimitHolds, ConnectionLimitHolds, FinalSizeHolds, ChangedBytesClose, StreamStateHolds, UnusedNumbersClose, LimitsMove, LowerStreamsOpen, StopResets, BlockedIsTold, LimitsRiseAfterwards, NewLimitIsTold, StreamCountsGrow, EmptyStreamIsSent, AcksTakeWhatTheyName, Examples, letters, first_part, second_part, two_sent, three_frames, three_frames_text, third_offends, told_end, server, standard}
+use Rattle.qs_machine.specs.Examples.{RangesHold, StreamLimitHolds, ConnectionLimitHolds, FinalSizeHolds, ChangedBytesClose, StreamStateHolds, UnusedNumbersClose, LimitsMove, LowerStreamsOpen, StopResets, StopIsAnswered, BlockedIsTold, LimitsRiseAfterwards, NewLimitIsTold, StreamCountsGrow, EmptyStreamIsSent, AcksTakeWhatTheyName, Examples, letters, first_part, second_part, two_sent, three_frames, three_frames_text, third_offends, told_end, server, standard}
 use Rattle.qs_machine.specs.Ends.{End}
 use Rattle.qs_machine.specs.Seen.{Stream}
 use Rattle.qs_machine.specs.Receiving.{Takes, TakesPayload}
@@ -184,9 +184,13 @@ not_whole false l m = refl
 sent_three : SendLane
 sent_three = sent_lane (write_lane (new_lane 0 1024 2048) (letters 3)) (record { offset = 0; len = 3; fin = false })
 
-was_reset : reset_lane sent_three 7 ≡ record sent_three { kept = []; was_reset = Some (record { code = 7; size = 3 }) }
+was_reset : stopped_lane sent_three 7 ≡ record sent_three { kept = []; was_reset = Some (record { code = 7; size = 3 }); stopped = Some 7 }
 unfolding sent_three
-was_reset = not_whole (unacked_from sent_three == 3) sent_three (record sent_three { kept = []; was_reset = Some (record { code = 7; size = 3 }) })
+was_reset = not_whole (unacked_from sent_three == 3) sent_three (record sent_three { kept = []; was_reset = Some (record { code = 7; size = 3 }); stopped = Some 7 })
+
+was_told : told_lane sent_three 7 ≡ record sent_three { stopped = Some 7 }
+unfolding sent_three
+was_told = not_whole (unacked_from sent_three == 3) sent_three (record sent_three { stopped = Some 7 })
 
 stop : StopResets
 unfolding frame_taken lookup update open_to sent_three
@@ -195,6 +199,10 @@ stop =
       tells = (stopped_lane sent_three 7, refl, ap (λ (l : SendLane). l.was_reset) was_reset);
       state_is = (stopped_lane sent_three 7, refl, ap state was_reset);
     }
+
+stop_answered : StopIsAnswered
+unfolding frame_taken lookup update open_to sent_three
+stop_answered = record { goes_on = (told_lane sent_three 7, refl, ap (λ (l : SendLane). l.was_reset) was_told, ap (λ (l : SendLane). l.stopped) was_told) }
 
 blocked_stream : BlockedIsTold
 unfolding frame_taken lookup update open_to
@@ -361,6 +369,7 @@ examples_hold =
       limits = limits;
       lower_streams = lower_streams;
       stop = stop;
+      stop_answered = stop_answered;
       blocked_stream = blocked_stream;
       afterwards = afterwards;
       new_limit = new_limit;

@@ -23,7 +23,7 @@ use Rattle.qs_machine.specs.Tables.{lookup, total}
 use Rattle.qs_machine.specs.Asking.{all_noted}
 use Rattle.qs_machine.proofs.ExclusionsDue.{came_whole}
 use Rattle.qs_machine.specs.SmallEnds.{server_with, all_came, fresh}
-use Rattle.qs_machine.specs.ExclusionsAsking.{CreditIsSent, RoomIsTaken, UnsentIsNew, AckedInARow, RunsAreNoted, BytesAreTaken, NotAsked, KeptUntilAcked, NoSuchLook, one_stored, was_reset}
+use Rattle.qs_machine.specs.ExclusionsAsking.{CreditIsSent, RoomIsTaken, UnsentIsNew, AckedInARow, RunsAreNoted, BytesAreTaken, NotAsked, KeptUntilAcked, NoSuchLook, one_stored, two_stored, was_reset}
 
 credit : CreditIsSent
 unfolding total
@@ -31,7 +31,7 @@ credit = record { written = refl; sent_three = refl }
 
 taken : RoomIsTaken
 unfolding lookup total
-taken = record { kept = refl; beyond = refl; within_its = refl; within_all = refl; last = refl; after_finish = refl; after_reset = refl; unopened = refl; closed = refl }
+taken = record { kept = refl; beyond = refl; within_its = refl; within_all = refl; within_window = refl; beside_other = refl; used_up = refl; last = refl; after_finish = refl; after_reset = refl; unopened = refl; closed = refl }
 
 new : UnsentIsNew
 unfolding lookup total
@@ -107,12 +107,16 @@ other_byte h =
     let e : 98 ≡ 97 = ap (λ (xs : List ℕ). slice_index xs 0) is in
     omega (arith, e)
 
+in_part : IsFront two_stored (97 ∷ []) → ⊥
+in_part h = false≢true (sym h.whole ∙ contains-numbers 0 2 1)
+
 looks : NoSuchLook
 unfolding lookup
 looks = record {
   none_came = λ bytes h. false≢true (sym (waits (length bytes)) ∙ ap tells_something h.answer);
   none_shown = λ h. omega (arith, h.some);
   other = other_byte;
+  in_part = in_part;
   after_stop = λ bytes h. false≢true (ap tells_something h.answer);
   no_end = λ (none, l, at, is). false≢true (sym (waits 1) ∙ ap (λ k. tells_something (read_answer k 1)) (same_Some _ l at) ∙ ap tells_something is);
   after_reset = λ (none, l, at, is). true≢false (ap (λ k. tells_something (read_answer k 1)) (same_Some _ l at) ∙ ap tells_something is);

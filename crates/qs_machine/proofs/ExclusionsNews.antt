@@ -31,7 +31,7 @@ pub only_is : {X : Type 0} (P : X → Type 0) (x : X) → IsHeld P (only x) 0 �
 unfolding lookup
 only_is P x (y, at, p) = subst P (sym (same_Some x y at)) p
 
-held_by : {X : Type 0} (P : X → Type 0) (x : X) → P x → IsHeld P (only x) 0
+pub held_by : {X : Type 0} (P : X → Type 0) (x : X) → P x → IsHeld P (only x) 0
 unfolding lookup
 held_by P x p = (x, refl, p)
 

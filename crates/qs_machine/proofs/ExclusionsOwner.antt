@@ -22,8 +22,8 @@ use Rattle.qs_machine.specs.Ends.{End, send_lane, recv_lane, on_send}
 use Rattle.qs_machine.specs.Credit.{settle}
 use Rattle.qs_machine.specs.FrameStep.{frame_taken}
 use Rattle.qs_machine.specs.Owner.{Certain, send_refusal, accepted_by, is_end}
-use Rattle.qs_machine.specs.SmallEnds.{client_with, abc, begun, wrote, fresh}
-use Rattle.qs_machine.specs.ExclusionsOwner.{NoSuchOpening, NoSuchAccepting, NoSuchAcceptingOf, NoSuchSending, NoSuchWriting, NoSuchReading, LimitsSettle, LimitsOnlyRise, SetsNoMore, SetsNoMoreOfIt, NotOwned, prudent, NoSuchForgetting}
+use Rattle.qs_machine.specs.SmallEnds.{client_with, abc, begun, wrote, sent, reset_half, fresh}
+use Rattle.qs_machine.specs.ExclusionsOwner.{NoSuchOpening, NoSuchAccepting, NoSuchAcceptingOf, NoSuchSending, NoSuchWriting, NoSuchKeeping, NoSuchReading, LimitsSettle, LimitsOnlyRise, SetsNoMore, SetsNoMoreOfIt, NotOwned, prudent, bounded, two_with, NoSuchForgetting}
 use Rattle.qs_machine.proofs.Choices.{not_chosen}
 use Rattle.qs_machine.proofs.ExclusionsMaking.{ok_is_no_err}
 use Rattle.qs_machine.proofs.ExclusionsDue.{came_whole}
@@ -200,6 +200,36 @@ writings =
       ];
     }
 
+keepings : NoSuchKeeping
+unfolding lookup update total
+keepings =
+    record {
+      past = λ new h. elim h [
+        | inl none ↦ ok_is_no_err _ _ none.0
+        | inr some ↦ (let (l, at, done) = some in let e : 3 ≡ 2 = ap number_of done.0 ∙ ap (λ (k : SendLane). accepted_by (bounded 2 (client_with begun)) k 3) (sym (same_Some _ l at)) in omega arith)
+      ];
+      fewer = λ new h. elim h [
+        | inl none ↦ ok_is_no_err _ _ none.0
+        | inr some ↦ (let (l, at, done) = some in let e : 1 ≡ 2 = ap number_of done.0 ∙ ap (λ (k : SendLane). accepted_by (bounded 2 (client_with begun)) k 3) (sym (same_Some _ l at)) in omega arith)
+      ];
+      past_its = λ new h. elim h [
+        | inl none ↦ ok_is_no_err _ _ none.0
+        | inr some ↦ (let (l, at, done) = some in let e : 3 ≡ 2 = ap number_of done.0 ∙ ap (λ (k : SendLane). accepted_by (bounded 5 (client_with wrote)) k 3) (sym (same_Some _ l at)) in omega arith)
+      ];
+      past_other = λ new h. elim h [
+        | inl none ↦ ok_is_no_err _ _ none.0
+        | inr some ↦ (let (l, at, done) = some in let e : 3 ≡ 2 = ap number_of done.0 ∙ ap (λ (k : SendLane). accepted_by (bounded 5 (two_with sent)) k 3) (sym (same_Some _ l at)) in omega arith)
+      ];
+      no_memory = λ new h. elim h [
+        | inl none ↦ (let (l, at, some) = none.2 in let e : 0 < 0 = subst (λ (k : SendLane). 0 < accepted_by (bounded 3 (two_with wrote)) k 3) (sym (same_Some _ l at)) some in omega (arith, e))
+        | inr some ↦ (let (l, at, done) = some in ok_is_no_err _ _ (sym done.0))
+      ];
+      let_go = λ new h. elim h [
+        | inl none ↦ ok_is_no_err _ _ none.0
+        | inr some ↦ (let (l, at, done) = some in let e : 0 ≡ 3 = ap number_of done.0 ∙ ap (λ (k : SendLane). accepted_by (bounded 3 (two_with reset_half)) k 3) (sym (same_Some _ l at)) in omega arith)
+      ];
+    }
+
 -- nothing came, so a reader waits
 waits : read_answer fresh 10 ≡ reads.Wait
 waits = not_chosen _ _ reads.Wait (set.contains-empty nat_cmp 0)
@@ -227,6 +257,7 @@ readings =
       consumed_untold = λ answer new (l, at, told, after) m is untold. true≢false (sym (ap (λ (x : End). told_at (recv_lane x 0)) after) ∙ ap told_at is ∙ untold);
       consumed_unopened = λ answer new h. ok_is_no_err _ _ h.0;
       second_stop = λ new h l at code. (let e : 7 ≡ 8 = same_Some 7 8 (ap (λ (k : RecvLane). k.stop_code) (same_Some _ l (ap (λ (x : End). recv_lane x 0) (sym h.1) ∙ at)) ∙ code) in omega arith);
+      stop_of_told = λ new h l at code. false≢true (ap (λ (k : RecvLane). is_some k.stop_code) (same_Some _ l (ap (λ (x : End). recv_lane x 0) (sym h.1) ∙ at)) ∙ code);
       consumed_closed = λ answer new h. ok_is_no_err _ _ h.0;
       stop_closed = λ new h. ok_is_no_err _ _ h.0;
       stop_on = λ new h. ok_is_no_err _ _ h.0;
@@ -301,6 +332,7 @@ not_owned = record {
   accepting_of = acceptings_of;
   sending = sendings;
   within_credit = writings;
+  within_window = keepings;
   reading = readings;
   forgetting = forgetting;
   settling = settling;

@@ -11,7 +11,7 @@ use Rattle.qs_ranges.specs.Numbers.{NumberSet, ContainsRange, is_within, numbers
 use Rattle.qs_ranges.proofs.Sets.{covers-is, covers-of, below-end_of}
 use Rattle.qs_ranges.proofs.Algebra.{inside, with_range-covered}
 use Rattle.qs_recv.specs.Assembled.{Assembled, put, store, discard, forget}
-use Rattle.qs_recv.specs.Lane.{RecvLane, highest, highest_after, check_stream, check_reset, check_bytes, take_stream, take_reset, is_whole, whole_to, breaks_known, raise, stop, stop_and_forget, after_read, after_answer, read_answer, set_window}
+use Rattle.qs_recv.specs.Lane.{RecvLane, highest, highest_after, check_stream, check_reset, check_bytes, take_stream, take_reset, is_whole, whole_to, breaks_known, raise, stop, stop_and_forget, is_over, after_read, after_answer, read_answer, set_window}
 use Rattle.qs_recv.specs.declared.half.Read.{Read}
 use Rattle.qs_recv.specs.declared.half.Read.TheVariants as reads
 use Rattle.qs_recv.specs.Lawful.{IsLawful}
@@ -77,7 +77,7 @@ window_after l w = record { limit = under_grows l w; received = λ q is. is; siz
 pub stop_after : (l : RecvLane) (code : ℕ) → IsLawful l → LaneAfter l (stop l code)
 stop_after l code lawful =
     grown l (stop l code) (grows_after_call l (StopWith code) lawful tt)
-    (cond_both (is_some l.stop_code) l (record l { arrived = discard l.arrived; stop_code = Some code }) (λ m. is_some l.reset_code ≡ true → is_some m.reset_code ≡ true) (λ _ is. is) (λ _ is. is))
+    (cond_both (is_some l.stop_code || is_over l) l (record l { arrived = discard l.arrived; stop_code = Some code }) (λ m. is_some l.reset_code ≡ true → is_some m.reset_code ≡ true) (λ _ is. is) (λ _ is. is))
     (byte_before l (StopWith code)) (stop_stays code l)
 
 pub forget_after : (l : RecvLane) (code : ℕ) → IsLawful l → LaneAfter l (stop_and_forget l code)

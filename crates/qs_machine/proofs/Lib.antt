@@ -54,3 +54,4 @@ pub mod AckPackets
 pub mod AckTokens
 pub mod Plains
 pub mod NewlyTold
+pub mod Writing

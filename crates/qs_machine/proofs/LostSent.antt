@@ -11,7 +11,7 @@ use Rattle.qs_send.specs.declared.piece.Item.{Item}
 use Rattle.qs_send.specs.declared.piece.Item.TheVariants.{ResetStream, StreamDataBlocked}
 use Rattle.qs_send.specs.declared.piece.Piece.{Piece}
 use Rattle.qs_send.specs.declared.piece.Piece.TheVariants.{Data, Told}
-use Rattle.qs_send.specs.Lane.{SendLane, Sending, new_sending, accepted, refusal, reset_refusal, finish_lane, lost_due, after_write, after_finish, after_reset, after_stopped, after_allow, after_buffer, after_blocked, after_reset_acked, after_sent, after_acked, after_lost}
+use Rattle.qs_send.specs.Lane.{SendLane, Sending, new_sending, accepted, refusal, reset_refusal, finish_lane, lost_due, after_write, after_finish, after_reset, broken_off, first_code, after_stopped, after_told, after_stop, after_allow, after_buffer, after_blocked, after_reset_acked, after_sent, after_acked, after_lost}
 use Rattle.qs_send.specs.Records.{without_first}
 use Rattle.qs_send.specs.LostRecords.{MOST_LOST, with_number, with_piece, without_oldest}
 use Rattle.qs_send.proofs.Carrying.{carried-remove, carried-without_first}
@@ -79,7 +79,18 @@ lasts_reset code s = go (is_some (reset_refusal s.lane))
     go false = record { sent = omega arith; ended = λ x. x; reset = λ x. refl }
 
 lasts_stopped : (code : ℕ) (s : Sending) → Lasts s (after_stopped s code)
-lasts_stopped code s = (let r = lasts_reset code s in record { sent = r.sent; ended = r.ended; reset = r.reset })
+lasts_stopped code s = go (is_some (reset_refusal s.lane))
+  where
+    go : (b : Bool) → Lasts s (record { lane = cond b s.lane (record (broken_off s.lane code) { stopped = first_code s.lane.stopped code }); due = cond b s.due (record { offsets = set.empty; fin = false }) })
+    go true = record { sent = omega arith; ended = λ x. x; reset = λ x. x }
+    go false = record { sent = omega arith; ended = λ x. x; reset = λ x. refl }
+
+lasts_told_stop : (code : ℕ) (s : Sending) → Lasts s (after_told s code)
+lasts_told_stop code s = go (is_some (reset_refusal s.lane))
+  where
+    go : (b : Bool) → Lasts s (record s { lane = cond b s.lane (record s.lane { stopped = first_code s.lane.stopped code }) })
+    go true = record { sent = omega arith; ended = λ x. x; reset = λ x. x }
+    go false = record { sent = omega arith; ended = λ x. x; reset = λ x. x }
 
 lasts_lost : (c : Chunk) (s : Sending) → Lasts s (after_lost s c)
 lasts_lost c s = go (is_some s.lane.was_reset)
@@ -156,6 +167,13 @@ module _ (t t' : Tables Sending) (m : Records) (h : AreSent t m) where
 
   pub sent_stopped : (n code : ℕ) → t' ≡ updated t n (λ s. after_stopped s code) (lookup t n) → AreSent t' m
   sent_stopped n code is = sent_half n (λ s. after_stopped s code) (lasts_stopped code) is
+
+  pub sent_told_stop : (n code : ℕ) → t' ≡ updated t n (λ s. after_told s code) (lookup t n) → AreSent t' m
+  sent_told_stop n code is = sent_half n (λ s. after_told s code) (lasts_told_stop code) is
+
+  pub sent_stop : (answers : Bool) (n code : ℕ) → t' ≡ updated t n (λ s. after_stop answers s code) (lookup t n) → AreSent t' m
+  sent_stop true n code is = sent_told_stop n code is
+  sent_stop false n code is = sent_stopped n code is
 
   pub sent_put : (n : ℕ) (c : Chunk) → t' ≡ updated t n (λ s. after_sent s c) (lookup t n) → AreSent t' m
   sent_put n c is = sent_half n (λ s. after_sent s c) (lasts_sent c) is

@@ -6,12 +6,12 @@ use Rattle.std.proofs.lemmas.Bool.{cond_both, cases_eq}
 use Rattle.std.proofs.lemmas.Bool.Decides.{nat_tests}
 use Rattle.qs_wire.specs.declared.stream_id.Dir.TheVariants.{Bidi, Uni}
 use Rattle.qs_recv.specs.Assembled.{discard, forget}
-use Rattle.qs_recv.specs.Lane.{RecvLane, new_lane as new_recv_lane, take_stream, take_reset, after_read, after_answer, read_answer, stop, stop_and_forget, raise, next_limit, is_whole, limit_with, set_window}
+use Rattle.qs_recv.specs.Lane.{RecvLane, new_lane as new_recv_lane, take_stream, take_reset, after_read, after_answer, read_answer, stop, stop_and_forget, is_over, raise, next_limit, is_whole, limit_with, set_window}
 use Rattle.qs_recv.specs.declared.credit.Share.{Share}
 use Rattle.qs_recv.specs.declared.half.Read.{Read}
 use Rattle.qs_recv.specs.declared.half.Read.TheVariants as reads
 use Rattle.qs_recv.proofs.LawfulLaws.{raised_grows, under_grows}
-use Rattle.qs_send.specs.Lane.{SendLane, new_lane as new_send_lane, reset_refusal, write_lane, finish_lane, reset_lane, stopped_lane, acked_lane, allow_lane, reset_acked_lane, blocked_lane, sent_lane, buffer_lane}
+use Rattle.qs_send.specs.Lane.{SendLane, new_lane as new_send_lane, reset_refusal, write_lane, finish_lane, reset_lane, broken_off, first_code, stop_taken, acked_lane, allow_lane, reset_acked_lane, blocked_lane, sent_lane, buffer_lane}
 use Rattle.qs_send.specs.declared.piece.Item.{Item}
 use Rattle.qs_send.specs.declared.piece.Item.TheVariants.{MaxData, MaxStreamData, MaxStreams, ResetStream, StopSending, StreamDataBlocked, StreamsBlocked}
 use Rattle.qs_send.specs.declared.piece.Piece.{Piece}
@@ -175,6 +175,10 @@ kept_send_limit false l m same = omega (arith, same)
 reset_limit : (code : ℕ) (l : SendLane) → l.limit ≤ (reset_lane l code).limit
 reset_limit code l = kept_send_limit (is_some (reset_refusal l)) l (record l { kept = []; was_reset = Some (record { code = code; size = cond l.fin_sent l.written l.sent_end }) }) refl
 
+stop_taken_limit : (answers : Bool) (code : ℕ) (l : SendLane) → l.limit ≤ (stop_taken answers l code).limit
+stop_taken_limit true code l = kept_send_limit (is_some (reset_refusal l)) l (record l { stopped = first_code l.stopped code }) refl
+stop_taken_limit false code l = kept_send_limit (is_some (reset_refusal l)) l (record (broken_off l code) { stopped = first_code l.stopped code }) refl
+
 took_reset_limit : (code size : ℕ) (l : RecvLane) → l.limit ≤ (take_reset l code size).limit
 took_reset_limit code size l = kept_limit (is_some l.reset_code || is_whole l) l (record l { arrived = forget l.arrived; final_size = Some size; reset_code = Some code }) refl
 
@@ -191,7 +195,7 @@ rises_item (MaxStreamData n m) e = opened_send n (λ l. allow_lane l m) e (λ l.
 rises_item (MaxStreams Bidi m) e = (le_same e.granted, le_same e.known_data, omega arith, le_same e.known_uni, rise_same (λ l. l.limit) e.recvs, rise_same (λ l. l.limit) e.sends)
 rises_item (MaxStreams Uni m) e = (le_same e.granted, le_same e.known_data, le_same e.known_bidi, omega arith, rise_same (λ l. l.limit) e.recvs, rise_same (λ l. l.limit) e.sends)
 rises_item (ResetStream n code size) e = opened_recv n (λ l. take_reset l code size) e (took_reset_limit code size)
-rises_item (StopSending n code) e = opened_send n (λ l. stopped_lane l code) e (reset_limit code)
+rises_item (StopSending n code) e = opened_send n (λ l. stop_taken e.tuning.answers_stops l code) e (stop_taken_limit e.tuning.answers_stops code)
 rises_item (StreamDataBlocked n m) e = rises_opened n e
 rises_item i e = rises_same e
 
@@ -215,7 +219,7 @@ read_limit (reads.Bytes n) size l = le_same l.limit
 read_limit answer size l = le_same l.limit
 
 stop_limit : (code : ℕ) (l : RecvLane) → l.limit ≤ (stop l code).limit
-stop_limit code l = kept_limit (is_some l.stop_code) l (record l { arrived = discard l.arrived; stop_code = Some code }) refl
+stop_limit code l = kept_limit (is_some l.stop_code || is_over l) l (record l { arrived = discard l.arrived; stop_code = Some code }) refl
 
 rises_change : (old : End) (call : Call) (c : Change) (e : End) → Comes old call e c → LimitsRise e (changed c e)
 rises_change old call (Wanted Uni count) e comes = rises_same e

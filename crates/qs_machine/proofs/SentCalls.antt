@@ -4,7 +4,7 @@ use Rattle.std.specs.Prelude.{cond, Result, Ok, Err}
 use Rattle.std.proofs.lemmas.Option.{same_Some}
 use Rattle.std.proofs.lemmas.Bool.{cond_both}
 use Rattle.qs_wire.specs.declared.stream_id.Dir.TheVariants.{Uni}
-use Rattle.qs_send.specs.Lane.{SendLane, new_lane as new_send_lane, reset_refusal, write_lane, finish_lane, reset_lane, stopped_lane, acked_lane, allow_lane, reset_acked_lane, blocked_lane, sent_lane, buffer_lane}
+use Rattle.qs_send.specs.Lane.{SendLane, new_lane as new_send_lane, reset_refusal, write_lane, finish_lane, reset_lane, broken_off, first_code, stop_taken, acked_lane, allow_lane, reset_acked_lane, blocked_lane, sent_lane, buffer_lane}
 use Rattle.qs_send.specs.declared.piece.Item.{Item}
 use Rattle.qs_send.specs.declared.piece.Item.TheVariants.{MaxStreamData, MaxStreams, ResetStream, StopSending, StreamDataBlocked, StreamsBlocked}
 use Rattle.qs_send.specs.declared.piece.Piece.{Piece}
@@ -100,6 +100,10 @@ keeps_acks (p ∷ ps) e = keeps_twice e (first_acked p e) (acks ps (first_acked 
 reset_written : (code : ℕ) (l : SendLane) → l.written ≤ (reset_lane l code).written
 reset_written code l = cond_both (is_some (reset_refusal l)) l (record l { kept = []; was_reset = Some (record { code = code; size = cond l.fin_sent l.written l.sent_end }) }) (λ m. l.written ≤ m.written) (λ _. omega arith) (λ _. omega arith)
 
+stop_taken_written : (answers : Bool) (code : ℕ) (l : SendLane) → l.written ≤ (stop_taken answers l code).written
+stop_taken_written true code l = cond_both (is_some (reset_refusal l)) l (record l { stopped = first_code l.stopped code }) (λ m. l.written ≤ m.written) (λ _. omega arith) (λ _. omega arith)
+stop_taken_written false code l = cond_both (is_some (reset_refusal l)) l (record (broken_off l code) { stopped = first_code l.stopped code }) (λ m. l.written ≤ m.written) (λ _. omega arith) (λ _. omega arith)
+
 -- after an opening a half changes
 opened_send : (n : ℕ) (f : SendLane → SendLane) (e : End) → ((l : SendLane) → l.written ≤ (f l).written) → Keeps e (on_send n f (opened_by_peer n e))
 opened_send n f e up = keeps_twice e (opened_by_peer n e) (on_send n f (opened_by_peer n e)) (keeps_opened n e) (keeps_send n f (opened_by_peer n e) up)
@@ -108,7 +112,7 @@ keeps_item : (i : Item) (e : End) → Keeps e (item_taken i e)
 keeps_item (MaxStreamData n m) e = opened_send n (λ l. allow_lane l m) e longer_same
 keeps_item (MaxStreams Uni m) e = keeps_same e
 keeps_item (ResetStream n code size) e = keeps_opened n e
-keeps_item (StopSending n code) e = opened_send n (λ l. stopped_lane l code) e (reset_written code)
+keeps_item (StopSending n code) e = opened_send n (λ l. stop_taken e.tuning.answers_stops l code) e (stop_taken_written e.tuning.answers_stops code)
 keeps_item (StreamDataBlocked n m) e = keeps_opened n e
 keeps_item i e = keeps_same e
 

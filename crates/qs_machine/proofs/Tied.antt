@@ -11,7 +11,7 @@ use Rattle.qs_send.specs.declared.parts.SendFault.TheVariants.{Finished, WasRese
 use Rattle.qs_send.specs.declared.piece.Item.{Item}
 use Rattle.qs_send.specs.declared.piece.Piece.{Piece}
 use Rattle.qs_send.specs.declared.piece.Piece.TheVariants.{Data, Told}
-use Rattle.qs_send.specs.Lane.{Sending, new_sending, refusal, reset_refusal, finish_lane, after_write, after_finish, after_reset, after_stopped, after_reset_acked, after_blocked, after_allow, after_buffer, after_sent, after_acked, after_lost, lost_due}
+use Rattle.qs_send.specs.Lane.{Sending, new_sending, refusal, reset_refusal, finish_lane, after_write, after_finish, after_reset, broken_off, first_code, after_stopped, after_told, after_reset_acked, after_blocked, after_allow, after_buffer, after_sent, after_acked, after_lost, lost_due}
 use Rattle.qs_send.specs.Chunks.{IsDueChunk}
 use Rattle.qs_send.specs.Parts.{in_flight}
 use Rattle.qs_send.specs.Sound.{IsLawful}
@@ -192,9 +192,14 @@ module _ (m : Records) (n : ℕ) (s : Sending) (t : IsTied m n s) where
   pub tied_reset : (code : ℕ) → IsTied m n (after_reset s code)
   tied_reset code = reset_by code (is_some (reset_refusal s.lane))
 
-  pub tied_stopped : (code : ℕ) → IsTied m n (after_stopped s code)
-  tied_stopped code =
-      let r = tied_reset code in
+  stopped_by : (code : ℕ) (b : Bool)
+      → IsTied m n (record {
+        lane = cond b s.lane (record (broken_off s.lane code) { stopped = first_code s.lane.stopped code });
+        due = cond b s.due (record { offsets = set.empty; fin = false });
+      })
+  stopped_by code true = t
+  stopped_by code false =
+      let r = reset_by code false in
       record {
         id = r.id;
         sent = λ c out. (let w = r.sent c out in record { offsets = w.offsets; end = w.end });
@@ -203,6 +208,24 @@ module _ (m : Records) (n : ℕ) (s : Sending) (t : IsTied m n s) where
         end_not_due = r.end_not_due;
         end_flies = r.end_flies;
       }
+
+  pub tied_stopped : (code : ℕ) → IsTied m n (after_stopped s code)
+  tied_stopped code = stopped_by code (is_some (reset_refusal s.lane))
+
+  told_by : (code : ℕ) (b : Bool) → IsTied m n (record s { lane = cond b s.lane (record s.lane { stopped = first_code s.lane.stopped code }) })
+  told_by code true = t
+  told_by code false =
+      record {
+        id = t.id;
+        sent = λ c out. (let w = t.sent c out in record { offsets = w.offsets; end = w.end });
+        not_due = t.not_due;
+        flies = t.flies;
+        end_not_due = t.end_not_due;
+        end_flies = t.end_flies;
+      }
+
+  pub tied_told_stop : (code : ℕ) → IsTied m n (after_told s code)
+  tied_told_stop code = told_by code (is_some (reset_refusal s.lane))
 
 -- A chunk goes out
 

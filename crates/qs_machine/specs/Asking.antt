@@ -1,6 +1,6 @@
 -- Of public contracts.
 -- What an end's owner, and the layer beneath, may ask of an end as it is; nothing changes by it.
-use Rattle.std.specs.Prelude.{◌≡◌, ℕ, ◌-◌, ◌≤◌, Bool, true, false, ◌&&◌, ◌||◌, ◌==◌, nat_lt, ◌⊎◌, Option, None, Some, is_some, is_none, length, option_map, if◌then◌else◌, Result, Ok, Err}
+use Rattle.std.specs.Prelude.{◌≡◌, ℕ, ◌-◌, ◌≤◌, Bool, true, false, ◌&&◌, ◌||◌, ◌==◌, nat_lt, ◌⊎◌, Option, None, Some, is_some, is_none, option_map, if◌then◌else◌, Result, Ok, Err}
 use Rattle.std.specs.FinMap as fmap
 use Rattle.qs_wire.specs.declared.stream_id.Dir.{Dir}
 use Rattle.qs_recv.specs.Lane.{RecvLane, noted, taken as taken_on}
@@ -15,7 +15,7 @@ use Rattle.qs_calls.specs.declared.uses.UseFault.{UseFault}
 use Rattle.qs_machine.specs.Tables.{total}
 use Rattle.qs_machine.specs.Ends.{End, Records, send_lane, recv_lane}
 use Rattle.qs_machine.specs.Credit.{all_sent, lifetime, unsent_on}
-pub use Rattle.qs_machine.specs.Credit.{credit_left, all_unsent}
+pub use Rattle.qs_machine.specs.Credit.{credit_left, all_unsent, kept_on, all_kept}
 use Rattle.qs_machine.specs.Due.{IsDueItem, StreamGoes, known_count}
 use Rattle.qs_machine.specs.Owner.{opened_count, own_type, peer_type, accepted_by, recv_refusal, is_read_no_more}
 
@@ -87,14 +87,6 @@ unsent_of (Some l) = unsent_on l
 -- the same of a stream at this end (RFC 9000, sections 2.2 and 3.1)
 abbrev pub unsent : End → ℕ → ℕ
 unsent e n = unsent_of (send_lane e n)
-
--- how many bytes a sending half keeps until they are acknowledged (RFC 9000, section 13.3)
-abbrev pub kept_on : SendLane → ℕ
-kept_on l = length l.kept
-
--- the sum of these (RFC 9000, section 13.3)
-abbrev pub all_kept : End → ℕ
-all_kept e = total kept_on e.sends
 
 -- the lowest offset of a sending half that isn't acknowledged: all below it are (RFC 9000, section 13.3)
 abbrev pub acked_below_of : Option SendLane → Option ℕ

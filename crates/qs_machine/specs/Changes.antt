@@ -5,7 +5,7 @@ use Rattle.qs_wire.specs.declared.stream_id.Dir.TheVariants.{Bidi, Uni}
 use Rattle.qs_recv.specs.Lane.{RecvLane, is_whole}
 use Rattle.qs_recv.specs.Changes.{stream_changes}
 use Rattle.qs_send.specs.Lane.{SendLane}
-use Rattle.qs_send.specs.Changes.{stop_changes}
+use Rattle.qs_send.specs.Changes.{changes_by_stop}
 use Rattle.qs_send.specs.declared.piece.Item.{Item}
 use Rattle.qs_send.specs.declared.piece.Item.TheVariants.{MaxData, MaxStreamData, MaxStreams, ResetStream, StopSending, DataBlocked, StreamDataBlocked, StreamsBlocked}
 use Rattle.qs_machine.specs.Ends.{End, is_own, is_uni, send_lane, recv_lane}
@@ -30,7 +30,7 @@ item_changes e (MaxStreamData n m) = is_yet_to_open e n || half_changes (λ (l :
 item_changes e (MaxStreams Bidi m) = nat_lt e.known_bidi m
 item_changes e (MaxStreams Uni m) = nat_lt e.known_uni m
 item_changes e (ResetStream n code size) = is_yet_to_open e n || half_changes reset_changes (recv_lane e n)
-item_changes e (StopSending n code) = is_yet_to_open e n || half_changes stop_changes (send_lane e n)
+item_changes e (StopSending n code) = is_yet_to_open e n || half_changes (changes_by_stop e.tuning.answers_stops) (send_lane e n)
 item_changes e (DataBlocked m) = false
 item_changes e (StreamDataBlocked n m) = is_yet_to_open e n
 item_changes e (StreamsBlocked d m) = false

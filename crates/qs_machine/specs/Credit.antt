@@ -1,6 +1,6 @@
 -- Trusted.
 -- Credit: what the peer may send and has used up, and how the limits move (RFC 9000, section 4).
-use Rattle.std.specs.Prelude.{ℕ, ◌+◌, ◌*◌, ◌/◌, Bool, ◌&&◌, ◌||◌, length, max, min, zip, Option, Some, None, is_some, is_none, if◌then◌else◌, ◌-◌}
+use Rattle.std.specs.Prelude.{ℕ, ◌+◌, ◌*◌, ◌/◌, Bool, ◌&&◌, ◌||◌, length, max, min, zip, Option, Some, None, is_some, is_none, option_map, if◌then◌else◌, ◌-◌}
 use Rattle.std.specs.List.{filter}
 use Rattle.std.specs.FinMap as fmap
 use Rattle.qs_wire.specs.declared.stream_id.Dir.{Dir}
@@ -36,6 +36,18 @@ unsent_on l = if is_some l.was_reset then 0 else l.written - l.sent_end
 -- the sum of these (RFC 9000, sections 2.2 and 3.1)
 abbrev pub all_unsent : End → ℕ
 all_unsent e = total unsent_on e.sends
+
+-- how many bytes a sending half keeps until they are acknowledged (RFC 9000, section 13.3)
+abbrev pub kept_on : SendLane → ℕ
+kept_on l = length l.kept
+
+-- the sum of these (RFC 9000, section 13.3)
+abbrev pub all_kept : End → ℕ
+all_kept e = total kept_on e.sends
+
+-- how many bytes more all sending halves together may keep, where their owner bounds that (ours, beside RFC 9000, section 2.2)
+abbrev pub window_left : End → Option ℕ
+window_left e = option_map (λ window. window - all_kept e) e.tuning.send_window
 
 -- how many bytes beyond all that were sent the peer's limit on the connection lets go (RFC 9000, section 4.1)
 abbrev pub credit_left : End → ℕ

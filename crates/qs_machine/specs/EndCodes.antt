@@ -74,9 +74,10 @@ present_code =
 
 abbrev pub tuning_code : Coded Tuning
 tuning_code =
-    code_by (Share × (Option Share × (Bool × (Bool × ℕ)))) (coded× share_code (coded× (coded_option share_code) (coded× coded_bool (coded× coded_bool coded_ℕ))))
-    (λ t. (t.credit_step, (t.count_step, (t.within_credit, (t.reads_when_closed, t.epoch)))))
-    (λ p. record { credit_step = p.0; count_step = p.1.0; within_credit = p.1.1.0; reads_when_closed = p.1.1.1.0; epoch = p.1.1.1.1 })
+    code_by (Share × (Option Share × (Bool × (Bool × (Bool × (ℕ × Option ℕ))))))
+    (coded× share_code (coded× (coded_option share_code) (coded× coded_bool (coded× coded_bool (coded× coded_bool (coded× coded_ℕ (coded_option coded_ℕ)))))))
+    (λ t. (t.credit_step, (t.count_step, (t.within_credit, (t.answers_stops, (t.reads_when_closed, (t.epoch, t.send_window)))))))
+    (λ p. record { credit_step = p.0; count_step = p.1.0; within_credit = p.1.1.0; answers_stops = p.1.1.1.0; reads_when_closed = p.1.1.1.1.0; epoch = p.1.1.1.1.1.0; send_window = p.1.1.1.1.1.1 })
     (λ _. refl)
 
 abbrev pub limits_code : Coded PeerLimits

@@ -159,6 +159,14 @@ pub record StopResets : Type 0 where
   pub tells : IsCurrent (after (Control (StopSending 0 7)) sender) (ResetStream 0 7 3)
   pub state_is : (l : SendLane) × (send_lane (after (Control (StopSending 0 7)) sender) 0 ≡ Some l) × (state l ≡ ResetSent)
 
+-- the same of one whose owner answers a STOP_SENDING
+abbrev pub asked : End
+asked = record sender { tuning = record default_tuning { answers_stops = true } }
+
+-- Where the owner answers it, the code is kept, and the half goes on (RFC 9000, section 3.5).
+pub record StopIsAnswered : Type 0 where
+  pub goes_on : (l : SendLane) × (send_lane (after (Control (StopSending 0 7)) asked) 0 ≡ Some l) × (l.was_reset ≡ None) × (l.stopped ≡ Some 7)
+
 -- a client whose peer allows 10 bytes on a stream, once it wrote 15 and sent 10
 abbrev pub blocked : End
 blocked = on_send 0 (λ l. sent_lane (write_lane l (letters 15)) (record { offset = 0; len = 10; fin = false })) (opens 0 (client_of (record standard { bidi_remote = 10 })))
@@ -262,6 +270,7 @@ pub record Examples : Type 0 where
   pub limits : LimitsMove
   pub lower_streams : LowerStreamsOpen
   pub stop : StopResets
+  pub stop_answered : StopIsAnswered
   pub blocked_stream : BlockedIsTold
   pub afterwards : LimitsRiseAfterwards
   pub new_limit : NewLimitIsTold

@@ -11,7 +11,7 @@ use Rattle.qs_recv.specs.Peek.{IsFront}
 use Rattle.qs_recv.specs.declared.half.Peek.{Peek}
 use Rattle.qs_recv.specs.declared.half.Peek.TheVariants as peeks
 use Rattle.qs_machine.specs.SmallEnds.{client_with, server_with, abc, fresh, three_came, all_came, wrote, sent, second_acked, finished, reset_half}
-use Rattle.qs_machine.specs.ExclusionsOwner.{over, prudent}
+use Rattle.qs_machine.specs.ExclusionsOwner.{over, prudent, bounded, two_with}
 
 -- what the connection's credit lets go (section 4.1)
 pub record CreditIsSent : Type 0 where
@@ -30,6 +30,10 @@ pub record RoomIsTaken : Type 0 where
   pub within_its : room (prudent (client_with (record wrote { limit = 5 }))) 0 ≡ 2
   -- and that of the connection, beside what waits (section 4.1)
   pub within_all : room (record (prudent (client_with wrote)) { known_data = 4 }) 0 ≡ 1
+  -- where what all halves keep is bounded, it is what that leaves, and of no stream any where nothing is left
+  pub within_window : room (bounded 5 (client_with wrote)) 0 ≡ 2
+  pub beside_other : room (bounded 5 (two_with sent)) 4 ≡ 2
+  pub used_up : room (bounded 3 (two_with sent)) 4 ≡ 0
   -- none is taken past the greatest offset (section 16)
   pub last : room (client_with (record wrote { written = 4611686018427387902 })) 0 ≡ 1
   -- nor of a stream that was finished
@@ -105,6 +109,10 @@ pub record BytesAreTaken : Type 0 where
 abbrev pub one_stored : RecvLane
 one_stored = record fresh { arrived = record fresh.arrived { stored = map.insert map.empty 0 97; received = numbers 0 1 } }
 
+-- the second came, too
+abbrev pub two_stored : RecvLane
+two_stored = record one_stored { arrived = record one_stored.arrived { received = numbers 0 2 } }
+
 -- reset with code 7
 abbrev pub was_reset : RecvLane
 was_reset = record fresh { final_size = Some 0; reset_code = Some 7 }
@@ -117,6 +125,8 @@ pub record NoSuchLook : Type 0 where
   pub none_shown : IsFront three_came [] → ⊥
   -- of other bytes than came
   pub other : IsFront one_stored (98 ∷ []) → ⊥
+  -- of the first byte alone where the second came, too
+  pub in_part : IsFront two_stored (97 ∷ []) → ⊥
   -- of bytes of a stream that was stopped
   pub after_stop : (bytes : List ℕ) → IsFront (stop three_came 7) bytes → ⊥
   -- of an end that didn't come

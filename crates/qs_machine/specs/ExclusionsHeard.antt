@@ -1,16 +1,21 @@
 -- Of laws.
 -- What is no news, and what an owner didn't hear by it (RFC 9000, sections 2.2 to 2.4, 3 and 4.6).
-use Rattle.std.specs.Prelude.{◌≡◌, ℕ, true, Option, None, Some, Ok, Err}
+use Rattle.std.specs.Prelude.{◌≡◌, ℕ, true, false, Option, None, Some, Ok, Err}
 use Rattle.qs_ranges.specs.declared.NoMemory.{NoMemory}
 use Rattle.qs_wire.specs.declared.stream_id.Dir.TheVariants.{Bidi, Uni}
 use Rattle.qs_calls.specs.declared.news.News.TheVariants.{Opened, Readable, Writable, Stopped, Finished, ResetAcked, Ended, Available}
-use Rattle.qs_machine.specs.Heard.{Hearing, heard_nothing, IsNews, IsFirstNews, IsHeardBy, WillWrite, IsReadOn}
+use Rattle.qs_recv.specs.Lane.{RecvLane}
+use Rattle.qs_machine.specs.Heard.{Hearing, heard_nothing, IsNews, IsFirstNews, IsHeardBy, IsNextNews, WillWrite, IsReadOn}
 use Rattle.qs_machine.specs.SmallEnds.{client_with, server_with, only, begun, finished, reset_half, fresh, all_came}
 use Rattle.qs_machine.specs.ExclusionsOwner.{over}
 
 -- an owner that heard of the peer's first stream, and of nothing else
 abbrev pub heard_one : Hearing
 heard_one = record heard_nothing { opened_bidi = 1 }
+
+-- a reset came before any byte
+abbrev pub reset_came : RecvLane
+reset_came = record fresh { final_size = Some 0; reset_code = Some 7 }
 
 -- that is no news
 pub record NoNews : Type 0 where
@@ -43,6 +48,15 @@ pub record NotFirst : Type 0 where
   -- a stream is readable before it opened
   pub out_of_order : IsFirstNews (server_with all_came) heard_nothing (Some (Readable 0)) → ⊥
 
+-- memory isn't asked for
+pub record NotRefused : Type 0 where
+  -- for a stream that opened, whatever is told behind it
+  pub opened : (refused : NoMemory) → IsNextNews (server_with all_came) heard_nothing (Err refused) heard_nothing → ⊥
+  -- for a stream that has a mark
+  pub marked : (refused : NoMemory) → IsNextNews (server_with reset_came) (record heard_one { readable = only false }) (Err refused) (record heard_one { readable = only false }) → ⊥
+  -- and then something is noted
+  pub noted : (refused : NoMemory) → IsNextNews (server_with all_came) heard_one (Err refused) (record heard_one { readable = only true }) → ⊥
+
 -- so it isn't noted
 pub record NotNoted : Type 0 where
   -- what was told isn't kept, or of another kind
@@ -52,7 +66,8 @@ pub record NotNoted : Type 0 where
   pub two_opened : IsHeardBy (Opened 0) heard_nothing (record heard_nothing { opened_bidi = 2 }) → ⊥
   -- a write that is cut short isn't kept
   pub short : WillWrite (client_with begun) 0 4000 heard_nothing (Ok tt) heard_nothing → ⊥
-  -- memory is asked for a write that isn't
+  -- memory is asked for a write that isn't, or for a stream that has a mark
+  pub marked : (refused : NoMemory) → WillWrite (client_with begun) 0 4000 (record heard_nothing { short = only false }) (Err refused) (record heard_nothing { short = only false }) → ⊥
   pub whole : (refused : NoMemory) → WillWrite (client_with begun) 0 1 heard_nothing (Err refused) heard_nothing → ⊥
   -- a stream that was read empty isn't heard of again
   pub read_empty : IsReadOn (server_with fresh) 0 (record heard_one { readable = only true }) (record heard_one { readable = only true }) → ⊥
@@ -60,4 +75,5 @@ pub record NotNoted : Type 0 where
 pub record NotHeard : Type 0 where
   pub news : NoNews
   pub first : NotFirst
+  pub refused : NotRefused
   pub noted : NotNoted

@@ -1,11 +1,12 @@
 -- Of laws.
 -- Which answers an end's owner isn't given, and what its calls don't leave (RFC 9000, sections 2, 3 and 4).
-use Rattle.std.specs.Prelude.{◌≡◌, ℕ, ◌+◌, ◌^◌, Bool, true, false, List, [], ◌∷◌, Option, None, Some, option_map, Result, Ok, Err}
+use Rattle.std.specs.Prelude.{◌≡◌, ℕ, ◌+◌, ◌^◌, Bool, true, false, List, [], ◌∷◌, Option, None, Some, is_some, option_map, Result, Ok, Err}
 use Rattle.qs_wire.specs.declared.stream_id.Dir.TheVariants.{Bidi, Uni}
 use Rattle.qs_recv.specs.Lane.{RecvLane, new_lane as new_recv_lane, take_stream, take_reset, stop, stop_and_forget}
 use Rattle.qs_recv.specs.declared.credit.Share.{Share}
 use Rattle.qs_recv.specs.declared.credit.Share.TheVariants.{Half, Quarter, Eighth}
 use Rattle.qs_recv.specs.declared.half.Read.TheVariants as reads
+use Rattle.qs_send.specs.Lane.{SendLane}
 use Rattle.qs_calls.specs.declared.closing.Closed.TheVariants.{ByPeer}
 use Rattle.qs_calls.specs.Settings.{limits_of, default_tuning}
 use Rattle.qs_calls.specs.declared.reading.Consumed.{Consumed}
@@ -19,7 +20,7 @@ use Rattle.qs_machine.specs.Owner.{OpenStep, AcceptStep, AcceptOfStep, WriteStep
 use Rattle.qs_machine.specs.Raising.{limits_raised, RaiseStep}
 use Rattle.qs_machine.specs.Setting.{ConnWindow, Grant, StreamWindow, with_setting, SetStep}
 use Rattle.qs_machine.specs.Examples.{standard, server, client_of, told_reset}
-use Rattle.qs_machine.specs.SmallEnds.{client_with, server_with, abc, begun, wrote, finished, reset_half, fresh, three_came, all_came}
+use Rattle.qs_machine.specs.SmallEnds.{client_with, server_with, abc, begun, wrote, sent, finished, reset_half, fresh, three_came, all_came}
 
 -- a client that its peer allows no bidirectional stream
 abbrev pub shut_out : End
@@ -136,6 +137,29 @@ pub record NoSuchWriting : Type 0 where
   -- as one that keeps within it, where writes don't
   pub unasked : (new : End) → WriteStep (client_with (record begun { limit = 2 })) 0 abc (Ok 2) new → ⊥
 
+-- an end all of whose halves together keep so many bytes at most
+abbrev pub bounded : ℕ → End → End
+bounded window e = record e { tuning = record default_tuning { send_window = Some window } }
+
+-- a client that opened streams 0 and 4, the first with this half
+abbrev pub two_with : SendLane → End
+two_with l = record (client_with l) { sends = record { client_bidi = l ∷ begun ∷ []; server_bidi = []; client_uni = []; server_uni = [] } }
+
+-- nor `write` so, where what all halves keep is bounded (sections 2.2 and 13.3)
+pub record NoSuchKeeping : Type 0 where
+  -- with more bytes than the window
+  pub past : (new : End) → WriteStep (bounded 2 (client_with begun)) 0 abc (Ok 3) new → ⊥
+  -- with fewer
+  pub fewer : (new : End) → WriteStep (bounded 2 (client_with begun)) 0 abc (Ok 1) new → ⊥
+  -- with more than it leaves beside what the half keeps
+  pub past_its : (new : End) → WriteStep (bounded 5 (client_with wrote)) 0 abc (Ok 3) new → ⊥
+  -- or another one, also what was sent
+  pub past_other : (new : End) → WriteStep (bounded 5 (two_with sent)) 4 abc (Ok 3) new → ⊥
+  -- for want of memory, where nothing is left
+  pub no_memory : (new : End) → WriteStep (bounded 3 (two_with wrote)) 4 abc (Err NoMemory) new → ⊥
+  -- with fewer, because of what was let go
+  pub let_go : (new : End) → WriteStep (bounded 3 (two_with reset_half)) 4 abc (Ok 0) new → ⊥
+
 -- no byte came, and the end did
 abbrev pub ended_half : RecvLane
 ended_half = record fresh { final_size = Some 0 }
@@ -171,6 +195,8 @@ pub record NoSuchReading : Type 0 where
   pub consumed_unopened : (answer : Consumed) (new : End) → ConsumeStep (server_with fresh) 4 10 (Ok answer) new → ⊥
   -- stopped with another code than the first
   pub second_stop : (new : End) → StopStep (server_with (stop fresh 7)) 0 8 (Ok tt) new → (l : RecvLane) → recv_lane new 0 ≡ Some l → l.stop_code ≡ Some 8 → ⊥
+  -- stopped once a reset was told (section 3.2)
+  pub stop_of_told : (new : End) → StopStep (server_with (record fresh { final_size = Some 0; reset_code = Some 5; told = true })) 0 7 (Ok tt) new → (l : RecvLane) → recv_lane new 0 ≡ Some l → is_some l.stop_code ≡ true → ⊥
   -- without a copy, once the end closed
   pub consumed_closed : (answer : Consumed) (new : End) → ConsumeStep (over (server_with fresh)) 0 10 (Ok answer) new → ⊥
   -- stopped, once the end closed, also where its owner reads on
@@ -332,6 +358,7 @@ pub record NotOwned : Type 0 where
   pub accepting_of : NoSuchAcceptingOf
   pub sending : NoSuchSending
   pub within_credit : NoSuchWriting
+  pub within_window : NoSuchKeeping
   pub reading : NoSuchReading
   pub forgetting : NoSuchForgetting
   pub settling : LimitsSettle

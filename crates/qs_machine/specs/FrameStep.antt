@@ -7,7 +7,7 @@ use Rattle.std.specs.FinMap as fmap
 use Rattle.std.specs.FinSet as set
 use Rattle.qs_wire.specs.declared.stream_id.Dir.TheVariants.{Bidi, Uni}
 use Rattle.qs_recv.specs.Lane.{take_stream, take_reset}
-use Rattle.qs_send.specs.Lane.{acked_lane, stopped_lane, allow_lane, reset_acked_lane}
+use Rattle.qs_send.specs.Lane.{acked_lane, stop_taken, allow_lane, reset_acked_lane}
 use Rattle.qs_send.specs.declared.piece.Item.{Item}
 use Rattle.qs_send.specs.declared.piece.Item.TheVariants.{MaxData, MaxStreamData, MaxStreams, ResetStream, StopSending, DataBlocked, StreamDataBlocked, StreamsBlocked}
 use Rattle.qs_send.specs.declared.piece.Piece.{Piece}
@@ -103,14 +103,15 @@ acks (a ∷ ps) e = acks ps (first_acked a e)
 
 -- Frames (RFC 9000, sections 3 and 19)
 
--- limits and counts never fall (RFC 9000, section 4.1); a STOP_SENDING resets the half that it names, and its code is kept (section 3.5)
+-- limits and counts never fall (RFC 9000, section 4.1); a STOP_SENDING resets the half that it names, or its owner answers it, and its code
+-- is kept where the half can be reset (section 3.5)
 abbrev pub item_taken : Item → End → End
 item_taken (MaxData m) e = record e { known_data = max e.known_data m }
 item_taken (MaxStreamData n m) e = on_send n (λ l. allow_lane l m) (opened_by_peer n e)
 item_taken (MaxStreams Bidi m) e = record e { known_bidi = max e.known_bidi m }
 item_taken (MaxStreams Uni m) e = record e { known_uni = max e.known_uni m }
 item_taken (ResetStream n code size) e = on_recv n (λ l. take_reset l code size) (opened_by_peer n e)
-item_taken (StopSending n code) e = on_send n (λ l. stopped_lane l code) (opened_by_peer n e)
+item_taken (StopSending n code) e = on_send n (λ l. stop_taken e.tuning.answers_stops l code) (opened_by_peer n e)
 item_taken (DataBlocked m) e = e
 item_taken (StreamDataBlocked n m) e = opened_by_peer n e
 item_taken (StreamsBlocked d m) e = e

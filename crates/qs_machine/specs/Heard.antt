@@ -144,9 +144,25 @@ IsHeardBy (ResetAcked n) h new = IsToldBeside n h.sent new.sent × (new ≡ reco
 IsHeardBy (Ended n) h new = IsToldBeside n h.ended new.ended × (new ≡ record h { ended = new.ended })
 IsHeardBy (Available d) h new = new ≡ with_wants h d false
 
--- The owner asks for the first piece of news: it is noted as heard, or there was no memory to note it.
+-- To note it as heard takes memory: its stream has no mark yet, set or not. That a stream opened or takes a byte, and that one may be
+-- opened, takes none (ours).
+abbrev pub TakesMemory : News → Hearing → Type 0
+TakesMemory (Opened n) h = ⊥
+TakesMemory (Readable n) h = lookup h.readable n ≡ None
+TakesMemory (Writable n) h = ⊥
+TakesMemory (Stopped n code) h = lookup h.stopped n ≡ None
+TakesMemory (Finished n) h = lookup h.sent n ≡ None
+TakesMemory (ResetAcked n) h = lookup h.sent n ≡ None
+TakesMemory (Ended n) h = lookup h.ended n ≡ None
+TakesMemory (Available d) h = ⊥
+
+-- the first piece of news takes memory
+abbrev pub FirstTakesMemory : End → Hearing → Type 0
+FirstTakesMemory e h = (news : News) × IsFirstNews e h (Some news) × TakesMemory news h
+
+-- The owner asks for the first piece of news: it is noted as heard, or there was no memory to note it, which it takes.
 abbrev pub IsNextNews : End → Hearing → Result (Option News) NoMemory → Hearing → Type 0
-IsNextNews e old (Err refused) new = new ≡ old
+IsNextNews e old (Err refused) new = (new ≡ old) × FirstTakesMemory e old
 IsNextNews e old (Ok None) new = IsFirstNews e old None × (new ≡ old)
 IsNextNews e old (Ok (Some news)) new = IsFirstNews e old (Some news) × IsHeardBy news old new
 
@@ -154,9 +170,9 @@ IsNextNews e old (Ok (Some news)) new = IsFirstNews e old (Some news) × IsHeard
 abbrev pub is_cut_short : End → ℕ → ℕ → Bool
 is_cut_short e n len = is_some (send_lane e n) && nat_lt (room e n) len
 
--- It is noted that a stream is waited for, or there was no memory to note it.
+-- It is noted that a stream is waited for, or there was no memory to note it, which it takes where the stream has no mark yet.
 abbrev pub IsNotedShort : ℕ → Hearing → Result (Unit {0}) NoMemory → Hearing → Type 0
-IsNotedShort n old (Err refused) new = new ≡ old
+IsNotedShort n old (Err refused) new = (new ≡ old) × (lookup old.short n ≡ None)
 IsNotedShort n old (Ok done) new = IsToldBeside n old.short new.short × (new ≡ record old { short = new.short })
 
 -- The owner is about to write so many bytes: where that will be cut short, it waits for the stream.

@@ -18,7 +18,7 @@ use Rattle.qs_calls.specs.declared.uses.UseFault.TheVariants.{NoSuchStream, Wron
 use Rattle.qs_machine.specs.Tables.{table}
 use Rattle.qs_machine.specs.Ends.{End, send_lane, recv_lane, on_send, on_recv, opens}
 pub use Rattle.qs_machine.specs.Ends.{own_type, peer_type}
-use Rattle.qs_machine.specs.Credit.{settle, credit_for}
+use Rattle.qs_machine.specs.Credit.{settle, credit_for, window_left}
 use Rattle.qs_machine.specs.Due.{known_count}
 
 -- The call is refused and changes nothing; or, where nothing speaks against it, it has its effect.
@@ -118,10 +118,15 @@ send_refusal e n says =
     first_refusal (refuse_if (is_some e.closed) Closed)
     (elim (send_lane e n) [ None ↦ Some (no_half (is_some (recv_lane e n))) | Some l ↦ half_refusal (says l) ])
 
--- how many of n bytes are accepted: as many as there is room for, and, of an end that writes within credit, as may be sent at once
--- (RFC 9000, sections 2.2 and 4.1)
+-- as many of n as are left, where that is bounded
+abbrev pub at_most : Option ℕ → ℕ → ℕ
+at_most None n = n
+at_most (Some left) n = min n left
+
+-- how many of n bytes are accepted: as many as there is room for, of an end that writes within credit as may be sent at once, and
+-- where all halves together keep no more than a window, as that leaves (RFC 9000, sections 2.2 and 4.1; the window is ours)
 abbrev pub accepted_by : End → SendLane → ℕ → ℕ
-accepted_by e l n = if e.tuning.within_credit then min (accepted l n) (credit_for e l) else accepted l n
+accepted_by e l n = at_most (window_left e) (if e.tuning.within_credit then min (accepted l n) (credit_for e l) else accepted l n)
 
 -- bytes ask for memory where some of them are accepted
 abbrev pub AsksToKeep : End → ℕ → List ℕ → Type 0

@@ -9,7 +9,7 @@ use Rattle.std.proofs.lemmas.Bool.{cond_both, or_left}
 use Rattle.qs_ranges.specs.Numbers.{end_of}
 use Rattle.qs_ranges.proofs.Sets.{below-end_of}
 use Rattle.qs_recv.specs.Assembled.{Assembled, put, discard, forget, front_of}
-use Rattle.qs_recv.specs.Lane.{RecvLane, highest, check_stream, take_stream, check_reset, take_reset, is_whole, breaks_known, read_answer, after_answer, after_read, stop, stop_and_forget, raise, set_window}
+use Rattle.qs_recv.specs.Lane.{RecvLane, highest, check_stream, take_stream, check_reset, take_reset, is_whole, breaks_known, read_answer, after_answer, after_read, stop, stop_and_forget, is_over, raise, set_window}
 use Rattle.qs_recv.specs.Lawful.{IsLawful}
 use Rattle.qs_recv.specs.Laws.{IsSent, CarriesSent, LaneCall, TakeStream, TakeReset, ReadUpTo, StopWith, ForgetWith, RaiseLimit, SetWindow, after_call, IsAllowed, Grows}
 use Rattle.qs_recv.specs.declared.half.Read.{Read}
@@ -93,7 +93,7 @@ grows_after_read lane room = by_answer (read_answer lane room)
 
 grows_stop : (lane : RecvLane) (code : ℕ) → IsLawful lane → Grows lane (stop lane code)
 grows_stop lane code h =
-    cond_both (is_some lane.stop_code) lane _ (Grows lane) (λ _. nothing_changes lane) (λ _.
+    cond_both (is_some lane.stop_code || is_over lane) lane _ (Grows lane) (λ _. nothing_changes lane) (λ _.
     let all = all_taken (is_some lane.reset_code) (highest lane) lane.arrived.read_count in
     record {
       highest_grows = omega arith;
@@ -166,7 +166,7 @@ sent_after_call sent lane (ReadUpTo room) h part = by_answer (read_answer lane r
     by_answer (End) = h
     by_answer (Reset code) = h
     by_answer (Wait) = h
-sent_after_call sent lane (StopWith code) h part = cond_both (is_some lane.stop_code) lane _ (λ l. IsSent sent l.arrived) (λ _. h) (λ _. sent_discard sent lane.arrived)
-sent_after_call sent lane (ForgetWith code) h part = cond_both (is_some lane.stop_code) lane _ (λ l. IsSent sent l.arrived) (λ _. h) (λ _. sent_discard sent lane.arrived)
+sent_after_call sent lane (StopWith code) h part = cond_both (is_some lane.stop_code || is_over lane) lane _ (λ l. IsSent sent l.arrived) (λ _. h) (λ _. sent_discard sent lane.arrived)
+sent_after_call sent lane (ForgetWith code) h part = cond_both (is_some lane.stop_code || is_over lane) lane _ (λ l. IsSent sent l.arrived) (λ _. h) (λ _. sent_discard sent lane.arrived)
 sent_after_call sent lane (RaiseLimit) h part = h
 sent_after_call sent lane (SetWindow window) h part = h

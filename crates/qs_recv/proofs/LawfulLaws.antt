@@ -10,10 +10,10 @@ use Rattle.std.proofs.lemmas.Bool.Decides.{nat_tests}
 use Rattle.std.proofs.lemmas.Bool.{both_ways, cases_lt, cond_both, ltb-false, leb-true, or_left, or_right}
 use Rattle.qs_ranges.specs.Numbers.{MAX_VARINT, end_of, is_within, numbers, contains-numbers}
 use Rattle.qs_ranges.proofs.Sets.{end_of-empty, end_of-numbers, numbers-none, below-end_of}
-use Rattle.qs_recv.specs.Assembled.{put, take_front, front_of, keep_from, store}
+use Rattle.qs_recv.specs.Assembled.{discard, put, take_front, front_of, keep_from, store}
 use Rattle.qs_recv.proofs.AssembledLaws.{get-keep_from, contains-with_run, end_of-with_run, stored_by_keep, front_stored}
 use Rattle.qs_recv.proofs.LaneLaws.{len_within, check_fits, put_past}
-use Rattle.qs_recv.specs.Lane.{MAX_WINDOW, RecvLane, new_lane, highest, highest_after, taken, check_stream, take_stream, check_reset, take_reset, is_whole, breaks_known, read_answer, after_answer, after_read, stop, raise, next_limit, raised_limit, limit_with, limit_under, set_window}
+use Rattle.qs_recv.specs.Lane.{MAX_WINDOW, RecvLane, new_lane, highest, highest_after, taken, check_stream, take_stream, check_reset, take_reset, is_whole, breaks_known, read_answer, after_answer, after_read, stop, is_over, raise, next_limit, raised_limit, limit_with, limit_under, set_window}
 use Rattle.qs_recv.specs.declared.credit.Share.{Share}
 use Rattle.qs_recv.specs.declared.half.Read.{Read}
 use Rattle.qs_recv.specs.declared.half.Read.TheVariants.{Bytes, End, Reset, Wait}
@@ -169,7 +169,7 @@ lawful_take_stream lane offset bytes fin h ok = by_reset (is_some lane.reset_cod
 
 -- A reset
 
-reset_unbroken : (lane : RecvLane) (size : ℕ) → IsOk (check_reset lane size) → breaks_known lane.final_size size 0 true (highest lane) ≡ false
+pub reset_unbroken : (lane : RecvLane) (size : ℕ) → IsOk (check_reset lane size) → breaks_known lane.final_size size 0 true (highest lane) ≡ false
 reset_unbroken lane size ok =
     let e : size ≡ size + 0 = omega arith in
     ap (λ k. breaks_known lane.final_size k 0 true (highest lane)) e ∙ passed_first _ _ _ ok
@@ -315,9 +315,8 @@ pub all_taken : (b : Bool) (h r : ℕ) → cond (b || true) h r ≡ h
 all_taken true h r = refl
 all_taken false h r = refl
 
-pub lawful_stop : (lane : RecvLane) (code : ℕ) → IsLawful lane → IsLawful (stop lane code)
-lawful_stop lane code h =
-    cond_both (is_some lane.stop_code) lane _ IsLawful (λ _. h) (λ _.
+pub lawful_stopped : (lane : RecvLane) (code : ℕ) → IsLawful lane → IsLawful (record lane { arrived = discard lane.arrived; stop_code = Some code })
+lawful_stopped lane code h =
     let all = all_taken (is_some lane.reset_code) (highest lane) lane.arrived.read_count in
     record {
       some_window = h.some_window;
@@ -332,7 +331,10 @@ lawful_stop lane code h =
       discards = sym (or_right (is_some lane.reset_code) true refl);
       thrown_away = λ _. refl;
       reset_sized = h.reset_sized;
-    })
+    }
+
+pub lawful_stop : (lane : RecvLane) (code : ℕ) → IsLawful lane → IsLawful (stop lane code)
+lawful_stop lane code h = cond_both (is_some lane.stop_code || is_over lane) lane _ IsLawful (λ _. h) (λ _. lawful_stopped lane code h)
 
 -- A raise
 

@@ -20,3 +20,8 @@ pub mod SameLaws
 pub mod SameRing
 pub mod SkipLaws
 pub mod SoundLaws
+pub mod WrittenLaws
+mod Spots
+pub mod OverLaws
+mod TableLaws
+mod TableSteps

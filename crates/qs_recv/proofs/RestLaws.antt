@@ -127,7 +127,7 @@ pub at_rest_stopped : (w : ℕ × (ℕ × Share)) (n e limit code : ℕ) (f r : 
     → IsAtRest (lane_at_rest w n e limit f r None told) n e → IsAtRest (lane_at_rest w n e limit f r (Some code) told) n e
 at_rest_stopped w n e limit code f r told fits h =
     at_rest_thrown (lane_at_rest w n e limit f r (Some code) told) n e (or_right (is_some r) true refl)
-    (subst IsLawful (sym (stopped_at_rest w n e limit code f r told)) (sound_stop (lane_at_rest w n e limit f r None told) w.0 n e code refl fits (sound_at_rest w n e limit f r None told h)).lawful) fits
+    (subst IsLawful (sym (stopped_at_rest w n e limit code f r told)) (sound_stop (lane_at_rest w n e limit f r None told) w.0 n e code fits (sound_at_rest w n e limit f r None told h)).lawful) fits
 
 -- What a reader is told
 

@@ -204,7 +204,7 @@ out_at_twice count front back into mid out len mid_is out_is k below =
 -- A ring that begins with them
 
 -- the offset `from` stands first
-first_place : (from q v : ℕ) → 0 < v → from ≤ q → q < from + v → (q + (v - from % v)) % v ≡ q - from
+pub first_place : (from q v : ℕ) → 0 < v → from ≤ q → q < from + v → (q + (v - from % v)) % v ≡ q - from
 first_place from q v pos low high =
     let a = mod_below from v pos in
     let b = mod_below q v pos in

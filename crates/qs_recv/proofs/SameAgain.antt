@@ -10,7 +10,7 @@ use Rattle.std.specs.FinSet as set
 use Rattle.std.proofs.lemmas.Bool.{both_ways, and_right, cond_both}
 use Rattle.qs_recv.specs.Assembled.{Assembled, discard, forget, front_of, put, same, store, take_front, widen}
 use Rattle.qs_recv.specs.Bytes.{byte_at}
-use Rattle.qs_recv.specs.Lane.{RecvLane, after_answer, check_bytes, is_whole, read_answer, take_stream}
+use Rattle.qs_recv.specs.Lane.{RecvLane, after_answer, check_bytes, is_over, is_whole, read_answer, take_stream}
 use Rattle.qs_recv.specs.Laws.{IsPart, IsSent, IsUnchanged, LaneCall, TakeStream, TakeReset, ReadUpTo, StopWith, ForgetWith, RaiseLimit, SetWindow, after_call}
 use Rattle.qs_recv.specs.declared.half.Read.{Read}
 use Rattle.qs_recv.specs.declared.half.Read.TheVariants.{Bytes, End, Reset, Wait}
@@ -114,8 +114,8 @@ stored_step lane (ReadUpTo room) = by_answer (read_answer lane room)
     by_answer (End) = stored_same lane.arrived
     by_answer (Reset code) = stored_same lane.arrived
     by_answer (Wait) = stored_same lane.arrived
-stored_step lane (StopWith code) = cond_both (is_some lane.stop_code) lane _ (λ l. StoredIn lane.arrived l.arrived) (λ _. stored_same lane.arrived) (λ _. stored_discard lane.arrived)
-stored_step lane (ForgetWith code) = cond_both (is_some lane.stop_code) lane _ (λ l. StoredIn lane.arrived l.arrived) (λ _. stored_same lane.arrived) (λ _. stored_discard lane.arrived)
+stored_step lane (StopWith code) = cond_both (is_some lane.stop_code || is_over lane) lane _ (λ l. StoredIn lane.arrived l.arrived) (λ _. stored_same lane.arrived) (λ _. stored_discard lane.arrived)
+stored_step lane (ForgetWith code) = cond_both (is_some lane.stop_code || is_over lane) lane _ (λ l. StoredIn lane.arrived l.arrived) (λ _. stored_same lane.arrived) (λ _. stored_discard lane.arrived)
 stored_step lane (RaiseLimit) = stored_same lane.arrived
 stored_step lane (SetWindow window) = stored_wider lane.arrived window
 

@@ -10,7 +10,7 @@ use Rattle.qs_recv.specs.Lane.{RecvLane, check_stream, check_reset, highest, is_
 use Rattle.qs_recv.specs.Lawful.{IsLawful}
 use Rattle.qs_recv.specs.Sound.{IsSound}
 use Rattle.qs_recv.proofs.AssembledLaws.{with_run, end_of-with_run}
-use Rattle.qs_recv.proofs.LawfulLaws.{end_of-below, lawful_take_stream, lawful_take_reset, lawful_front, lawful_stop, lawful_told, read_within, highest_noted}
+use Rattle.qs_recv.proofs.LawfulLaws.{end_of-below, lawful_take_stream, lawful_take_reset, lawful_front, lawful_stopped, lawful_told, read_within, highest_noted}
 
 -- the counts are small enough to be added
 pub small_highest : (lane : RecvLane) (w n e : ℕ) → IsSound lane w n e → unwrap_or lane.final_size e ≤ MAX_VARINT
@@ -88,10 +88,10 @@ sound_told lane w n e h =
       stop_fits = h.stop_fits;
     }
 
-pub sound_stop : (lane : RecvLane) (w n e code : ℕ) → is_some lane.stop_code ≡ false → code ≤ MAX_VARINT → IsSound lane w n e → IsSound (record lane { arrived = discard lane.arrived; stop_code = Some code }) w n e
-sound_stop lane w n e code no_stop fits h =
+pub sound_stop : (lane : RecvLane) (w n e code : ℕ) → code ≤ MAX_VARINT → IsSound lane w n e → IsSound (record lane { arrived = discard lane.arrived; stop_code = Some code }) w n e
+sound_stop lane w n e code fits h =
     record {
-      lawful = subst (λ b. IsLawful (cond b lane (record lane { arrived = discard lane.arrived; stop_code = Some code }))) no_stop (lawful_stop lane code h.lawful);
+      lawful = lawful_stopped lane code h.lawful;
       window_is = h.window_is;
       count_is = h.count_is;
       end_is = h.end_is;

@@ -158,10 +158,15 @@ after_read lane room = after_answer (read_answer lane room) lane room
 
 -- A stop
 
--- what is stored is thrown away, and so is what comes; the first code stays (RFC 9000, section 3.5)
+-- whether the reader was told of the end or of a reset: Data Read and Reset Read (RFC 9000, section 3.2)
+abbrev pub is_over : RecvLane → Bool
+is_over lane = lane.told && (is_some lane.reset_code || is_whole lane)
+
+-- what is stored is thrown away, and so is what comes; the first code stays, and what is over isn't stopped (RFC 9000, section 3.5)
 abbrev pub stop : RecvLane → ℕ → RecvLane
 stop lane code =
-    if is_some lane.stop_code then lane else record lane { arrived = discard lane.arrived; stop_code = Some code }
+    if is_some lane.stop_code || is_over lane then lane
+    else record lane { arrived = discard lane.arrived; stop_code = Some code }
 
 -- The same, and nothing more is told of the stream: it is read to its end as soon as that comes, or as a reset does (RFC 9000, sections 3.2
 -- and 3.5).

@@ -3,8 +3,10 @@ pub mod Bytes
 pub mod Changes
 pub mod Lane
 pub mod Codes
+pub mod Halves
 pub mod Lawful
 pub mod Laws
+pub mod Lending
 pub mod News
 pub mod Pages
 pub mod Parts

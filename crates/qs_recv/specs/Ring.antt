@@ -2,6 +2,7 @@
 -- Bytes kept in a ring, and the map of bytes that they stand for. The byte of an offset stands at the offset modulo the ring's size.
 --     padded, places_of, IsKept, around      the bytes that a ring keeps, and those of its places
 --     byte_of, ring_bytes, stored_in_ring      each byte under its offset
+--     RingBytes, IsThere, AreWritten, ..      which places were written
 --     IsRing, IsApart, IsSized       what holds of a ring assembly's fields at all times
 --     IsSizeFor, IsMoved, IsReach      a ring of another size
 --     missing_count      how many offsets didn't come
@@ -36,6 +37,35 @@ pub record IsKept (turn size count room : ℕ) : Type 0 where
 -- so many bytes from a place on, where the first follows the last
 abbrev pub around : ℕ → ℕ → List ℕ → List ℕ
 around place count bytes = take count (drop place bytes ++ bytes)
+
+-- what a ring's places have, how far each of them stands further on among the bytes that it keeps, and how many of these there are
+abbrev pub RingBytes : Type 0
+RingBytes = List ℕ × (ℕ × ℕ)
+
+-- a byte was written at the place of an offset
+abbrev pub IsThere : RingBytes → ℕ → Type 0
+IsThere ring q = (q + ring.1.0) % length ring.0 < ring.1.1
+
+-- at those of the offsets from `from` on and below `to`
+abbrev pub AreWritten : RingBytes → ℕ → ℕ → Type 0
+AreWritten ring from to = (q : ℕ) → from ≤ q → q < to → IsThere ring q
+
+-- where one was written, there still is one
+abbrev pub StayWritten : RingBytes → RingBytes → Type 0
+StayWritten old new = (q : ℕ) → IsThere old q → IsThere new q
+
+-- for the offsets from `from` on and below `to`
+abbrev pub StayWrittenTo : ℕ → ℕ → RingBytes → RingBytes → Type 0
+StayWrittenTo from to old new = (q : ℕ) → from ≤ q → q < to → IsThere old q → IsThere new q
+
+-- at those of the offsets from `from` on and below `to` that didn't come before
+abbrev pub AreFilled : NumberSet → ℕ → ℕ → RingBytes → Type 0
+AreFilled received from to ring = (q : ℕ) → from ≤ q → q < to → set.contains received q ≡ false → IsThere ring q
+
+-- at those from what was read to `near` that came, until bytes are thrown away
+abbrev pub CameWritten : RingBytes → NumberSet → ℕ → ℕ → Bool → Type 0
+CameWritten ring received read_count near discarding =
+    discarding ≡ false → (q : ℕ) → read_count ≤ q → q < near → set.contains received q ≡ true → IsThere ring q
 
 -- the byte of an offset: at its place in the ring below `near`, and in its page from there on
 abbrev pub byte_of : List ℕ → ℕ → Pages → ℕ → ℕ

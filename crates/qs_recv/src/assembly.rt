@@ -3,7 +3,7 @@ ghost use Rattle.std.specs.Prelude.{◌≡◌, ℕ, ◌+◌, ◌-◌, ◌*◌, �
 ghost use Rattle.std.specs.FinMap as map;
 ghost use Rattle.std.specs.FinSet as set;
 ghost use Rattle.qs_recv.specs.Assembled.{Assembled, nothing_yet, at_rest, put, take_front, front_of, discard, same, widen};
-ghost use Rattle.qs_ranges.specs.Numbers.{MAX_VARINT, MissesRange, covers, end_of};
+ghost use Rattle.qs_ranges.specs.Numbers.{IsLeastMissingFrom, MAX_VARINT, MissesRange, covers, end_of};
 ghost use Rattle.qs_recv.specs.Lane.{MAX_WINDOW};
 
 use qs_ranges::{NoMemory, RangeSet};
@@ -99,12 +99,13 @@ pub trait Assembly: Drop {
 
 /// An assembly whose next bytes can be looked at where they stand.
 pub trait Peeking: Skipping {
-    /// The bytes that are next to be read, in two pieces where they stand so: as many as stand there in a row, and one at least where
-    /// one is next.
+    /// The bytes that are next to be read, in two pieces where they stand so: all of them, up to the first that didn't come.
     fn front(&self) -> (&[u8], &[u8])
         ensures next { result.0.now ++ result.1.now ≡ front_of (Self.holds self.now) (length (result.0.now ++ result.1.now)) }
         ensures some { (Self.holds self.now).discarding ≡ false → set.contains (Self.holds self.now).received (Self.holds self.now).read_count ≡ true
-            → 0 < length (result.0.now ++ result.1.now) };
+            → 0 < length (result.0.now ++ result.1.now) }
+        ensures whole { (Self.holds self.now).discarding ≡ false
+            → IsLeastMissingFrom (Self.holds self.now).received (Self.holds self.now).read_count ((Self.holds self.now).read_count + length (result.0.now ++ result.1.now)) };
 }
 
 /// An assembly whose next bytes can be passed over without a copy.

@@ -1,5 +1,5 @@
 //! The receiving half of a stream (RFC 9000, sections 2.2, 3.2, 3.5 and 4).
-ghost use Rattle.std.specs.Prelude.{if◌then◌else◌, ◌==◌, max, ◌≡◌, ◌+◌, ◌-◌, ◌*◌, ◌≤◌, ◌++◌, length, drop, IsOk, IfOk, OnOk, OnErr, IfErr, IsTrue, is_some, false, None};
+ghost use Rattle.std.specs.Prelude.{if◌then◌else◌, ◌==◌, max, ◌≡◌, ◌+◌, ◌-◌, ◌*◌, ◌≤◌, ◌++◌, length, drop, IsOk, IfOk, OnOk, OnErr, IfErr, IfSome, IsTrue, is_some, false, None};
 ghost use Rattle.std.specs.FinMap as map;
 ghost use Rattle.qs_ranges.specs.Numbers.{MAX_VARINT, MissesRange, covers};
 ghost use Rattle.qs_recv.specs.Lawful.{IsLawful};
@@ -8,11 +8,15 @@ ghost use Rattle.qs_recv.specs.News.{is_readable, tells_something};
 ghost use Rattle.qs_recv.specs.Lane.{new_lane, highest, highest_after, noted, taken, state, check_stream, check_bytes, take_stream, check_reset, take_reset, is_whole, breaks_final_size, read_answer, bytes_read, after_read, stop, stop_and_forget, raise, raise_answer, set_window, MAX_WINDOW};
 ghost use Rattle.qs_recv.specs.Changes.{stream_changes};
 ghost use Rattle.qs_recv.specs.Peek.{IsPeek};
+ghost use Rattle.qs_recv.specs.Rest.{IsAtRest};
+ghost use Rattle.qs_recv.specs.Halves.{over_lane, IsSlotOf};
 
 use crate::assembly::{Assembly, Peeking, Skipping};
 use crate::credit::Share;
+use crate::halves::RecvSlot;
 use crate::live::LiveHalf;
 use crate::rest::Rest;
+use crate::window::Windows;
 use std::alloc::Global;
 use std::marker::Model;
 
@@ -106,6 +110,27 @@ impl<A: Assembly> RecvHalf<A> {
         RecvHalf {
             alloc,
             parts: Parts::Resting(Rest::new(window, share)),
+        }
+    }
+
+    /// A half that was read to its end, of its length, of how far its limit lies past that, and of its windows. It takes no memory.
+    pub(crate) fn over(alloc: Global, end: u64, past: u32, windows: &Windows) -> Self
+        requires { IsAtRest (over_lane end past windows.now) end end }
+        ensures { result ≡ over_lane end past windows.now }
+    {
+        RecvHalf {
+            alloc,
+            parts: Parts::Resting(Rest::over(end, past, windows)),
+        }
+    }
+
+    /// The same in few bytes, where it was read to its end.
+    pub(crate) fn kept(&self) -> Option<RecvSlot>
+        ensures { IfSome result (IsSlotOf self.now) }
+    {
+        match &self.parts {
+            Parts::Resting(rest) => rest.kept(),
+            Parts::Live(_live) => None,
         }
     }
 
@@ -234,7 +259,7 @@ impl<A: Assembly> RecvHalf<A> {
     }
 
     /// Throws the stored bytes away, and those that come from now on (section 3.5). The first code stays;
-    /// a code is at most 2^62 - 1, so that a frame can tell it.
+    /// a code is at most 2^62 - 1, so that a frame can tell it. Once the end was told, or a reset, it changes nothing.
     pub fn stop(&mut self, code: u64)
         requires { code ≤ MAX_VARINT }
         ensures after { self.new ≡ stop self.old code }
@@ -461,8 +486,8 @@ impl<A: Assembly> RecvHalf<A> {
 }
 
 impl<A: Peeking> RecvHalf<A> {
-    /// Tells what a read would, and changes nothing: the bytes that are next stay where they are, one at least, and as many as stand there
-    /// in a row.
+    /// Tells what a read with room enough would, and changes nothing: the bytes that are next stay where they are, and all of them are
+    /// shown, up to the first that didn't come.
     pub fn peek(&self) -> Peek<'_>
         ensures { IsPeek self.now result }
     {

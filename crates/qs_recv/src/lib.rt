@@ -4,6 +4,7 @@
 mod assembly;
 mod credit;
 mod half;
+mod halves;
 pub mod laws;
 mod live;
 mod pages;
@@ -15,4 +16,5 @@ mod window;
 pub use assembly::{Assembly, Peeking, Skipping};
 pub use credit::{Share, next_limit, step_of};
 pub use half::{Highest, Peek, Read, RecvFault, RecvHalf, RecvState};
+pub use halves::{RecvHalves, RecvView};
 pub use ring_assembly::RingAssembly;

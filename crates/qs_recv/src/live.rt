@@ -5,7 +5,7 @@ ghost use Rattle.qs_ranges.specs.Numbers.{MAX_VARINT, MissesRange, covers};
 ghost use Rattle.qs_recv.specs.Lawful.{IsLawful};
 ghost use Rattle.qs_recv.specs.Sound.{CodeFits};
 ghost use Rattle.qs_recv.specs.News.{is_readable, tells_something};
-ghost use Rattle.qs_recv.specs.Lane.{highest, highest_after, noted, taken, state, check_stream, check_bytes, take_stream, check_reset, take_reset, is_whole, breaks_final_size, read_answer, bytes_read, after_read, stop, stop_and_forget, raise, raise_answer, set_window, MAX_WINDOW};
+ghost use Rattle.qs_recv.specs.Lane.{highest, highest_after, noted, taken, state, check_stream, check_bytes, take_stream, check_reset, take_reset, is_whole, is_over, breaks_final_size, read_answer, bytes_read, after_read, stop, stop_and_forget, raise, raise_answer, set_window, MAX_WINDOW};
 ghost use Rattle.qs_recv.specs.Changes.{stream_changes};
 ghost use Rattle.qs_recv.specs.Peek.{IsPeek};
 
@@ -257,6 +257,9 @@ impl<A: Assembly> LiveHalf<A> {
         ensures after { self.new ≡ stop self.old code }
         ensures same_highest { highest self.new ≡ highest self.old }
     {
+        if self.is_over() {
+            return;
+        }
         if self.stop_code.is_none() {
             self.assembly.discard();
             self.stop_code = Some(code);
@@ -452,6 +455,13 @@ impl<A: Assembly> LiveHalf<A> {
             return true;
         }
         self.assembly.received().has(self.read_count)
+    }
+
+    // Whether the end was told, or a reset.
+    fn is_over(&self) -> bool
+        ensures { result ≡ is_over self.now }
+    {
+        self.told && (self.reset_code.is_some() || self.is_whole())
     }
 
     // Whether the final size is known and every offset below it came.

@@ -4,6 +4,7 @@ ghost use Rattle.std.specs.Ordering.{nat_cmp};
 ghost use Rattle.std.specs.BTreeMap as tree;
 ghost use Rattle.std.specs.BTreeMap.{IsOrdered, btree_map_len};
 ghost use Rattle.qs_ranges.specs.Numbers.{MAX_VARINT, is_within};
+ghost use Rattle.qs_recv.specs.Ring.{IsThere, StayWritten};
 ghost use Rattle.qs_recv.specs.Pages.{AreWhole, has_page, is_used, moved_byte, page_byte};
 
 use crate::ring::{Ring, is_at, write_at};
@@ -151,12 +152,14 @@ impl Pages {
         requires small { to ≤ MAX_VARINT }
         requires whole { AreWhole self.old.pages }
         requires ordered { from ≤ to }
-        requires fits { to ≤ from + length ring.old }
-        ensures same_len { length ring.new ≡ length ring.old }
+        requires fits { to ≤ from + length ring.old.0 }
+        ensures same_len { length ring.new.0 ≡ length ring.old.0 }
         ensures left { (n : ℕ) → tree.get nat_cmp self.new.pages n
             ≡ (if nat_lt (from / 16384) n && nat_lt (n * 16384) to then None else tree.get nat_cmp self.old.pages n) }
-        ensures moved { (base q : ℕ) → base ≤ from → to ≤ base + length ring.old → base ≤ q → q < to
-            → slice_index ring.new (q % length ring.old) ≡ moved_byte self.old.pages from q (slice_index ring.old (q % length ring.old)) }
+        ensures kept { StayWritten ring.old ring.new }
+        ensures there { (q : ℕ) → from / 16384 < q / 16384 → q < to → has_page self.old.pages q ≡ true → IsThere ring.new q }
+        ensures moved { (base q : ℕ) → base ≤ from → to ≤ base + length ring.old.0 → base ≤ q → q < to
+            → slice_index ring.new.0 (q % length ring.old.0) ≡ moved_byte self.old.pages from q (slice_index ring.old.0 (q % length ring.old.0)) }
     {
         let mut number = from / PAGE + 1;
         while number * PAGE < to {

@@ -3,13 +3,15 @@ ghost use Rattle.std.specs.Prelude.{◌≡◌, ℕ, ◌+◌, ◌-◌, ◌≤◌,
 ghost use Rattle.std.specs.FinMap as map;
 ghost use Rattle.qs_ranges.specs.Numbers.{MAX_VARINT, MissesRange, covers};
 ghost use Rattle.qs_recv.specs.Lawful.{IsLawful};
-ghost use Rattle.qs_recv.specs.Rest.{EndsAt, given};
+ghost use Rattle.qs_recv.specs.Rest.{EndsAt, IsAtRest, given};
+ghost use Rattle.qs_recv.specs.Halves.{over_lane, IsSlotOf};
 ghost use Rattle.qs_recv.specs.Peek.{IsPeek};
 ghost use Rattle.qs_recv.specs.Sound.{CodeFits};
-ghost use Rattle.qs_recv.specs.Lane.{new_lane, highest, highest_after, noted, taken, is_whole, check_stream, check_reset, take_stream, take_reset, read_answer, bytes_read, after_read, stop, stop_and_forget, raise, raise_answer, set_window, MAX_WINDOW};
+ghost use Rattle.qs_recv.specs.Lane.{new_lane, highest, highest_after, noted, taken, is_whole, is_over, check_stream, check_reset, take_stream, take_reset, read_answer, bytes_read, after_read, stop, stop_and_forget, raise, raise_answer, set_window, MAX_WINDOW};
 
 use crate::credit::{Share, limit_with, next_limit};
 use crate::half::{Peek, Read};
+use crate::halves::RecvSlot;
 use crate::window::Windows;
 use std::marker::Model;
 
@@ -150,12 +152,15 @@ impl Rest {
         self.told
     }
 
-    /// Notes a stop: the first code stays.
+    /// Notes a stop: the first code stays, and what is over isn't stopped.
     pub(crate) fn stop(&mut self, code: u64)
         requires { code ≤ MAX_VARINT }
         ensures after { self.new ≡ stop self.old code }
         ensures same_highest { highest self.new ≡ highest self.old }
     {
+        if self.is_over() {
+            return;
+        }
         if !self.is_stopped {
             self.is_stopped = true;
             self.stop = code;
@@ -297,6 +302,42 @@ impl Rest {
         given(self.is_reset, self.reset)
     }
 
+    /// The same in few bytes, where it was read to its end.
+    pub(crate) fn kept(&self) -> Option<RecvSlot>
+        ensures { IfSome result (IsSlotOf self.now) }
+    {
+        if !self.told || self.is_reset || self.is_stopped || !self.is_sized {
+            return None;
+        }
+        let past = (self.limit - self.size) as u32;
+        let windows = Windows::new(
+            self.windows.widest(),
+            self.windows.size(),
+            self.windows.share(),
+        );
+        Some(RecvSlot::Over(self.size, past, windows))
+    }
+
+    /// A half that was read to its end, of its length, of how far its limit lies past that, and of its windows.
+    pub(crate) fn over(end: u64, past: u32, windows: &Windows) -> Self
+        requires { IsAtRest (over_lane end past windows.now) end end }
+        ensures { result ≡ over_lane end past windows.now }
+    {
+        Rest {
+            read_count: end,
+            received_end: end,
+            limit: end + past as u64,
+            size: end,
+            reset: 0,
+            stop: 0,
+            windows: Windows::new(windows.widest(), windows.size(), windows.share()),
+            is_sized: true,
+            is_reset: false,
+            is_stopped: false,
+            told: true,
+        }
+    }
+
     // The number below which the offsets are that came, once a frame's did. None where one of its bytes would be stored, or
     // offsets lie apart.
     fn end_with(&self, offset: u64, bytes: &[u8]) -> Option<u64>
@@ -322,6 +363,13 @@ impl Rest {
         ensures { result ≡ ((self.now.told && is_whole self.now) || is_some self.now.reset_code) }
     {
         (self.told && self.is_whole()) || self.is_reset
+    }
+
+    // Whether the end was told, or a reset.
+    fn is_over(&self) -> bool
+        ensures { result ≡ is_over self.now }
+    {
+        self.told && (self.is_reset || self.is_whole())
     }
 
     // Whether the final size is known and every offset below it came.

@@ -1,7 +1,7 @@
 //! A ring of bytes of which only the written ones are kept, so that a new one needn't be filled.
 ghost use Rattle.std.specs.Prelude.{◌≡◌, if◌then◌else◌, ℕ, ◌+◌, ◌-◌, ◌%◌, ◌<◌, ◌≤◌, ◌^◌, [], ◌++◌, max, min, length, slice_index, IsTrue, ◌↔◌, IfOk, OnOk, OnErr, vec_len, vec_capacity};
 ghost use Rattle.qs_ranges.specs.Numbers.{is_within};
-ghost use Rattle.qs_recv.specs.Ring.{AreAt, IsMoved, IsWritten, around};
+ghost use Rattle.qs_recv.specs.Ring.{AreAt, AreWritten, IsMoved, IsWritten, StayWritten, StayWrittenTo, around};
 ghost use Rattle.qs_recv.specs.Lane.{MAX_WINDOW};
 
 use qs_ranges::NoMemory;
@@ -20,23 +20,23 @@ pub(crate) struct Ring {
 }
 
 impl Model for Ring {
-    ghost use Rattle.std.specs.Prelude.{ℕ, List, vec_len, vec_capacity};
-    ghost use Rattle.std.specs.Coded.{coded_ℕ, coded_list};
-    ghost use Rattle.qs_recv.specs.Ring.{IsKept, places_of};
+    ghost use Rattle.std.specs.Prelude.{ℕ, vec_len, vec_capacity};
+    ghost use Rattle.std.specs.Coded.{coded×, coded_ℕ, coded_list};
+    ghost use Rattle.qs_recv.specs.Ring.{IsKept, RingBytes, places_of};
 
-    // The byte of each place.
-    ghost Value = { List ℕ };
+    // The byte of each place, and which of them were written.
+    ghost Value = { RingBytes };
 
-    ghost coded = { coded_list coded_ℕ };
+    ghost coded = { coded× (coded_list coded_ℕ) (coded× coded_ℕ coded_ℕ) };
 
-    ghost view = { λ r. places_of r.turn r.size r.bytes.items };
+    ghost view = { λ r. (places_of r.turn r.size r.bytes.items, (r.turn, vec_len r.bytes)) };
 
     ghost invariant = { λ r. IsKept r.turn r.size (vec_len r.bytes) (vec_capacity r.bytes) };
 }
 
 impl Ring {
     pub(crate) fn none(alloc: Global) -> Self
-        ensures { result ≡ [] }
+        ensures { result.0 ≡ [] }
     {
         Self {
             bytes: Vec::new(alloc),
@@ -46,7 +46,7 @@ impl Ring {
     }
 
     pub(crate) fn len(&self) -> usize
-        ensures { result ≡ length self.now }
+        ensures { result ≡ length self.now.0 }
     {
         self.size
     }
@@ -54,10 +54,12 @@ impl Ring {
     /// Writes bytes to the places of the offsets from `at` on, in two pieces where these wrap.
     pub(crate) fn write(&mut self, at: u64, bytes: &[u8])
         requires small { at ≤ 2 ^ 62 }
-        requires some { 0 < length self.old }
-        requires fits { length bytes.now ≤ length self.old }
-        ensures same_len { length self.new ≡ length self.old }
-        ensures written { IsWritten at bytes.now self.old self.new }
+        requires some { 0 < length self.old.0 }
+        requires fits { length bytes.now ≤ length self.old.0 }
+        ensures same_len { length self.new.0 ≡ length self.old.0 }
+        ensures written { IsWritten at bytes.now self.old.0 self.new.0 }
+        ensures kept { StayWritten self.old self.new }
+        ensures there { AreWritten self.new at (at + length bytes.now) }
     {
         let place = place_of(at + self.turn as u64, self.size);
         let room = self.size - place;
@@ -73,9 +75,10 @@ impl Ring {
     /// Copies the bytes of the offsets from `at` on out, in two pieces where their places wrap.
     pub(crate) fn copy_out(&mut self, at: u64, into: &mut [u8])
         requires small { at ≤ 2 ^ 62 }
-        requires fits { length into.old ≤ length self.old }
-        ensures same { self.new ≡ self.old }
-        ensures out { (k : ℕ) → k < length into.old → slice_index into.new k ≡ slice_index self.old ((at + k) % length self.old) }
+        requires fits { length into.old ≤ length self.old.0 }
+        ensures same { self.new.0 ≡ self.old.0 }
+        ensures kept { StayWritten self.old self.new }
+        ensures out { (k : ℕ) → k < length into.old → slice_index into.new k ≡ slice_index self.old.0 ((at + k) % length self.old.0) }
     {
         let count = into.len();
         if count == 0 {
@@ -92,31 +95,24 @@ impl Ring {
         write_at(into, front.len(), back);
     }
 
-    /// The bytes of the offsets from `at` on, at most so many, in two pieces where their places wrap: as far as they were written, and
-    /// one at least.
+    /// So many bytes, from that of the offset `at` on, in two pieces where their places wrap. All of them were written.
     pub(crate) fn front(&self, at: u64, count: usize) -> (&[u8], &[u8])
         requires small { at ≤ 2 ^ 62 }
         requires wanted { 0 < count }
-        requires fits { count ≤ length self.now }
-        ensures some { 0 < length (result.0.now ++ result.1.now) }
-        ensures within { length (result.0.now ++ result.1.now) ≤ count }
-        ensures there { AreAt self.now at (result.0.now ++ result.1.now) }
+        requires fits { count ≤ length self.now.0 }
+        requires there { AreWritten self.now at (at + count) }
+        ensures whole { length (result.0.now ++ result.1.now) ≡ count }
+        ensures there { AreAt self.now.0 at (result.0.now ++ result.1.now) }
     {
         let place = place_of(at + self.turn as u64, self.size);
-        let end = self.bytes.len();
-        if place >= end {
-            return (&[0], &[]);
-        }
-        let kept = if end < self.size { end - place } else { count };
-        let shown = count.min(kept);
-        pieces(&self.bytes, self.size, place, shown)
+        pieces(&self.bytes, self.size, place, count)
     }
 
     /// Whether bytes are the ones at the places of the offsets from `at` on, in two pieces where these wrap.
     pub(crate) fn are_at(&self, at: u64, bytes: &[u8]) -> bool
         requires small { at ≤ 2 ^ 62 }
-        requires fits { length bytes.now ≤ length self.now }
-        ensures { IsTrue result ↔ AreAt self.now at bytes.now }
+        requires fits { length bytes.now ≤ length self.now.0 }
+        ensures { IsTrue result ↔ AreAt self.now.0 at bytes.now }
     {
         let count = bytes.len();
         if count == 0 {
@@ -142,20 +138,22 @@ impl Ring {
         requires from_fits { from ≤ 2 ^ 62 }
         requires some { 0 < size }
         requires small { size ≤ MAX_WINDOW }
-        requires had { count ≤ length self.old }
+        requires had { count ≤ length self.old.0 }
         requires fits { count ≤ size }
-        ensures same { self.new ≡ self.old }
-        ensures len { IfOk result (λ other. length other ≡ size) }
-        ensures moved { IfOk result (λ other. IsMoved from count self.old other) }
+        ensures same { self.new.0 ≡ self.old.0 }
+        ensures len { IfOk result (λ other. length other.0 ≡ size) }
+        ensures moved { IfOk result (λ other. IsMoved from count self.old.0 other.0) }
+        ensures there { IfOk result (λ other. AreWritten other from (from + count)) }
+        ensures err { OnErr result (self.new ≡ self.old) }
     {
         let turn = size - place_of(from, size);
+        let mut bytes = Vec::with_capacity(alloc, size)?;
         if count == 0 {
-            let bytes = Vec::with_capacity(alloc, size)?;
             return Ok(Ring { bytes, size, turn });
         }
         let place = place_of(from + self.turn as u64, self.size);
         fill(&mut self.bytes, self.size, place, count);
-        let bytes = copied(alloc, &self.bytes, self.size, place, count, size)?;
+        copy_to(&mut bytes, &self.bytes, self.size, place, count);
         Ok(Ring { bytes, size, turn })
     }
 
@@ -172,10 +170,11 @@ impl Ring {
         requires from_fits { from ≤ 2 ^ 62 }
         requires some { 0 < size }
         requires small { size ≤ MAX_WINDOW }
-        requires had { count ≤ length self.old }
-        requires more { length self.old ≤ size }
-        ensures len { OnOk result (length self.new ≡ size) }
-        ensures moved { OnOk result (IsMoved from count self.old self.new) }
+        requires had { count ≤ length self.old.0 }
+        requires more { length self.old.0 ≤ size }
+        ensures len { OnOk result (length self.new.0 ≡ size) }
+        ensures moved { OnOk result (IsMoved from count self.old.0 self.new.0) }
+        ensures there { StayWrittenTo from (from + count) self.old self.new }
         ensures err { OnErr result (self.new ≡ self.old) }
     {
         if count == 0 {
@@ -198,9 +197,10 @@ impl Ring {
         requires from_fits { from ≤ 2 ^ 62 }
         requires some { 0 < count }
         requires fits { count ≤ size }
-        requires fewer { size ≤ length self.old }
-        ensures len { length self.new ≡ size }
-        ensures moved { IsMoved from count self.old self.new }
+        requires fewer { size ≤ length self.old.0 }
+        ensures len { length self.new.0 ≡ size }
+        ensures moved { IsMoved from count self.old.0 self.new.0 }
+        ensures there { AreWritten self.new from (from + count) }
     {
         let place = place_of(from + self.turn as u64, self.size);
         fill(&mut self.bytes, self.size, place, count);
@@ -245,6 +245,7 @@ fn fill(bytes: &mut Vec<u8>, size: usize, place: usize, count: usize)
     requires count { count ≤ size }
     ensures reaches { min (place + count) size ≤ vec_len bytes.new }
     ensures within { vec_len bytes.new ≤ size }
+    ensures more { vec_len bytes.old ≤ vec_len bytes.new }
     ensures room { vec_capacity bytes.old ≤ vec_capacity bytes.new }
     ensures same { (k : ℕ) → slice_index bytes.new.items k ≡ slice_index bytes.old.items k }
 {
@@ -288,34 +289,27 @@ fn bring_to_front(bytes: &mut Vec<u8>, place: usize, count: usize)
     bytes.truncate(count);
 }
 
-// The same in one piece, with room for more.
-fn copied(
-    alloc: Global,
-    bytes: &[u8],
-    size: usize,
-    place: usize,
-    count: usize,
-    room: usize,
-) -> Result<Vec<u8>, NoMemory>
+// The same in one piece, in memory that has room for it.
+fn copy_to(made: &mut Vec<u8>, bytes: &[u8], size: usize, place: usize, count: usize)
+    requires empty { made.old.items ≡ [] }
+    requires room { count ≤ vec_capacity made.old }
     requires reaches { min (place + count) size ≤ length bytes.now }
     requires within { length bytes.now ≤ size }
     requires place { place < size }
     requires count { count ≤ size }
-    ensures items { IfOk result (λ made. made.items ≡ around place count bytes.now) }
-    ensures room { IfOk result (λ made. room ≤ vec_capacity made) }
+    ensures items { made.new.items ≡ around place count bytes.now }
+    ensures room { vec_capacity made.old ≤ vec_capacity made.new }
 {
-    let mut made = Vec::with_capacity(alloc, room)?;
     let (front, back) = pieces(bytes, size, place, count);
-    made.extend_from_slice(front)?;
-    made.extend_from_slice(back)?;
-    Ok(made)
+    let _copied = made.extend_from_slice(front);
+    let _copied = made.extend_from_slice(back);
 }
 
 // Writes bytes from a place on, behind zeros where none were written before it.
 #[inline(always)]
 fn write_over(into: &mut Vec<u8>, place: usize, bytes: &[u8])
     requires { place + length bytes.now ≤ vec_capacity into.old }
-    ensures len { vec_len into.new ≤ max (vec_len into.old) (place + length bytes.now) }
+    ensures len { vec_len into.new ≡ max (vec_len into.old) (place + length bytes.now) }
     ensures room { vec_capacity into.old ≤ vec_capacity into.new }
     ensures written { (k : ℕ) → slice_index into.new.items k
         ≡ (if is_within place (place + length bytes.now) k then slice_index bytes.now (k - place) else slice_index into.old.items k) }

@@ -5,7 +5,7 @@ ghost use Rattle.std.specs.FinSet as set;
 ghost use Rattle.qs_ranges.specs.Numbers.{EndsBefore, MAX_VARINT, MissesRange, covers, numbers};
 ghost use Rattle.qs_recv.specs.Assembled.{put};
 ghost use Rattle.qs_recv.specs.Pages.{AreWhole, IsFilledApart, has_page, is_used, page_byte};
-ghost use Rattle.qs_recv.specs.Ring.{AreKept, IsFilled, IsMoved, IsNextGap, IsNextRun, IsReach, IsSizeFor, byte_of, missing_count};
+ghost use Rattle.qs_recv.specs.Ring.{AreFilled, AreKept, IsFilled, IsMoved, IsNextGap, IsNextRun, IsReach, IsSizeFor, StayWritten, StayWrittenTo, byte_of, missing_count};
 ghost use Rattle.qs_recv.specs.Lane.{MAX_WINDOW};
 
 use crate::assembly::{Assembly, Peeking, Skipping};
@@ -61,16 +61,16 @@ impl Model for RingAssembly {
     ghost use Rattle.qs_recv.specs.Assembled.{Assembled};
     ghost use Rattle.qs_recv.specs.Codes.{assembled_code};
     ghost use Rattle.std.specs.BTreeMap.{btree_map_len};
-    ghost use Rattle.qs_recv.specs.Ring.{byte_of, stored_in_ring, IsRing, IsSized};
+    ghost use Rattle.qs_recv.specs.Ring.{byte_of, stored_in_ring, CameWritten, IsRing, IsSized};
 
     // What it holds, how long the ring and the pages are, and where what stands apart begins.
     ghost Value = { Assembled × (ℕ × ℕ) };
 
     ghost coded = { coded× assembled_code (coded× coded_ℕ coded_ℕ) };
 
-    ghost view = { λ a. (record { stored = stored_in_ring a.received (byte_of a.ring a.near a.apart.pages) a.window a.read_count a.discarding; received = a.received; read_count = a.read_count; window = a.window; discarding = a.discarding }, (length a.ring + btree_map_len a.apart.pages * 16384, a.near)) };
+    ghost view = { λ a. (record { stored = stored_in_ring a.received (byte_of a.ring.0 a.near a.apart.pages) a.window a.read_count a.discarding; received = a.received; read_count = a.read_count; window = a.window; discarding = a.discarding }, (length a.ring.0 + btree_map_len a.apart.pages * 16384, a.near)) };
 
-    ghost invariant = { λ a. IsRing (byte_of a.ring a.near a.apart.pages) a.received a.window a.read_count a.stored a.discarding × IsSized a.ring a.apart.pages a.received a.read_count a.near a.end a.window a.discarding };
+    ghost invariant = { λ a. IsRing (byte_of a.ring.0 a.near a.apart.pages) a.received a.window a.read_count a.stored a.discarding × IsSized a.ring.0 a.apart.pages a.received a.read_count a.near a.end a.window a.discarding × CameWritten a.ring a.received a.read_count a.near a.discarding };
 }
 
 impl Assembly for RingAssembly {
@@ -409,11 +409,12 @@ fn reach(
 ) -> Result<(), NoMemory>
     requires small { window ≤ MAX_WINDOW }
     requires from_fits { from ≤ 2 ^ 62 }
-    requires had { kept ≤ length ring.old }
-    requires within { length ring.old ≤ window }
+    requires had { kept ≤ length ring.old.0 }
+    requires within { length ring.old.0 ≤ window }
     requires fits { span ≤ window }
-    ensures ok { OnOk result (IsReach from kept span window ring.old ring.new) }
-    ensures short { OnErr result (length ring.old < span) }
+    ensures ok { OnOk result (IsReach from kept span window ring.old.0 ring.new.0) }
+    ensures there { StayWrittenTo from (from + kept) ring.old ring.new }
+    ensures short { OnErr result (length ring.old.0 < span) }
     ensures err { OnErr result (ring.new ≡ ring.old) }
 {
     if span <= ring.len() as u64 {
@@ -429,12 +430,13 @@ fn reach(
 fn shed(alloc: Global, ring: &mut Ring, from: u64, span: u64, window: u64)
     requires small { window ≤ MAX_WINDOW }
     requires from_fits { from ≤ 2 ^ 62 }
-    requires within { length ring.old ≤ window }
-    requires reaches { span ≤ length ring.old }
-    ensures bound { length ring.new ≤ max 4096 (3 * span) }
-    ensures fewer { length ring.new ≤ length ring.old }
-    ensures reaches { span ≤ length ring.new }
-    ensures moved { IsMoved from span ring.old ring.new }
+    requires within { length ring.old.0 ≤ window }
+    requires reaches { span ≤ length ring.old.0 }
+    ensures bound { length ring.new.0 ≤ max 4096 (3 * span) }
+    ensures fewer { length ring.new.0 ≤ length ring.old.0 }
+    ensures reaches { span ≤ length ring.new.0 }
+    ensures moved { IsMoved from span ring.old.0 ring.new.0 }
+    ensures there { StayWrittenTo from (from + span) ring.old ring.new }
 {
     let len = ring.len() as u64;
     if len <= IDLE_SIZE.max(3 * span) {
@@ -464,9 +466,11 @@ fn store(
     requires begins { offset ≤ first }
     requires some { first < stop }
     requires ends { stop ≤ offset + length bytes.now }
-    requires fits { offset + length bytes.now ≤ first + length ring.old }
-    ensures same_len { length ring.new ≡ length ring.old }
-    ensures filled { IsFilled received.old first (offset + length bytes.now) offset bytes.now ring.old ring.new }
+    requires fits { offset + length bytes.now ≤ first + length ring.old.0 }
+    ensures same_len { length ring.new.0 ≡ length ring.old.0 }
+    ensures filled { IsFilled received.old first (offset + length bytes.now) offset bytes.now ring.old.0 ring.new.0 }
+    ensures kept { StayWritten ring.old ring.new }
+    ensures there { AreFilled received.old first (offset + length bytes.now) ring.new }
     ensures count { IfOk result (λ n. n ≡ missing_count received.old first (offset + length bytes.now - first)) }
     ensures noted { OnOk result (received.new ≡ set.union received.old (numbers offset (offset + length bytes.now))) }
     ensures err { OnErr result (received.new ≡ received.old) }
@@ -494,10 +498,12 @@ fn fill_gaps(
     requires begins { offset ≤ first }
     requires some { first < stop }
     requires ends { stop ≤ offset + length bytes.now }
-    requires fits { offset + length bytes.now ≤ first + length ring.old }
-    ensures same_len { length ring.new ≡ length ring.old }
+    requires fits { offset + length bytes.now ≤ first + length ring.old.0 }
+    ensures same_len { length ring.new.0 ≡ length ring.old.0 }
     ensures count { result ≡ missing_count received.now first (offset + length bytes.now - first) }
-    ensures filled { IsFilled received.now first (offset + length bytes.now) offset bytes.now ring.old ring.new }
+    ensures filled { IsFilled received.now first (offset + length bytes.now) offset bytes.now ring.old.0 ring.new.0 }
+    ensures kept { StayWritten ring.old ring.new }
+    ensures there { AreFilled received.now first (offset + length bytes.now) ring.new }
 {
     let end = offset + bytes.len() as u64;
     if stop == end {
@@ -641,9 +647,9 @@ fn is_kept(
     requires begins { offset ≤ start }
     requires whole { AreWhole apart.now.pages }
     requires missing { set.contains received.now near ≡ false }
-    requires fits { near ≤ start + length ring.now }
+    requires fits { near ≤ start + length ring.now.0 }
     requires had { (q : ℕ) → near ≤ q → set.contains received.now q ≡ true → has_page apart.now.pages q ≡ true }
-    ensures { IsTrue result ↔ AreKept received.now (byte_of ring.now near apart.now.pages) start offset bytes.now }
+    ensures { IsTrue result ↔ AreKept received.now (byte_of ring.now.0 near apart.now.pages) start offset bytes.now }
 {
     let end = offset + bytes.len() as u64;
     let mut at = start;

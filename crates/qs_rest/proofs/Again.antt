@@ -33,13 +33,13 @@ use Rattle.qs_machine.proofs.LanesAgain.{LaneAfter, lane_same, raise_after, HasD
 use Rattle.qs_machine.proofs.CallsSound.{sound_change}
 use Rattle.qs_machine.proofs.SentCalls.{keeps_change}
 use Rattle.qs_machine.proofs.CallsCounts.{lanes_call}
-use Rattle.qs_machine.proofs.Again.{WasOpened, IsDone, frame_done, frame_again, one_left}
+use Rattle.qs_machine.proofs.Again.{WasOpened, IsStopped, IsDone, frame_done, frame_again, one_left}
 use Rattle.qs_runs.specs.Pasts.{Past}
 use Rattle.qs_runs.specs.Invariant.{EndOk, SendOk, SendSlot}
 use Rattle.qs_runs.proofs.Taking.{or_else_none}
 use Rattle.qs_runs.proofs.Writing.{acked_written}
 use Rattle.qs_runs.proofs.Alone.{all_came, later_came, none_asked, took_effect}
-use Rattle.qs_rest.specs.Invariant.{IsAllAcked, ItemTaken}
+use Rattle.qs_rest.specs.Invariant.{IsAllAcked, IsStopTaken, ItemTaken}
 use Rattle.qs_rest.proofs.Streams.{missing_is}
 
 -- What a call keeps
@@ -119,7 +119,7 @@ abbrev pub StillDone : End → Seen → Type 0
 StillDone e (Stream n offset bytes fin) = WasOpened e n × (l : RecvLane) × (lookup e.recvs n ≡ Some l) × HasData l offset bytes fin
 StillDone e (Control (MaxStreamData n m)) = WasOpened e n
 StillDone e (Control (ResetStream n code size)) = WasOpened e n × (l : RecvLane) × (lookup e.recvs n ≡ Some l) × HasReset l size
-StillDone e (Control (StopSending n code)) = WasOpened e n × (l : SendLane) × (lookup e.sends n ≡ Some l) × (is_some l.stopped ≡ true)
+StillDone e (Control (StopSending n code)) = WasOpened e n
 StillDone e (Control (StreamDataBlocked n m)) = WasOpened e n
 StillDone e f = Unit {0}
 
@@ -137,7 +137,7 @@ module _ (a b : End) (keeps : Keeps a b) (recvs : KeptIn LaneAfter a.recvs b.rec
   still_stays (Stream n offset bytes fin) (was, l, is, has) = (let (m, there, r) = recvs n l is in (opened_stays n was, m, there, data_stays l m offset bytes fin r has))
   still_stays (Control (MaxStreamData n m)) was = opened_stays n was
   still_stays (Control (ResetStream n code size)) (was, l, is, has) = (let (m, there, r) = recvs n l is in (opened_stays n was, m, there, reset_stays l m size r has))
-  still_stays (Control (StopSending n code)) (was, l, is, told) = (let (m, there, r) = keeps.1 n l is in (opened_stays n was, m, there, r told))
+  still_stays (Control (StopSending n code)) was = opened_stays n was
   still_stays (Control (StreamDataBlocked n m)) was = opened_stays n was
   still_stays f h = tt
 
@@ -157,7 +157,7 @@ pub done_still : (e : End) (f : Seen) → IsDone f e → StillDone e f
 done_still e (Stream n offset bytes fin) (fine, was, l, is, has) = (was, l, is, has)
 done_still e (Control (MaxStreamData n m)) (fine, was, l, is, le) = was
 done_still e (Control (ResetStream n code size)) (fine, was, l, is, has) = (was, l, is, has)
-done_still e (Control (StopSending n code)) (fine, was, l, is, refused, told) = (was, l, is, told)
+done_still e (Control (StopSending n code)) (fine, was, l, is, done) = was
 done_still e (Control (StreamDataBlocked n m)) (fine, was) = was
 done_still e f h = tt
 
@@ -179,6 +179,11 @@ module _ (p : Past) (e : End) (ok : EndOk p e) where
       whole : is_whole l ≡ true
       whole = and_from _ _ (eq-eqb (unacked_from l) l.written first) all.end
 
+  stop_done : (n : ℕ) (l : SendLane) → lookup e.sends n ≡ Some l → (answers : Bool) → IsStopTaken answers l → IsStopped answers l
+  stop_done n l is answers (inl reset) = inl (all_refused n l is (inl reset))
+  stop_done n l is answers (inr (inl all)) = inl (all_refused n l is (inr all))
+  stop_done n l is answers (inr (inr told)) = inr told
+
   -- what it did is done still
   whole_done : (f : Seen) → is_ours f ≡ true → verdict e f ≡ None → ItemTaken e f → StillDone e f → IsDone f e
   unfolding verdict
@@ -188,8 +193,7 @@ module _ (p : Past) (e : End) (ok : EndOk p e) where
   whole_done (Control (MaxStreams Bidi m)) ours fine taken still = taken
   whole_done (Control (MaxStreams Uni m)) ours fine taken still = taken
   whole_done (Control (ResetStream n code size)) ours fine taken (was, l, is, has) = ((or_else_none (state_fault_in e n) _ fine).0, was, l, is, has)
-  whole_done (Control (StopSending n code)) ours fine (l, is, over) (was, m, there, told) =
-      (fine, was, m, there, all_refused n m there (subst (λ (x : SendLane). (is_some x.was_reset ≡ true) ⊎ IsAllAcked x) (same_Some l m (sym is ∙ there)) over), told)
+  whole_done (Control (StopSending n code)) ours fine (l, is, over) was = (fine, was, l, is, stop_done n l is e.tuning.answers_stops over)
   whole_done (Control (DataBlocked m)) ours fine taken still = tt
   whole_done (Control (StreamDataBlocked n m)) ours fine taken was = (fine, was)
   whole_done (Control (StreamsBlocked d m)) ours fine taken still = tt

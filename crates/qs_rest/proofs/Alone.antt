@@ -50,7 +50,7 @@ module _ (p : Past) where
   stops_came f e fs (faults.Closing closing) result new is halves acked ours h =
       let m = moved_same p e halves acked in
       subst (Came p e fs (all_came result)) (sym h.2) (record {
-        moved = record { role = m.role; peer = m.peer; conn = m.conn; bidi = m.bidi; uni = m.uni; sends = m.sends; halves = m.halves; acked = m.acked };
+        moved = record { role = m.role; peer = m.peer; tuning = m.tuning; conn = m.conn; bidi = m.bidi; uni = m.uni; sends = m.sends; halves = m.halves; acked = m.acked };
         grow = all_grow_refl e.recvs;
         done = λ d. absurd (false≢true (sym (ap all_came is) ∙ d));
       })
@@ -74,7 +74,7 @@ module _ (p : Past) where
           record {
             moved = moved_twice p e next new m rest.moved;
             grow = grow_trans e.recvs next.recvs new.recvs effect.grow rest.grow;
-            done = λ d. (item_stays next new rest.moved.conn rest.moved.bidi rest.moved.uni rest.moved.sends rest.grow g (frame_done p e ok g here may.1), rest.done (later_came one later (sym (ap all_came is) ∙ d)));
+            done = λ d. (item_stays next new rest.moved.tuning rest.moved.conn rest.moved.bidi rest.moved.uni rest.moved.sends rest.grow g (frame_done p e ok g here may.1), rest.done (later_came one later (sym (ap all_came is) ∙ d)));
           }
       by true ours (inr (fault, one, is)) goes = stops_came f e (seen f ∷ seen_all fs) fault result new is halves acked ours one
       by false other more goes =
@@ -86,9 +86,9 @@ module _ (p : Past) where
   settled_came e mid fs a b new fewer same h =
       let rises = each_grows raise mid.recvs raise_grows in
       subst (Came p e fs b) (sym same) (record {
-        moved = record { role = h.moved.role; peer = h.moved.peer; conn = h.moved.conn; bidi = h.moved.bidi; uni = h.moved.uni; sends = h.moved.sends; halves = h.moved.halves; acked = h.moved.acked };
+        moved = record { role = h.moved.role; peer = h.moved.peer; tuning = h.moved.tuning; conn = h.moved.conn; bidi = h.moved.bidi; uni = h.moved.uni; sends = h.moved.sends; halves = h.moved.halves; acked = h.moved.acked };
         grow = grow_trans e.recvs mid.recvs _ h.grow rises;
-        done = λ d. items_stay mid (settle mid) (omega arith) (omega arith) (omega arith) (moved_same p mid h.moved.halves h.moved.acked).sends rises fs (h.done (fewer d));
+        done = λ d. items_stay mid (settle mid) refl (omega arith) (omega arith) (omega arith) (moved_same p mid h.moved.halves h.moved.acked).sends rises fs (h.done (fewer d));
       })
 
   pub handed_came : (fs : List FrameValue) (e : End) (result : Result Taken TakeFault) (new : End) → EndOk p e → e.closed ≡ None → AllTrue p e → AckedTrue p e.acked → ((g : Seen) → Among g (seen_all fs) → Tells p.theirs g) → HandedIn fs e result new →

@@ -1,10 +1,10 @@
 -- What each call of an owner does before its limits move: one of a few edits.
-use Rattle.std.proofs.Common.{◌≡◌, ℕ, ◌+◌, ◌-◌, ◌*◌, ◌≤◌, Bool, true, false, List, [], length, take, Option, Some, None, is_some, cond, subst, sym, inl, inr, refl, arith}
-use Rattle.std.specs.Prelude.{Result, Ok, Err, min}
+use Rattle.std.proofs.Common.{◌≡◌, ℕ, ◌+◌, ◌-◌, ◌*◌, ◌≤◌, List, [], length, take, Option, Some, None, is_some, subst, sym, inl, inr, refl, arith}
+use Rattle.std.specs.Prelude.{Result, Ok, Err}
 use Rattle.std.proofs.lemmas.List.{length-take}
 use Rattle.qs_ranges.specs.Numbers.{MAX_VARINT}
 use Rattle.qs_wire.specs.declared.stream_id.Dir.{Dir}
-use Rattle.qs_wire.specs.declared.stream_id.Dir.TheVariants.{Uni}
+use Rattle.qs_wire.specs.declared.stream_id.Dir.TheVariants.{Bidi, Uni}
 use Rattle.qs_recv.specs.Lane.{after_read, stop, stop_and_forget}
 use Rattle.qs_recv.specs.declared.half.Read.{Read}
 use Rattle.qs_send.specs.Lane.{SendLane, refusal, reset_refusal, accepted, write_lane, finish_lane, reset_lane, buffer_lane}
@@ -15,13 +15,13 @@ use Rattle.qs_calls.specs.declared.making.Made.{Made}
 use Rattle.qs_calls.specs.declared.uses.OpenFault.TheVariants as opening
 use Rattle.qs_calls.specs.declared.uses.UseFault.{UseFault}
 use Rattle.qs_machine.specs.Ends.{End, send_lane, recv_lane, on_send, on_recv, opens}
-use Rattle.qs_machine.specs.Credit.{settle, credit_for}
+use Rattle.qs_machine.specs.Credit.{settle}
 use Rattle.qs_machine.specs.Due.{known_count}
 use Rattle.qs_machine.specs.Seen.{Seen, seen_all}
 use Rattle.qs_machine.specs.Lawful.{Fills}
-use Rattle.qs_machine.specs.Owner.{OpenStep, AcceptStep, ReadBy, ConsumeStep, recv_refusal, is_read_no_more, with_wanted, refuse_if, IsBlocked, IsOpened, GivesNone, GivesBidi, GivesUni, AcceptOpen, peer_type, next_stream, send_refusal, accepted_by, StopAndForgetStep}
+use Rattle.qs_machine.specs.Owner.{OpenStep, AcceptStep, AcceptOfStep, ReadBy, ConsumeStep, recv_refusal, is_read_no_more, with_wanted, refuse_if, IsBlocked, IsOpened, GivesNone, GivesBidi, GivesUni, AcceptOpen, AcceptOpenOf, peer_type, next_stream, send_refusal, accepted_by, StopAndForgetStep}
 use Rattle.qs_machine.specs.Making.{MakeAt, make_refusal, LoseStep, losses, claim_refusal, lose_refusal}
-use Rattle.qs_machine.specs.EndStep.{Answer, EndStep, Open, Accept, Write, Consume, Lose}
+use Rattle.qs_machine.specs.EndStep.{Answer, EndStep, Open, Accept, AcceptOf, Write, Consume, Lose}
 use Rattle.qs_calls.specs.declared.settings.SetFault.{SetFault}
 use Rattle.qs_machine.specs.Setting.{Setting, SendBuffer, SetStep, set_refusal}
 use Rattle.qs_calls.specs.declared.event.Act.{Act}
@@ -31,17 +31,14 @@ use Rattle.qs_calls.specs.declared.answer.Answer.TheVariants as answers
 use Rattle.qs_runs.specs.Worlds.{OwnStep}
 use Rattle.qs_machine.proofs.Choices.{by_refusal, by_test, if_allowed}
 use Rattle.qs_machine.proofs.EveryCall.{half_allowed}
+use Rattle.qs_machine.proofs.Writing.{accepted_few}
 
 -- no offset past the greatest integer is written
 few_taken : (e : End) (l : SendLane) (bytes : List ℕ) → length (take (accepted_by e l (length bytes)) bytes) ≤ MAX_VARINT - l.written
 few_taken e l bytes =
     let short : length (take (accepted_by e l (length bytes)) bytes) ≤ accepted_by e l (length bytes) = omega (arith, length-take (accepted_by e l (length bytes)) bytes) in
     let few : accepted l (length bytes) ≤ MAX_VARINT - l.written = omega arith in
-    omega (arith, short, few, cut e.tuning.within_credit (accepted l (length bytes)) (credit_for e l))
-  where
-    cut : (b : Bool) (n m : ℕ) → cond b (min n m) n ≤ n
-    cut true n m = omega arith
-    cut false n m = omega arith
+    omega (arith, short, few, accepted_few e l (length bytes))
 
 -- P holds of the end, and stays with each edit by a call; what a payload leaves is told apart
 pub record Edits (P : End → Type 0) (old : End) : Type 0 where
@@ -83,6 +80,17 @@ module _ (P : End → Type 0) (old : End) (edits : Edits P old) where
       let bidi : GivesBidi old answer new → P new = λ g. settled (record old { accepted_bidi = old.accepted_bidi + 1 }) new (edits.accepts (old.accepted_bidi + 1) old.accepted_uni) g.1 in
       by_test (P new) _ (GivesNone old answer new) (AcceptOpen old answer new) step none
       (λ goes. by_test (P new) _ (GivesBidi old answer new) (GivesUni old answer new) goes bidi uni)
+
+  pub accept_of_by : (d : Dir) (answer : Answer (AcceptOf d)) (new : End) → AcceptOfStep old d answer new → P new
+  accept_of_by d answer new step = by_test (P new) _ (GivesNone old answer new) (AcceptOpenOf old d answer new) step (λ g. becomes new g.1) (go d)
+    where
+      go : (d : Dir) → AcceptOpenOf old d answer new → P new
+      go Bidi goes =
+          by_test (P new) _ (GivesBidi old answer new) (GivesNone old answer new) goes
+          (λ g. settled (record old { accepted_bidi = old.accepted_bidi + 1 }) new (edits.accepts (old.accepted_bidi + 1) old.accepted_uni) g.1) (λ g. becomes new g.1)
+      go Uni goes =
+          by_test (P new) _ ((answer ≡ Some (old.accepted_uni * 4 + peer_type old Uni)) × (new ≡ settle (record old { accepted_uni = old.accepted_uni + 1 }))) (GivesNone old answer new) goes
+          (λ g. settled (record old { accepted_uni = old.accepted_uni + 1 }) new (edits.accepts old.accepted_bidi (old.accepted_uni + 1)) g.1) (λ g. becomes new g.1)
 
   read_by : (r : Option UseFault) (n size : ℕ) (answer : Result Read UseFault) (bytes : List ℕ) (new : End) → ReadBy r old n size answer bytes new → P new
   read_by (Some fault) n size answer bytes new step = becomes new step.2

@@ -8,7 +8,7 @@ use Rattle.qs_ranges.proofs.Sets.{covers-is, covers-of}
 use Rattle.qs_wire.specs.declared.stream_id.Dir.TheVariants.{Bidi, Uni}
 use Rattle.qs_recv.specs.Assembled.{forget}
 use Rattle.qs_recv.specs.Lane.{RecvLane, take_reset, is_whole, whole_to}
-use Rattle.qs_send.specs.Lane.{SendLane, allow_lane, reset_lane, stopped_lane, unacked_from, is_whole as send_whole}
+use Rattle.qs_send.specs.Lane.{SendLane, allow_lane, broken_off, first_code, stop_taken, unacked_from, is_whole as send_whole}
 use Rattle.qs_send.specs.declared.parts.SendFault.TheVariants.{Finished, WasReset}
 use Rattle.qs_send.specs.declared.piece.Item.{Item}
 use Rattle.qs_send.specs.declared.piece.Item.TheVariants.{MaxData, MaxStreamData, MaxStreams, ResetStream, StopSending}
@@ -21,13 +21,14 @@ use Rattle.qs_machine.proofs.TableLaws.{open_at}
 use Rattle.qs_machine.proofs.TablesAfter.{KeptIn}
 use Rattle.qs_machine.proofs.FramesSound.{no_fault}
 use Rattle.qs_machine.proofs.Again.{changed}
+use Rattle.qs_machine.proofs.EndsAfter.{after_opened, has_code}
 use Rattle.qs_runs.specs.Pasts.{Past, Tells}
 use Rattle.qs_runs.specs.Invariant.{EndOk, SendOk, SendSlot}
 use Rattle.qs_runs.proofs.Base.{before-missing}
 use Rattle.qs_runs.proofs.Changes.{Grows, AllGrow}
 use Rattle.qs_runs.proofs.Opening.{named_by, opened_ok, new_sends}
 use Rattle.qs_runs.proofs.Frames.{Effect, frame_keeps}
-use Rattle.qs_rest.specs.Invariant.{IsAllAcked, ItemTaken}
+use Rattle.qs_rest.specs.Invariant.{IsAllAcked, IsStopTaken, ItemTaken}
 use Rattle.qs_rest.proofs.Halves.{Lasts}
 
 -- What took effect stays
@@ -48,7 +49,12 @@ reset_stays l m g known = go m.reset_code refl
     go (Some code) is = ap is_some is
     go None is = absurd (false≢true (sym (ap is_some (g.reset is)) ∙ known))
 
-module _ (a b : End) (conn : a.known_data ≤ b.known_data) (bidi : a.known_bidi ≤ b.known_bidi) (uni : a.known_uni ≤ b.known_uni) (sends : KeptIn Lasts a.sends b.sends) (grow : AllGrow a.recvs b.recvs) where
+stop_stays : (answers : Bool) (l m : SendLane) → Lasts l m → IsStopTaken answers l → IsStopTaken answers m
+stop_stays answers l m r (inl reset) = inl (r.reset reset)
+stop_stays answers l m r (inr (inl all)) = inr (inl (r.whole all))
+stop_stays answers l m r (inr (inr (chosen, told))) = inr (inr (chosen, r.stopped told))
+
+module _ (a b : End) (tuned : b.tuning ≡ a.tuning) (conn : a.known_data ≤ b.known_data) (bidi : a.known_bidi ≤ b.known_bidi) (uni : a.known_uni ≤ b.known_uni) (sends : KeptIn Lasts a.sends b.sends) (grow : AllGrow a.recvs b.recvs) where
   pub item_stays : (f : Seen) → ItemTaken a f → ItemTaken b f
   item_stays (Control (MaxData m)) h = omega (arith, h, conn)
   item_stays (Control (MaxStreamData n m)) (l, is, le) = (let (k, there, r) = sends n l is in let up = r.limit in (k, there, omega (arith, le, up)))
@@ -59,7 +65,7 @@ module _ (a b : End) (conn : a.known_data ≤ b.known_data) (bidi : a.known_bidi
       (m, there, elim h [ inl r ↦ inl (reset_stays l m g r) | inr w ↦ inr (whole_stays l m g w) ])
   item_stays (Control (StopSending n code)) (l, is, h) =
       let (m, there, r) = sends n l is in
-      (m, there, elim h [ inl reset ↦ inl (r.reset reset) | inr w ↦ inr (r.whole w) ])
+      (m, there, subst (λ t. IsStopTaken t.answers_stops m) (sym tuned) (stop_stays a.tuning.answers_stops l m r h))
   item_stays f h = tt
 
   pub items_stay : (fs : List Seen) → AllByRecursion (ItemTaken a) fs → AllByRecursion (ItemTaken b) fs
@@ -102,9 +108,8 @@ reset_or_whole code size l = go (is_some l.reset_code || is_whole l) refl
     go true is = or_cases _ _ is
     go false is = inl refl
 
-abbrev stopped_by : Bool → Bool → ℕ → SendLane → SendLane
-stopped_by a b code l =
-    cond (is_some (cond a (Some WasReset) (cond b (Some Finished) None))) l (record l { kept = []; was_reset = Some (record { code = code; size = cond l.fin_sent l.written l.sent_end }) })
+abbrev refused_by : Bool → Bool → Bool
+refused_by a b = is_some (cond a (Some WasReset) (cond b (Some Finished) None))
 
 module _ (p : Past) (n limit : ℕ) (l : SendLane) (h : SendOk p n limit l) where
   -- all of a half was acknowledged
@@ -116,16 +121,19 @@ module _ (p : Past) (n limit : ℕ) (l : SendLane) (h : SendOk p n limit l) wher
       let end = (h.told offset bytes true (k, holds)).end refl in
       record { finished = (h.end end.0).0; end = parts.1; offsets = λ q lt. before-missing l.acked q (omega (arith, lt, same_end)) }
 
-  reset_or_acked : (code : ℕ) → (is_some (reset_lane l code).was_reset ≡ true) ⊎ IsAllAcked (reset_lane l code)
-  reset_or_acked code = go (is_some l.was_reset) (send_whole l) refl refl
+  stop_was_taken : (answers : Bool) (code : ℕ) → IsStopTaken answers (stop_taken answers l code)
+  stop_was_taken true code = go (is_some l.was_reset) (send_whole l) refl refl
     where
-      go : (a b : Bool) → is_some l.was_reset ≡ a → send_whole l ≡ b → (is_some (stopped_by a b code l).was_reset ≡ true) ⊎ IsAllAcked (stopped_by a b code l)
+      go : (a b : Bool) → is_some l.was_reset ≡ a → send_whole l ≡ b → IsStopTaken true (cond (refused_by a b) l (record l { stopped = first_code l.stopped code }))
       go true b ea eb = inl ea
-      go false true ea eb = inr (all_acked eb)
+      go false true ea eb = inr (inl (all_acked eb))
+      go false false ea eb = inr (inr (refl, has_code l.stopped code))
+  stop_was_taken false code = go (is_some l.was_reset) (send_whole l) refl refl
+    where
+      go : (a b : Bool) → is_some l.was_reset ≡ a → send_whole l ≡ b → IsStopTaken false (cond (refused_by a b) l (record (broken_off l code) { stopped = first_code l.stopped code }))
+      go true b ea eb = inl ea
+      go false true ea eb = inr (inl (all_acked eb))
       go false false ea eb = inl refl
-
-  stopped_or_acked : (code : ℕ) → (is_some (stopped_lane l code).was_reset ≡ true) ⊎ IsAllAcked (stopped_lane l code)
-  stopped_or_acked code = elim (reset_or_acked code) [ inl reset ↦ inl reset | inr all ↦ inr (record { finished = all.finished; end = all.end; offsets = all.offsets }) ]
 
 module _ (p : Past) (e : End) (ok : EndOk p e) where
   item_done : (i : Item) → Tells p.theirs (Control i) → item_verdict e i ≡ None → Effect p e (item_taken i e) (Control i) → ItemTaken (item_taken i e) (Control i)
@@ -147,7 +155,11 @@ module _ (p : Past) (e : End) (ok : EndOk p e) where
       let (l, is) = send_open e n fine in
       let opened : EndOk p (opened_by_peer n e) = opened_ok p e n ok (named_by p _ n t refl) (is_own e n) refl in
       let half = subst (SendSlot p n (first_send_limit (opened_by_peer n e) n)) is (opened.sends n) in
-      (stopped_lane l code, changed (opened_by_peer n e).sends n (λ x. stopped_lane x code) l is, stopped_or_acked p n (first_send_limit (opened_by_peer n e) n) l half code)
+      let answers = e.tuning.answers_stops in (
+        stop_taken answers l code,
+        changed (opened_by_peer n e).sends n (λ x. stop_taken answers x code) l is,
+        subst (λ t. IsStopTaken t.answers_stops (stop_taken answers l code)) (sym (after_opened n e).tuning) (stop_was_taken p n (first_send_limit (opened_by_peer n e) n) l half answers code),
+      )
   item_done i t fine h = tt
 
   pub frame_done : (f : Seen) → Tells p.theirs f → verdict e f ≡ None → ItemTaken (frame_taken f e) f

@@ -1,5 +1,5 @@
 -- Every run keeps what a rest needs, of both ends.
-use Rattle.std.proofs.Common.{◌≡◌, ℕ, ◌/◌, ◌%◌, zero, suc, List, [], ◌∷◌, map, None, Some, Result, Ok, false, slice_get, inl, inr, refl, sym, ap, ◌∙◌, subst, arith, nat_cmp}
+use Rattle.std.proofs.Common.{◌≡◌, ℕ, ◌/◌, ◌%◌, zero, suc, List, [], ◌∷◌, map, Option, None, Some, Result, Ok, false, slice_get, inl, inr, refl, sym, ap, ◌∙◌, subst, arith, nat_cmp}
 use Rattle.std.proofs.lemmas.Option.{none-some}
 use Rattle.std.proofs.lemmas.Bool.{false≢true}
 use Rattle.std.specs.Global.{Vec}
@@ -32,21 +32,22 @@ use Rattle.qs_machine.specs.Tables.{table, lookup, no_streams}
 use Rattle.qs_machine.specs.Ends.{End, new_end, wide_end_made}
 use Rattle.qs_machine.specs.Receiving.{ReceiveStep}
 use Rattle.qs_machine.specs.Alone.{TokenAckedStep, TokenLostStep}
-use Rattle.qs_machine.specs.Owner.{StopAndForgetStep}
+use Rattle.qs_wire.specs.declared.stream_id.Dir.{Dir}
+use Rattle.qs_machine.specs.Owner.{AcceptOfStep, StopAndForgetStep}
 use Rattle.qs_machine.specs.EndStep.{Call, Answer as CallAnswer, EndStep, TakeFrame, TakeFrames}
 use Rattle.qs_machine.specs.Raising.{RaiseStep}
 use Rattle.qs_machine.specs.Setting.{Setting, SetStep}
 use Rattle.qs_machine.proofs.Plains.{plain_nothing}
 use Rattle.qs_machine.proofs.SettledLimits.{new_ends_settled}
 use Rattle.qs_machine.proofs.Bounds.{no_lane, new_ends_settled as new_counts_settled}
-use Rattle.qs_runs.specs.Logs.{Part, Happening, Did, MadeAck, FilledIn, ConsumedUpTo, AckedToken, LostToken, RaisedLimits, CameWith, CameAlone, History, other, is_delivery, reads_of, texts_of, payload, processed, took, own_calls, HasSet, Forgot}
+use Rattle.qs_runs.specs.Logs.{Part, Happening, Did, MadeAck, FilledIn, ConsumedUpTo, AckedToken, LostToken, RaisedLimits, CameWith, CameAlone, History, other, is_delivery, reads_of, texts_of, payload, processed, took, own_calls, HasSet, Forgot, AcceptedOf}
 use Rattle.qs_runs.specs.Worlds.{World, Begins, end_of, OwnStep, TakesBytes, DeliverStep, ComeWithStep, ComeAloneStep, EventStep, WorldStep}
 use Rattle.qs_calls.specs.declared.settings.SetFault.{SetFault}
 use Rattle.qs_machine.specs.Setting.{Setting, SetStep}
 use Rattle.qs_runs.specs.Agree.{frames_in}
 use Rattle.qs_runs.specs.Pasts.{Past, packets_of, past, seen_by}
 use Rattle.qs_runs.specs.Invariant.{WorldOk}
-use Rattle.qs_runs.proofs.Histories.{past_own, past_peer, past_sender, past_receiver, Makes, past_makes, past_peer_makes, makes_ack, makes_fill, makes_none, past_consumed, past_peer_consumed, past_raised, past_came, past_came_from, past_came_to, past_token, past_peer_token, did, theirs_mine, payload_seen, makes_set, past_forgot}
+use Rattle.qs_runs.proofs.Histories.{past_own, past_peer, past_sender, past_receiver, Makes, past_makes, past_peer_makes, makes_ack, makes_fill, makes_none, past_consumed, past_peer_consumed, past_raised, past_came, past_came_from, past_came_to, past_token, past_peer_token, did, theirs_mine, payload_seen, makes_set, makes_given, past_forgot}
 use Rattle.qs_runs.proofs.Packing.{Packs, ack_packs, fill_packs}
 use Rattle.qs_runs.proofs.NewEnds.{first_world, made_first, ends_made}
 use Rattle.qs_runs.proofs.Runs.{two_sides, run_keeps, is_open_end, moved}
@@ -54,7 +55,7 @@ use Rattle.qs_runs.proofs.Alone.{with_took}
 use Rattle.qs_runs.proofs.Parts.{parts_held}
 use Rattle.qs_rest.specs.Invariant.{RestOk}
 use Rattle.qs_rest.specs.Rest.{EveryRunKeeps}
-use Rattle.qs_rest.proofs.Runs.{own_rests, consume_rests, packs_rest, lost_rests, token_rests, alone_rests, raise_rests, due_rests, receive_rests, peer_rests, set_rests, forget_rests, same_rests}
+use Rattle.qs_rest.proofs.Runs.{own_rests, consume_rests, packs_rest, lost_rests, token_rests, alone_rests, raise_rests, due_rests, receive_rests, peer_rests, set_rests, given_rests, forget_rests, same_rests}
 
 no_table : (k : ℕ) → table (no_streams {X = SendLane}) k ≡ []
 no_table zero = refl
@@ -143,6 +144,15 @@ module _ (a b : Settings) (h : History) (v w : World) (s : Side) (ok : WorldOk a
       (moved (λ p. RestOk p (end_of w s)) _ _ (past_makes s x [] h makes) (set_rests (past s h) (end_of v s) (end_of w s) (ok.sound s) (ok.sent s) (rests s) setting result step))
       (made_there x [] makes same)
 
+  -- a stream of one direction is given out
+  given_step : (d : Dir) (result : Option ℕ) → AcceptOfStep (end_of v s) d result (end_of w s) → end_of w (other s) ≡ end_of v (other s) → (t : Side) → RestOk (past t (AcceptedOf s d result ∷ h)) (end_of w t)
+  given_step d result step same =
+      let x = AcceptedOf s d result in
+      let makes = makes_given s d result in
+      both x
+      (moved (λ p. RestOk p (end_of w s)) _ _ (past_makes s x [] h makes) (given_rests (past s h) (end_of v s) (end_of w s) (ok.sound s) (ok.sent s) (rests s) d result step))
+      (made_there x [] makes same)
+
   raise_step : (limits : PeerLimits) (result : Result (Unit {0}) RaiseFault) → RaiseStep (end_of v s) limits result (end_of w s) → end_of w (other s) ≡ end_of v (other s) → (t : Side) → RestOk (past t (RaisedLimits s limits result ∷ h)) (end_of w t)
   raise_step limits result step same =
       both (RaisedLimits s limits result)
@@ -212,6 +222,7 @@ step_rests a b h v w (AckedToken s token result) ok rests ((landed, step), same)
 step_rests a b h v w (RaisedLimits s limits result) ok rests ((granted, step), same) = raise_step a b h v w s ok rests limits result step same
 step_rests a b h v w (HasSet s setting result) ok rests (step, same) = set_step a b h v w s ok rests setting result step same
 step_rests a b h v w (Forgot s n code result) ok rests (step, same) = forget_step a b h v w s ok rests n code result step same
+step_rests a b h v w (AcceptedOf s d result) ok rests (step, same) = given_step a b h v w s ok rests d result step same
 step_rests a b h v w (CameWith s k bytes result) ok rests step = came_step a b h v w s ok rests k bytes result step
 step_rests a b h v w (CameAlone s parts result) ok rests step = alone_step a b h v w s ok rests parts result step
 

@@ -18,10 +18,10 @@ use Rattle.qs_machine.specs.Raising.{RaiseStep, raise_refusal, greater_limits}
 use Rattle.qs_machine.specs.Setting.{Grant, StreamWindow}
 use Rattle.qs_machine.specs.FrameStep.{named, acks, frame_taken}
 use Rattle.qs_machine.specs.Lawful.{frame_put}
-use Rattle.qs_machine.specs.EndStep.{Call, Answer as CallAnswer, EndStep, Consume, Receive, TakeFrame, TakeFrames, TokenAcked, TokenLost, MakeAck, FillIn, RaiseLimits, Set, StopAndForget}
+use Rattle.qs_machine.specs.EndStep.{Call, Answer as CallAnswer, EndStep, Consume, Receive, TakeFrame, TakeFrames, TokenAcked, TokenLost, MakeAck, FillIn, RaiseLimits, Set, StopAndForget, AcceptOf}
 use Rattle.qs_machine.proofs.Leaves.{acks_leave, put_leaves, frame_leaves}
 use Rattle.qs_machine.proofs.EveryCall.{Change, changed, Comes, relates, Wanted, Took, Acked, Put, Raised, WasSet}
-use Rattle.qs_runs.specs.Logs.{Happening, Did, MadeAck, FilledIn, ConsumedUpTo, AckedToken, LostToken, RaisedLimits, CameWith, CameAlone, History, happened, other, HasSet, Forgot}
+use Rattle.qs_runs.specs.Logs.{Happening, Did, MadeAck, FilledIn, ConsumedUpTo, AckedToken, LostToken, RaisedLimits, CameWith, CameAlone, History, happened, other, HasSet, Forgot, AcceptedOf}
 use Rattle.qs_machine.specs.Setting.{SendBuffer}
 use Rattle.qs_runs.specs.Worlds.{World, AreGranted, end_of, EventStep, WorldStep, Run}
 use Rattle.qs_runs.specs.Invariant.{WorldOk}
@@ -119,6 +119,7 @@ step_rises h v w (AckedToken s token result) ((landed, step), same) = alone_rise
 step_rises h v w (RaisedLimits s limits result) ((granted, step), same) = alone_rises v w s (RaiseLimits limits) result step same
 step_rises h v w (HasSet s setting result) (step, same) = alone_rises v w s (Set setting) result step same
 step_rises h v w (Forgot s n code result) (step, same) = alone_rises v w s (StopAndForget n code) result step same
+step_rises h v w (AcceptedOf s d result) (step, same) = alone_rises v w s (AcceptOf d) result step same
 step_rises h v w (CameWith s k bytes result) (text, is, differ, step, same) = comes_rises v w s k bytes result step same
 step_rises h v w (CameAlone s parts result) (fs, there, inl step, same) = there_rises v w s (TakeFrames fs) result step same
 step_rises h v w (CameAlone s parts result) (fs, there, inr (f, is, step), same) = there_rises v w s (TakeFrame f) result step same

@@ -4,11 +4,12 @@ use Rattle.std.specs.Prelude.{cond}
 use Rattle.std.proofs.lemmas.Option.{none-some}
 use Rattle.std.proofs.lemmas.Bool.{cond_both, or_left, false≢true}
 use Rattle.qs_ranges.specs.Numbers.{MAX_VARINT}
-use Rattle.qs_send.specs.Lane.{SendLane, refusal, reset_refusal, write_lane, finish_lane, buffer_lane, reset_lane, stopped_lane, sent_lane, blocked_lane, allow_lane, acked_lane, reset_acked_lane}
+use Rattle.qs_send.specs.Lane.{SendLane, refusal, reset_refusal, write_lane, finish_lane, buffer_lane, reset_lane, broken_off, first_code, stop_taken, sent_lane, blocked_lane, allow_lane, acked_lane, reset_acked_lane}
 use Rattle.qs_send.specs.declared.parts.Chunk.{Chunk}
 use Rattle.qs_send.specs.declared.parts.SendFault.TheVariants.{Finished, WasReset}
 use Rattle.qs_runs.specs.Pasts.{Past}
 use Rattle.qs_runs.proofs.Members.{run-old}
+use Rattle.qs_machine.proofs.EndsAfter.{has_code}
 use Rattle.qs_rest.specs.Invariant.{IsAllAcked, HalfTrue, ResetTold}
 
 -- what no call takes back of a sending half
@@ -16,12 +17,13 @@ pub record Lasts (l m : SendLane) : Type 0 where
   pub limit : l.limit ≤ m.limit
   pub reset : is_some l.was_reset ≡ true → is_some m.was_reset ≡ true
   pub whole : IsAllAcked l → IsAllAcked m
+  pub stopped : is_some l.stopped ≡ true → is_some m.stopped ≡ true
 
 pub lasts_same : (l : SendLane) → Lasts l l
-lasts_same l = record { limit = omega arith; reset = λ is. is; whole = λ h. h }
+lasts_same l = record { limit = omega arith; reset = λ is. is; whole = λ h. h; stopped = λ is. is }
 
 pub lasts_twice : (l m k : SendLane) → Lasts l m → Lasts m k → Lasts l k
-lasts_twice l m k a b = record { limit = omega (arith, a.limit, b.limit); reset = λ is. b.reset (a.reset is); whole = λ h. b.whole (a.whole h) }
+lasts_twice l m k a b = record { limit = omega (arith, a.limit, b.limit); reset = λ is. b.reset (a.reset is); whole = λ h. b.whole (a.whole h); stopped = λ is. b.stopped (a.stopped is) }
 
 -- a half that refuses nothing isn't finished
 not_finished : (l : SendLane) → refusal l ≡ None → l.finished ≡ false
@@ -33,32 +35,36 @@ not_finished l none = go (is_some l.was_reset) l.finished none
     go true true e = absurd (none-some WasReset (sym e))
 
 pub write_lasts : (l : SendLane) (bytes : List ℕ) → refusal l ≡ None → Lasts l (write_lane l bytes)
-write_lasts l bytes none = record { limit = omega arith; reset = λ is. is; whole = λ h. absurd (false≢true (sym (not_finished l none) ∙ h.finished)) }
+write_lasts l bytes none = record { limit = omega arith; reset = λ is. is; whole = λ h. absurd (false≢true (sym (not_finished l none) ∙ h.finished)); stopped = λ is. is }
 
 pub finish_lasts : (l : SendLane) → Lasts l (finish_lane l)
-finish_lasts l = record { limit = omega arith; reset = λ is. is; whole = λ h. record { finished = refl; end = h.end; offsets = h.offsets } }
+finish_lasts l = record { limit = omega arith; reset = λ is. is; whole = λ h. record { finished = refl; end = h.end; offsets = h.offsets }; stopped = λ is. is }
 
 pub buffer_lasts : (l : SendLane) (size : ℕ) → Lasts l (buffer_lane l size)
-buffer_lasts l size = record { limit = omega arith; reset = λ is. is; whole = λ h. record { finished = h.finished; end = h.end; offsets = h.offsets } }
+buffer_lasts l size = record { limit = omega arith; reset = λ is. is; whole = λ h. record { finished = h.finished; end = h.end; offsets = h.offsets }; stopped = λ is. is }
 
 pub reset_lasts : (code : ℕ) (l : SendLane) → Lasts l (reset_lane l code)
 reset_lasts code l =
     cond_both (is_some (reset_refusal l)) l (record l { kept = []; was_reset = Some (record { code = code; size = cond l.fin_sent l.written l.sent_end }) }) (Lasts l) (λ _. lasts_same l) (λ _.
-    record { limit = omega arith; reset = λ is. refl; whole = λ h. record { finished = h.finished; end = h.end; offsets = h.offsets } })
+    record { limit = omega arith; reset = λ is. refl; whole = λ h. record { finished = h.finished; end = h.end; offsets = h.offsets }; stopped = λ is. is })
 
-pub stopped_lasts : (code : ℕ) (l : SendLane) → Lasts l (stopped_lane l code)
-stopped_lasts code l =
-    let r = reset_lasts code l in
-    record { limit = r.limit; reset = r.reset; whole = λ h. (let all = r.whole h in record { finished = all.finished; end = all.end; offsets = all.offsets }) }
+-- a STOP_SENDING came
+pub stopped_lasts : (answers : Bool) (code : ℕ) (l : SendLane) → Lasts l (stop_taken answers l code)
+stopped_lasts true code l =
+    cond_both (is_some (reset_refusal l)) l (record l { stopped = first_code l.stopped code }) (Lasts l) (λ _. lasts_same l) (λ _.
+    record { limit = omega arith; reset = λ is. is; whole = λ h. record { finished = h.finished; end = h.end; offsets = h.offsets }; stopped = λ _. has_code l.stopped code })
+stopped_lasts false code l =
+    cond_both (is_some (reset_refusal l)) l (record (broken_off l code) { stopped = first_code l.stopped code }) (Lasts l) (λ _. lasts_same l) (λ _.
+    record { limit = omega arith; reset = λ is. refl; whole = λ h. record { finished = h.finished; end = h.end; offsets = h.offsets }; stopped = λ _. has_code l.stopped code })
 
 pub sent_lasts : (l : SendLane) (c : Chunk) → Lasts l (sent_lane l c)
-sent_lasts l c = record { limit = omega arith; reset = λ is. is; whole = λ h. record { finished = h.finished; end = h.end; offsets = h.offsets } }
+sent_lasts l c = record { limit = omega arith; reset = λ is. is; whole = λ h. record { finished = h.finished; end = h.end; offsets = h.offsets }; stopped = λ is. is }
 
 pub blocked_lasts : (l : SendLane) → Lasts l (blocked_lane l)
-blocked_lasts l = record { limit = omega arith; reset = λ is. is; whole = λ h. record { finished = h.finished; end = h.end; offsets = h.offsets } }
+blocked_lasts l = record { limit = omega arith; reset = λ is. is; whole = λ h. record { finished = h.finished; end = h.end; offsets = h.offsets }; stopped = λ is. is }
 
 pub allow_lasts : (l : SendLane) (m : ℕ) → Lasts l (allow_lane l m)
-allow_lasts l m = record { limit = omega arith; reset = λ is. is; whole = λ h. record { finished = h.finished; end = h.end; offsets = h.offsets } }
+allow_lasts l m = record { limit = omega arith; reset = λ is. is; whole = λ h. record { finished = h.finished; end = h.end; offsets = h.offsets }; stopped = λ is. is }
 
 pub acked_lasts : (l : SendLane) (c : Chunk) → Lasts l (acked_lane l c)
 acked_lasts l c =
@@ -66,10 +72,11 @@ acked_lasts l c =
       limit = omega arith;
       reset = λ is. is;
       whole = λ h. record { finished = h.finished; end = or_left l.fin_acked c.fin h.end; offsets = λ q lt. run-old l.acked c.offset (c.offset + c.len) q (h.offsets q lt) };
+      stopped = λ is. is;
     }
 
 pub reset_acked_lasts : (l : SendLane) → Lasts l (reset_acked_lane l)
-reset_acked_lasts l = record { limit = omega arith; reset = λ is. is; whole = λ h. record { finished = h.finished; end = h.end; offsets = h.offsets } }
+reset_acked_lasts l = record { limit = omega arith; reset = λ is. is; whole = λ h. record { finished = h.finished; end = h.end; offsets = h.offsets }; stopped = λ is. is }
 
 -- What holds of a half
 
@@ -91,8 +98,12 @@ module _ (p : Past) (n first : ℕ) (l : SendLane) (h : HalfTrue p n first l) wh
       cond_both (is_some (reset_refusal l)) l (record l { kept = []; was_reset = Some (record { code = code; size = cond l.fin_sent l.written l.sent_end }) }) (HalfTrue p n first) (λ _. h) (λ _.
       record { first_limit = h.first_limit; small = h.small; reset_told = h.reset_told })
 
-  pub stopped_true : (code : ℕ) → HalfTrue p n first (stopped_lane l code)
-  stopped_true code = (let r = reset_true code in record { first_limit = r.first_limit; small = r.small; reset_told = r.reset_told })
+  pub stopped_true : (answers : Bool) (code : ℕ) → HalfTrue p n first (stop_taken answers l code)
+  stopped_true true code =
+      cond_both (is_some (reset_refusal l)) l (record l { stopped = first_code l.stopped code }) (HalfTrue p n first) (λ _. h) (λ _. record { first_limit = h.first_limit; small = h.small; reset_told = h.reset_told })
+  stopped_true false code =
+      cond_both (is_some (reset_refusal l)) l (record (broken_off l code) { stopped = first_code l.stopped code }) (HalfTrue p n first) (λ _. h) (λ _.
+      record { first_limit = h.first_limit; small = h.small; reset_told = h.reset_told })
 
   pub sent_true : (c : Chunk) → HalfTrue p n first (sent_lane l c)
   sent_true c = record { first_limit = h.first_limit; small = h.small; reset_told = h.reset_told }

@@ -8,7 +8,7 @@ use Rattle.std.specs.FinMap as fmap
 use Rattle.qs_wire.specs.declared.stream_id.Dir.{Dir}
 use Rattle.qs_wire.specs.declared.stream_id.Dir.TheVariants.{Bidi, Uni}
 use Rattle.qs_ranges.specs.Numbers.{MAX_VARINT}
-use Rattle.qs_send.specs.Lane.{SendLane, new_lane as new_send_lane, refusal, write_lane, finish_lane, buffer_lane, reset_lane, stopped_lane, sent_lane, blocked_lane, allow_lane, acked_lane, reset_acked_lane}
+use Rattle.qs_send.specs.Lane.{SendLane, new_lane as new_send_lane, refusal, write_lane, finish_lane, buffer_lane, reset_lane, stop_taken, sent_lane, blocked_lane, allow_lane, acked_lane, reset_acked_lane}
 use Rattle.qs_send.specs.declared.piece.Item.{Item}
 use Rattle.qs_send.specs.declared.piece.Item.TheVariants.{MaxData, MaxStreamData, MaxStreams, ResetStream, StopSending, DataBlocked, StreamDataBlocked, StreamsBlocked}
 use Rattle.qs_send.specs.declared.piece.Piece.{Piece}
@@ -44,6 +44,7 @@ AllTrue p e = (n : ℕ) → SlotTrue p n (first_send_limit e n) (lookup e.sends 
 pub record Moved (p : Past) (old new : End) : Type 0 where
   pub role : new.role ≡ old.role
   pub peer : new.peer ≡ old.peer
+  pub tuning : new.tuning ≡ old.tuning
   pub conn : old.known_data ≤ new.known_data
   pub bidi : old.known_bidi ≤ new.known_bidi
   pub uni : old.known_uni ≤ new.known_uni
@@ -57,6 +58,7 @@ module _ (p : Past) where
       record {
         role = y.role ∙ x.role;
         peer = y.peer ∙ x.peer;
+        tuning = y.tuning ∙ x.tuning;
         conn = omega (arith, x.conn, y.conn);
         bidi = omega (arith, x.bidi, y.bidi);
         uni = omega (arith, x.uni, y.uni);
@@ -85,6 +87,7 @@ module _ (p : Past) where
       record {
         role = refl;
         peer = refl;
+        tuning = refl;
         conn = omega arith;
         bidi = omega arith;
         uni = omega arith;
@@ -96,7 +99,7 @@ module _ (p : Past) where
   -- nothing of it changes
   pub moved_same : (e : End) → AllTrue p e → AckedTrue p e.acked → Moved p e e
   moved_same e all acked =
-      record { role = refl; peer = refl; conn = omega arith; bidi = omega arith; uni = omega arith; sends = kept_all e.sends; halves = all; acked = acked }
+      record { role = refl; peer = refl; tuning = refl; conn = omega arith; bidi = omega arith; uni = omega arith; sends = kept_all e.sends; halves = all; acked = acked }
 
   -- Streams open
 
@@ -117,6 +120,7 @@ module _ (p : Past) where
       record {
         role = refl;
         peer = refl;
+        tuning = refl;
         conn = omega arith;
         bidi = omega arith;
         uni = omega arith;
@@ -136,13 +140,13 @@ module _ (p : Past) where
 
   put_moved : (f : Seen) (e : End) → AllTrue p e → AckedTrue p e.acked → Moved p e (frame_put f e)
   unfolding frame_put
-  put_moved (Ack largest ranges) e all acked = record { role = refl; peer = refl; conn = omega arith; bidi = omega arith; uni = omega arith; sends = kept_all e.sends; halves = all; acked = acked }
+  put_moved (Ack largest ranges) e all acked = record { role = refl; peer = refl; tuning = refl; conn = omega arith; bidi = omega arith; uni = omega arith; sends = kept_all e.sends; halves = all; acked = acked }
   put_moved (Stream n offset bytes fin) e all acked =
       let h = half_moved e n (λ l. sent_lane l (chunk_of offset bytes fin)) all acked (λ l is. sent_lasts l (chunk_of offset bytes fin)) (λ l is t. sent_true p n _ l t (chunk_of offset bytes fin)) in
-      record { role = refl; peer = refl; conn = h.conn; bidi = h.bidi; uni = h.uni; sends = h.sends; halves = h.halves; acked = h.acked }
+      record { role = refl; peer = refl; tuning = refl; conn = h.conn; bidi = h.bidi; uni = h.uni; sends = h.sends; halves = h.halves; acked = h.acked }
   put_moved (Control i) e all acked =
       let h = item_put_moved i e all acked in
-      record { role = h.role; peer = h.peer; conn = h.conn; bidi = h.bidi; uni = h.uni; sends = h.sends; halves = h.halves; acked = h.acked }
+      record { role = h.role; peer = h.peer; tuning = h.tuning; conn = h.conn; bidi = h.bidi; uni = h.uni; sends = h.sends; halves = h.halves; acked = h.acked }
   put_moved (Close code) e all acked = moved_same e all acked
   put_moved (Plain asks) e all acked = moved_same e all acked
 
@@ -157,43 +161,43 @@ module _ (p : Past) where
   losses_moved k [] e all acked = moved_same e all acked
   losses_moved k (x ∷ ps) e all acked =
       let h = losses_moved k ps (first_lost k x e) all acked in
-      record { role = h.role; peer = h.peer; conn = h.conn; bidi = h.bidi; uni = h.uni; sends = h.sends; halves = h.halves; acked = h.acked }
+      record { role = h.role; peer = h.peer; tuning = h.tuning; conn = h.conn; bidi = h.bidi; uni = h.uni; sends = h.sends; halves = h.halves; acked = h.acked }
 
   wanted_moved : (d : Dir) (count : ℕ) (e : End) → AllTrue p e → AckedTrue p e.acked → Moved p e (with_wanted d count e)
-  wanted_moved Bidi count e all acked = record { role = refl; peer = refl; conn = omega arith; bidi = omega arith; uni = omega arith; sends = kept_all e.sends; halves = all; acked = acked }
-  wanted_moved Uni count e all acked = record { role = refl; peer = refl; conn = omega arith; bidi = omega arith; uni = omega arith; sends = kept_all e.sends; halves = all; acked = acked }
+  wanted_moved Bidi count e all acked = record { role = refl; peer = refl; tuning = refl; conn = omega arith; bidi = omega arith; uni = omega arith; sends = kept_all e.sends; halves = all; acked = acked }
+  wanted_moved Uni count e all acked = record { role = refl; peer = refl; tuning = refl; conn = omega arith; bidi = omega arith; uni = omega arith; sends = kept_all e.sends; halves = all; acked = acked }
 
   -- what is set anew leaves what is known of the peer, and of sending halves all but a buffer
   pub set_moved : (e : End) → AllTrue p e → AckedTrue p e.acked → (x : Setting) → Moved p e (settle (with_setting x e))
-  set_moved e all acked (ConnWindow w) = record { role = refl; peer = refl; conn = omega arith; bidi = omega arith; uni = omega arith; sends = kept_all e.sends; halves = all; acked = acked }
-  set_moved e all acked (Grant Bidi n) = record { role = refl; peer = refl; conn = omega arith; bidi = omega arith; uni = omega arith; sends = kept_all e.sends; halves = all; acked = acked }
-  set_moved e all acked (Grant Uni n) = record { role = refl; peer = refl; conn = omega arith; bidi = omega arith; uni = omega arith; sends = kept_all e.sends; halves = all; acked = acked }
-  set_moved e all acked (StreamWindow n w) = record { role = refl; peer = refl; conn = omega arith; bidi = omega arith; uni = omega arith; sends = kept_all e.sends; halves = all; acked = acked }
+  set_moved e all acked (ConnWindow w) = record { role = refl; peer = refl; tuning = refl; conn = omega arith; bidi = omega arith; uni = omega arith; sends = kept_all e.sends; halves = all; acked = acked }
+  set_moved e all acked (Grant Bidi n) = record { role = refl; peer = refl; tuning = refl; conn = omega arith; bidi = omega arith; uni = omega arith; sends = kept_all e.sends; halves = all; acked = acked }
+  set_moved e all acked (Grant Uni n) = record { role = refl; peer = refl; tuning = refl; conn = omega arith; bidi = omega arith; uni = omega arith; sends = kept_all e.sends; halves = all; acked = acked }
+  set_moved e all acked (StreamWindow n w) = record { role = refl; peer = refl; tuning = refl; conn = omega arith; bidi = omega arith; uni = omega arith; sends = kept_all e.sends; halves = all; acked = acked }
   set_moved e all acked (SendBuffer n size) =
       let h = half_moved e n (λ m. buffer_lane m size) all acked (λ l is. buffer_lasts l size) (λ l is h. buffer_true p n _ l h size) in
-      record { role = h.role; peer = h.peer; conn = h.conn; bidi = h.bidi; uni = h.uni; sends = h.sends; halves = h.halves; acked = h.acked }
+      record { role = h.role; peer = h.peer; tuning = h.tuning; conn = h.conn; bidi = h.bidi; uni = h.uni; sends = h.sends; halves = h.halves; acked = h.acked }
 
   -- each call of an owner
   pub moved_edits : (old : End) → AllTrue p old → AckedTrue p old.acked → Edits (Moved p old) old
   moved_edits old all acked =
       record {
         same = moved_same old all acked;
-        settles = λ mid h. record { role = h.role; peer = h.peer; conn = h.conn; bidi = h.bidi; uni = h.uni; sends = h.sends; halves = h.halves; acked = h.acked };
+        settles = λ mid h. record { role = h.role; peer = h.peer; tuning = h.tuning; conn = h.conn; bidi = h.bidi; uni = h.uni; sends = h.sends; halves = h.halves; acked = h.acked };
         wants = λ d count. wanted_moved d count old all acked;
         opened = λ n. opens_moved n old all acked;
-        accepts = λ bidi uni. record { role = refl; peer = refl; conn = omega arith; bidi = omega arith; uni = omega arith; sends = kept_all old.sends; halves = all; acked = acked };
+        accepts = λ bidi uni. record { role = refl; peer = refl; tuning = refl; conn = omega arith; bidi = omega arith; uni = omega arith; sends = kept_all old.sends; halves = all; acked = acked };
         writes = λ n bytes l is fine few. half_moved old n (λ m. write_lane m bytes) all acked
             (λ m there. write_lasts m bytes (subst (λ x. refusal x ≡ None) (same_Some l m (sym is ∙ there)) fine))
             (λ m there h. write_true p n _ m h bytes (subst (λ (x : SendLane). length bytes ≤ MAX_VARINT - x.written) (same_Some l m (sym is ∙ there)) few));
         finishes = λ n. half_moved old n finish_lane all acked (λ l is. finish_lasts l) (λ l is h. finish_true p n _ l h);
         resets = λ n code. half_moved old n (λ m. reset_lane m code) all acked (λ l is. reset_lasts code l) (λ l is h. reset_true p n _ l h code);
-        stops = λ n code. record { role = refl; peer = refl; conn = omega arith; bidi = omega arith; uni = omega arith; sends = kept_all old.sends; halves = all; acked = acked };
-        forgets = λ n code. record { role = refl; peer = refl; conn = omega arith; bidi = omega arith; uni = omega arith; sends = kept_all old.sends; halves = all; acked = acked };
-        reads = λ n size. record { role = refl; peer = refl; conn = omega arith; bidi = omega arith; uni = omega arith; sends = kept_all old.sends; halves = all; acked = acked };
-        reads_again = λ n first next. record { role = refl; peer = refl; conn = omega arith; bidi = omega arith; uni = omega arith; sends = kept_all old.sends; halves = all; acked = acked };
+        stops = λ n code. record { role = refl; peer = refl; tuning = refl; conn = omega arith; bidi = omega arith; uni = omega arith; sends = kept_all old.sends; halves = all; acked = acked };
+        forgets = λ n code. record { role = refl; peer = refl; tuning = refl; conn = omega arith; bidi = omega arith; uni = omega arith; sends = kept_all old.sends; halves = all; acked = acked };
+        reads = λ n size. record { role = refl; peer = refl; tuning = refl; conn = omega arith; bidi = omega arith; uni = omega arith; sends = kept_all old.sends; halves = all; acked = acked };
+        reads_again = λ n first next. record { role = refl; peer = refl; tuning = refl; conn = omega arith; bidi = omega arith; uni = omega arith; sends = kept_all old.sends; halves = all; acked = acked };
         fills = λ frames mid fills.
             let h = fills_moved old old frames mid all acked fills in
-            record { role = h.role; peer = h.peer; conn = h.conn; bidi = h.bidi; uni = h.uni; sends = h.sends; halves = h.halves; acked = h.acked };
+            record { role = h.role; peer = h.peer; tuning = h.tuning; conn = h.conn; bidi = h.bidi; uni = h.uni; sends = h.sends; halves = h.halves; acked = h.acked };
         loses = λ k ps. losses_moved k ps old all acked;
       }
 
@@ -216,7 +220,7 @@ module _ (p : Past) where
       ]
 
   with_items : (e : End) (a : AckedItems) → AllTrue p e → AckedTrue p a → Moved p e (record e { acked = a })
-  with_items e a all h = record { role = refl; peer = refl; conn = omega arith; bidi = omega arith; uni = omega arith; sends = kept_all e.sends; halves = all; acked = h }
+  with_items e a all h = record { role = refl; peer = refl; tuning = refl; conn = omega arith; bidi = omega arith; uni = omega arith; sends = kept_all e.sends; halves = all; acked = h }
 
   item_acked_moved : (i : Item) (e : End) → WasTold p i → AllTrue p e → AckedTrue p e.acked → Moved p e (item_acked i e)
   item_acked_moved (MaxData m) e told all h =
@@ -267,7 +271,7 @@ module _ (p : Past) where
   acks_moved (a ∷ pieces) e was all acked =
       let short = without_piece a.late a.number e in
       let one = piece_moved a short was.0 all acked in
-      let first : Moved p e (first_acked a e) = record { role = one.role; peer = one.peer; conn = one.conn; bidi = one.bidi; uni = one.uni; sends = one.sends; halves = one.halves; acked = one.acked } in
+      let first : Moved p e (first_acked a e) = record { role = one.role; peer = one.peer; tuning = one.tuning; conn = one.conn; bidi = one.bidi; uni = one.uni; sends = one.sends; halves = one.halves; acked = one.acked } in
       moved_twice e (first_acked a e) _ first (acks_moved pieces (first_acked a e) was.1 first.halves first.acked)
 
   -- A frame that takes effect
@@ -279,14 +283,14 @@ module _ (p : Past) where
       moved_twice e (opened_by_peer n e) _ one (half_moved (opened_by_peer n e) n f one.halves one.acked (λ l is. lasts l) (λ l is. change l))
 
   pub item_moved : (i : Item) (e : End) → AllTrue p e → AckedTrue p e.acked → Moved p e (item_taken i e)
-  item_moved (MaxData m) e all acked = record { role = refl; peer = refl; conn = omega arith; bidi = omega arith; uni = omega arith; sends = kept_all e.sends; halves = all; acked = acked }
+  item_moved (MaxData m) e all acked = record { role = refl; peer = refl; tuning = refl; conn = omega arith; bidi = omega arith; uni = omega arith; sends = kept_all e.sends; halves = all; acked = acked }
   item_moved (MaxStreamData n m) e all acked = changed_moved n (λ l. allow_lane l m) e all acked (λ l. allow_lasts l m) (λ l h. allow_true p n _ l h m)
-  item_moved (MaxStreams Bidi m) e all acked = record { role = refl; peer = refl; conn = omega arith; bidi = omega arith; uni = omega arith; sends = kept_all e.sends; halves = all; acked = acked }
-  item_moved (MaxStreams Uni m) e all acked = record { role = refl; peer = refl; conn = omega arith; bidi = omega arith; uni = omega arith; sends = kept_all e.sends; halves = all; acked = acked }
+  item_moved (MaxStreams Bidi m) e all acked = record { role = refl; peer = refl; tuning = refl; conn = omega arith; bidi = omega arith; uni = omega arith; sends = kept_all e.sends; halves = all; acked = acked }
+  item_moved (MaxStreams Uni m) e all acked = record { role = refl; peer = refl; tuning = refl; conn = omega arith; bidi = omega arith; uni = omega arith; sends = kept_all e.sends; halves = all; acked = acked }
   item_moved (ResetStream n code size) e all acked =
       let h = opened_moved n e all acked in
-      record { role = h.role; peer = h.peer; conn = h.conn; bidi = h.bidi; uni = h.uni; sends = h.sends; halves = h.halves; acked = h.acked }
-  item_moved (StopSending n code) e all acked = changed_moved n (λ l. stopped_lane l code) e all acked (stopped_lasts code) (λ l h. stopped_true p n _ l h code)
+      record { role = h.role; peer = h.peer; tuning = h.tuning; conn = h.conn; bidi = h.bidi; uni = h.uni; sends = h.sends; halves = h.halves; acked = h.acked }
+  item_moved (StopSending n code) e all acked = changed_moved n (λ l. stop_taken e.tuning.answers_stops l code) e all acked (stopped_lasts e.tuning.answers_stops code) (λ l h. stopped_true p n _ l h e.tuning.answers_stops code)
   item_moved (DataBlocked m) e all acked = moved_same e all acked
   item_moved (StreamDataBlocked n m) e all acked = opened_moved n e all acked
   item_moved (StreamsBlocked d m) e all acked = moved_same e all acked
@@ -296,7 +300,7 @@ module _ (p : Past) where
   frame_moved (Ack largest ranges) e was all acked = acks_moved (named e ranges) e (was largest ranges refl) all acked
   frame_moved (Stream n offset bytes fin) e was all acked =
       let h = opened_moved n e all acked in
-      record { role = h.role; peer = h.peer; conn = h.conn; bidi = h.bidi; uni = h.uni; sends = h.sends; halves = h.halves; acked = h.acked }
+      record { role = h.role; peer = h.peer; tuning = h.tuning; conn = h.conn; bidi = h.bidi; uni = h.uni; sends = h.sends; halves = h.halves; acked = h.acked }
   frame_moved (Control i) e was all acked = item_moved i e all acked
   frame_moved (Close code) e was all acked = moved_same e all acked
   frame_moved (Plain asks) e was all acked = moved_same e all acked

@@ -42,21 +42,21 @@ module _ (p : Past) (k : ℕ) (all : List Seen) (is : slice_get p.theirs k ≡ S
   at_end : (asks : Bool) (fault : Option WireFault) (e : End) (result : Result Received Closing) (new : End) → Moved p old e → AllGrow old.recvs e.recvs → AllByRecursion (ItemTaken e) all → AtEnd k asks fault e result new → After p all old result new
   at_end asks None e (Ok Done) new m g taken h =
       subst (After p all old (Ok Done)) (sym h) (record {
-        moved = record { role = m.role; peer = m.peer; conn = m.conn; bidi = m.bidi; uni = m.uni; sends = m.sends; halves = m.halves; acked = m.acked };
+        moved = record { role = m.role; peer = m.peer; tuning = m.tuning; conn = m.conn; bidi = m.bidi; uni = m.uni; sends = m.sends; halves = m.halves; acked = m.acked };
         grow = g;
-        done = λ _. items_stay e (recorded k asks e) (omega arith) (omega arith) (omega arith) (moved_same p e m.halves m.acked).sends (all_grow_refl e.recvs) all taken;
+        done = λ _. items_stay e (recorded k asks e) refl (omega arith) (omega arith) (omega arith) (moved_same p e m.halves m.acked).sends (all_grow_refl e.recvs) all taken;
       })
   at_end asks None e (Ok NoMemory) new m g taken h = subst (After p all old (Ok NoMemory)) (sym h.0) (record { moved = m; grow = g; done = λ d. absurd (false≢true d) })
   at_end asks (Some fault) e (Err closing) new m g taken h =
       subst (After p all old (Err closing)) (sym h.1) (record {
-        moved = record { role = m.role; peer = m.peer; conn = m.conn; bidi = m.bidi; uni = m.uni; sends = m.sends; halves = m.halves; acked = m.acked };
+        moved = record { role = m.role; peer = m.peer; tuning = m.tuning; conn = m.conn; bidi = m.bidi; uni = m.uni; sends = m.sends; halves = m.halves; acked = m.acked };
         grow = g;
         done = λ d. absurd (false≢true d);
       })
   at_end asks fault e result new m g taken h = absurd h
 
   closed_at : (e : End) (c : Closed) → Moved p old e → Moved p old (closes c e)
-  closed_at e c m = record { role = m.role; peer = m.peer; conn = m.conn; bidi = m.bidi; uni = m.uni; sends = m.sends; halves = m.halves; acked = m.acked }
+  closed_at e c m = record { role = m.role; peer = m.peer; tuning = m.tuning; conn = m.conn; bidi = m.bidi; uni = m.uni; sends = m.sends; halves = m.halves; acked = m.acked }
 
   -- nothing was processed
   pub not_done : (result : Result Received Closing) (mid new : End) → is_done (answers.Deliver result) ≡ false → new ≡ mid → Moved p old mid → AllGrow old.recvs new.recvs → After p all old result new
@@ -89,13 +89,13 @@ module _ (p : Past) (k : ℕ) (all : List Seen) (is : slice_get p.theirs k ≡ S
       let m2 : Moved p e (frame_taken f e) = frame_moved p f e (λ largest ranges same. named_pieces_ok p e ok ranges (λ j a. inl (largest, ranges, subst (Tells p.theirs) same told, a))) m.halves m.acked in
       takes left (before ++ f ∷ []) (asks || asks_ack f) fault (frame_taken f e) result new (split ∙ sym (append_assoc before (f ∷ []) (seen_all (frames_of left)))) one.ok
       (moved_twice p old e (frame_taken f e) m m2) (grow_trans old.recvs e.recvs _ g one.grow)
-      (All_append (ItemTaken (frame_taken f e)) before (f ∷ []) (items_stay e (frame_taken f e) m2.conn m2.bidi m2.uni m2.sends one.grow before taken) (frame_done p e ok f told (no_fault_there e f goes), tt)) rest
+      (All_append (ItemTaken (frame_taken f e)) before (f ∷ []) (items_stay e (frame_taken f e) m2.tuning m2.conn m2.bidi m2.uni m2.sends one.grow before taken) (frame_done p e ok f told (no_fault_there e f goes), tt)) rest
 
   -- as the call ends the limits move
   pub settled : (result : Result Received Closing) (mid new : End) → AllGrow mid.recvs (settle mid).recvs → new ≡ settle mid → After p all old result mid → After p all old result new
   settled result mid new rises same h =
       subst (After p all old result) (sym same) (record {
-        moved = record { role = h.moved.role; peer = h.moved.peer; conn = h.moved.conn; bidi = h.moved.bidi; uni = h.moved.uni; sends = h.moved.sends; halves = h.moved.halves; acked = h.moved.acked };
+        moved = record { role = h.moved.role; peer = h.moved.peer; tuning = h.moved.tuning; conn = h.moved.conn; bidi = h.moved.bidi; uni = h.moved.uni; sends = h.moved.sends; halves = h.moved.halves; acked = h.moved.acked };
         grow = grow_trans old.recvs mid.recvs _ h.grow rises;
-        done = λ d. items_stay mid (settle mid) (omega arith) (omega arith) (omega arith) (moved_same p mid h.moved.halves h.moved.acked).sends rises all (h.done d);
+        done = λ d. items_stay mid (settle mid) refl (omega arith) (omega arith) (omega arith) (moved_same p mid h.moved.halves h.moved.acked).sends rises all (h.done d);
       })

@@ -28,14 +28,14 @@ use Rattle.qs_machine.specs.Receiving.{ReceiveStep, ReceiveBy, TakesPayload, End
 use Rattle.qs_machine.specs.Alone.{is_ours}
 use Rattle.qs_machine.specs.Standing.{IsSound}
 use Rattle.qs_machine.specs.Repeats.{SentWasWritten}
-use Rattle.qs_machine.specs.EndStep.{Call, Answer as CallAnswer, EndStep, Consume, Receive, TakeFrame, TakeFrames, TokenAcked, TokenLost, MakeAck, FillIn, RaiseLimits, Set, StopAndForget}
+use Rattle.qs_machine.specs.EndStep.{Call, Answer as CallAnswer, EndStep, Consume, Receive, TakeFrame, TakeFrames, TokenAcked, TokenLost, MakeAck, FillIn, RaiseLimits, Set, StopAndForget, AcceptOf}
 use Rattle.qs_machine.proofs.EveryCall.{by_open}
 use Rattle.qs_machine.proofs.Prefix.{seen_in, takes_prefix}
 use Rattle.qs_machine.proofs.Plains.{plain_nothing}
 use Rattle.qs_machine.proofs.TablesAfter.{kept_same}
 use Rattle.qs_machine.proofs.LanesAgain.{LaneAfter, lane_same}
 use Rattle.qs_machine.proofs.Again.{all_done}
-use Rattle.qs_runs.specs.Logs.{Part, Happening, Did, MadeAck, FilledIn, ConsumedUpTo, AckedToken, LostToken, RaisedLimits, CameWith, CameAlone, History, other, is_delivery, reads_of, is_done, is_taken, texts_of, payload, processed, took, own_calls, HasSet, Forgot}
+use Rattle.qs_runs.specs.Logs.{Part, Happening, Did, MadeAck, FilledIn, ConsumedUpTo, AckedToken, LostToken, RaisedLimits, CameWith, CameAlone, History, other, is_delivery, reads_of, is_done, is_taken, texts_of, payload, processed, took, own_calls, HasSet, Forgot, AcceptedOf}
 use Rattle.qs_runs.specs.Worlds.{World, end_of, OwnStep, EventStep, ComeAloneStep, WorldStep, Run}
 use Rattle.qs_runs.specs.Agree.{frames_in}
 use Rattle.qs_runs.specs.Pasts.{Past, Packets, Tells, packets_of, past, seen_by, EachTaken}
@@ -48,7 +48,7 @@ use Rattle.qs_runs.proofs.Alone.{with_took, AreHeldAt, held_told, held_holds, he
 use Rattle.qs_runs.proofs.Landing.{at_among}
 use Rattle.qs_runs.proofs.Parts.{parts_held, parts_fit}
 use Rattle.qs_runs.proofs.Lists.{All_at}
-use Rattle.qs_runs.proofs.Histories.{past_own, past_peer, past_sender, past_receiver, Makes, past_makes, past_peer_makes, makes_ack, makes_fill, makes_none, past_consumed, past_peer_consumed, past_raised, past_came, past_came_from, past_came_to, past_token, past_peer_token, did, theirs_mine, payload_seen, makes_set, past_forgot}
+use Rattle.qs_runs.proofs.Histories.{past_own, past_peer, past_sender, past_receiver, Makes, past_makes, past_peer_makes, makes_ack, makes_fill, makes_none, past_consumed, past_peer_consumed, past_raised, past_came, past_came_from, past_came_to, past_token, past_peer_token, did, theirs_mine, payload_seen, makes_set, makes_given, past_forgot}
 use Rattle.qs_runs.proofs.Granting.{own_call}
 use Rattle.qs_runs.proofs.Claims.{run_settled}
 use Rattle.qs_runs.proofs.Runs.{two_sides, run_keeps, is_open_end, ends_face, moved}
@@ -201,6 +201,7 @@ step_still a b h v w (ConsumedUpTo s n most result bytes) ok still ((step, taken
     (moved (λ p. Still p (end_of w s)) _ _ (past_consumed s n most result bytes h) (uses_still (past s h) (reads_of n most result bytes) (end_of w s) (called a b h v w s ok still s (Consume n most) result step)))
     (moved (λ p. Still p (end_of w (other s))) _ _ (past_peer_consumed s n most result bytes h) (same_still a b h v w s ok still (other s) same))
 step_still a b h v w (HasSet s setting result) ok still (step, same) = packet_still a b h v w s ok still _ [] (makes_set s setting result) (Set setting) result step same
+step_still a b h v w (AcceptedOf s d result) ok still (step, same) = packet_still a b h v w s ok still _ [] (makes_given s d result) (AcceptOf d) result step same
 step_still a b h v w (LostToken s token result) ok still (step, same) = packet_still a b h v w s ok still _ [] (makes_none s token result) (TokenLost token) result step same
 step_still a b h v w (AckedToken s token result) ok still ((landed, step), same) =
     both a b h v w s ok still (AckedToken s token result)

@@ -46,9 +46,10 @@ use Rattle.qs_machine.specs.Alone.{token_refusal, TokenAckedStep, TokenLostStep,
 use Rattle.qs_machine.specs.FrameStep.{AckedPiece, acks, named, frame_taken}
 use Rattle.qs_machine.proofs.Leaves.{acks_leave}
 use Rattle.qs_machine.specs.Raising.{RaiseStep, knows_limits, limits_raised, raise_refusal}
-use Rattle.qs_machine.specs.EndStep.{Call, Answer as CallAnswer, EndStep, Consume, Receive, TokenAcked, Make, Lose, RaiseLimits, Set, StopAndForget}
+use Rattle.qs_machine.specs.EndStep.{Call, Answer as CallAnswer, EndStep, Consume, Receive, TokenAcked, Make, Lose, RaiseLimits, Set, StopAndForget, AcceptOf}
 use Rattle.qs_machine.specs.Setting.{Setting, SetStep, set_refusal}
-use Rattle.qs_machine.specs.Owner.{StopAndForgetStep}
+use Rattle.qs_wire.specs.declared.stream_id.Dir.{Dir}
+use Rattle.qs_machine.specs.Owner.{AcceptOfStep, StopAndForgetStep}
 use Rattle.qs_calls.specs.declared.settings.SetFault.{SetFault}
 use Rattle.qs_machine.specs.SettledLimits.{LimitsAreSettled}
 use Rattle.qs_machine.proofs.Raised.{kept_raised}
@@ -79,10 +80,10 @@ use Rattle.qs_runs.proofs.PeerMoves.{with_theirs}
 use Rattle.qs_runs.proofs.Receives.{with_received}
 use Rattle.qs_rest.specs.Invariant.{WasTold, AckedTrue, HalfTrue, ItemTaken, RestOk}
 use Rattle.qs_rest.proofs.Halves.{Lasts, lasts_same, lasts_twice, allow_lasts}
-use Rattle.qs_rest.proofs.EachCall.{each_own, consume_by, make_by, lose_by, forget_by}
+use Rattle.qs_rest.proofs.EachCall.{each_own, consume_by, make_by, lose_by, forget_by, accept_of_by}
 use Rattle.qs_rest.proofs.Moves.{AllTrue, SlotTrue, Moved, moved_same, moved_edits, acks_moved, set_moved}
 use Rattle.qs_rest.proofs.Effects.{item_stays, items_stay}
-use Rattle.qs_rest.proofs.Telling.{AllTold, all_told, told_at, own_told, consume_told, packet_told, lost_told, told_settles, received_held, receive_told, handed_held, set_told, forget_told}
+use Rattle.qs_rest.proofs.Telling.{AllTold, all_told, told_at, own_told, consume_told, packet_told, lost_told, told_settles, received_held, receive_told, handed_held, set_told, given_told, forget_told}
 use Rattle.qs_rest.proofs.Alone.{handed_came}
 use Rattle.qs_rest.proofs.Payloads.{After, takes, settled, not_done}
 
@@ -163,11 +164,11 @@ module _ (p q : Past) (theirs : q.theirs ≡ p.theirs) (same : q.processed ≡ p
         taken = record {
           packets = λ k done. (
               let (fs, there, all) = ok.taken.packets k (ap (λ d. d k) (sym same) ∙ done) in
-              (fs, ap (λ ps. slice_get ps k) theirs ∙ there, items_stay e new m.conn m.bidi m.uni m.sends grow fs all)
+              (fs, ap (λ ps. slice_get ps k) theirs ∙ there, items_stay e new m.tuning m.conn m.bidi m.uni m.sends grow fs all)
               );
           frames = λ k i took. (
               let (f, (fs, there, at), holds) = ok.taken.frames k i (ap (λ d. d k i) (sym alone) ∙ took) in
-              (f, (fs, ap (λ ps. slice_get ps k) theirs ∙ there, at), item_stays e new m.conn m.bidi m.uni m.sends grow f holds)
+              (f, (fs, ap (λ ps. slice_get ps k) theirs ∙ there, at), item_stays e new m.tuning m.conn m.bidi m.uni m.sends grow f holds)
               );
         };
         limits = calls_settle e call given new ok.limits is;
@@ -262,7 +263,7 @@ due_rests p e due ok =
       acked = ok.acked;
       told = ok.told;
       taken = each_taken p.theirs p.processed p.took (ItemTaken e) (ItemTaken (record e { ack_due = due }))
-          (item_stays e (record e { ack_due = due }) (omega arith) (omega arith) (omega arith) (moved_same p e (slots p e ok) ok.acked).sends (all_grow_refl e.recvs)) ok.taken;
+          (item_stays e (record e { ack_due = due }) refl (omega arith) (omega arith) (omega arith) (moved_same p e (slots p e ok) ok.acked).sends (all_grow_refl e.recvs)) ok.taken;
       limits = record { connection = ok.limits.connection; streams = ok.limits.streams };
       counts = ok.counts;
     }
@@ -277,6 +278,13 @@ set_rests p e new sound sent ok x result step =
           (call_rests p p refl refl refl (λ i told. told) e new sound sent ok (Set x) result step
           (subst (Moved p e) (sym same) (set_moved p e (slots p e ok) ok.acked x)) (subst (λ (y : End). AllTold y.recvs) (sym same) (set_told e (all_told e ok.told) x)))
     ]
+
+-- a stream of one direction is given out
+pub given_rests : (p : Past) (e new : End) → IsSound e → SentWasWritten e → RestOk p e → (d : Dir) (result : Option ℕ) → AcceptOfStep e d result new → RestOk (with_packets p []) new
+given_rests p e new sound sent ok d result step =
+    same_rests p [] new
+    (call_rests p p refl refl refl (λ i told. told) e new sound sent ok (AcceptOf d) result step
+    (accept_of_by (Moved p e) e (moved_edits p e (slots p e ok) ok.acked) d result new step) (given_told e new (all_told e ok.told) d result step))
 
 -- Limits of the peer are taken in
 
@@ -305,7 +313,7 @@ module _ (p : Past) (e : End) (limits : PeerLimits) (ok : RestOk p e) where
         sends = slots_raised;
         acked = ok.acked;
         told = told_at settled (told_settles raised (all_told e ok.told));
-        taken = each_taken p.theirs p.processed p.took (ItemTaken e) (ItemTaken settled) (item_stays e settled (omega arith) (omega arith) (omega arith) kept (subst (λ x. AllGrow e.recvs x.recvs) is grow)) ok.taken;
+        taken = each_taken p.theirs p.processed p.took (ItemTaken e) (ItemTaken settled) (item_stays e settled refl (omega arith) (omega arith) (omega arith) kept (subst (λ x. AllGrow e.recvs x.recvs) is grow)) ok.taken;
         limits = subst LimitsAreSettled is (calls_settle e (RaiseLimits limits) (Ok tt) new ok.limits step);
         counts = subst CountsAreSettled is (settled_call e (RaiseLimits limits) (Ok tt) new ok.counts step);
       })
@@ -366,9 +374,9 @@ receive_rests p e new k text result good ok is step =
         packets = λ j done.
             elim (processed_or k j (is_done (answers.Deliver result)) (p.processed j) done) [
               | inl now ↦ (frames_in text, ap (slice_get p.theirs) now.0 ∙ is, a.done now.1)
-              | inr before ↦ (let (fs, there, all) = ok.taken.packets j before in (fs, there, items_stay e new m.conn m.bidi m.uni m.sends a.grow fs all))
+              | inr before ↦ (let (fs, there, all) = ok.taken.packets j before in (fs, there, items_stay e new m.tuning m.conn m.bidi m.uni m.sends a.grow fs all))
             ];
-        frames = λ j i took. (let (f, holds, taken) = ok.taken.frames j i took in (f, holds, item_stays e new m.conn m.bidi m.uni m.sends a.grow f taken));
+        frames = λ j i took. (let (f, holds, taken) = ok.taken.frames j i took in (f, holds, item_stays e new m.tuning m.conn m.bidi m.uni m.sends a.grow f taken));
       };
       limits = calls_settle e (Receive k text) result new ok.limits step;
       counts = settled_call e (Receive k text) result new ok.counts step;
@@ -390,7 +398,7 @@ alone_rests p e new parts fs result good open_end ok held step call given called
       acked = acked_more p q (λ i told. told) new.acked m.acked;
       told = told_at new (receive_told e new (handed_held e new fs result open_end step) c.grow (all_told e ok.told));
       taken =
-          took_each p parts result (ItemTaken new) (each_taken p.theirs p.processed p.took (ItemTaken e) (ItemTaken new) (item_stays e new m.conn m.bidi m.uni m.sends c.grow) ok.taken)
+          took_each p parts result (ItemTaken new) (each_taken p.theirs p.processed p.took (ItemTaken e) (ItemTaken new) (item_stays e new m.tuning m.conn m.bidi m.uni m.sends c.grow) ok.taken)
           (λ k i among taken. held_holds (ItemTaken new) p.theirs parts fs held (c.done taken) k i among);
       limits = calls_settle e call given new ok.limits called;
       counts = settled_call e call given new ok.counts called;
@@ -422,7 +430,7 @@ module _ (p : Past) (e : End) (ok : RestOk p e) where
   pieces_moved : (pieces : List AckedPiece) → AllByRecursion (WasAcked p) pieces → Moved p e (settle (acks pieces e)) × AllTold (settle (acks pieces e)).recvs
   pieces_moved pieces all =
       let m : Moved p e (acks pieces e) = acks_moved p pieces e all (slots p e ok) ok.acked in (
-        record { role = m.role; peer = m.peer; conn = m.conn; bidi = m.bidi; uni = m.uni; sends = m.sends; halves = m.halves; acked = m.acked },
+        record { role = m.role; peer = m.peer; tuning = m.tuning; conn = m.conn; bidi = m.bidi; uni = m.uni; sends = m.sends; halves = m.halves; acked = m.acked },
         told_settles (acks pieces e) (subst AllTold (sym (ap (λ (x : End). x.recvs) (acks_leave pieces e))) (all_told e ok.told)),
       )
 

@@ -4,7 +4,7 @@ use Rattle.std.specs.Prelude.{cond}
 use Rattle.std.proofs.lemmas.Bool.{cond_both}
 use Rattle.qs_wire.specs.declared.stream_id.Dir.TheVariants.{Bidi, Uni}
 use Rattle.qs_recv.specs.Assembled.{discard, forget}
-use Rattle.qs_recv.specs.Lane.{RecvLane, new_lane as new_recv_lane, highest, taken, take_stream, take_reset, after_read, after_answer, read_answer, stop, stop_and_forget, raise, is_whole, set_window}
+use Rattle.qs_recv.specs.Lane.{RecvLane, new_lane as new_recv_lane, highest, taken, take_stream, take_reset, after_read, after_answer, read_answer, stop, stop_and_forget, is_over, raise, is_whole, set_window}
 use Rattle.qs_recv.specs.declared.half.Read.{Read}
 use Rattle.qs_recv.specs.declared.half.Read.TheVariants as reads
 use Rattle.qs_send.specs.declared.piece.Item.{Item}
@@ -43,11 +43,12 @@ stay_equal t u same = subst (Stay t) (sym same) (stay_same t)
 -- One half
 
 stop_stays : (code : ℕ) (l : RecvLane) → StopStays l (stop l code)
-stop_stays code l = go (is_some l.stop_code) refl
+stop_stays code l = go (is_some l.stop_code) (is_over l) refl
   where
-    go : (b : Bool) → is_some l.stop_code ≡ b → StopStays l (cond b l (record l { arrived = discard l.arrived; stop_code = Some code }))
-    go true is = stays_same l
-    go false is = λ c there. absurd (cc (is, there))
+    go : (b o : Bool) → is_some l.stop_code ≡ b → StopStays l (cond (b || o) l (record l { arrived = discard l.arrived; stop_code = Some code }))
+    go true o is = stays_same l
+    go false true is = stays_same l
+    go false false is = λ c there. absurd (cc (is, there))
 
 reset_stays : (code size : ℕ) (l : RecvLane) → StopStays l (take_reset l code size)
 reset_stays code size l =

@@ -34,7 +34,7 @@ use Rattle.qs_runs.proofs.Runs.{run_keeps}
 use Rattle.qs_runs.proofs.Clauses.{received_is_below_sent, arrived_was_taken, acked_has_arrived, final_size_is_declared, reset_code_is_the_senders}
 use Rattle.qs_rest.specs.Invariant.{IsAllAcked, RestOk}
 use Rattle.qs_rest.specs.Rest.{TellsNoNews, AtRest}
-use Rattle.qs_rest.specs.Resting.{AtEachRest, CreditIsWhole, IsResetAtBoth, IsReadAtBoth, ResetsAreFinal}
+use Rattle.qs_rest.specs.Resting.{AtEachRest, CreditIsWhole, IsResetAtBoth, IsReadAtBoth, IsLeftToOwner, ResetsAreFinal}
 use Rattle.qs_rest.proofs.EveryRun.{every_run_keeps}
 use Rattle.qs_rest.proofs.Lanes.{caught_up, end_told, reset_told, sent_acked, end_acked}
 use Rattle.qs_rest.proofs.Resting.{items_acked, taken as item_taken, taken_here}
@@ -265,26 +265,26 @@ module _ (a b : Settings) (h : History) (w : World) (ok : WorldOk a b h w) (keep
           (l, r, at, is, sent, rw (no_reset, whole, told) refl)
 
   -- a reader that stopped
-  pub is_stopped : (r : RecvLane) (code : ℕ) → receiving w s n ≡ Some r → r.stop_code ≡ Some code → IsResetAtBoth w s n ⊎ IsReadAtBoth w s n
+  pub is_stopped : (r : RecvLane) (code : ℕ) → receiving w s n ≡ Some r → r.stop_code ≡ Some code → IsResetAtBoth w s n ⊎ IsReadAtBoth w s n ⊎ IsLeftToOwner w s n
   is_stopped r code is stop = by_reset r.reset_code refl (is_whole r) refl
     where
-      sized : (size : ℕ) → r.final_size ≡ Some size → r.reset_code ≡ None → IsResetAtBoth w s n ⊎ IsReadAtBoth w s n
+      sized : (size : ℕ) → r.final_size ≡ Some size → r.reset_code ≡ None → IsResetAtBoth w s n ⊎ IsReadAtBoth w s n ⊎ IsLeftToOwner w s n
       sized size final none = by_sender (final_size_is_declared a b h w ok s n r size is final).0 (final_size_is_declared a b h w ok s n r size is final).1
         where
-          by_sender : (l : SendLane) → sending w s n ≡ Some l → IsResetAtBoth w s n ⊎ IsReadAtBoth w s n
+          by_sender : (l : SendLane) → sending w s n ≡ Some l → IsResetAtBoth w s n ⊎ IsReadAtBoth w s n ⊎ IsLeftToOwner w s n
           by_sender l at = go l.was_reset refl
             where
-              go : (x : Option Reset) → l.was_reset ≡ x → IsResetAtBoth w s n ⊎ IsReadAtBoth w s n
+              go : (x : Option Reset) → l.was_reset ≡ x → IsResetAtBoth w s n ⊎ IsReadAtBoth w s n ⊎ IsLeftToOwner w s n
               go (Some reset) e = inl (is_reset l reset at e)
               go None e =
                   let ended = end_sent l r size at is final none in
-                  inr (is_read l at e (end_acked (end_of w s) (rest s) n l at e ended.0 ended.1) ended.1)
+                  inr (inl (is_read l at e (end_acked (end_of w s) (rest s) n l at e ended.0 ended.1) ended.1))
 
-      by_whole : (o : Option ℕ) → r.final_size ≡ o → whole_to r.arrived.received o ≡ true → r.reset_code ≡ None → IsResetAtBoth w s n ⊎ IsReadAtBoth w s n
+      by_whole : (o : Option ℕ) → r.final_size ≡ o → whole_to r.arrived.received o ≡ true → r.reset_code ≡ None → IsResetAtBoth w s n ⊎ IsReadAtBoth w s n ⊎ IsLeftToOwner w s n
       by_whole None e whole none = absurd (false≢true whole)
       by_whole (Some size) e whole none = sized size e none
 
-      by_reset : (x : Option ℕ) → r.reset_code ≡ x → (c : Bool) → is_whole r ≡ c → IsResetAtBoth w s n ⊎ IsReadAtBoth w s n
+      by_reset : (x : Option ℕ) → r.reset_code ≡ x → (c : Bool) → is_whole r ≡ c → IsResetAtBoth w s n ⊎ IsReadAtBoth w s n ⊎ IsLeftToOwner w s n
       by_reset (Some known) e c ec =
           let (l, size, at, reset) = reset_code_is_the_senders a b h w ok s n r known is e in
           inl (is_reset l _ at reset)
@@ -295,12 +295,16 @@ module _ (a b : Settings) (h : History) (w : World) (ok : WorldOk a b h w) (keep
           let (l, at, came) = taken_here a b h w ok keeps s (StopSending n other_code) told in
           elim came [
             | inl reset ↦ (let (x, ex) = some_of l.was_reset reset in inl (is_reset l x at ex))
-            | inr all ↦ by_all l at all l.was_reset refl
+            | inr other ↦ (elim other [ inl all ↦ by_all l at all l.was_reset refl | inr asked ↦ by_owner l at asked.0 asked.1 l.was_reset refl ])
           ]
         where
-          by_all : (l : SendLane) → sending w s n ≡ Some l → IsAllAcked l → (x : Option Reset) → l.was_reset ≡ x → IsResetAtBoth w s n ⊎ IsReadAtBoth w s n
+          by_all : (l : SendLane) → sending w s n ≡ Some l → IsAllAcked l → (x : Option Reset) → l.was_reset ≡ x → IsResetAtBoth w s n ⊎ IsReadAtBoth w s n ⊎ IsLeftToOwner w s n
           by_all l at all (Some reset) ex = inl (is_reset l reset at ex)
-          by_all l at all None ex = inr (is_read l at ex all.end (whole_sent l at all))
+          by_all l at all None ex = inr (inl (is_read l at ex all.end (whole_sent l at all)))
+
+          by_owner : (l : SendLane) → sending w s n ≡ Some l → (end_of w s).tuning.answers_stops ≡ true → is_some l.stopped ≡ true → (x : Option Reset) → l.was_reset ≡ x → IsResetAtBoth w s n ⊎ IsReadAtBoth w s n ⊎ IsLeftToOwner w s n
+          by_owner l at chosen told (Some reset) ex = inl (is_reset l reset at ex)
+          by_owner l at chosen told None ex = inr (inr (chosen, l, at, told, ex))
 
 module _ (a b : Settings) (h : History) (w : World) (ok : WorldOk a b h w) (keeps : (s : Side) → RestOk (past s h) (end_of w s)) (rest : (s : Side) → AtRest (end_of w s)) (s : Side) where
   slot : (n : ℕ) → (value highest (receiving w s n) ≡ value (λ l. l.sent_end) (sending w s n)) × (value taken (receiving w s n) ≡ value (λ l. l.sent_end) (sending w s n))

@@ -2,7 +2,7 @@
 use Rattle.std.proofs.Common.{◌≡◌, ℕ, Bool, true, false, ◌&&◌, ◌||◌, ◌==◌, List, [], ◌∷◌, length, ◌⊎◌, Option, Some, None, is_some, refl, sym, ap, ◌∙◌, subst, arith, inl, inr}
 use Rattle.std.specs.Prelude.{cond, option_map, not, MatchBool, Result, Ok, Err}
 use Rattle.std.proofs.lemmas.Option.{same_Some}
-use Rattle.std.proofs.lemmas.Bool.{cond_both, eqb-true, true≢false, false≢true}
+use Rattle.std.proofs.lemmas.Bool.{and_parts, cond_both, eqb-true, true≢false, false≢true}
 use Rattle.std.proofs.lemmas.Bool.Decides.{nat_tests}
 use Rattle.std.specs.FinSet as set
 use Rattle.qs_wire.specs.Layout.{FrameValue, PlacedValue}
@@ -10,7 +10,7 @@ use Rattle.qs_wire.specs.Reading.{reading_of}
 use Rattle.qs_wire.specs.declared.fault.WireFault.{WireFault}
 use Rattle.qs_recv.specs.Assembled.{discard, front_of, put, forget}
 use Rattle.qs_recv.specs.News.{is_readable, tells_something}
-use Rattle.qs_recv.specs.Lane.{RecvLane, new_lane as new_recv_lane, is_whole, at_final_size, take_stream, take_reset, read_answer, answer_by, after_answer, after_read, stop, stop_and_forget, raise, set_window}
+use Rattle.qs_recv.specs.Lane.{RecvLane, new_lane as new_recv_lane, is_whole, at_final_size, take_stream, take_reset, read_answer, answer_by, after_answer, after_read, stop, stop_and_forget, is_over, raise, set_window}
 use Rattle.qs_recv.specs.declared.credit.Share.{Share}
 use Rattle.qs_recv.specs.declared.half.Read.{Read}
 use Rattle.qs_recv.specs.declared.half.Read.TheVariants as reads
@@ -34,13 +34,14 @@ use Rattle.qs_calls.specs.declared.uses.UseFault.{UseFault}
 use Rattle.qs_calls.specs.declared.event.Act.{Act}
 use Rattle.qs_calls.specs.declared.answer.Answer.{Answer}
 use Rattle.qs_machine.specs.Tables.{Tables, lookup, updated, open_to}
+use Rattle.qs_wire.specs.declared.stream_id.Dir.{Dir}
 use Rattle.qs_wire.specs.declared.stream_id.Dir.TheVariants.{Bidi, Uni}
 use Rattle.qs_machine.specs.Ends.{End, on_recv, is_own, is_uni, opens, opened_by_peer, window}
 use Rattle.qs_machine.specs.Setting.{Setting, ConnWindow, Grant, SendBuffer, with_setting, StreamWindow}
 use Rattle.qs_machine.specs.Credit.{settle}
 use Rattle.qs_machine.specs.Seen.{Seen, Ack, Stream, Control, Close, Plain, seen, asks_ack}
 use Rattle.qs_machine.specs.FrameStep.{frame_taken, item_taken, named}
-use Rattle.qs_machine.specs.Owner.{StopAndForgetStep}
+use Rattle.qs_machine.specs.Owner.{AcceptOfStep, StopAndForgetStep}
 use Rattle.qs_machine.specs.Receiving.{Takes, ReceiveBy, ReceiveStep}
 use Rattle.qs_machine.proofs.TableLaws.{slots_updated, slots_opened, slots_each}
 use Rattle.qs_machine.specs.Alone.{is_ours, TakesOne, TakesEach, after_one}
@@ -51,7 +52,7 @@ use Rattle.qs_machine.proofs.EveryCall.{by_open, closed_same}
 use Rattle.qs_machine.proofs.Leaves.{acks_leave, fills_leave, losses_leave, wanted_leaves, stops_leave, end_leaves}
 use Rattle.qs_rest.specs.Invariant.{IsToldOf, ToldTrue}
 use Rattle.qs_rest.specs.Rest.{TellsNoNews}
-use Rattle.qs_rest.proofs.EachCall.{consume_by, make_by, lose_by, Edits, each_own, forget_by}
+use Rattle.qs_rest.proofs.EachCall.{consume_by, make_by, lose_by, Edits, each_own, forget_by, accept_of_by}
 use Rattle.qs_calls.specs.declared.settings.SetFault.{SetFault}
 use Rattle.qs_machine.specs.Setting.{Setting, SetStep}
 
@@ -122,18 +123,19 @@ new_told : (w : ℕ) (share : Share) → ToldTrue (new_recv_lane w share)
 new_told w share told = absurd (false≢true told)
 
 stop_told : (code : ℕ) (l : RecvLane) → ToldTrue l → ToldTrue (stop l code)
-stop_told code l h = go (is_some l.stop_code) refl
+stop_told code l h = go (is_some l.stop_code || is_over l)
   where
-    go : (b : Bool) → is_some l.stop_code ≡ b → ToldTrue (cond b l (record l { arrived = discard l.arrived; stop_code = Some code }))
-    go true is told = h told
-    go false is told = inr (inl refl)
+    go : (b : Bool) → ToldTrue (cond b l (record l { arrived = discard l.arrived; stop_code = Some code }))
+    go true told = h told
+    go false told = inr (inl refl)
 
-forget_told_of : (code : ℕ) (l : RecvLane) → ToldTrue (stop_and_forget l code)
-forget_told_of code l told = inr (inl (go (is_some l.stop_code) refl))
+forget_told_of : (code : ℕ) (l : RecvLane) → ToldTrue l → ToldTrue (stop_and_forget l code)
+forget_told_of code l h told = go (is_some l.stop_code) (is_over l) refl refl
   where
-    go : (b : Bool) → is_some l.stop_code ≡ b → is_some (cond b l (record l { arrived = discard l.arrived; stop_code = Some code })).stop_code ≡ true
-    go true is = is
-    go false is = refl
+    go : (a o : Bool) → is_some l.stop_code ≡ a → is_over l ≡ o → IsToldOf (record (cond (a || o) l (record l { arrived = discard l.arrived; stop_code = Some code })) { told = true })
+    go true o ea eo = inr (inl ea)
+    go false true ea eo = h (and_parts l.told (is_some l.reset_code || is_whole l) eo).0
+    go false false ea eo = inr (inl refl)
 
 answer_told : (size : ℕ) (l : RecvLane) → ToldTrue l → ToldTrue (after_read l size)
 answer_told size l h = go (read_answer l size) refl
@@ -222,7 +224,7 @@ told_edits old all =
       finishes = λ n. all;
       resets = λ n code. all;
       stops = λ n code. told_updated old.recvs n (λ m. stop m code) all (stop_told code);
-      forgets = λ n code. told_updated old.recvs n (λ m. stop_and_forget m code) all (λ l was. forget_told_of code l);
+      forgets = λ n code. told_updated old.recvs n (λ m. stop_and_forget m code) all (forget_told_of code);
       reads = λ n size. told_updated old.recvs n (λ m. after_read m size) all (answer_told size);
       reads_again = λ n first next.
           told_updated (on_recv n (λ m. after_read m first) old).recvs n (λ m. after_read m next) (told_updated old.recvs n (λ m. after_read m first) all (answer_told first)) (answer_told next);
@@ -235,6 +237,9 @@ own_told old new all act answer step = each_own (λ mid. AllTold mid.recvs) old 
 
 pub consume_told : (old new : End) → AllTold old.recvs → (n most : ℕ) (answer : Result Consumed UseFault) → ConsumeStep old n most answer new → AllTold new.recvs
 consume_told old new all n most answer step = consume_by (λ mid. AllTold mid.recvs) old (told_edits old all) n most answer new step
+
+pub given_told : (old new : End) → AllTold old.recvs → (d : Dir) (answer : Option ℕ) → AcceptOfStep old d answer new → AllTold new.recvs
+given_told old new all d answer step = accept_of_by (λ mid. AllTold mid.recvs) old (told_edits old all) d answer new step
 
 pub forget_told : (old new : End) → AllTold old.recvs → (n code : ℕ) (answer : Result (Unit {0}) UseFault) → StopAndForgetStep old n code answer new → AllTold new.recvs
 forget_told old new all n code answer step = forget_by (λ mid. AllTold mid.recvs) old (told_edits old all) n code answer new step

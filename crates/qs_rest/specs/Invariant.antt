@@ -1,6 +1,6 @@
 -- Of laws.
 -- What holds of an end in every run, beside the invariant of qs_runs: what was acknowledged was told, and what was told took effect.
-use Rattle.std.specs.Prelude.{◌≡◌, ℕ, ◌<◌, ◌≤◌, true, ◌⊎◌, Some, is_some}
+use Rattle.std.specs.Prelude.{◌≡◌, ℕ, ◌<◌, ◌≤◌, Bool, true, ◌⊎◌, Some, is_some}
 use Rattle.std.specs.FinMap as fmap
 use Rattle.std.specs.FinSet as set
 use Rattle.qs_ranges.specs.Numbers.{MAX_VARINT}
@@ -54,6 +54,11 @@ IsToldOf l = (is_some l.reset_code ≡ true) ⊎ (is_some l.stop_code ≡ true) 
 abbrev pub ToldTrue : RecvLane → Type 0
 ToldTrue l = l.told ≡ true → IsToldOf l
 
+-- What a STOP_SENDING did, for good: its stream was reset, or all of it was acknowledged, or its owner answers it and was told (RFC 9000,
+-- section 3.5).
+abbrev pub IsStopTaken : (answers : Bool) → SendLane → Type 0
+IsStopTaken answers l = (is_some l.was_reset ≡ true) ⊎ IsAllAcked l ⊎ ((answers ≡ true) × (is_some l.stopped ≡ true))
+
 -- what a control item did that was taken, with its packet or without it, for good (RFC 9000, sections 3.2, 3.5 and 4.1)
 abbrev pub ItemTaken : End → Seen → Type 0
 ItemTaken e (Control (MaxData m)) = m ≤ e.known_data
@@ -61,7 +66,7 @@ ItemTaken e (Control (MaxStreamData n m)) = (l : SendLane) × (lookup e.sends n 
 ItemTaken e (Control (MaxStreams Bidi m)) = m ≤ e.known_bidi
 ItemTaken e (Control (MaxStreams Uni m)) = m ≤ e.known_uni
 ItemTaken e (Control (ResetStream n code size)) = (l : RecvLane) × (lookup e.recvs n ≡ Some l) × ((is_some l.reset_code ≡ true) ⊎ (is_whole l ≡ true))
-ItemTaken e (Control (StopSending n code)) = (l : SendLane) × (lookup e.sends n ≡ Some l) × ((is_some l.was_reset ≡ true) ⊎ IsAllAcked l)
+ItemTaken e (Control (StopSending n code)) = (l : SendLane) × (lookup e.sends n ≡ Some l) × IsStopTaken e.tuning.answers_stops l
 ItemTaken e f = Unit {0}
 
 -- what holds of one end

@@ -104,12 +104,17 @@ abbrev pub IsReadAtBoth : World → Side → ℕ → Type 0
 IsReadAtBoth w s n =
     (l : SendLane) × (r : RecvLane) × (send_lane (end_of w s) n ≡ Some l) × (recv_lane (end_of w (other s)) n ≡ Some r) × (send_state l ≡ DataRecvd) × (recv_state r ≡ DataRead)
 
+-- the stream's owner answers a STOP_SENDING: it was told of one, and hasn't reset the stream (RFC 9000, section 3.5)
+abbrev pub IsLeftToOwner : World → Side → ℕ → Type 0
+IsLeftToOwner w s n =
+    ((end_of w s).tuning.answers_stops ≡ true) × (l : SendLane) × (send_lane (end_of w s) n ≡ Some l) × (is_some l.stopped ≡ true) × (l.was_reset ≡ None)
+
 -- Resets and stops come to their end at both ends (RFC 9000, sections 3.1, 3.2 and 3.5).
 pub record ResetsAreFinal (h : History) (w : World) (s : Side) : Type 0 where
   -- a stream that was reset (sections 3.1 and 3.2)
   pub resets : (n : ℕ) (l : SendLane) → send_lane (end_of w s) n ≡ Some l → is_some l.was_reset ≡ true → IsResetAtBoth w s n
-  -- a stream whose reader stopped: it is reset, or all of it had come before (section 3.5)
-  pub stops : (n : ℕ) (r : RecvLane) → recv_lane (end_of w (other s)) n ≡ Some r → is_some r.stop_code ≡ true → IsResetAtBoth w s n ⊎ IsReadAtBoth w s n
+  -- a stream whose reader stopped: it is reset, or all of it came, or its owner answers that and was told (section 3.5)
+  pub stops : (n : ℕ) (r : RecvLane) → recv_lane (end_of w (other s)) n ≡ Some r → is_some r.stop_code ≡ true → IsResetAtBoth w s n ⊎ IsReadAtBoth w s n ⊎ IsLeftToOwner w s n
 
 -- fewer bytes were sent than a limit on the connection can ever allow, 2^62-1 (RFC 9000, sections 4.1 and 16)
 abbrev pub HasRoom : World → Side → Type 0

@@ -7,7 +7,7 @@ use Rattle.std.specs.FinSet as set
 use Rattle.std.specs.List.{AllByRecursion, filter}
 use Rattle.qs_ranges.specs.Numbers.{missing_from}
 use Rattle.qs_wire.specs.declared.stream_id.Dir.TheVariants.{Uni}
-use Rattle.qs_send.specs.Lane.{SendLane, allow_lane, reset_lane, stopped_lane, reset_refusal, acked_lane, reset_acked_lane, unacked_from, chunk_offsets}
+use Rattle.qs_send.specs.Lane.{SendLane, allow_lane, reset_lane, broken_off, first_code, stop_taken, reset_refusal, acked_lane, reset_acked_lane, unacked_from, chunk_offsets}
 use Rattle.qs_send.specs.declared.parts.Chunk.{Chunk}
 use Rattle.qs_send.specs.declared.parts.Reset.{Reset}
 use Rattle.qs_send.specs.declared.piece.Item.{Item}
@@ -83,10 +83,11 @@ module _ (p : Past) (n limit : ℕ) (l : SendLane) (h : SendOk p n limit l) wher
   pub reset_ok : (code : ℕ) → SendOk p n limit (reset_lane l code)
   reset_ok code = reset_by code (is_some (reset_refusal l)) refl
 
-  -- a STOP_SENDING keeps its code beside that (RFC 9000, section 3.5)
-  pub stopped_ok : (code : ℕ) → SendOk p n limit (stopped_lane l code)
-  stopped_ok code =
-      let r = reset_ok code in
+  -- the code of a STOP_SENDING is kept beside what is true of a half (RFC 9000, section 3.5)
+  stopped_by : (code : ℕ) (b : Bool) → is_some (reset_refusal l) ≡ b → SendOk p n limit (if b then l else record (broken_off l code) { stopped = first_code l.stopped code })
+  stopped_by code true refused = h
+  stopped_by code false allowed =
+      let r = reset_by code false allowed in
       record {
         count = r.count;
         kept = r.kept;
@@ -100,6 +101,40 @@ module _ (p : Past) (n limit : ℕ) (l : SendLane) (h : SendOk p n limit l) wher
         end_acked = r.end_acked;
         limit_told = r.limit_told;
       }
+
+  told_by : (code : ℕ) (b : Bool) → SendOk p n limit (if b then l else record l { stopped = first_code l.stopped code })
+  told_by code true = h
+  told_by code false =
+      record {
+        count = h.count;
+        kept = h.kept;
+        sent_written = h.sent_written;
+        sent_limit = h.sent_limit;
+        end = h.end;
+        reset_size = h.reset_size;
+        told = h.told;
+        told_reset = h.told_reset;
+        acked = h.acked;
+        end_acked = h.end_acked;
+        limit_told = h.limit_told;
+      }
+
+  -- a STOP_SENDING resets it, or is told (RFC 9000, section 3.5)
+  pub stopped_ok : (answers : Bool) (code : ℕ) → SendOk p n limit (stop_taken answers l code)
+  stopped_ok true code = told_by code (is_some (reset_refusal l))
+  stopped_ok false code = stopped_by code (is_some (reset_refusal l)) refl
+
+  stopped_end_by : (code : ℕ) (b : Bool) → (if b then l else record (broken_off l code) { stopped = first_code l.stopped code }).sent_end ≡ l.sent_end
+  stopped_end_by code true = refl
+  stopped_end_by code false = refl
+
+  told_end_by : (code : ℕ) (b : Bool) → (if b then l else record l { stopped = first_code l.stopped code }).sent_end ≡ l.sent_end
+  told_end_by code true = refl
+  told_end_by code false = refl
+
+  pub stopped_end : (answers : Bool) (code : ℕ) → (stop_taken answers l code).sent_end ≡ l.sent_end
+  stopped_end true code = told_end_by code (is_some (reset_refusal l))
+  stopped_end false code = stopped_end_by code (is_some (reset_refusal l))
 
   end_by : (code : ℕ) (b : Bool) → (if b then l else record l { kept = []; was_reset = Some (record { code = code; size = if l.fin_sent then l.written else l.sent_end }) }).sent_end ≡ l.sent_end
   end_by code true = refl

@@ -31,14 +31,14 @@ use Rattle.qs_machine.specs.FrameStep.{frame_taken}
 use Rattle.qs_machine.specs.Recording.{recorded}
 use Rattle.qs_machine.specs.Receiving.{ReceiveStep, ReceiveBy, Takes, Stops, GoesOn, AtEnd}
 use Rattle.qs_machine.specs.Making.{ClaimStep, claim_refusal, first_lost}
-use Rattle.qs_machine.specs.EndStep.{Call, Answer as CallAnswer, EndStep, Consume, Receive, TakeFrame, TakeFrames, TokenAcked, TokenLost, MakeAck, FillIn, RaiseLimits, Set, StopAndForget}
+use Rattle.qs_machine.specs.EndStep.{Call, Answer as CallAnswer, EndStep, Consume, Receive, TakeFrame, TakeFrames, TokenAcked, TokenLost, MakeAck, FillIn, RaiseLimits, Set, StopAndForget, AcceptOf}
 use Rattle.qs_machine.specs.Repeats.{OnlyRecords}
 use Rattle.qs_machine.proofs.Bounds.{new_ends_settled as new_counts_settled}
 use Rattle.qs_machine.proofs.EveryCall.{ends_by, by_open}
 use Rattle.qs_machine.proofs.ProcessedAgain.{settle_twice}
 use Rattle.qs_machine.proofs.SettledLimits.{new_ends_settled}
 use Rattle.qs_machine.proofs.Plains.{plain_nothing}
-use Rattle.qs_runs.specs.Logs.{Happening, Did, MadeAck, FilledIn, ConsumedUpTo, AckedToken, LostToken, RaisedLimits, CameWith, CameAlone, History, other, made, payload, ping_text, HasSet, Forgot}
+use Rattle.qs_runs.specs.Logs.{Happening, Did, MadeAck, FilledIn, ConsumedUpTo, AckedToken, LostToken, RaisedLimits, CameWith, CameAlone, History, other, made, payload, ping_text, HasSet, Forgot, AcceptedOf}
 use Rattle.qs_runs.specs.Worlds.{World, end_of, Begins, EventStep, WorldStep, Run}
 use Rattle.qs_runs.specs.Agree.{frames_in}
 use Rattle.qs_runs.specs.Invariant.{WorldOk}
@@ -100,6 +100,7 @@ step_settled h v w settled (AckedToken s token result) ((landed, step), same) = 
 step_settled h v w settled (RaisedLimits s limits result) ((granted, step), same) = alone_settled h v w s settled (RaiseLimits limits) result step same
 step_settled h v w settled (HasSet s setting result) (step, same) = alone_settled h v w s settled (Set setting) result step same
 step_settled h v w settled (Forgot s n code result) (step, same) = alone_settled h v w s settled (StopAndForget n code) result step same
+step_settled h v w settled (AcceptedOf s d result) (step, same) = alone_settled h v w s settled (AcceptOf d) result step same
 step_settled h v w settled (CameWith s k bytes result) (text, is, differ, step, same) = comes_settled h v w s settled k bytes result step same
 step_settled h v w settled (CameAlone s parts result) (fs, there, inl step, same) = there_settled h v w s settled (TakeFrames fs) result step same
 step_settled h v w settled (CameAlone s parts result) (fs, there, inr (f, is, step), same) = there_settled h v w s settled (TakeFrame f) result step same

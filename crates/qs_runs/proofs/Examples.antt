@@ -62,7 +62,7 @@ takes bytes none is =
 others : (text : List ℕ) → OthersAreRead text
 unfolding made processed
 others text =
-    record { ack = refl; ack_not_there = refl; no_ack = refl; fill = λ want filled. refl; fill_not_there = λ want filled. refl; no_fill = λ want. refl; with_more = refl; not_another = refl; twice = refl; not_there = refl; none_made = refl; none_lost = λ token. refl; none_raised = λ limits. refl; none_set = λ setting. refl; none_forgot = refl }
+    record { ack = refl; ack_not_there = refl; no_ack = refl; fill = λ want filled. refl; fill_not_there = λ want filled. refl; no_fill = λ want. refl; with_more = refl; not_another = refl; twice = refl; not_there = refl; none_made = refl; none_lost = λ token. refl; none_raised = λ limits. refl; none_set = λ setting. refl; none_forgot = refl; none_given = λ d result. refl }
 
 tokens : TokensAreRead
 unfolding made processed took was_acked

@@ -1,12 +1,14 @@
 -- Each clause of what agrees excludes something.
 use Rattle.std.proofs.Common.{◌≡◌, ℕ, zero, suc, ◌+◌, ◌<◌, ◌≤◌, List, [], ◌∷◌, ◌++◌, ◌⊎◌, inl, inr, length, take, drop, nat_le, Bool, true, false, cond, ◌&&◌, ◌==◌, Option, Some, None, is_some, option_map, Result, Ok, Err, slice_get, slice_index_or, refl, sym, ap, ◌∙◌, arith, subst, not, nat_eq, nat_lt}
 use Rattle.std.specs.Global.{Vec}
+use Rattle.std.specs.Prelude.{MatchBool}
 use Rattle.std.specs.FinSet as set
 use Rattle.std.proofs.lemmas.Option.{same_Some, none-some}
 use Rattle.std.proofs.lemmas.Bool.{both_ways, false≢true}
 use Rattle.std.proofs.lemmas.Bool.Decides.{nat_tests}
 use Rattle.qs_ranges.specs.Numbers.{contains-numbers, numbers, is_within}
 use Rattle.qs_ranges.proofs.Sets.{end_of-empty, missing_from-of}
+use Rattle.qs_wire.specs.declared.stream_id.Dir.{Dir}
 use Rattle.qs_recv.specs.Lane.{RecvLane, stop_and_forget}
 use Rattle.qs_send.specs.Lane.{SendLane, state, unacked_from, declared_size}
 use Rattle.qs_send.specs.declared.parts.Reset.{Reset}
@@ -45,7 +47,7 @@ use Rattle.qs_calls.specs.declared.event.Side.TheVariants.{A, B}
 use Rattle.qs_machine.specs.Tables.{lookup, total}
 use Rattle.qs_machine.specs.Ends.{End, recv_lane, on_recv}
 use Rattle.qs_machine.specs.Credit.{spent, settle}
-use Rattle.qs_machine.specs.Owner.{Certain, first_refusal, refuse_if, recv_refusal, is_read_no_more, ConsumeStep, StopAndForgetStep}
+use Rattle.qs_machine.specs.Owner.{Certain, first_refusal, refuse_if, recv_refusal, is_read_no_more, AcceptOfStep, AcceptOpenOf, ConsumeStep, GivesNone, StopAndForgetStep}
 use Rattle.qs_machine.specs.Making.{MakeAckAt, make_refusal}
 use Rattle.qs_machine.specs.Filling.{FillAt}
 use Rattle.qs_machine.specs.Raising.{RaiseStep, limits_raised}
@@ -234,6 +236,12 @@ not_forgotten e new shut step =
     subst (λ o. Certain (recv_refusal (is_some o) e 0) e (Ok tt) new (◌≡◌ {A = Result (Unit {0}) UseFault} (Ok tt) (Ok tt) × (new ≡ settle (on_recv 0 (λ m. stop_and_forget m 7) e)))) shut step in
     cc (h.0)
 
+-- and gives out no stream
+not_given_out : (d : Dir) (n : ℕ) (e new : End) → e.closed ≡ Some (ByPeer 0) → AcceptOfStep e d (Some n) new → ⊥
+not_given_out d n e new shut step =
+    let h : GivesNone e (Some n) new = subst (λ o. MatchBool (is_some o) (GivesNone e (Some n) new) (AcceptOpenOf e d (Some n) new)) shut step in
+    none-some n (sym h.0)
+
 unset : (size : ℕ) (e new : End) → e.closed ≡ Some (ByPeer 0) → SetStep e (SendBuffer 0 size) (Ok tt) new → ⊥
 unset size e new shut step =
     let next : Option SetFault = first_refusal (refuse_if (not (is_settable (SendBuffer 0 size))) setting.OutOfRange) (half_fault e (SendBuffer 0 size)) in
@@ -266,6 +274,8 @@ others bytes text none =
       set_other = λ v w x r step changed. changed step.1;
       forgot_closed = λ v w shut step. not_forgotten v.a w.a shut step.0;
       forgot_other = λ v w r step changed. changed step.1;
+      given_closed = λ v w d n shut step. not_given_out d n v.a w.a shut step.0;
+      given_other = λ v w d r step changed. changed step.1;
       set_closed = λ v w size shut (step, same). unset size v.a w.a shut step;
     }
 

@@ -3,7 +3,7 @@ use Rattle.std.proofs.Common.{◌≡◌, ℕ, ◌≤◌, ◌<◌, ◌/◌, max, 
 use Rattle.std.proofs.lemmas.Bool.{cases_lt, true≢false, false≢true, and_right}
 use Rattle.qs_wire.specs.declared.stream_id.Dir.TheVariants.{Bidi, Uni}
 use Rattle.qs_recv.specs.Lane.{RecvLane, take_stream, take_reset, is_whole, check_stream, check_reset}
-use Rattle.qs_send.specs.Lane.{allow_lane, stopped_lane}
+use Rattle.qs_send.specs.Lane.{allow_lane, stop_taken}
 use Rattle.qs_send.specs.declared.piece.Item.{Item}
 use Rattle.qs_send.specs.declared.piece.Item.TheVariants.{MaxData, MaxStreamData, MaxStreams, ResetStream, StopSending, DataBlocked, StreamDataBlocked, StreamsBlocked}
 use Rattle.qs_machine.specs.Tables.{lookup, updated, open_to}
@@ -19,7 +19,7 @@ use Rattle.qs_runs.specs.Invariant.{EndOk, RecvOk, RecvSlot, FrameTaken}
 use Rattle.qs_runs.proofs.Changes.{AllGrow, all_grow_refl, grow_trans, grows_update, recv_changed, send_kept}
 use Rattle.qs_runs.proofs.Opening.{new_recvs, named_by, opened_ok, opened_grows, lane_opened}
 use Rattle.qs_runs.proofs.Taking.{or_else_none, stream_passed, fin_fits, reset_fits, take_stream_ok, take_stream_grows, take_stream_taken, take_reset_ok, take_reset_grows, take_reset_taken}
-use Rattle.qs_runs.proofs.Acking.{allow_ok, stopped_ok, reset_end, acks_ok, named_pieces_ok}
+use Rattle.qs_runs.proofs.Acking.{allow_ok, stopped_ok, stopped_end, acks_ok, named_pieces_ok}
 
 -- What a frame that takes effect leaves: the invariant, every half grown, and the frame's own effect for good.
 pub record Effect (p : Past) (old new : End) (f : Seen) : Type 0 where
@@ -157,7 +157,7 @@ module _ (p : Past) where
   item_keeps e (StopSending n c) ok t fine =
       let opened = opened_ok p e n ok (named_by p _ n t refl) (is_own e n) refl in
       record {
-        ok = send_kept p (opened_by_peer n e) n opened (λ l. stopped_lane l c) (λ l is h. (stopped_ok p n _ l h c, reset_end p n _ l h c));
+        ok = send_kept p (opened_by_peer n e) n opened (λ l. stop_taken e.tuning.answers_stops l c) (λ l is h. (stopped_ok p n _ l h e.tuning.answers_stops c, stopped_end p n _ l h e.tuning.answers_stops c));
         grow = opened_grows p e n ok (is_own e n);
         taken = tt;
       }

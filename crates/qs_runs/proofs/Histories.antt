@@ -6,6 +6,7 @@ use Rattle.std.proofs.lemmas.Option.{none-some, same_Some, slice_get-map}
 use Rattle.std.specs.List.{AllByRecursion}
 use Rattle.std.proofs.Common.{option_map}
 use Rattle.qs_recv.specs.declared.half.Read.TheVariants as reads
+use Rattle.qs_wire.specs.declared.stream_id.Dir.{Dir}
 use Rattle.qs_calls.specs.declared.closing.Closing.{Closing}
 use Rattle.qs_calls.specs.declared.closing.Received.{Received}
 use Rattle.qs_calls.specs.declared.filling.Fill.{Fill}
@@ -33,7 +34,7 @@ use Rattle.qs_calls.specs.declared.event.Act.TheVariants as acts
 use Rattle.qs_calls.specs.declared.event.Event.{Event}
 use Rattle.qs_calls.specs.declared.answer.Answer.{Answer}
 use Rattle.qs_calls.specs.declared.answer.Answer.TheVariants as answers
-use Rattle.qs_runs.specs.Logs.{Part, Happening, Did, MadeAck, FilledIn, ConsumedUpTo, AckedToken, LostToken, RaisedLimits, CameWith, CameAlone, History, other, own_of, end_read, reads_of, own_calls, is_delivery, delivers, is_done, takes_in, processed, takes_frame, took, tells_acked, was_acked, texts_of, made, made_by, made_now, payload, was_told, HasSet, Forgot}
+use Rattle.qs_runs.specs.Logs.{Part, Happening, Did, MadeAck, FilledIn, ConsumedUpTo, AckedToken, LostToken, RaisedLimits, CameWith, CameAlone, History, other, own_of, end_read, reads_of, own_calls, is_delivery, delivers, is_done, takes_in, processed, takes_frame, took, tells_acked, was_acked, texts_of, made, made_by, made_now, payload, was_told, HasSet, Forgot, AcceptedOf}
 use Rattle.qs_calls.specs.declared.uses.UseFault.{UseFault}
 use Rattle.qs_runs.specs.Worlds.{OwnStep}
 use Rattle.qs_runs.specs.Agree.{frames_in}
@@ -125,6 +126,9 @@ makes_none s token result = record { calls = λ t. refl; takes = λ t k. refl; t
 
 pub makes_set : (s : Side) (x : Setting) (result : Result (Unit {0}) SetFault) → Makes s (HasSet s x result) []
 makes_set s x result = record { calls = λ t. refl; takes = λ t k. refl; takes_none = λ t k i. refl; tells = λ t k. refl; here = refl; there = refl }
+
+pub makes_given : (s : Side) (d : Dir) (result : Option ℕ) → Makes s (AcceptedOf s d result) []
+makes_given s d result = record { calls = λ t. refl; takes = λ t k. refl; takes_none = λ t k i. refl; tells = λ t k. refl; here = refl; there = refl }
 
 pub past_raised : (t s : Side) (limits : PeerLimits) (result : Result (Unit {0}) RaiseFault) (h : History) → past t (RaisedLimits s limits result ∷ h) ≡ past t h
 unfolding own_calls packets_of processed took was_acked

@@ -16,7 +16,7 @@ use Rattle.qs_machine.specs.Ends.{End}
 use Rattle.qs_machine.specs.Seen.{Seen, seen}
 use Rattle.qs_machine.specs.Owner.{Certain, first_refusal, refuse_if}
 use Rattle.qs_machine.specs.Alone.{is_ours, TokenAckedStep}
-use Rattle.qs_runs.specs.Logs.{Happening, Did, MadeAck, FilledIn, ConsumedUpTo, AckedToken, LostToken, RaisedLimits, CameWith, CameAlone, History, other, same_side, made, made_now, processed, takes_in, took, takes_frame, was_acked, tells_acked, HasLanded, was_told, is_in, HasSet, Forgot}
+use Rattle.qs_runs.specs.Logs.{Happening, Did, MadeAck, FilledIn, ConsumedUpTo, AckedToken, LostToken, RaisedLimits, CameWith, CameAlone, History, other, same_side, made, made_now, processed, takes_in, took, takes_frame, was_acked, tells_acked, HasLanded, was_told, is_in, HasSet, Forgot, AcceptedOf}
 use Rattle.qs_runs.specs.Worlds.{World, WorldStep, end_of}
 use Rattle.qs_runs.specs.Agree.{frames_in}
 use Rattle.qs_runs.specs.Pasts.{Packets, past, Holds, WasConfirmed, EachTaken, Landed}
@@ -78,6 +78,7 @@ landed_before h v w (LostToken end token result) step s k is = absurd (false≢t
 landed_before h v w (RaisedLimits end limits result) step s k is = absurd (false≢true is)
 landed_before h v w (HasSet end setting result) step s k is = absurd (false≢true is)
 landed_before h v w (Forgot end n code result) step s k is = absurd (false≢true is)
+landed_before h v w (AcceptedOf end d result) step s k is = absurd (false≢true is)
 landed_before h v w (CameWith end number bytes result) step s k is = absurd (false≢true is)
 landed_before h v w (CameAlone end parts result) step s k is = absurd (false≢true is)
 

@@ -1,12 +1,12 @@
 -- Each call of its owner keeps the invariant of an end.
-use Rattle.std.proofs.Common.{◌≡◌, ◌≢◌, ℕ, ◌+◌, ◌*◌, Bool, true, false, not, ◌&&◌, List, [], ◌∷◌, ◌++◌, map, length, take, Option, Some, None, Result, Ok, Err, is_some, refl, sym, ap, ◌∙◌, subst, inl, inr, if◌then◌else◌, ◌==◌, append-nil, MatchBool, nat_le, zero, suc, ◌-◌}
+use Rattle.std.proofs.Common.{◌≡◌, ◌≢◌, ℕ, ◌+◌, ◌*◌, Bool, true, false, not, ◌&&◌, ◌||◌, List, [], ◌∷◌, ◌++◌, map, length, take, Option, Some, None, Result, Ok, Err, is_some, refl, sym, ap, ◌∙◌, subst, inl, inr, if◌then◌else◌, ◌==◌, append-nil, MatchBool, nat_le, zero, suc, ◌-◌}
 use Rattle.std.proofs.lemmas.Option.{none-some}
 use Rattle.std.proofs.lemmas.Bool.{eq-eqb, ne_eqb, leb-false}
 use Rattle.std.specs.Global.{Vec}
 use Rattle.qs_wire.specs.declared.stream_id.Dir.{Dir}
 use Rattle.qs_wire.specs.declared.stream_id.Dir.TheVariants.{Bidi, Uni}
 use Rattle.qs_recv.specs.Assembled.{front, front_of}
-use Rattle.qs_recv.specs.Lane.{RecvLane, read_answer, bytes_of, bytes_read, after_answer, after_read, stop, stop_and_forget}
+use Rattle.qs_recv.specs.Lane.{RecvLane, read_answer, bytes_of, bytes_read, after_answer, after_read, stop, stop_and_forget, is_over}
 use Rattle.qs_recv.specs.declared.half.Read.{Read}
 use Rattle.qs_recv.specs.declared.half.Read.TheVariants as reads
 use Rattle.qs_send.specs.Lane.{SendLane, refusal, reset_refusal, write_lane, finish_lane, reset_lane, buffer_lane}
@@ -28,7 +28,7 @@ use Rattle.qs_machine.specs.Ends.{End, on_send, on_recv, send_lane, first_send_l
 use Rattle.qs_machine.specs.Credit.{settle}
 use Rattle.qs_machine.specs.Seen.{Seen, seen_all}
 use Rattle.qs_machine.specs.Due.{known_count}
-use Rattle.qs_machine.specs.Owner.{first_refusal, refuse_if, send_refusal, recv_refusal, is_read_no_more, half_refusal, no_half, opened_count, own_type, peer_type, with_wanted, OpenStep, IsBlocked, IsOpened, AcceptStep, GivesNone, GivesBidi, GivesUni, AcceptOpen, WriteStep, FinishStep, ResetStep, StopStep, ReadStep, ReadBy, next_stream, accepted_by, consumed, is_end as is_told_end, Certain, StopAndForgetStep}
+use Rattle.qs_machine.specs.Owner.{first_refusal, refuse_if, send_refusal, recv_refusal, is_read_no_more, half_refusal, no_half, opened_count, own_type, peer_type, with_wanted, OpenStep, IsBlocked, IsOpened, AcceptStep, AcceptOfStep, GivesNone, GivesBidi, GivesUni, AcceptOpen, AcceptOpenOf, WriteStep, FinishStep, ResetStep, StopStep, ReadStep, ReadBy, next_stream, accepted_by, consumed, is_end as is_told_end, Certain, StopAndForgetStep}
 use Rattle.qs_machine.specs.Making.{MakeStep, MakeAt, make_refusal, IsMade, LoseStep, lose_refusal, ClaimStep, claim_refusal}
 use Rattle.qs_machine.specs.Setting.{Setting, SendBuffer, SetStep, set_refusal}
 use Rattle.qs_machine.specs.Alone.{token_refusal, TokenLostStep, LosesEach}
@@ -184,6 +184,25 @@ module _ (p : Past) (e new : End) (ok : EndOk p e) where
       first true h = ended_by p _ new h.1 ok
       first false h = second _ h
 
+  pub accept_of_moves : (d : Dir) (answer : Option ℕ) → AcceptOfStep e d answer new → EndOk p new
+  accept_of_moves d answer step = first _ step
+    where
+      uni : (b : Bool) → MatchBool b ((answer ≡ Some (e.accepted_uni * 4 + peer_type e Uni)) × (new ≡ settle (record e { accepted_uni = e.accepted_uni + 1 }))) (GivesNone e answer new) → EndOk p new
+      uni true h = ended_by p _ new h.1 (settle_ok p _ (rest_ok p e e.accepted_bidi (e.accepted_uni + 1) e.wanted_bidi e.wanted_uni ok))
+      uni false h = ended_by p _ new h.1 ok
+
+      bidi : (b : Bool) → MatchBool b (GivesBidi e answer new) (GivesNone e answer new) → EndOk p new
+      bidi true h = ended_by p _ new h.1 (settle_ok p _ (rest_ok p e (e.accepted_bidi + 1) e.accepted_uni e.wanted_bidi e.wanted_uni ok))
+      bidi false h = ended_by p _ new h.1 ok
+
+      of : (d : Dir) → AcceptOpenOf e d answer new → EndOk p new
+      of Bidi h = bidi _ h
+      of Uni h = uni _ h
+
+      first : (b : Bool) → MatchBool b (GivesNone e answer new) (AcceptOpenOf e d answer new) → EndOk p new
+      first true h = ended_by p _ new h.1 ok
+      first false h = of d h
+
   -- Sending
 
   wrote_view : (n : ℕ) (bytes : Vec ℕ) (count : ℕ) → with_call p (acts.Write n bytes) (answers.Write (Ok count)) ≡ with_bytes p n (take count bytes.items)
@@ -268,13 +287,13 @@ module _ (p : Past) (e new : End) (ok : EndOk p e) where
 
   stop_moves : (n code : ℕ) (answer : Result (Unit {0}) UseFault) → StopStep e n code answer new → EndOk (with_call p (acts.Stop n code) (answers.Stop answer)) new
   stop_moves n code answer step =
-      stops_by n code (λ m. stop m code) answer step (λ l h. (stop_ok p n (window e n) l h code (is_some l.stop_code), stop_grows p n (window e n) l h code (is_some l.stop_code)))
+      stops_by n code (λ m. stop m code) answer step (λ l h. (stop_ok p n (window e n) l h code (is_some l.stop_code || is_over l), stop_grows p n (window e n) l h code (is_some l.stop_code || is_over l)))
 
   pub forget_moves : (n code : ℕ) (answer : Result (Unit {0}) UseFault) → StopAndForgetStep e n code answer new → EndOk (with_call p (acts.Stop n code) (answers.Stop answer)) new
   forget_moves n code answer step =
       stops_by n code (λ m. stop_and_forget m code) answer step (λ l h. (
-        told_true _ _ _ _ _ _ _ _ (stop_ok p n (window e n) l h code (is_some l.stop_code)),
-        told_grows l _ (stop_grows p n (window e n) l h code (is_some l.stop_code)),
+        told_true _ _ _ _ _ _ _ _ (stop_ok p n (window e n) l h code (is_some l.stop_code || is_over l)),
+        told_grows l _ (stop_grows p n (window e n) l h code (is_some l.stop_code || is_over l)),
       ))
 
   -- a half is read

@@ -1,5 +1,5 @@
 -- Every run keeps the invariant of both ends.
-use Rattle.std.proofs.Common.{◌≡◌, ◌≤◌, ℕ, Bool, true, List, [], ◌∷◌, ◌++◌, map, ◌⊎◌, inl, inr, None, Some, Result, Ok, false, not, arith, sym, subst, refl, ap, ◌∙◌, slice_get, append-nil}
+use Rattle.std.proofs.Common.{◌≡◌, ◌≤◌, ℕ, Bool, true, List, [], ◌∷◌, ◌++◌, map, ◌⊎◌, inl, inr, Option, None, Some, Result, Ok, false, not, arith, sym, subst, refl, ap, ◌∙◌, slice_get, append-nil}
 use Rattle.std.proofs.lemmas.Bool.{false≢true}
 use Rattle.std.specs.Global.{Vec}
 use Rattle.std.specs.List.{AllByRecursion}
@@ -16,9 +16,9 @@ use Rattle.qs_machine.specs.Credit.{first_grant, granted_streams, settle}
 use Rattle.qs_machine.specs.Receiving.{ReceiveStep}
 use Rattle.qs_machine.specs.Seen.{seen_all}
 use Rattle.qs_machine.specs.Alone.{TokenAckedStep, TokenLostStep}
-use Rattle.qs_machine.specs.Owner.{StopAndForgetStep}
+use Rattle.qs_machine.specs.Owner.{AcceptOfStep, StopAndForgetStep}
 use Rattle.qs_machine.specs.Raising.{RaiseStep, greater_limits, limits_raised, raise_refusal}
-use Rattle.qs_machine.specs.EndStep.{Call, Answer as CallAnswer, EndStep, Consume, Receive, TakeFrame, TakeFrames, TokenAcked, TokenLost, MakeAck, FillIn, RaiseLimits, Set, StopAndForget}
+use Rattle.qs_machine.specs.EndStep.{Call, Answer as CallAnswer, EndStep, Consume, Receive, TakeFrame, TakeFrames, TokenAcked, TokenLost, MakeAck, FillIn, RaiseLimits, Set, StopAndForget, AcceptOf}
 use Rattle.qs_machine.specs.Setting.{Setting, SetStep}
 use Rattle.qs_machine.specs.Standing.{IsSound}
 use Rattle.qs_machine.specs.Repeats.{SentWasWritten}
@@ -45,7 +45,7 @@ use Rattle.qs_calls.specs.declared.settings.RaiseFault.{RaiseFault}
 use Rattle.qs_calls.specs.declared.settings.SetFault.{SetFault}
 use Rattle.qs_machine.proofs.EveryCall.{MovesStanding}
 use Rattle.qs_machine.proofs.Plains.{plain_nothing}
-use Rattle.qs_runs.specs.Logs.{Part, Happening, Did, MadeAck, FilledIn, ConsumedUpTo, AckedToken, LostToken, RaisedLimits, CameWith, CameAlone, History, Log, happened, other, own_calls, processed, took, was_acked, is_taken, is_delivery, reads_of, texts_of, made, made_by, payload, AreFramesOf, HasLanded, HasSet, Forgot}
+use Rattle.qs_runs.specs.Logs.{Part, Happening, Did, MadeAck, FilledIn, ConsumedUpTo, AckedToken, LostToken, RaisedLimits, CameWith, CameAlone, History, Log, happened, other, own_calls, processed, took, was_acked, is_taken, is_delivery, reads_of, texts_of, made, made_by, payload, AreFramesOf, HasLanded, HasSet, Forgot, AcceptedOf}
 use Rattle.qs_runs.specs.Worlds.{World, AreGranted, Begins, end_of, OwnStep, TakesBytes, DeliverStep, ComeWithStep, HandedIn, ComeAloneStep, EventStep, WorldStep, Run, EventRun}
 use Rattle.qs_calls.specs.declared.uses.UseFault.{UseFault}
 use Rattle.qs_runs.specs.Agree.{frames_in}
@@ -55,7 +55,7 @@ use Rattle.qs_runs.specs.Invariant.{EndOk, FrameTaken, CountsTrue, CountsOk, Wor
 use Rattle.qs_runs.proofs.Unharmed.{Facing}
 use Rattle.qs_runs.specs.Invariant.{standing}
 use Rattle.qs_runs.proofs.Receives.{receives}
-use Rattle.qs_runs.proofs.OwnMoves.{own_moves, with_call, with_packets, uses_made, consume_moves, nothing_made, token_lost_moves, forget_moves}
+use Rattle.qs_runs.proofs.OwnMoves.{accept_of_moves, own_moves, with_call, with_packets, uses_made, consume_moves, nothing_made, token_lost_moves, forget_moves}
 use Rattle.qs_runs.proofs.Standing.{call_stands, certain_cases, IsRefused}
 use Rattle.qs_runs.proofs.PeerMoves.{with_theirs, peer_moves}
 use Rattle.qs_runs.proofs.Raising.{raise_moves}
@@ -64,7 +64,7 @@ use Rattle.qs_runs.proofs.Facing.{facing, opposite_roles, receive_stands, fine_n
 use Rattle.qs_runs.proofs.Alone.{with_took, AreHeldAt, held_told, held_holds, handed_came, took_ok, token_acked_moves}
 use Rattle.qs_runs.proofs.Landing.{step_lands}
 use Rattle.qs_runs.proofs.Parts.{parts_held, parts_fit}
-use Rattle.qs_runs.proofs.Histories.{past_own, past_peer, past_sender, past_receiver, Makes, past_makes, past_peer_makes, makes_ack, makes_fill, makes_none, past_consumed, past_peer_consumed, past_raised, past_came, past_came_from, past_came_to, past_token, past_peer_token, made_none, made_own, made_peer, made_makes, made_peer_makes, made_raised, made_came, did, theirs_mine, mine_theirs, payload_seen, AreFaultless, faultless_at, own_faultless, makes_set, past_forgot, made_forgot}
+use Rattle.qs_runs.proofs.Histories.{past_own, past_peer, past_sender, past_receiver, Makes, past_makes, past_peer_makes, makes_ack, makes_fill, makes_none, past_consumed, past_peer_consumed, past_raised, past_came, past_came_from, past_came_to, past_token, past_peer_token, made_none, made_own, made_peer, made_makes, made_peer_makes, made_raised, made_came, did, theirs_mine, mine_theirs, payload_seen, AreFaultless, faultless_at, own_faultless, makes_set, makes_given, past_forgot, made_forgot}
 use Rattle.qs_runs.proofs.Packing.{Packs, ack_packs, fill_packs, packs_faultless, packs_counts, packs_ok}
 use Rattle.qs_runs.proofs.NewEnds.{first_world, made_first, ends_made, begins_true, tells_nothing, new_ok}
 use Rattle.qs_runs.proofs.Granting.{TellCounts, own_call, own_counts, counts_told, counts_stay, known_within}
@@ -352,7 +352,13 @@ module _ (a b : Settings) (h : History) (v w : World) (s : Side) (ok : WorldOk a
       call_step x [] (with_packets (past s h) []) (past_makes s x [] h makes) refl (past_peer_makes s x [] h makes) (made_makes s x [] h makes) (made_peer_makes s x [] h makes) tt (λ d count t. absurd (tells_nothing _ _ refl t))
       (nothing_made (past s h) (end_of w s) (set_moves (past s h) (end_of v s) (end_of w s) setting result here.ok step)) (Set setting) result step (λ no. no) same
 
-  -- its owner sets something anew
+  -- a stream of one direction is given out
+  given_step : (d : Dir) (result : Option ℕ) → AcceptOfStep (end_of v s) d result (end_of w s) → end_of w (other s) ≡ end_of v (other s) → Sides (AcceptedOf s d result)
+  given_step d result step same =
+      let x = AcceptedOf s d result in
+      let makes = makes_given s d result in
+      call_step x [] (with_packets (past s h) []) (past_makes s x [] h makes) refl (past_peer_makes s x [] h makes) (made_makes s x [] h makes) (made_peer_makes s x [] h makes) tt (λ d count t. absurd (tells_nothing _ _ refl t))
+      (nothing_made (past s h) (end_of w s) (accept_of_moves (past s h) (end_of v s) (end_of w s) here.ok d result step)) (AcceptOf d) result step (λ no. no) same
 
   -- limits are taken in that the peer grants
   raise_step : (limits : PeerLimits) (result : Result (Unit {0}) RaiseFault) → AreGranted limits (end_of v (other s)).settings → RaiseStep (end_of v s) limits result (end_of w s) → end_of w (other s) ≡ end_of v (other s) → Sides (RaisedLimits s limits result)
@@ -470,6 +476,7 @@ sides_keep a b h v w (AckedToken s token result) ok ((landed, step), same) = tok
 sides_keep a b h v w (RaisedLimits s limits result) ok ((granted, step), same) = raise_step a b h v w s ok limits result granted step same
 sides_keep a b h v w (HasSet s setting result) ok (step, same) = set_step a b h v w s ok setting result step same
 sides_keep a b h v w (Forgot s n code result) ok (step, same) = forget_step a b h v w s ok n code result step same
+sides_keep a b h v w (AcceptedOf s d result) ok (step, same) = given_step a b h v w s ok d result step same
 sides_keep a b h v w (CameWith s k bytes result) ok step = came_step a b h v w s ok k bytes result step
 sides_keep a b h v w (CameAlone s parts result) ok step = alone_step a b h v w s ok parts result step
 

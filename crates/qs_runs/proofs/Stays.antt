@@ -8,12 +8,12 @@ use Rattle.qs_calls.specs.declared.event.Act.{Act}
 use Rattle.qs_calls.specs.declared.event.Act.TheVariants as acts
 use Rattle.qs_calls.specs.declared.answer.Answer.{Answer}
 use Rattle.qs_calls.specs.declared.answer.Answer.TheVariants as answers
-use Rattle.qs_runs.specs.Logs.{Happening, Did, MadeAck, FilledIn, ConsumedUpTo, AckedToken, LostToken, RaisedLimits, CameWith, CameAlone, History, other, HasSet, Forgot}
+use Rattle.qs_runs.specs.Logs.{Happening, Did, MadeAck, FilledIn, ConsumedUpTo, AckedToken, LostToken, RaisedLimits, CameWith, CameAlone, History, other, HasSet, Forgot, AcceptedOf}
 use Rattle.qs_runs.specs.Worlds.{World, end_of, OwnStep, EventStep, WorldStep}
 use Rattle.qs_runs.specs.Invariant.{WorldOk}
 use Rattle.qs_runs.specs.Laws.{WhatIsKnownStays}
 use Rattle.qs_machine.specs.Receiving.{ReceiveStep}
-use Rattle.qs_machine.specs.EndStep.{Call, Answer as CallAnswer, EndStep, Consume, Receive, TakeFrame, TakeFrames, TokenAcked, TokenLost, MakeAck, FillIn, RaiseLimits, Set, StopAndForget}
+use Rattle.qs_machine.specs.EndStep.{Call, Answer as CallAnswer, EndStep, Consume, Receive, TakeFrame, TakeFrames, TokenAcked, TokenLost, MakeAck, FillIn, RaiseLimits, Set, StopAndForget, AcceptOf}
 use Rattle.qs_machine.proofs.TablesAfter.{KeptIn, kept_same}
 use Rattle.qs_machine.proofs.LanesAgain.{LaneAfter, lane_same}
 use Rattle.qs_machine.proofs.CallsCounts.{lanes_call}
@@ -60,6 +60,7 @@ all_keep a b h v w ok (AckedToken s token result) ((landed, step), same) = call_
 all_keep a b h v w ok (RaisedLimits s limits result) ((granted, step), same) = call_alone a b h v w s ok (RaiseLimits limits) result step same
 all_keep a b h v w ok (HasSet s setting result) (step, same) = call_alone a b h v w s ok (Set setting) result step same
 all_keep a b h v w ok (Forgot s n code result) (step, same) = call_alone a b h v w s ok (StopAndForget n code) result step same
+all_keep a b h v w ok (AcceptedOf s d result) (step, same) = call_alone a b h v w s ok (AcceptOf d) result step same
 all_keep a b h v w ok (CameWith s k bytes result) (text, is, differ, step, same) = comes_keeps a b h v w s ok k bytes result step same
 all_keep a b h v w ok (CameAlone s parts result) (fs, there, inl step, same) = call_there a b h v w s ok (TakeFrames fs) result step same
 all_keep a b h v w ok (CameAlone s parts result) (fs, there, inr (f, is, step), same) = call_there a b h v w s ok (TakeFrame f) result step same

@@ -1,7 +1,8 @@
 -- Of laws.
 -- What is read off a small log.
-use Rattle.std.specs.Prelude.{◌≡◌, ℕ, Bool, true, false, List, [], ◌∷◌, map, None, Some, Result, Ok, Err}
+use Rattle.std.specs.Prelude.{◌≡◌, ℕ, Bool, true, false, List, [], ◌∷◌, map, Option, None, Some, Result, Ok, Err}
 use Rattle.std.specs.Global.{Vec}
+use Rattle.qs_wire.specs.declared.stream_id.Dir.{Dir}
 use Rattle.qs_recv.specs.declared.half.Read.TheVariants.{Bytes, End}
 use Rattle.qs_calls.specs.declared.settings.PeerLimits.{PeerLimits}
 use Rattle.qs_calls.specs.declared.closing.Received.{Received}
@@ -23,7 +24,7 @@ use Rattle.qs_calls.specs.declared.event.Act.TheVariants.{Write, Stop, ReadUpTo,
 use Rattle.qs_calls.specs.declared.event.Event.{Event}
 use Rattle.qs_calls.specs.declared.answer.Answer.TheVariants as answers
 use Rattle.qs_machine.specs.SmallEnds.{abc}
-use Rattle.qs_runs.specs.Logs.{Part, Happening, Did, MadeAck, FilledIn, ConsumedUpTo, AckedToken, LostToken, RaisedLimits, CameWith, CameAlone, History, written, read, made, payload, processed, took, was_acked, read_whole, HasSet, Forgot}
+use Rattle.qs_runs.specs.Logs.{Part, Happening, Did, MadeAck, FilledIn, ConsumedUpTo, AckedToken, LostToken, RaisedLimits, CameWith, CameAlone, History, written, read, made, payload, processed, took, was_acked, read_whole, HasSet, Forgot, AcceptedOf}
 use Rattle.qs_machine.specs.Setting.{Setting}
 
 abbrev pub at : Side → Act → Event
@@ -160,8 +161,9 @@ pub record OthersAreRead (text : List ℕ) : Type 0 where
   pub none_lost : (token : Token) → made A (LostToken A token (Ok tt) ∷ []) ≡ []
   pub none_raised : (limits : PeerLimits) → made A (RaisedLimits A limits (Ok tt) ∷ []) ≡ []
   pub none_set : (setting : Setting) → made A (HasSet A setting (Ok tt) ∷ []) ≡ []
-  -- nor by a stream that is forgotten
+  -- nor by a stream that is forgotten, or given out of one direction
   pub none_forgot : made A (Forgot A 0 7 (Ok tt) ∷ []) ≡ []
+  pub none_given : (d : Dir) (result : Option ℕ) → made A (AcceptedOf A d result ∷ []) ≡ []
 
 -- the frame at a place of a packet
 abbrev pub part : (number place : ℕ) → Part

@@ -1,8 +1,9 @@
 -- Of laws.
 -- What two ends that agree exclude: beside each clause a small history, and a world, that lacks it (RFC 9000, sections 2.2, 3 and 4).
-use Rattle.std.specs.Prelude.{◌≡◌, ℕ, ◌+◌, ◌≤◌, Bool, true, false, List, [], ◌∷◌, None, Some, Result, Ok, Err}
+use Rattle.std.specs.Prelude.{◌≡◌, ℕ, ◌+◌, ◌≤◌, Bool, true, false, List, [], ◌∷◌, Option, None, Some, Result, Ok, Err}
 use Rattle.std.specs.Global.{Vec}
 use Rattle.qs_ranges.specs.Numbers.{numbers}
+use Rattle.qs_wire.specs.declared.stream_id.Dir.{Dir}
 use Rattle.qs_recv.specs.Lane.{RecvLane, bytes_read}
 use Rattle.qs_send.specs.Lane.{SendLane}
 use Rattle.qs_send.specs.declared.piece.Item.TheVariants.{MaxData, ResetStream}
@@ -39,7 +40,7 @@ use Rattle.qs_machine.specs.Plains.{DifferInPlain}
 use Rattle.qs_machine.specs.Examples.{standard, server, client_of}
 use Rattle.qs_machine.specs.Setting.{Setting, ConnWindow}
 use Rattle.qs_machine.specs.SmallEnds.{client_with, server_with, abc, wrote as wrote_half, sent, fresh, all_came}
-use Rattle.qs_runs.specs.Logs.{Did, MadeAck, FilledIn, ConsumedUpTo, AckedToken, LostToken, RaisedLimits, CameWith, CameAlone, History, AreFramesOf, HasLanded, ping_text, HasSet, Forgot}
+use Rattle.qs_runs.specs.Logs.{Did, MadeAck, FilledIn, ConsumedUpTo, AckedToken, LostToken, RaisedLimits, CameWith, CameAlone, History, AreFramesOf, HasLanded, ping_text, HasSet, Forgot, AcceptedOf}
 use Rattle.qs_calls.specs.declared.settings.SetFault.{SetFault}
 use Rattle.qs_machine.specs.Setting.{Setting, SendBuffer}
 use Rattle.qs_runs.specs.Worlds.{World, AreGranted, HandedIn, WorldStep, Begins}
@@ -188,6 +189,10 @@ pub record NothingElseHappens (bytes text none : Vec ℕ) : Type 0 where
   pub forgot_closed : (v w : World) → v.a.closed ≡ Some (ByPeer 0) → WorldStep [] v (Forgot A 0 7 (Ok tt)) w → ⊥
   -- or the other end changes
   pub forgot_other : (v w : World) (r : Result (Unit {0}) UseFault) → WorldStep [] v (Forgot A 0 7 r) w → (w.b ≡ v.b → ⊥) → ⊥
+  -- a stream of one direction is given out by an end that closed
+  pub given_closed : (v w : World) (d : Dir) (n : ℕ) → v.a.closed ≡ Some (ByPeer 0) → WorldStep [] v (AcceptedOf A d (Some n)) w → ⊥
+  -- or the other end changes
+  pub given_other : (v w : World) (d : Dir) (r : Option ℕ) → WorldStep [] v (AcceptedOf A d r) w → (w.b ≡ v.b → ⊥) → ⊥
   -- a buffer is set at an end that closed
   pub set_closed : (v w : World) (size : ℕ) → v.a.closed ≡ Some (ByPeer 0) → WorldStep [] v (HasSet A (SendBuffer 0 size) (Ok tt)) w → ⊥
 

@@ -3,6 +3,7 @@
 -- RFC 9000 has no log.
 use Rattle.std.specs.Global.{Vec}
 use Rattle.std.specs.Prelude.{◌≡◌, ℕ, Bool, true, false, not, ◌&&◌, ◌||◌, ◌==◌, List, [], ◌∷◌, ◌++◌, map, take, ◌⊎◌, ⊤, Option, None, Some, Result, Ok, Err, slice_get, if◌then◌else◌, nat_le}
+use Rattle.qs_wire.specs.declared.stream_id.Dir.{Dir}
 use Rattle.qs_wire.specs.Layout.{FrameValue}
 use Rattle.qs_wire.specs.Grammar.{frames_of}
 use Rattle.qs_wire.specs.Reading.{reading_of}
@@ -45,7 +46,7 @@ pub record Part : Type 0 where
 -- One thing that happens, with its answer: an event as scripts have them; or, of what they don't have, a payload with an ACK alone is
 -- made, frames are filled into a packet of the stack's own, these bytes are taken without a copy, a stream is stopped and forgotten, a
 -- token's packet is acknowledged or declared lost, limits of the handshake are taken in, an owner sets a window, a buffer or a grant anew,
--- an end's owner sets something anew, an end's packet comes to the other end in these bytes, with frames of the layer
+-- a stream of the peer's is asked for of one direction, an end's packet comes to the other end in these bytes, with frames of the layer
 -- beneath, or frames of it come without it.
 pub data Happening : Type 0 where
   Did : (event : Event) (answer : Answer) → Happening
@@ -57,6 +58,7 @@ pub data Happening : Type 0 where
   RaisedLimits : (end : Side) (limits : PeerLimits) (result : Result (Unit {0}) RaiseFault) → Happening
   HasSet : (end : Side) (setting : Setting) (result : Result (Unit {0}) SetFault) → Happening
   Forgot : (end : Side) (stream code : ℕ) (result : Result (Unit {0}) UseFault) → Happening
+  AcceptedOf : (end : Side) (dir : Dir) (result : Option ℕ) → Happening
   CameWith : (end : Side) (number : ℕ) (bytes : List ℕ) (result : Result Received Closing) → Happening
   CameAlone : (end : Side) (parts : List Part) (result : Result Taken TakeFault) → Happening
 

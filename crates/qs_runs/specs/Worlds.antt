@@ -18,7 +18,7 @@ use Rattle.qs_calls.specs.declared.settings.SetupFault.{SetupFault}
 use Rattle.qs_calls.specs.Settings.{limits_of}
 use Rattle.qs_machine.specs.Ends.{End, recv_lane, end_made, wide_end_made}
 use Rattle.qs_machine.specs.Plains.{DifferInPlain}
-use Rattle.qs_machine.specs.Owner.{OpenStep, AcceptStep, WriteStep, FinishStep, ResetStep, StopStep, ReadStep, ConsumeStep, StopAndForgetStep}
+use Rattle.qs_machine.specs.Owner.{OpenStep, AcceptStep, AcceptOfStep, WriteStep, FinishStep, ResetStep, StopStep, ReadStep, ConsumeStep, StopAndForgetStep}
 use Rattle.qs_machine.specs.Receiving.{ReceiveStep}
 use Rattle.qs_machine.specs.Making.{MakeStep, MakeAckStep, LoseStep, ClaimStep}
 use Rattle.qs_machine.specs.Filling.{FillStep}
@@ -31,7 +31,7 @@ use Rattle.qs_calls.specs.declared.event.Act.{Act}
 use Rattle.qs_calls.specs.declared.event.Act.TheVariants as acts
 use Rattle.qs_calls.specs.declared.answer.Answer.{Answer}
 use Rattle.qs_calls.specs.declared.answer.Answer.TheVariants as answers
-use Rattle.qs_runs.specs.Logs.{Part, Happening, Did, MadeAck, FilledIn, ConsumedUpTo, AckedToken, LostToken, RaisedLimits, CameWith, CameAlone, History, Log, happened, other, payload, AreFramesOf, HasLanded, is_in, HasSet, Forgot}
+use Rattle.qs_runs.specs.Logs.{Part, Happening, Did, MadeAck, FilledIn, ConsumedUpTo, AckedToken, LostToken, RaisedLimits, CameWith, CameAlone, History, Log, happened, other, payload, AreFramesOf, HasLanded, is_in, HasSet, Forgot, AcceptedOf}
 
 pub record World : Type 0 where
   pub a : End
@@ -135,6 +135,7 @@ WorldStep h old (LostToken s token r) new = OwnCall old s new (TokenLostStep (en
 WorldStep h old (RaisedLimits s p r) new = OwnCall old s new (AreGranted p (end_of old (other s)).settings × RaiseStep (end_of old s) p r (end_of new s))
 WorldStep h old (HasSet s x r) new = OwnCall old s new (SetStep (end_of old s) x r (end_of new s))
 WorldStep h old (Forgot s n code r) new = OwnCall old s new (StopAndForgetStep (end_of old s) n code r (end_of new s))
+WorldStep h old (AcceptedOf s d r) new = OwnCall old s new (AcceptOfStep (end_of old s) d r (end_of new s))
 WorldStep h old (CameWith s k bytes r) new = ComeWithStep h old s k bytes r new
 WorldStep h old (CameAlone s parts r) new = ComeAloneStep h old s parts r new
 

@@ -49,11 +49,11 @@ offsets_at_rest n small =
       kept_from = λ some. absurd (omega (arith, some));
     }
 
-nothing_kept : (kept : List ℕ) → length kept ≤ 0 → kept ≡ []
+pub nothing_kept : (kept : List ℕ) → length kept ≤ 0 → kept ≡ []
 nothing_kept [] le = refl
 nothing_kept (x ∷ xs) le = absurd (omega (arith, le))
 
-all_sent : (w e : ℕ) (acked : NumberSet) → AllBelow acked e → e ≤ w → IsLeastMissingFrom acked 0 w → e ≡ w
+pub all_sent : (w e : ℕ) (acked : NumberSet) → AllBelow acked e → e ≤ w → IsLeastMissingFrom acked 0 w → e ≡ w
 all_sent zero e acked below le is = omega (arith, le)
 all_sent (suc n) e acked below le is = let last = below n (is.all_before n (omega arith) (omega arith)) in omega (arith, last, le)
 

@@ -8,10 +8,10 @@ use Rattle.qs_send.specs.declared.parts.Chunk.{Chunk}
 use Rattle.qs_send.specs.declared.parts.Reset.{Reset}
 use Rattle.qs_send.specs.declared.parts.SendFault.{SendFault}
 use Rattle.qs_send.specs.declared.parts.SendFault.TheVariants.{Finished, WasReset}
-use Rattle.qs_send.specs.Lane.{Sending, SendLane, refusal, reset_refusal, is_whole, size_of, declared_size, finish_lane, lost_due, after_write, after_reset, after_stopped}
+use Rattle.qs_send.specs.Lane.{Sending, SendLane, refusal, reset_refusal, is_whole, size_of, declared_size, finish_lane, broken_off, first_code, lost_due, after_write, after_reset}
 use Rattle.qs_send.specs.Chunks.{IsDueChunk, WasSent}
 use Rattle.qs_send.specs.Sound.{IsLawful, IsEnded}
-use Rattle.qs_send.specs.Calls.{writes, finishes, resets, stops, acks_reset, blocks, allows, buffers, sends, acks, loses}
+use Rattle.qs_send.specs.Calls.{writes, finishes, resets, stops, tells_stop, acks_reset, blocks, allows, buffers, sends, acks, loses}
 use Rattle.qs_send.specs.Laws.{CallsKeepLawful, DeclaredSizeIsSentEnd, DeclaredSizeStays, OnlyNewBytesSpend}
 use Rattle.qs_send.proofs.Steps.{lawful_write, lawful_reset, lawful_sent, lawful_acked, lawful_lost, due_within, none_due, reset_size-is}
 
@@ -57,10 +57,23 @@ lost_by : (s : Sending) (c : Chunk) (b : Bool) → is_some s.lane.was_reset ≡ 
 lost_by s c true e sent h = h
 lost_by s c false e sent h = lawful_lost s c e sent h
 
--- the code of a STOP_SENDING is all that it keeps beside what a reset does
-pub lawful_stopped : (s : Sending) (code : ℕ) → IsLawful (after_reset s code) → IsLawful (after_stopped s code)
-lawful_stopped s code h =
+-- which code is kept has no part in what is lawful
+pub lawful_kept : (s : Sending) (code : Option ℕ) → IsLawful s → IsLawful (record s { lane = record s.lane { stopped = code } })
+lawful_kept s code h =
     record { order = record { small_id = h.order.small_id; small = h.order.small; small_limit = h.order.small_limit; sent_written = h.order.sent_written; sent_limit = h.order.sent_limit; reset_size = h.order.reset_size }; bytes = record { from = h.bytes.from; let_go = h.bytes.let_go; buffered = h.bytes.buffered; widest = h.bytes.widest }; parts = h.parts; ends = h.ends }
+
+-- the code of a STOP_SENDING is all that it keeps beside what a reset does
+stopped_by : (s : Sending) (code : ℕ) (b : Bool) → IsLawful s → IsLawful (record {
+  lane = if b then s.lane else record (broken_off s.lane code) { stopped = first_code s.lane.stopped code };
+  due = if b then s.due else record { offsets = set.empty; fin = false };
+})
+stopped_by s code true h = h
+stopped_by s code false h = lawful_kept (record { lane = broken_off s.lane code; due = record { offsets = set.empty; fin = false } }) (first_code s.lane.stopped code) (reset_by s code false h)
+
+-- and all that it keeps where the owner answers it
+told_by : (s : Sending) (code : ℕ) (b : Bool) → IsLawful s → IsLawful (record s { lane = if b then s.lane else record s.lane { stopped = first_code s.lane.stopped code } })
+told_by s code true h = h
+told_by s code false h = lawful_kept s (first_code s.lane.stopped code) h
 
 pub calls_keep_lawful : CallsKeepLawful
 calls_keep_lawful s (writes bytes) h may =
@@ -73,7 +86,8 @@ calls_keep_lawful s (writes bytes) h may =
 calls_keep_lawful s finishes h may =
     finish_by s (refusal s.lane) h (λ none. let free = not_refused _ _ none in lawful_finish s h free.0 free.1)
 calls_keep_lawful s (resets code) h may = reset_by s code (is_some (reset_refusal s.lane)) h
-calls_keep_lawful s (stops code) h may = lawful_stopped s code (reset_by s code (is_some (reset_refusal s.lane)) h)
+calls_keep_lawful s (stops code) h may = stopped_by s code (is_some (reset_refusal s.lane)) h
+calls_keep_lawful s (tells_stop code) h may = told_by s code (is_some (reset_refusal s.lane)) h
 calls_keep_lawful s acks_reset h may =
     record { order = record { small_id = h.order.small_id; small = h.order.small; small_limit = h.order.small_limit; sent_written = h.order.sent_written; sent_limit = h.order.sent_limit; reset_size = h.order.reset_size }; bytes = record { from = h.bytes.from; let_go = h.bytes.let_go; buffered = h.bytes.buffered; widest = h.bytes.widest }; parts = h.parts; ends = h.ends }
 calls_keep_lawful s blocks h may =
@@ -137,6 +151,16 @@ reset_keeps l code size None false e is =
     by_end : (b : Bool) (w e : ℕ) → b ≡ true → w ≡ size → Some (if b then w else e) ≡ Some size
     by_end b w e sent place = rw (sent, place) refl
 
+stopped_keeps : (l : SendLane) (code size : ℕ) (r : Option Reset) (whole : Bool) → l.was_reset ≡ r → declared_size l ≡ Some size
+    → declared_size (if is_some (if is_some r then Some WasReset else (if whole then Some Finished else None)) then l else record (broken_off l code) { stopped = first_code l.stopped code }) ≡ Some size
+stopped_keeps l code size (Some t) whole e is = is
+stopped_keeps l code size None true e is = is
+stopped_keeps l code size None false e is = reset_keeps l code size None false e is
+
+told_keeps : (l : SendLane) (code size : ℕ) (b : Bool) → declared_size l ≡ Some size → (let new : SendLane = if b then l else record l { stopped = first_code l.stopped code } in declared_size new ≡ Some size)
+told_keeps l code size true is = is
+told_keeps l code size false is = is
+
 lost_keeps : (s : Sending) (c : Chunk) (b : Bool) (size : ℕ) → declared_size s.lane ≡ Some size → (let new : Sending = if b then s else record s { due = lost_due s.lane s.due c } in declared_size new.lane ≡ Some size)
 lost_keeps s c true size is = is
 lost_keeps s c false size is = is
@@ -154,7 +178,8 @@ pub declared_size_stays : DeclaredSizeStays
 declared_size_stays s (writes bytes) size h may is = write_keeps s bytes size h may.0 is
 declared_size_stays s finishes size h may is = finish_keeps s (is_some (refusal s.lane)) size is
 declared_size_stays s (resets code) size h may is = reset_keeps s.lane code size s.lane.was_reset (is_whole s.lane) refl is
-declared_size_stays s (stops code) size h may is = reset_keeps s.lane code size s.lane.was_reset (is_whole s.lane) refl is
+declared_size_stays s (stops code) size h may is = stopped_keeps s.lane code size s.lane.was_reset (is_whole s.lane) refl is
+declared_size_stays s (tells_stop code) size h may is = told_keeps s.lane code size (is_some (reset_refusal s.lane)) is
 declared_size_stays s acks_reset size h may is = is
 declared_size_stays s blocks size h may is = is
 declared_size_stays s (allows limit) size h may is = is
@@ -188,6 +213,14 @@ reset_sends : (l : SendLane) (r : Reset) (b : Bool) → (let new : SendLane = if
 reset_sends l r true = refl
 reset_sends l r false = refl
 
+stopped_sends : (l : SendLane) (r : Reset) (code : Option ℕ) (b : Bool) → (let new : SendLane = if b then l else record l { kept = []; was_reset = Some r; stopped = code } in new.sent_end ≡ l.sent_end)
+stopped_sends l r code true = refl
+stopped_sends l r code false = refl
+
+told_sends : (l : SendLane) (code : Option ℕ) (b : Bool) → (let new : SendLane = if b then l else record l { stopped = code } in new.sent_end ≡ l.sent_end)
+told_sends l code true = refl
+told_sends l code false = refl
+
 lost_sends : (s : Sending) (c : Chunk) (b : Bool) → (let new : Sending = if b then s else record s { due = lost_due s.lane s.due c } in new.lane.sent_end ≡ s.lane.sent_end)
 lost_sends s c true = refl
 lost_sends s c false = refl
@@ -196,7 +229,8 @@ pub only_new_bytes_spend : OnlyNewBytesSpend
 only_new_bytes_spend s (writes bytes) h may = nothing_new _ _ _ refl
 only_new_bytes_spend s finishes h may = nothing_new _ _ _ (finish_sends s (is_some (refusal s.lane)))
 only_new_bytes_spend s (resets code) h may = nothing_new _ _ _ (reset_sends s.lane _ (is_some (reset_refusal s.lane)))
-only_new_bytes_spend s (stops code) h may = nothing_new _ _ _ (reset_sends s.lane _ (is_some (reset_refusal s.lane)))
+only_new_bytes_spend s (stops code) h may = nothing_new _ _ _ (stopped_sends s.lane _ _ (is_some (reset_refusal s.lane)))
+only_new_bytes_spend s (tells_stop code) h may = nothing_new _ _ _ (told_sends s.lane _ (is_some (reset_refusal s.lane)))
 only_new_bytes_spend s acks_reset h may = nothing_new _ _ _ refl
 only_new_bytes_spend s blocks h may = nothing_new _ _ _ refl
 only_new_bytes_spend s (allows limit) h may = nothing_new _ _ _ refl

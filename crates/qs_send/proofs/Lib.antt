@@ -22,3 +22,8 @@ pub mod LostLists
 pub mod LostOrders
 pub mod LostPassing
 pub mod Around
+pub mod Slots
+pub mod SlotEdits
+pub mod Lent
+pub mod OverPuts
+pub mod Overs

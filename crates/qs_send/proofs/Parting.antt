@@ -9,7 +9,7 @@ use Rattle.qs_send.specs.declared.parts.Chunk.{Chunk}
 use Rattle.qs_send.specs.declared.parts.Reset.{Reset}
 use Rattle.qs_send.specs.Lane.{Sending, after_reset, refusal, reset_refusal, finish_lane, lost_due}
 use Rattle.qs_send.specs.Sound.{IsLawful}
-use Rattle.qs_send.specs.Calls.{writes, finishes, resets, stops, acks_reset, blocks, allows, buffers, sends, acks, loses}
+use Rattle.qs_send.specs.Calls.{writes, finishes, resets, stops, tells_stop, acks_reset, blocks, allows, buffers, sends, acks, loses}
 use Rattle.qs_send.specs.Parts.{bit, MovesParts}
 use Rattle.qs_send.specs.Laws.{EachOffsetIsInOnePart, InFlightWasSent, CallsMoveParts}
 use Rattle.qs_send.proofs.Runs.{contains-due}
@@ -93,6 +93,15 @@ reset_moves : (s : Sending) (code : ℕ) (r : Reset) (b : Bool) → IsLawful s �
 reset_moves s code r true h e = record { acked = refl; due = rw e refl; in_flight = rw e refl }
 reset_moves s code r false h e = record { acked = refl; due = rw e refl; in_flight = rw e (rest-reset s.lane.written s.lane.acked s.due.offsets h.parts.due_written h.parts.apart) }
 
+stopped_moves : (s : Sending) (code : ℕ) (r : Reset) (first : Option ℕ) (b : Bool) → IsLawful s → is_some (reset_refusal s.lane) ≡ b
+    → MovesParts s (stops code) (record { lane = if b then s.lane else record s.lane { kept = []; was_reset = Some r; stopped = first }; due = if b then s.due else record { offsets = set.empty; fin = false } })
+stopped_moves s code r first true h e = record { acked = refl; due = rw e refl; in_flight = rw e refl }
+stopped_moves s code r first false h e = record { acked = refl; due = rw e refl; in_flight = rw e (rest-reset s.lane.written s.lane.acked s.due.offsets h.parts.due_written h.parts.apart) }
+
+told_moves : (s : Sending) (code : ℕ) (first : Option ℕ) (b : Bool) → MovesParts s (tells_stop code) (record s { lane = if b then s.lane else record s.lane { stopped = first } })
+told_moves s code first true = record { acked = refl; due = refl; in_flight = refl }
+told_moves s code first false = record { acked = refl; due = refl; in_flight = refl }
+
 lost_moves : (s : Sending) (c : Chunk) (b : Bool) → b ≡ false → MovesParts s (loses c) (if b then s else record s { due = lost_due s.lane s.due c })
 lost_moves s c true open_lane = absurd (cc)
 lost_moves s c false open_lane = record { acked = refl; due = refl; in_flight = rest-lost s.lane.written c.offset (c.offset + c.len) s.lane.acked s.due.offsets }
@@ -101,9 +110,8 @@ pub calls_move_parts : CallsMoveParts
 calls_move_parts s (writes bytes) h none may = record { acked = refl; due = refl; in_flight = rest-write s.lane.written (length bytes) s.lane.acked s.due.offsets }
 calls_move_parts s finishes h none may = finish_moves s (is_some (refusal s.lane))
 calls_move_parts s (resets code) h none may = reset_moves s code _ (is_some (reset_refusal s.lane)) h refl
-calls_move_parts s (stops code) h none may =
-    let moved : MovesParts s (resets code) (after_reset s code) = reset_moves s code _ (is_some (reset_refusal s.lane)) h refl in
-    record { acked = moved.acked; due = moved.due; in_flight = moved.in_flight }
+calls_move_parts s (stops code) h none may = stopped_moves s code _ _ (is_some (reset_refusal s.lane)) h refl
+calls_move_parts s (tells_stop code) h none may = told_moves s code _ (is_some (reset_refusal s.lane))
 calls_move_parts s acks_reset h none may = record { acked = refl; due = refl; in_flight = refl }
 calls_move_parts s blocks h none may = record { acked = refl; due = refl; in_flight = refl }
 calls_move_parts s (allows limit) h none may = record { acked = refl; due = refl; in_flight = refl }

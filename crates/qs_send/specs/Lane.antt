@@ -124,10 +124,13 @@ abbrev pub reset_refusal : SendLane → Option SendFault
 reset_refusal lane = if is_some lane.was_reset then Some WasReset else (if is_whole lane then Some Finished else None)
 
 -- the reset's final size counts the offsets that went out (RFC 9000, section 4.5); no byte is sent any more, so none is kept (section 13.3)
+abbrev pub broken_off : SendLane → ℕ → SendLane
+broken_off lane code =
+    record lane { kept = []; was_reset = Some (record { code = code; size = if lane.fin_sent then lane.written else lane.sent_end }) }
+
+-- it is broken off where that isn't refused (RFC 9000, section 3.1)
 abbrev pub reset_lane : SendLane → ℕ → SendLane
-reset_lane lane code =
-    if is_some (reset_refusal lane) then lane
-    else record lane { kept = []; was_reset = Some (record { code = code; size = if lane.fin_sent then lane.written else lane.sent_end }) }
+reset_lane lane code = if is_some (reset_refusal lane) then lane else broken_off lane code
 
 -- after a reset nothing of the lane is due (RFC 9000, section 3.1)
 abbrev pub after_reset : Sending → ℕ → Sending
@@ -142,13 +145,30 @@ abbrev pub first_code : Option ℕ → ℕ → Option ℕ
 first_code None code = Some code
 first_code (Some first) code = Some first
 
--- a STOP_SENDING came: its code is kept, and what can be reset is, with that code (RFC 9000, section 3.5)
+-- a STOP_SENDING came: what can be reset is, with its code, which is kept; else nothing changes (RFC 9000, section 3.5)
 abbrev pub stopped_lane : SendLane → ℕ → SendLane
-stopped_lane lane code = record (reset_lane lane code) { stopped = first_code lane.stopped code }
+stopped_lane lane code =
+    if is_some (reset_refusal lane) then lane else record (broken_off lane code) { stopped = first_code lane.stopped code }
 
 -- what is due then is as after a reset (RFC 9000, section 3.5)
 abbrev pub after_stopped : Sending → ℕ → Sending
 after_stopped s code = record (after_reset s code) { lane = stopped_lane s.lane code }
+
+-- a STOP_SENDING came that the owner answers: its code is kept where the lane can be reset, and it goes on (ours, beside RFC 9000,
+-- section 3.5)
+abbrev pub told_lane : SendLane → ℕ → SendLane
+told_lane lane code = if is_some (reset_refusal lane) then lane else record lane { stopped = first_code lane.stopped code }
+
+-- what is due stays due
+abbrev pub after_told : Sending → ℕ → Sending
+after_told s code = record s { lane = told_lane s.lane code }
+
+-- a STOP_SENDING came, which the owner answers or not (RFC 9000, section 3.5)
+abbrev pub stop_taken : (owner_answers : Bool) → SendLane → ℕ → SendLane
+stop_taken owner_answers lane code = if owner_answers then told_lane lane code else stopped_lane lane code
+
+abbrev pub after_stop : (owner_answers : Bool) → Sending → ℕ → Sending
+after_stop owner_answers s code = if owner_answers then after_told s code else after_stopped s code
 
 -- the RESET_STREAM was acknowledged (RFC 9000, section 3.1)
 abbrev pub reset_acked_lane : SendLane → SendLane

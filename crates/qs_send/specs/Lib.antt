@@ -17,3 +17,6 @@ pub mod LostPass
 pub mod KeptBytes
 pub mod Offsets
 pub mod Gone
+pub mod Halves
+pub mod LendsHalf
+pub mod Views

@@ -4,9 +4,9 @@ ghost use Rattle.qs_ranges.specs.Numbers.{MAX_VARINT, MissesRange};
 ghost use Rattle.qs_send.specs.Chunks.{IsDueChunk, WasSent};
 ghost use Rattle.qs_send.specs.Sound.{IsLawful};
 ghost use Rattle.qs_send.specs.declared.parts.Reset.{Reset};
-ghost use Rattle.qs_send.specs.Changes.{stop_changes};
+ghost use Rattle.qs_send.specs.Changes.{stop_changes, told_changes};
 ghost use Rattle.qs_send.specs.Writable.{is_writable};
-ghost use Rattle.qs_send.specs.Lane.{new_sending, free_room, unacked_from, accepted, refusal, answer_of, reset_refusal, is_whole, state, declared_size, after_write, after_finish, after_reset, after_stopped, after_reset_acked, after_blocked, after_allow, after_buffer, after_sent, after_acked, after_lost};
+ghost use Rattle.qs_send.specs.Lane.{new_sending, free_room, unacked_from, accepted, refusal, answer_of, reset_refusal, is_whole, state, declared_size, after_write, after_finish, after_reset, first_code, after_stopped, after_told, after_reset_acked, after_blocked, after_allow, after_buffer, after_sent, after_acked, after_lost};
 
 use crate::offsets::Offsets;
 use crate::parts::{Chunk, SendFault, SendState};
@@ -16,6 +16,7 @@ use std::alloc::Global;
 use std::marker::Model;
 
 mod chunks;
+mod over;
 
 /// The largest value of a variable-length integer (RFC 9000, section 16).
 pub const MAX_VARINT: u64 = (1 << 62) - 1;
@@ -163,13 +164,34 @@ impl SendHalf {
         Ok(())
     }
 
-    /// Takes in a STOP_SENDING: a reset with its code, where one can still be made (RFC 9000, section
-    /// 3.5). The code of the first one is kept.
+    /// Takes in a STOP_SENDING: a reset with its code, where one can still be made, and the code of the first one is kept. Else nothing
+    /// changes (RFC 9000, section 3.5).
     pub fn stopped(&mut self, code: u64)
         requires { code ≤ MAX_VARINT }
         ensures { self.new ≡ after_stopped self.old code }
     {
-        let _ = self.reset(code);
+        if self.reset(code).is_err() {
+            return;
+        }
+        self.keep_stop(code);
+    }
+
+    /// Takes in a STOP_SENDING that the owner answers: the code of the first one is kept where a reset can still be made, and the half
+    /// goes on (RFC 9000, section 3.5).
+    pub fn told_stop(&mut self, code: u64)
+        requires { code ≤ MAX_VARINT }
+        ensures { self.new ≡ after_told self.old code }
+    {
+        if self.was_reset() || self.is_whole() {
+            return;
+        }
+        self.keep_stop(code);
+    }
+
+    fn keep_stop(&mut self, code: u64)
+        requires { code ≤ MAX_VARINT }
+        ensures { self.new ≡ record self.old { lane = record self.old.lane { stopped = first_code self.old.lane.stopped code } } }
+    {
         if self.stop_code.get().is_none() {
             self.stop_code = MaybeNumber::some(code);
         }
@@ -182,17 +204,24 @@ impl SendHalf {
         self.stop_code.get()
     }
 
-    /// Whether a STOP_SENDING would change the half: none came before, or the half can be reset still (RFC 9000, section 3.5).
+    /// Whether a STOP_SENDING would change the half: it can be reset still (RFC 9000, section 3.5).
     pub fn stop_changes(&self) -> bool
         ensures { result ≡ stop_changes self.now.lane }
     {
-        if self.stop_code.get().is_none() {
-            return true;
-        }
         if self.was_reset() {
             return false;
         }
         !self.is_whole()
+    }
+
+    /// Whether one would change it that the owner answers: none came before either (RFC 9000, section 3.5).
+    pub fn told_changes(&self) -> bool
+        ensures { result ≡ told_changes self.now.lane }
+    {
+        if self.stop_code.get().is_some() {
+            return false;
+        }
+        self.stop_changes()
     }
 
     /// Takes in that the peer allows the offsets below `limit`. A limit that is no higher changes nothing

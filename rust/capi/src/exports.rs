@@ -10,7 +10,7 @@ use crate::proved::qs_c::listener_handle::ListenerHandle;
 use crate::proved::qs_c::news::GvNews;
 use crate::proved::qs_c::peeking;
 use crate::proved::qs_c::structs::{
-    GvClosing, GvFilled, GvLimits, GvMade, GvRequest, GvSettings, GvToken, GvTuning,
+    GvClosing, GvFilled, GvLimits, GvMade, GvRequest, GvSettings, GvToken, GvTold, GvTuning,
 };
 use crate::shim::alloc::Global;
 use core::mem::MaybeUninit;
@@ -104,6 +104,7 @@ exports! {
         = (Global, end, write!(out, room), len);
     gvp_peer_closed(end: &mut Handle, code: &mut u64) = (Global, end, code);
     gvp_tell_closed(end: &mut Handle, by: u32, kind: u32, code: u64) = (Global, end, by, kind, code);
+    gvp_told_close(end: &mut Handle, told: &mut GvTold) = (Global, end, told);
     gvp_next_readable(end: &mut Handle, from: u64, stream: &mut u64) = (Global, end, from, stream);
     gvp_next_writable(end: &mut Handle, from: u64, stream: &mut u64) = (Global, end, from, stream);
     gvp_next_sendable(end: &mut Handle, from: u64, stream: &mut u64) = (Global, end, from, stream);

@@ -59,6 +59,10 @@ impl<T> Vec<T> {
         }
     }
 
+    pub fn push_reserved(&mut self, value: T) {
+        self.items.push(value);
+    }
+
     pub fn insert(&mut self, place: usize, value: T) -> Result<(), AllocFailed<T>> {
         match self.reserve(1) {
             Ok(()) => {
@@ -75,6 +79,10 @@ impl<T> Vec<T> {
 
     pub fn remove(&mut self, place: usize) -> T {
         self.items.remove(place)
+    }
+
+    pub fn swap_remove(&mut self, place: usize) -> T {
+        self.items.swap_remove(place)
     }
 
     pub fn truncate(&mut self, count: usize) {

@@ -2,6 +2,7 @@
 #![allow(dead_code)]
 
 pub mod doubled;
+pub mod pairs;
 pub mod program;
 
 use gotsavena::{

@@ -56,6 +56,9 @@ impl Endpoint {
     pub(crate) fn next_writable_of(&self, short: &ToldStreams) -> Option<StreamId>
         ensures { IsLeast (λ n. (0 < room self.now n) × (is_told short.now n ≡ true)) 0 result }
     {
+        if self.is_window_full() {
+            return None;
+        }
         let mut next = 0;
         while let Some(stream) = self.core.outbox.next_short(short, next) {
             if self.room(stream) > 0 {
@@ -64,6 +67,17 @@ impl Endpoint {
             next = stream.value() + 1;
         }
         None
+    }
+
+    // Whether all streams together keep so much that none of them takes a byte.
+    #[tactic(auto, using(crate::proofs::Within::full_takes_none))]
+    fn is_window_full(&self) -> bool
+        ensures { result ≡ true → (n : ℕ) → 0 < room self.now n → ⊥ }
+    {
+        match self.window_left() {
+            Some(left) => left == 0,
+            None => false,
+        }
     }
 
     /// The least stream that the peer stopped, of those without a mark.

@@ -1,10 +1,10 @@
 //! What an end's owner does with its streams.
-ghost use Rattle.std.specs.Prelude.{◌≡◌, ◌<◌, ◌^◌, ◌++◌, List, length, drop, ℕ, is_some, true};
+ghost use Rattle.std.specs.Prelude.{◌≡◌, ◌<◌, ◌^◌, ◌++◌, List, length, take, drop, ℕ, is_some, true};
 ghost use Rattle.qs_machine.specs.Tables.{lookup};
 ghost use Rattle.qs_recv.specs.Lane.{read_answer, after_read};
 ghost use Rattle.qs_machine.specs.Ends.{on_recv, send_lane};
 ghost use Rattle.qs_machine.specs.Sums.{or_none};
-ghost use Rattle.qs_conn.specs.Sending.{offered};
+ghost use Rattle.qs_conn.specs.Sending.{offered, let_go};
 ghost use Rattle.qs_recv.specs.declared.credit.Share.TheVariants as shares;
 ghost use Rattle.qs_machine.specs.Verdicts.{or_new};
 ghost use Rattle.qs_machine.specs.Owner.{WriteStep, FinishStep, ResetStep, StopStep, StopAndForgetStep, ReadStep, ConsumeStep, is_read_no_more, is_end, no_half, use_fault};
@@ -21,7 +21,9 @@ impl Endpoint {
     /// Accepts the front of the bytes for sending, as many as there is room for, and answers how many. Where writes keep within credit
     /// ([`Tuning::within_credit`]) it takes no more than may be sent at once: by the stream's limit and the connection's, beside all
     /// that waits to be sent (RFC 9000, section 4.1). Then no byte waits for credit, so no STREAM_DATA_BLOCKED or DATA_BLOCKED is
-    /// due: the owner sees by the answer that its write was cut short.
+    /// due: the owner sees by the answer that its write was cut short. Where all streams together are bounded
+    /// ([`Tuning::send_window`]) it takes no more than that leaves beside all that they keep until it is acknowledged (section 13.3),
+    /// and asks for no memory where nothing is left. It takes constant time beside the bytes.
     ///
     /// Refused, and then unchanged: `Closed`; `NoSuchStream` or `WrongDirection` where the stream has no sending half; `WasReset`;
     /// `Finished`; and `NoMemory` where memory was refused.
@@ -45,20 +47,27 @@ impl Endpoint {
         }
     }
 
-    // As many of the bytes as credit lets go, where writes keep within it.
-    #[tactic(auto, using(crate::proofs::Within::offered_all, crate::proofs::Within::offered_cut, crate::proofs::Within::offered_whole))]
+    // As many of the bytes as credit lets go, and as the window over all streams leaves.
+    #[tactic(auto, using(crate::proofs::Within::front_none, crate::proofs::Within::front_some))]
     fn offered<'a>(&self, stream: StreamId, bytes: &'a [u8]) -> &'a [u8]
         ensures { result.now ≡ offered self.now (or_none (send_lane self.now stream)) bytes.now }
+    {
+        let bytes = self.let_go(stream, bytes);
+        match self.window_left() {
+            Some(left) => front(bytes, left),
+            None => bytes,
+        }
+    }
+
+    // As many of the bytes as credit lets go, where writes keep within it.
+    #[tactic(auto, using(crate::proofs::Within::let_go_all, crate::proofs::Within::let_go_cut))]
+    fn let_go<'a>(&self, stream: StreamId, bytes: &'a [u8]) -> &'a [u8]
+        ensures { result.now ≡ let_go self.now (or_none (send_lane self.now stream)) bytes.now }
     {
         if !self.core.limits.tuning.within_credit {
             return bytes;
         }
-        let credit = self.credit_for(stream);
-        if credit < bytes.len() as u64 {
-            &bytes[..credit as usize]
-        } else {
-            bytes
-        }
+        front(bytes, self.credit_for(stream))
     }
 
     /// Asks for the end of the stream after the bytes written so far.
@@ -306,5 +315,17 @@ fn use_fault(fault: SendFault) -> UseFault
         SendFault::Finished => UseFault::Finished,
         SendFault::WasReset => UseFault::WasReset,
         SendFault::NoMemory => UseFault::NoMemory,
+    }
+}
+
+// As many of the bytes.
+#[tactic(auto, using(crate::proofs::Within::front_whole))]
+fn front(bytes: &[u8], most: u64) -> &[u8]
+    ensures { result.now ≡ take most bytes.now }
+{
+    if most < bytes.len() as u64 {
+        &bytes[..most as usize]
+    } else {
+        bytes
     }
 }

@@ -107,7 +107,7 @@ impl Endpoint {
         Ok(())
     }
 
-    // The peer reads a stream no more.
+    // The peer reads a stream no more: that breaks it off, or its owner answers it.
     #[tactic(auto, using(crate::proofs::Runs::idle_with))]
     fn on_stop_sending(&mut self, stream: StreamId, code: u64) -> Result<(), NoMemory>
         requires fits { code ≤ MAX_VARINT }
@@ -117,7 +117,8 @@ impl Endpoint {
         ensures yet { OnErr result (IsYetToOpen self.old stream) }
     {
         self.open_by_peer(stream)?;
-        self.core.outbox.stopped(stream, code);
+        let answers = self.core.limits.tuning.answers_stops;
+        self.core.outbox.stopped(stream, code, answers);
         self.core.untold_sends.set(stream, true);
         Ok(())
     }

@@ -12,7 +12,7 @@ use crate::places::{index_from, index_of, type_of};
 use crate::send_lanes::SendLanes;
 use crate::send_marks::{Search, Task};
 use crate::told_streams::ToldStreams;
-use qs_send::SendHalf;
+use qs_send::SendView;
 use qs_wire::StreamId;
 
 /// Whether the stream has a sending half.
@@ -25,10 +25,10 @@ pub(super) fn is_open(types: &[SendLanes; 4], stream: StreamId) -> bool
 }
 
 /// The half of an open stream.
-pub(super) fn half_of(types: &[SendLanes; 4], stream: StreamId) -> &SendHalf
+pub(super) fn half_of(types: &[SendLanes; 4], stream: StreamId) -> SendView<'_>
     requires len { length types.now ≡ 4 }
     requires open { is_some (lookup (tables_of types.now) stream) ≡ true }
-    ensures { lookup (tables_of types.now) stream ≡ Some result.now }
+    ensures { lookup (tables_of types.now) stream ≡ Some result }
 {
     let lanes = &types[type_of(stream)];
     lanes.get(index_of(stream))

@@ -8,7 +8,7 @@ ghost use Rattle.qs_machine.specs.Ends.{End};
 ghost use Rattle.qs_machine.specs.News.{IsLeast, IsHeld};
 ghost use Rattle.qs_machine.specs.Heard.{is_told};
 ghost use Rattle.qs_machine.specs.Changes.{half_changes};
-ghost use Rattle.qs_send.specs.Changes.{stop_changes};
+ghost use Rattle.qs_send.specs.Changes.{changes_by_stop};
 ghost use Rattle.qs_machine.specs.Asking.{waits_for_credit, unsent_of, acked_below_of};
 ghost use Rattle.qs_conn.specs.Marks.{IsBefore, IsHeldOf, AreEndsMarked};
 ghost use Rattle.qs_conn.specs.Sending.{IsDueOf, MayWrite, HasSent, WasStopped, buffer_room, limit_left};
@@ -22,7 +22,7 @@ use super::halves::{
 use crate::marks::Marks;
 use crate::send_marks::{Search, Task};
 use crate::told_streams::ToldStreams;
-use qs_send::{Item, MAX_VARINT, Reset, SendState};
+use qs_send::{Item, MAX_VARINT, Reset, SendState, SendView};
 use qs_wire::StreamId;
 
 impl Outbox {
@@ -99,14 +99,14 @@ impl Outbox {
         half_of(&self.types, stream).limit() < limit
     }
 
-    /// Whether a STOP_SENDING would change an open stream.
-    pub(crate) fn stop_changes(&self, stream: StreamId) -> bool
-        ensures { result ≡ half_changes stop_changes (lookup self.now.sends stream) }
+    /// Whether a STOP_SENDING, which the owner answers or not, would change an open stream.
+    pub(crate) fn stop_changes(&self, stream: StreamId, owner_answers: bool) -> bool
+        ensures { result ≡ half_changes (changes_by_stop owner_answers) (lookup self.now.sends stream) }
     {
         if !is_open(&self.types, stream) {
             return false;
         }
-        half_of(&self.types, stream).stop_changes()
+        changed_by_stop(&half_of(&self.types, stream), owner_answers)
     }
 
     /// Whether a stream has bytes that only the connection's credit holds back.
@@ -310,5 +310,16 @@ fn reset_by(code: Option<u64>, size: Option<u64>) -> Option<Reset>
         (Some(code), Some(size)) => Some(Reset { code, size }),
         (Some(_), None) => None,
         (None, _) => None,
+    }
+}
+
+// Whether a STOP_SENDING would change a half.
+fn changed_by_stop(half: &SendView<'_>, owner_answers: bool) -> bool
+    ensures { result ≡ changes_by_stop owner_answers half.now.lane }
+{
+    if owner_answers {
+        half.told_changes()
+    } else {
+        half.stop_changes()
     }
 }

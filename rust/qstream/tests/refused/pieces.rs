@@ -2,10 +2,10 @@
 
 use super::proved::qs_chunks::ChunkAssembly;
 use super::proved::qs_ranges::RangeSet;
-use super::proved::qs_recv::{Assembly, RecvHalf, RingAssembly, Share};
+use super::proved::qs_recv::{Assembly, RecvHalf, RecvHalves, RingAssembly, Share};
 use super::proved::qs_send::{Chunk, SendHalf};
 use super::proved::qs_wire::StreamId;
-use super::refusing::{asked, refuse, watched};
+use super::refusing::{asked, largest, refuse, watched};
 use super::shim::alloc::Global;
 use std::fmt::Debug;
 
@@ -187,8 +187,29 @@ fn a_ring_survives_refusals() {
     assert!(each_refused(ring_grows) >= 4);
 }
 
-/// What an end keeps of each stream that is over, or never carried a byte.
+/// What an end keeps of each stream that was reset or stopped, or never carried a byte.
 #[test]
 fn a_receiving_half_takes_64_bytes() {
     assert!(size_of::<RecvHalf<RingAssembly>>() <= 64);
+}
+
+/// What an end keeps of each stream that was read to its end: their table is the largest that is asked for.
+#[test]
+fn a_receiving_half_that_was_read_to_its_end_takes_24_bytes() {
+    let mut halves = RecvHalves::new(Global);
+    refuse(u64::MAX);
+    watched(|| {
+        for index in 0..4096 {
+            let half = RecvHalf::new(Global, 1024, Share::Half);
+            halves.push(half).expect("none is refused here");
+            let half = halves.full_mut(index).expect("nothing came");
+            half.take_stream(0, b"abc", true)
+                .expect("it is within the window");
+            half.read(&mut [0; 8]);
+            let answer = half.read(&mut []);
+            halves.settle_after(answer, index);
+        }
+    });
+    assert!((0..4096).all(|index| halves.full(index).is_none()));
+    assert!(largest() <= 4096 * 24);
 }

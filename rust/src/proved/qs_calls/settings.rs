@@ -35,11 +35,17 @@ pub struct Tuning {
     pub count_step: Option<Share>,
     /// Whether a write takes no more bytes than may be sent at once, by the stream's limit and the connection's.
     pub within_credit: bool,
+    /// Whether the owner answers a STOP_SENDING: it is told, and the stream goes on until the owner resets or finishes it. Else the
+    /// stream is reset at once, with the peer's code (section 3.5).
+    pub answers_stops: bool,
     /// Whether what came in is read on once the end closed.
     pub reads_when_closed: bool,
     /// Stands in each token that the end gives, and no token of another epoch is taken: so an end that takes another one's place
     /// doesn't take its tokens for its own.
     pub epoch: u64,
+    /// How many bytes that aren't acknowledged all sending halves keep together, beside what bounds each of them. `None`: as many as
+    /// they keep each.
+    pub send_window: Option<u64>,
 }
 
 /// The limits that an end begins with, as its peer grants them (RFC 9000, section 18.2). `local` and `remote` are seen from the
@@ -138,8 +144,10 @@ impl Tuning {
             credit_step: Share::Half,
             count_step: None,
             within_credit: false,
+            answers_stops: false,
             reads_when_closed: false,
             epoch: 0,
+            send_window: None,
         }
     }
 }

@@ -42,7 +42,8 @@ impl Heard {
     /// Tells the first piece of news of an end, and notes that it was heard. `None` only where there is none. News of a kind come before
     /// those of the next, in the order of [`News`], and those of a lower stream first.
     ///
-    /// `NoMemory` where there was no memory to note it; then nothing changed, and it comes again.
+    /// `NoMemory` where there was no memory to note it; then nothing changed, and it comes again. It takes memory where no mark was made
+    /// yet for its stream, or a higher one of its type, among those of its kind: never for `Opened`, `Writable` and `Available`.
     pub fn next_news(&mut self, end: &Endpoint) -> Result<Option<News>, NoMemory> {
         let answer = self.first(end);
         self.hear(&answer)?;
@@ -51,7 +52,8 @@ impl Heard {
 
     /// The owner is about to write so many bytes to a stream. Where it will be cut short, it is news once the stream takes a byte again.
     ///
-    /// `NoMemory` where there was no memory to note it; then nothing changed.
+    /// `NoMemory` where there was no memory to note it; then nothing changed. It takes memory where no write to this stream, or to a
+    /// higher one of its type, was noted before.
     pub fn will_write(
         &mut self,
         end: &Endpoint,

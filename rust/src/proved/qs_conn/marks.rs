@@ -14,6 +14,8 @@ pub(crate) struct Marks {
     words: Bits,
     // No more indexes than these have a mark: without any a search needs one look.
     most: usize,
+    // No index below it has a mark: a search passes what is over at once, however many streams that are.
+    least: usize,
 }
 
 impl Marks {
@@ -23,6 +25,7 @@ impl Marks {
             marks: Bits::new(alloc),
             words: Bits::new(alloc),
             most: 0,
+            least: 0,
         }
     }
 
@@ -90,6 +93,7 @@ impl Marks {
             return;
         }
         self.marks.set(index, is_marked);
+        self.least = least_after(self.least, index, is_marked);
         let word = index / FLAGS_PER_WORD;
         self.words.set(word, has_mark(&self.marks, word));
         if !is_marked {
@@ -104,6 +108,11 @@ impl Marks {
         if self.most == 0 {
             return None;
         }
+        self.search(from.max(self.least))
+    }
+
+    // The same, by a look at each index from that one on.
+    fn search(&self, from: usize) -> Option<usize> {
         if let Some(index) = self.marks.next_in_word(from) {
             return Some(index);
         }
@@ -156,6 +165,17 @@ impl Marks {
             next = word + 1;
         }
         None
+    }
+}
+
+// Below which index there is no mark, once one index is marked or its mark is taken away.
+fn least_after(least: usize, index: usize, is_marked: bool) -> usize {
+    if is_marked {
+        least.min(index)
+    } else if least == index {
+        index.saturating_add(1)
+    } else {
+        least
     }
 }
 

@@ -32,6 +32,7 @@ pub(crate) struct Core {
 impl Core {
     /// Whether a stream is one of the peer's that came to its end: its receiving half, and if it has one its sending half (RFC 9000,
     /// section 3).
+    #[inline(always)]
     pub(crate) fn is_over(&self, stream: StreamId) -> bool {
         self.recvs.are_few();
         if type_of(stream) % 2 == role_bit(self.limits.role) {

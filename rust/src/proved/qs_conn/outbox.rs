@@ -46,10 +46,10 @@ impl Outbox {
     pub(crate) fn new(alloc: Global) -> Self {
         Outbox {
             types: [
-                SendLanes::new(alloc),
-                SendLanes::new(alloc),
-                SendLanes::new(alloc),
-                SendLanes::new(alloc),
+                SendLanes::new(alloc, 0),
+                SendLanes::new(alloc, 1),
+                SendLanes::new(alloc, 2),
+                SendLanes::new(alloc, 3),
             ],
             sent: 0,
             records: Records::new(alloc),
@@ -205,11 +205,11 @@ impl Outbox {
         lanes.reset(index_of(stream), code)
     }
 
-    /// Takes in a STOP_SENDING of an open stream.
-    pub(crate) fn stopped(&mut self, stream: StreamId, code: u64) {
+    /// Takes in a STOP_SENDING of an open stream, which the owner answers or not.
+    pub(crate) fn stopped(&mut self, stream: StreamId, code: u64, owner_answers: bool) {
         debug_assert!(code <= 0x3fff_ffff_ffff_ffff);
         let lanes = &mut self.types[type_of(stream)];
-        lanes.stopped(index_of(stream), code);
+        lanes.stopped(index_of(stream), code, owner_answers);
     }
 
     /// The code of the first STOP_SENDING that came of a stream.

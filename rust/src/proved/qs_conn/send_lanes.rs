@@ -1,19 +1,18 @@
 // Made from crates/qs_conn/src/send_lanes.rt by rust/erase; not edited by hand.
 //! The sending halves of the streams of one type.
-use crate::shim::Vec;
 
 use crate::proved::qs_conn::marks::Marks;
 use crate::proved::qs_conn::send_marks::{Search, SendMarks, Task, has};
 use crate::proved::qs_conn::told_marks::ToldMarks;
 use crate::proved::qs_ranges::NoMemory;
-use crate::proved::qs_send::{Chunk, SendFault, SendHalf, SendState};
+use crate::proved::qs_send::{Chunk, SendFault, SendHalf, SendHalves, SendState, SendView};
 use crate::proved::qs_wire::StreamId;
 use crate::shim::alloc::Global;
 
 /// The sending halves of the streams of one type, by index.
 pub(crate) struct SendLanes {
     alloc: Global,
-    halves: Vec<SendHalf>,
+    halves: SendHalves,
     // How many bytes of all halves were sent or are still to be sent. A sum over 2^60 halves is no u64.
     promised: u128,
     // How many bytes of all halves are kept until they are acknowledged.
@@ -23,10 +22,12 @@ pub(crate) struct SendLanes {
 }
 
 impl SendLanes {
-    pub(crate) fn new(alloc: Global) -> Self {
+    /// None yet, of a type of streams.
+    pub(crate) fn new(alloc: Global, stream_type: u64) -> Self {
+        debug_assert!(stream_type < 4);
         SendLanes {
             alloc,
-            halves: Vec::new(alloc),
+            halves: SendHalves::new(alloc, stream_type),
             promised: 0,
             kept: 0,
             marks: SendMarks::new(alloc),
@@ -42,7 +43,7 @@ impl SendLanes {
     pub(crate) fn held(&self) -> u64 {
         let mut held: u64 = 0;
         for index in 0..self.halves.len() {
-            let half = &self.halves[index];
+            let half = self.halves.at(index);
             held = held.saturating_add(half.held());
         }
         held
@@ -59,8 +60,9 @@ impl SendLanes {
     }
 
     /// An open half.
-    pub(crate) fn get(&self, index: usize) -> &SendHalf {
-        &self.halves[index]
+    #[inline(always)]
+    pub(crate) fn get(&self, index: usize) -> SendView<'_> {
+        self.halves.at(index)
     }
 
     /// Opens the halves of all indexes below a count, in streams of that type.
@@ -95,10 +97,8 @@ impl SendLanes {
     /// Takes the memory for the lanes of all indexes below a count, and opens none.
     pub(crate) fn reserve_to(&mut self, count: usize) -> Result<(), NoMemory> {
         let missing = count.saturating_sub(self.halves.len());
-        match self.halves.reserve(missing) {
-            Ok(()) => self.marks.reserve(count),
-            Err(_refused) => Err(NoMemory),
-        }
+        self.halves.reserve(missing)?;
+        self.marks.reserve(count)
     }
 
     /// Takes the halves from a count on away. Nothing of them was sent or is to be sent, and they keep nothing.
@@ -111,9 +111,11 @@ impl SendLanes {
     pub(crate) fn write(&mut self, index: usize, bytes: &[u8]) -> Result<usize, SendFault> {
         // Of a half without room no more than the refusal is looked at.
         if !self.marks.may_write(index) {
-            return write_none(&self.halves[index]);
+            return write_none(&self.halves.at(index));
         }
-        let half = &mut self.halves[index];
+        let Some(half) = self.halves.full_mut(index) else {
+            return Err(SendFault::Finished);
+        };
         half.is_lawful();
         let answer = half.write(bytes);
         let accepted = answer.unwrap_or(0) as u128;
@@ -125,7 +127,9 @@ impl SendLanes {
 
     /// Asks for the end of an open half.
     pub(crate) fn finish(&mut self, index: usize) -> Result<(), SendFault> {
-        let half = &mut self.halves[index];
+        let Some(half) = self.halves.full_mut(index) else {
+            return Err(SendFault::Finished);
+        };
         let answer = half.finish();
         self.marks.look(index, half);
         answer
@@ -134,7 +138,9 @@ impl SendLanes {
     /// Breaks an open half off.
     pub(crate) fn reset(&mut self, index: usize, code: u64) -> Result<(), SendFault> {
         debug_assert!(code <= 0x3fff_ffff_ffff_ffff);
-        let half = &mut self.halves[index];
+        let Some(half) = self.halves.full_mut(index) else {
+            return Err(SendFault::Finished);
+        };
         let (before, had) = (promised(half), kept(half));
         let answer = half.reset(code);
         let (after, has) = (promised(half), kept(half));
@@ -144,12 +150,14 @@ impl SendLanes {
         answer
     }
 
-    /// Takes in a STOP_SENDING of an open half.
-    pub(crate) fn stopped(&mut self, index: usize, code: u64) {
+    /// Takes in a STOP_SENDING of an open half, which the owner answers or not.
+    pub(crate) fn stopped(&mut self, index: usize, code: u64, owner_answers: bool) {
         debug_assert!(code <= 0x3fff_ffff_ffff_ffff);
-        let half = &mut self.halves[index];
+        let Some(half) = self.halves.full_mut(index) else {
+            return;
+        };
         let (before, had) = (promised(half), kept(half));
-        half.stopped(code);
+        take_stop(half, code, owner_answers);
         let (after, has) = (promised(half), kept(half));
         self.promised = self.promised - before + after;
         self.kept = self.kept - had + has;
@@ -159,35 +167,45 @@ impl SendLanes {
     /// Takes in that the peer allows the offsets of an open half below a limit.
     pub(crate) fn allow(&mut self, index: usize, limit: u64) {
         debug_assert!(limit <= 0x3fff_ffff_ffff_ffff);
-        let half = &mut self.halves[index];
-        half.allow(limit);
+        self.halves.allow(index, limit);
+        let Some(half) = self.halves.full(index) else {
+            return;
+        };
         self.marks.look(index, half);
     }
 
     /// Sets how many bytes an open half keeps at most.
     pub(crate) fn set_buffer(&mut self, index: usize, size: u32) {
-        let half = &mut self.halves[index];
-        half.set_buffer(size);
+        self.halves.set_buffer(index, size);
+        let Some(half) = self.halves.full(index) else {
+            return;
+        };
         self.marks.look(index, half);
     }
 
     /// Takes in that a STREAM_DATA_BLOCKED was sent.
     pub(crate) fn note_blocked(&mut self, index: usize) {
-        let half = &mut self.halves[index];
-        half.note_blocked();
+        self.halves.note_blocked(index);
+        let Some(half) = self.halves.full(index) else {
+            return;
+        };
         self.marks.look(index, half);
     }
 
     /// Takes in that the RESET_STREAM is acknowledged.
     pub(crate) fn reset_acked(&mut self, index: usize) {
-        let half = &mut self.halves[index];
+        let Some(half) = self.halves.full_mut(index) else {
+            return;
+        };
         half.reset_acked();
         self.marks.look(index, half);
     }
 
     /// Takes in that a chunk was sent.
     pub(crate) fn sent(&mut self, index: usize, chunk: Chunk) {
-        let half = &mut self.halves[index];
+        let Some(half) = self.halves.full_mut(index) else {
+            return;
+        };
         half.is_lawful();
         half.sent(chunk);
         self.marks.look_sent(index, half);
@@ -195,18 +213,27 @@ impl SendLanes {
 
     /// Takes in that a chunk is acknowledged, or changes nothing.
     pub(crate) fn acked(&mut self, index: usize, chunk: Chunk) -> Result<(), NoMemory> {
-        let half = &mut self.halves[index];
+        let Some(half) = self.halves.full_mut(index) else {
+            return Ok(());
+        };
         let had = kept(half);
         let answer = half.acked(chunk);
         let has = kept(half);
         self.kept = self.kept - had + has;
+        let ends = half.end_acked();
         self.marks.look_acked(index, half);
+        if !ends {
+            return answer;
+        }
+        self.halves.settle(index);
         answer
     }
 
     /// Takes in that a chunk is lost, or changes nothing.
     pub(crate) fn lost(&mut self, index: usize, chunk: Chunk) -> Result<(), NoMemory> {
-        let half = &mut self.halves[index];
+        let Some(half) = self.halves.full_mut(index) else {
+            return Ok(());
+        };
         let answer = half.lost(chunk);
         self.marks.look(index, half);
         answer
@@ -234,7 +261,7 @@ impl SendLanes {
     pub(crate) fn next_with(&self, task: Task, from: usize) -> Option<usize> {
         let mut next = from;
         while let Some(index) = self.marks.next(task, next) {
-            if has(task, &self.halves[index]) {
+            if has(task, &self.halves.at(index)) {
                 return Some(index);
             }
             next = index + 1;
@@ -246,7 +273,7 @@ impl SendLanes {
     pub(crate) fn next_sought(&self, search: Search, told: &ToldMarks, from: usize) -> Option<usize> {
         let mut next = from;
         while let Some(index) = self.marks.next_sought(search, told, next) {
-            if has(search.task, &self.halves[index]) {
+            if has(search.task, &self.halves.at(index)) {
                 return Some(index);
             }
             next = index + 1;
@@ -270,8 +297,18 @@ fn kept(half: &SendHalf) -> u128 {
     half.kept_len() as u128
 }
 
+// A STOP_SENDING breaks a half off, or its owner answers it.
+fn take_stop(half: &mut SendHalf, code: u64, owner_answers: bool) {
+    debug_assert!(code <= 0x3fff_ffff_ffff_ffff);
+    if owner_answers {
+        half.told_stop(code);
+    } else {
+        half.stopped(code);
+    }
+}
+
 // A write to a half that has no room: no byte is accepted.
-fn write_none(half: &SendHalf) -> Result<usize, SendFault> {
+fn write_none(half: &SendView<'_>) -> Result<usize, SendFault> {
     match half.refusal() {
         Some(fault) => Err(fault),
         None => Ok(0),

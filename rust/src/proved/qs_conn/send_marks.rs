@@ -4,7 +4,7 @@
 use crate::proved::qs_conn::marks::Marks;
 use crate::proved::qs_conn::told_marks::ToldMarks;
 use crate::proved::qs_ranges::NoMemory;
-use crate::proved::qs_send::{SendHalf, SendState};
+use crate::proved::qs_send::{SendHalf, SendState, SendView};
 use crate::shim::alloc::Global;
 
 /// What a sending half may have for a packet.
@@ -188,8 +188,16 @@ fn look_again(again: &mut Marks, index: usize, half: &SendHalf) {
     }
 }
 
-/// Whether a half has something of a task.
-pub(crate) fn has(task: Task, half: &SendHalf) -> bool {
+/// Whether a half has something of a task. One that is over has its end alone.
+pub(crate) fn has(task: Task, half: &SendView<'_>) -> bool {
+    match half.not_over() {
+        Some(half) => full_has(task, half),
+        None => matches!(task, Task::Ended),
+    }
+}
+
+// Whether a half that isn't over has something of a task.
+fn full_has(task: Task, half: &SendHalf) -> bool {
     match task {
         Task::Bytes => may_send(half),
         Task::Again => may_send_again(half),

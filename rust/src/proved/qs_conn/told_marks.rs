@@ -36,8 +36,11 @@ impl ToldMarks {
         self.marks.has(index)
     }
 
-    /// Makes room for all indexes below a count: the new ones weren't told.
+    /// Makes room for all indexes below a count: the new ones weren't told. It takes memory where one is new.
     pub(crate) fn open_to(&mut self, count: usize) -> Result<(), NoMemory> {
+        if count <= self.marks.len() {
+            return Ok(());
+        }
         // More flags than there are words of marks tell of the same words.
         self.full.open_to(count.div_ceil(FLAGS_PER_WORD))?;
         self.marks.open_to(count)
@@ -54,7 +57,7 @@ impl ToldMarks {
         self.full.set(word, self.marks.is_full(word));
     }
 
-    /// An index was told: all up to it get room.
+    /// An index was told: all up to it get room. It takes memory where it is past the last.
     pub(crate) fn tell(&mut self, index: usize) -> Result<(), NoMemory> {
         debug_assert!(index < 1 << 60);
         self.open_to(index + 1)?;

@@ -45,8 +45,7 @@ pub trait Assembly {
 
 /// An assembly whose next bytes can be looked at where they stand.
 pub trait Peeking: Skipping {
-    /// The bytes that are next to be read, in two pieces where they stand so: as many as stand there in a row, and one at least where
-    /// one is next.
+    /// The bytes that are next to be read, in two pieces where they stand so: all of them, up to the first that didn't come.
     fn front(&self) -> (&[u8], &[u8]);
 }
 

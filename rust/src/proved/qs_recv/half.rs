@@ -4,8 +4,10 @@ use crate::shim::Box;
 
 use crate::proved::qs_recv::assembly::{Assembly, Peeking, Skipping};
 use crate::proved::qs_recv::credit::Share;
+use crate::proved::qs_recv::halves::RecvSlot;
 use crate::proved::qs_recv::live::LiveHalf;
 use crate::proved::qs_recv::rest::Rest;
+use crate::proved::qs_recv::window::Windows;
 use crate::shim::alloc::Global;
 
 /// Why data or a reset is refused. The half is left as it was. Each but NoMemory is an error of the peer, and the last is
@@ -82,6 +84,22 @@ impl<A: Assembly> RecvHalf<A> {
         RecvHalf {
             alloc,
             parts: Parts::Resting(Rest::new(window, share)),
+        }
+    }
+
+    /// A half that was read to its end, of its length, of how far its limit lies past that, and of its windows. It takes no memory.
+    pub(crate) fn over(alloc: Global, end: u64, past: u32, windows: &Windows) -> Self {
+        RecvHalf {
+            alloc,
+            parts: Parts::Resting(Rest::over(end, past, windows)),
+        }
+    }
+
+    /// The same in few bytes, where it was read to its end.
+    pub(crate) fn kept(&self) -> Option<RecvSlot> {
+        match &self.parts {
+            Parts::Resting(rest) => rest.kept(),
+            Parts::Live(_live) => None,
         }
     }
 
@@ -175,7 +193,7 @@ impl<A: Assembly> RecvHalf<A> {
     }
 
     /// Throws the stored bytes away, and those that come from now on (section 3.5). The first code stays;
-    /// a code is at most 2^62 - 1, so that a frame can tell it.
+    /// a code is at most 2^62 - 1, so that a frame can tell it. Once the end was told, or a reset, it changes nothing.
     pub fn stop(&mut self, code: u64) {
         debug_assert!(code <= 0x3fff_ffff_ffff_ffff);
         match &mut self.parts {
@@ -348,8 +366,8 @@ impl<A: Assembly> RecvHalf<A> {
 }
 
 impl<A: Peeking> RecvHalf<A> {
-    /// Tells what a read would, and changes nothing: the bytes that are next stay where they are, one at least, and as many as stand there
-    /// in a row.
+    /// Tells what a read with room enough would, and changes nothing: the bytes that are next stay where they are, and all of them are
+    /// shown, up to the first that didn't come.
     pub fn peek(&self) -> Peek<'_> {
         match &self.parts {
             Parts::Resting(rest) => rest.peek(),

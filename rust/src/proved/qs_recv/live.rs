@@ -189,6 +189,9 @@ impl<A: Assembly> LiveHalf<A> {
 
     pub(crate) fn stop(&mut self, code: u64) {
         debug_assert!(code <= 0x3fff_ffff_ffff_ffff);
+        if self.is_over() {
+            return;
+        }
         if self.stop_code.is_none() {
             self.assembly.discard();
             self.stop_code = Some(code);
@@ -331,6 +334,11 @@ impl<A: Assembly> LiveHalf<A> {
             return true;
         }
         self.assembly.received().has(self.read_count)
+    }
+
+    // Whether the end was told, or a reset.
+    fn is_over(&self) -> bool {
+        self.told && (self.reset_code.is_some() || self.is_whole())
     }
 
     // Whether the final size is known and every offset below it came.

@@ -3,6 +3,7 @@
 
 use crate::proved::qs_recv::credit::{Share, limit_with, next_limit};
 use crate::proved::qs_recv::half::{Peek, Read};
+use crate::proved::qs_recv::halves::RecvSlot;
 use crate::proved::qs_recv::window::Windows;
 
 /// A receiving half that stores nothing, and of which the offsets that came are those below `received_end`: one that never
@@ -102,9 +103,12 @@ impl Rest {
         self.told
     }
 
-    /// Notes a stop: the first code stays.
+    /// Notes a stop: the first code stays, and what is over isn't stopped.
     pub(crate) fn stop(&mut self, code: u64) {
         debug_assert!(code <= 0x3fff_ffff_ffff_ffff);
+        if self.is_over() {
+            return;
+        }
         if !self.is_stopped {
             self.is_stopped = true;
             self.stop = code;
@@ -210,6 +214,37 @@ impl Rest {
         given(self.is_reset, self.reset)
     }
 
+    /// The same in few bytes, where it was read to its end.
+    pub(crate) fn kept(&self) -> Option<RecvSlot> {
+        if !self.told || self.is_reset || self.is_stopped || !self.is_sized {
+            return None;
+        }
+        let past = (self.limit - self.size) as u32;
+        let windows = Windows::new(
+            self.windows.widest(),
+            self.windows.size(),
+            self.windows.share(),
+        );
+        Some(RecvSlot::Over(self.size, past, windows))
+    }
+
+    /// A half that was read to its end, of its length, of how far its limit lies past that, and of its windows.
+    pub(crate) fn over(end: u64, past: u32, windows: &Windows) -> Self {
+        Rest {
+            read_count: end,
+            received_end: end,
+            limit: end + past as u64,
+            size: end,
+            reset: 0,
+            stop: 0,
+            windows: Windows::new(windows.widest(), windows.size(), windows.share()),
+            is_sized: true,
+            is_reset: false,
+            is_stopped: false,
+            told: true,
+        }
+    }
+
     // The number below which the offsets are that came, once a frame's did. None where one of its bytes would be stored, or
     // offsets lie apart.
     fn end_with(&self, offset: u64, bytes: &[u8]) -> Option<u64> {
@@ -226,6 +261,11 @@ impl Rest {
     // Whether nothing is noted of the offsets that came.
     fn keeps_none(&self) -> bool {
         (self.told && self.is_whole()) || self.is_reset
+    }
+
+    // Whether the end was told, or a reset.
+    fn is_over(&self) -> bool {
+        self.told && (self.is_reset || self.is_whole())
     }
 
     // Whether the final size is known and every offset below it came.

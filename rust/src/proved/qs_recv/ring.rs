@@ -60,19 +60,12 @@ impl Ring {
         write_at(into, front.len(), back);
     }
 
-    /// The bytes of the offsets from `at` on, at most so many, in two pieces where their places wrap: as far as they were written, and
-    /// one at least.
+    /// So many bytes, from that of the offset `at` on, in two pieces where their places wrap. All of them were written.
     pub(crate) fn front(&self, at: u64, count: usize) -> (&[u8], &[u8]) {
         debug_assert!(at <= 1 << 62);
         debug_assert!(0 < count);
         let place = place_of(at + self.turn as u64, self.size);
-        let end = self.bytes.len();
-        if place >= end {
-            return (&[0], &[]);
-        }
-        let kept = if end < self.size { end - place } else { count };
-        let shown = count.min(kept);
-        pieces(&self.bytes, self.size, place, shown)
+        pieces(&self.bytes, self.size, place, count)
     }
 
     /// Whether bytes are the ones at the places of the offsets from `at` on, in two pieces where these wrap.
@@ -104,13 +97,13 @@ impl Ring {
         debug_assert!(size <= 1 << 30);
         debug_assert!(count <= size);
         let turn = size - place_of(from, size);
+        let mut bytes = Vec::with_capacity(alloc, size)?;
         if count == 0 {
-            let bytes = Vec::with_capacity(alloc, size)?;
             return Ok(Ring { bytes, size, turn });
         }
         let place = place_of(from + self.turn as u64, self.size);
         fill(&mut self.bytes, self.size, place, count);
-        let bytes = copied(alloc, &self.bytes, self.size, place, count, size)?;
+        copy_to(&mut bytes, &self.bytes, self.size, place, count);
         Ok(Ring { bytes, size, turn })
     }
 
@@ -209,23 +202,14 @@ fn bring_to_front(bytes: &mut Vec<u8>, place: usize, count: usize) {
     bytes.truncate(count);
 }
 
-// The same in one piece, with room for more.
-fn copied(
-    alloc: Global,
-    bytes: &[u8],
-    size: usize,
-    place: usize,
-    count: usize,
-    room: usize,
-) -> Result<Vec<u8>, NoMemory> {
+// The same in one piece, in memory that has room for it.
+fn copy_to(made: &mut Vec<u8>, bytes: &[u8], size: usize, place: usize, count: usize) {
     debug_assert!(bytes.len() <= size);
     debug_assert!(place < size);
     debug_assert!(count <= size);
-    let mut made = Vec::with_capacity(alloc, room)?;
     let (front, back) = pieces(bytes, size, place, count);
-    made.extend_from_slice(front)?;
-    made.extend_from_slice(back)?;
-    Ok(made)
+    let _copied = made.extend_from_slice(front);
+    let _copied = made.extend_from_slice(back);
 }
 
 // Writes bytes from a place on, behind zeros where none were written before it.

@@ -8,6 +8,7 @@ use crate::proved::qs_wire::StreamId;
 use crate::shim::alloc::Global;
 
 mod chunks;
+mod over;
 
 /// The largest value of a variable-length integer (RFC 9000, section 16).
 pub const MAX_VARINT: u64 = (1 << 62) - 1;
@@ -115,11 +116,28 @@ impl SendHalf {
         Ok(())
     }
 
-    /// Takes in a STOP_SENDING: a reset with its code, where one can still be made (RFC 9000, section
-    /// 3.5). The code of the first one is kept.
+    /// Takes in a STOP_SENDING: a reset with its code, where one can still be made, and the code of the first one is kept. Else nothing
+    /// changes (RFC 9000, section 3.5).
     pub fn stopped(&mut self, code: u64) {
         debug_assert!(code <= 0x3fff_ffff_ffff_ffff);
-        let _ = self.reset(code);
+        if self.reset(code).is_err() {
+            return;
+        }
+        self.keep_stop(code);
+    }
+
+    /// Takes in a STOP_SENDING that the owner answers: the code of the first one is kept where a reset can still be made, and the half
+    /// goes on (RFC 9000, section 3.5).
+    pub fn told_stop(&mut self, code: u64) {
+        debug_assert!(code <= 0x3fff_ffff_ffff_ffff);
+        if self.was_reset() || self.is_whole() {
+            return;
+        }
+        self.keep_stop(code);
+    }
+
+    fn keep_stop(&mut self, code: u64) {
+        debug_assert!(code <= 0x3fff_ffff_ffff_ffff);
         if self.stop_code.get().is_none() {
             self.stop_code = MaybeNumber::some(code);
         }
@@ -130,15 +148,20 @@ impl SendHalf {
         self.stop_code.get()
     }
 
-    /// Whether a STOP_SENDING would change the half: none came before, or the half can be reset still (RFC 9000, section 3.5).
+    /// Whether a STOP_SENDING would change the half: it can be reset still (RFC 9000, section 3.5).
     pub fn stop_changes(&self) -> bool {
-        if self.stop_code.get().is_none() {
-            return true;
-        }
         if self.was_reset() {
             return false;
         }
         !self.is_whole()
+    }
+
+    /// Whether one would change it that the owner answers: none came before either (RFC 9000, section 3.5).
+    pub fn told_changes(&self) -> bool {
+        if self.stop_code.get().is_some() {
+            return false;
+        }
+        self.stop_changes()
     }
 
     /// Takes in that the peer allows the offsets below `limit`. A limit that is no higher changes nothing

@@ -2,12 +2,21 @@ use Rattle.std.proofs.Common.{◌≡◌, ◌∙◌, ◌+◌, ◌-◌, sym, ap, a
 use Rattle.qs_recv.specs.Ring.{missing_count}
 use Rattle.qs_recv.proofs.RingCount.{missing_all, missing_gap, missing_zero, run_behind}
 use Rattle.qs_recv.proofs.RingPlaces.{filled_none, filled_gap}
+use Rattle.qs_recv.proofs.WrittenLaws.{filled_more}
 use Rattle.qs_recv.proofs.ring_assembly.fill_gaps.Goals as goal
 
 pub returns-then-stop-end-clause-count : goal.returns-then-stop-end-clause-count
 returns-then-stop-end-clause-count c =
     let end = c.args.offset + length c.args.bytes.now in
     sym (missing_all c.args.received.now c.args.first (end - c.args.first) (λ q low high. c.requires.missing q low (omega (arith, c.requires.some, c.requires.ends, c.if-stop-end.true))))
+
+pub returns-then-stop-end-clause-there : goal.returns-then-stop-end-clause-there
+returns-then-stop-end-clause-there c =
+    λ q low high. filled_more c.args.received.now c.args.first c.args.first c.args.stop c.args.stop c.args.offset c.args.bytes.now c.args.ring.now c.write.new.self (λ k from to. absurd (omega (arith, from, to))) c.write.ensures.kept c.write.ensures.there
+    c.requires.begins (omega (arith, c.requires.some)) c.requires.ends (λ k from to. absurd (omega (arith, from, to))) q low (omega (arith, high, c.if-stop-end.true))
+
+pub returns-clause-there : goal.returns-clause-there
+returns-clause-there c = λ q low high. c.loop-at.invariant.there q low (omega (arith, high, c.loop-at-test.false))
 
 pub loop-at-init : goal.loop-at-init
 loop-at-init c =
@@ -21,7 +30,9 @@ loop-at-init c =
       counted = sym (ap (missing_count c.args.received.now c.args.first) none ∙ missing_zero c.args.received.now c.args.first);
       small = omega arith;
       same_len = refl;
-      filled = filled_none c.args.received.now c.args.first c.args.offset c.args.bytes.now c.args.ring.now;
+      kept = λ q is. is;
+      there = λ q low high. absurd (omega (arith, low, high));
+      filled = filled_none c.args.received.now c.args.first c.args.offset c.args.bytes.now c.args.ring.now.0;
     }
 
 pub loop-at-preserved : goal.loop-at-preserved
@@ -46,6 +57,9 @@ loop-at-preserved c =
       counted = ap (λ k. k + (stop - at)) inv.counted ∙ missing_gap c.args.received.now c.args.first at end stop next inv.begins none g;
       small = omega (arith, inv.begins, inv.small, some, g.ordered);
       same_len = c.write-in-loop-at.ensures.same_len ∙ inv.same_len;
-      filled = filled_gap c.args.received.now c.args.first at end stop next c.args.offset c.args.bytes.now c.args.ring.now c.loop-at.ring c.write-in-loop-at.new.self c.requires.begins inv.begins (omega arith) some g
+      kept = λ q is. c.write-in-loop-at.ensures.kept q (inv.kept q is);
+      there = filled_more c.args.received.now c.args.first at stop next c.args.offset c.args.bytes.now c.loop-at.ring c.write-in-loop-at.new.self inv.there c.write-in-loop-at.ensures.kept c.write-in-loop-at.ensures.there
+          (omega (arith, c.requires.begins, inv.begins)) (omega (arith, some)) within gap.came;
+      filled = filled_gap c.args.received.now c.args.first at end stop next c.args.offset c.args.bytes.now c.args.ring.now.0 c.loop-at.ring.0 c.write-in-loop-at.new.self.0 c.requires.begins inv.begins (omega arith) some g
           inv.same_len inv.filled c.write-in-loop-at.ensures.written;
     }

@@ -1,6 +1,6 @@
 use Rattle.std.proofs.Common.{◌≡◌, ◌≤◌, ◌<◌, ◌-◌, length}
 use Rattle.qs_ranges.specs.Numbers.{MissesRange}
-use Rattle.qs_recv.specs.Ring.{IsFilled, missing_count}
+use Rattle.qs_recv.specs.Ring.{AreFilled, IsFilled, StayWritten, missing_count}
 use Rattle.qs_recv.proofs.ring_assembly.fill_gaps.Given as goal
 
 abbrev pub invariant-loop-at : goal.invariant-loop-at
@@ -13,8 +13,10 @@ invariant-loop-at l =
       missing : MissesRange l.received l.at l.to;
       counted : l.count ≡ missing_count l.received l.first (l.at - l.first);
       small : l.count ≤ l.at - l.first;
-      same_len : length l.ring ≡ length l.initial.ring;
-      filled : IsFilled l.received l.first l.at l.offset l.bytes l.initial.ring l.ring;
+      same_len : length l.ring.0 ≡ length l.initial.ring.0;
+      kept : StayWritten l.initial.ring l.ring;
+      there : AreFilled l.received l.first l.at l.ring;
+      filled : IsFilled l.received l.first l.at l.offset l.bytes l.initial.ring.0 l.ring.0;
     }
 
 abbrev pub decreases-loop-at : goal.decreases-loop-at

@@ -2,7 +2,7 @@ use Rattle.std.proofs.Common.{◌≡◌, ◌∙◌, ◌+◌, ◌<◌, ◌↔◌,
 use Rattle.std.proofs.lemmas.Bool.{both_ways}
 use Rattle.qs_recv.specs.Ring.{byte_of}
 use Rattle.qs_recv.proofs.SameLaws.{part}
-use Rattle.qs_recv.proofs.SameRing.{run_fits, run_more, run_there, there_far, there_near}
+use Rattle.qs_recv.proofs.SameRing.{run_more, run_there, there_far, there_near}
 use Rattle.qs_recv.proofs.ring_assembly.is_kept.Goals.{then-from-near, else-from-near}
 use Rattle.qs_recv.proofs.ring_assembly.is_kept.Goals as goal
 
@@ -10,7 +10,7 @@ pub loop-at-preserved : goal.loop-at-preserved
 loop-at-preserved c =
     let run = c.next_run-from.ensures in
     let r = c.args.received.now in
-    let ring = c.args.ring.now in
+    let ring = c.args.ring.now.0 in
     let pages = c.args.apart.now.pages in
     let bytes = c.args.bytes.now in
     let end = c.args.offset + length bytes in
@@ -32,7 +32,7 @@ pub returns-then-not-there : goal.returns-then-not-there
 returns-then-not-there c =
     let run = c.next_run-from.ensures in
     let r = c.args.received.now in
-    let ring = c.args.ring.now in
+    let ring = c.args.ring.now.0 in
     let pages = c.args.apart.now.pages in
     let bytes = c.args.bytes.now in
     let end = c.args.offset + length bytes in

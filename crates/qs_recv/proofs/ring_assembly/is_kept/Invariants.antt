@@ -7,7 +7,7 @@ abbrev pub invariant-loop-at : goal.invariant-loop-at
 invariant-loop-at l =
     record {
       begins : l.start ≤ l.at;
-      before : (q : ℕ) → l.start ≤ q → q < l.at → set.contains l.received q ≡ true → slice_index l.bytes (q - l.offset) ≡ byte_of l.ring l.near l.apart.pages q;
+      before : (q : ℕ) → l.start ≤ q → q < l.at → set.contains l.received q ≡ true → slice_index l.bytes (q - l.offset) ≡ byte_of l.ring.0 l.near l.apart.pages q;
     }
 
 abbrev pub decreases-loop-at : goal.decreases-loop-at

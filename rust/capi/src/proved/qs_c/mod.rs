@@ -40,7 +40,7 @@ use crate::proved::qs_c::frame::{GvFault, GvFrame};
 use crate::proved::qs_c::handle::Handle;
 use crate::proved::qs_c::lane::GvLane;
 use crate::proved::qs_c::structs::{GvClosing, GvLimits, GvMade, GvSettings, GvTuning};
-pub use closes::gvp_tell_closed;
+pub use closes::{gvp_tell_closed, gvp_told_close};
 pub use consuming::gvp_consume;
 pub use events::{
     gvp_heard_drop, gvp_heard_new, gvp_next_news, gvp_wants, gvp_was_read, gvp_will_write,

@@ -1,7 +1,7 @@
 // Made from crates/qs_c/src/structs.rt by rust/erase; not edited by hand.
 //! The structs that C passes.
 
-use crate::proved::qs_calls::{Filled, Token};
+use crate::proved::qs_calls::{CloseKind, Closer, Filled, Token, ToldClose};
 use crate::proved::qs_conn::{Closing, Made, PeerLimits, Settings, Share, Tuning};
 
 /// The greatest number of a part.
@@ -21,7 +21,8 @@ pub struct GvSettings {
     pub lifetime_uni: u64,
 }
 
-/// Parts are 1 for a half, 2 for a quarter, 3 for an eighth, 4 for a sixteenth; for none, where there may be none, 0.
+/// Parts are 1 for a half, 2 for a quarter, 3 for an eighth, 4 for a sixteenth; for none, where there may be none, 0. A window of 0
+/// stands for none, too.
 #[repr(C)]
 #[derive(Clone, Copy)]
 pub struct GvTuning {
@@ -30,6 +31,8 @@ pub struct GvTuning {
     pub within_credit: bool,
     pub reads_when_closed: bool,
     pub epoch: u64,
+    pub send_window: u64,
+    pub answers_stops: bool,
 }
 
 #[repr(C)]
@@ -88,6 +91,15 @@ pub struct GvClosing {
     pub place: usize,
 }
 
+/// 0 stands for this side and the transport, 1 for the peer and the application.
+#[repr(C)]
+#[derive(Clone, Copy)]
+pub struct GvTold {
+    pub by: u32,
+    pub kind: u32,
+    pub code: u64,
+}
+
 impl GvMade {
     pub(crate) fn of(made: Made) -> GvMade {
         GvMade {
@@ -141,6 +153,22 @@ impl GvClosing {
     }
 }
 
+impl GvTold {
+    pub(crate) fn of(close: ToldClose) -> GvTold {
+        GvTold {
+            by: match close.by {
+                Closer::Us => 0,
+                Closer::Peer => 1,
+            },
+            kind: match close.kind {
+                CloseKind::Transport => 0,
+                CloseKind::Application => 1,
+            },
+            code: close.code,
+        }
+    }
+}
+
 impl GvSettings {
     pub(crate) fn settings(&self) -> Settings {
         Settings {
@@ -167,8 +195,10 @@ impl GvTuning {
             credit_step,
             count_step: share_of(self.count_step),
             within_credit: self.within_credit,
+            answers_stops: self.answers_stops,
             reads_when_closed: self.reads_when_closed,
             epoch: self.epoch,
+            send_window: window_if(self.send_window),
         })
     }
 }
@@ -181,6 +211,13 @@ fn share_of(number: u32) -> Option<Share> {
         4 => Some(Share::Sixteenth),
         _ => None,
     }
+}
+
+fn window_if(bytes: u64) -> Option<u64> {
+    if bytes == 0 {
+        return None;
+    }
+    Some(bytes)
 }
 
 impl GvLimits {

@@ -17,6 +17,8 @@ enum Step<'a> {
     Finish,
     Reset(u32, Result<(), SendFault>),
     Stop(u32),
+    /// A STOP_SENDING that the owner answers, whether it would change the half, and the code that is kept.
+    Tell(u32, bool, Option<u64>),
     Allow(u32),
     Block,
     /// Room, credit and the chunk that is sent.
@@ -154,6 +156,11 @@ fn take(half: &mut SendHalf, step: Step) -> Result<bool, Fail> {
         Step::Finish => half.finish()?,
         Step::Reset(code, answer) => return Ok(half.reset(u64::from(code)) == answer),
         Step::Stop(code) => half.stopped(u64::from(code)),
+        Step::Tell(code, changes, kept) => {
+            let changed = half.told_changes();
+            half.told_stop(u64::from(code));
+            return Ok(changed == changes && half.stop_code() == kept);
+        }
         Step::Allow(limit) => half.allow(u64::from(limit)),
         Step::Block => half.note_blocked(),
         Step::Send(room, fresh, chunk) => return Ok(sends(half, room, fresh, chunk)),
@@ -292,6 +299,25 @@ fn a_reset_ends_the_stream() -> Result<(), Fail> {
         Step::AckReset,
         Step::State(SendState::ResetRecvd),
         Step::Size(Some(3), Some(7)),
+    ];
+    assert_eq!(rt; played(&mut half, &steps)?, steps.len());
+    Ok(())
+}
+
+// Its owner goes on, and then resets it with a code of its own.
+#[test]
+fn a_stop_is_told_alone() -> Result<(), Fail> {
+    let rt = HostRuntime::new();
+    let mut half = half(rt.alloc(), 0, 100, 100);
+    let steps = [
+        Step::Write(b"abc", 3),
+        Step::Tell(5, true, Some(5)),
+        Step::Tell(6, false, Some(5)),
+        Step::Send(128, 100, chunk(0, 3, false)),
+        Step::State(SendState::Send),
+        Step::Reset(7, Ok(())),
+        Step::Size(Some(3), Some(7)),
+        Step::Tell(8, false, Some(5)),
     ];
     assert_eq!(rt; played(&mut half, &steps)?, steps.len());
     Ok(())

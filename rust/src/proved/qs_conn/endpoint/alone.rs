@@ -119,7 +119,11 @@ impl Endpoint {
                 self.is_yet_to_open(stream) || self.core.recvs.reset_changes(stream)
             }
             Item::StopSending { stream, .. } => {
-                self.is_yet_to_open(stream) || self.core.outbox.stop_changes(stream)
+                self.is_yet_to_open(stream)
+                    || self
+                        .core
+                        .outbox
+                        .stop_changes(stream, self.core.limits.tuning.answers_stops)
             }
             Item::StreamDataBlocked { stream, .. } => self.is_yet_to_open(stream),
             Item::DataBlocked { .. } | Item::StreamsBlocked { .. } => false,

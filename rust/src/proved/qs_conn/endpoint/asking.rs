@@ -41,8 +41,8 @@ impl Endpoint {
     }
 
     /// Tells what a read would, and changes nothing: the bytes of a stream that are next stay where they are, for `consume` to take (RFC 9000,
-    /// section 2.2). They come in two pieces of memory, of which the second may be empty: one byte at least, and as many as stand there in
-    /// a row. What lies behind a gap isn't in.
+    /// section 2.2). They come in two pieces of memory, of which the second may be empty: all of them, up to the first that didn't come.
+    /// What lies behind a gap isn't in.
     ///
     /// Refused as `read` is.
     pub fn peek(&self, stream: StreamId) -> Result<Peek<'_>, UseFault> {
@@ -100,16 +100,34 @@ impl Endpoint {
 
     /// How many bytes `write` accepts of a stream now, however many are written: 0 where it is refused, as where the stream has no
     /// sending half here (RFC 9000, sections 2.2 and 2.4). Credit doesn't count, and what is written beyond it waits; but where writes keep
-    /// within credit ([`Tuning::within_credit`]) it does (section 4.1).
+    /// within credit ([`Tuning::within_credit`]) it does (section 4.1), and what all streams keep where that is bounded
+    /// ([`Tuning::send_window`]). It takes constant time.
     pub fn room(&self, stream: StreamId) -> u64 {
         if self.closed.is_some() {
             return 0;
         }
+        let room = self.credit_room(stream);
+        match self.window_left() {
+            Some(left) => room.min(left),
+            None => room,
+        }
+    }
+
+    // How many bytes a stream takes by its buffer, and by credit where writes keep within it.
+    fn credit_room(&self, stream: StreamId) -> u64 {
         let room = self.core.outbox.room(stream);
         if self.core.limits.tuning.within_credit {
             return room.min(self.credit_for(stream));
         }
         room
+    }
+
+    // How many bytes more all streams together may keep, where that is bounded.
+    pub(super) fn window_left(&self) -> Option<u64> {
+        match self.core.limits.tuning.send_window {
+            Some(window) => Some(window.saturating_sub(self.kept_sum())),
+            None => None,
+        }
     }
 
     /// How many bytes were written to all streams that are still to be sent for the first time: the sum of what `unsent` tells of each
@@ -142,8 +160,9 @@ impl Endpoint {
         self.core.outbox.acked_below(stream)
     }
 
-    /// The code of the peer's STOP_SENDING for a stream, of the first one that came; `None` where none did. It stays, whatever became of the
-    /// sending half: reset before by its owner, acknowledged whole, or reset by the STOP_SENDING itself (RFC 9000, section 3.5).
+    /// The code of the peer's STOP_SENDING for a stream, of the first one that came while the sending half could be reset; `None` where
+    /// none did. It stays, whatever becomes of the half: reset by the STOP_SENDING itself or by its owner, or acknowledged whole (RFC
+    /// 9000, section 3.5).
     pub fn stopped_with(&self, stream: StreamId) -> Option<u64> {
         self.core.outbox.stop_code(stream)
     }

@@ -39,6 +39,9 @@ impl Endpoint {
 
     /// The least stream that takes a byte, of those with a mark.
     pub(crate) fn next_writable_of(&self, short: &ToldStreams) -> Option<StreamId> {
+        if self.is_window_full() {
+            return None;
+        }
         let mut next = 0;
         while let Some(stream) = self.core.outbox.next_short(short, next) {
             if self.room(stream) > 0 {
@@ -47,6 +50,14 @@ impl Endpoint {
             next = stream.value() + 1;
         }
         None
+    }
+
+    // Whether all streams together keep so much that none of them takes a byte.
+    fn is_window_full(&self) -> bool {
+        match self.window_left() {
+            Some(left) => left == 0,
+            None => false,
+        }
     }
 
     /// The least stream that the peer stopped, of those without a mark.

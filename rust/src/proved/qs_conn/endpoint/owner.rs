@@ -11,7 +11,9 @@ impl Endpoint {
     /// Accepts the front of the bytes for sending, as many as there is room for, and answers how many. Where writes keep within credit
     /// ([`Tuning::within_credit`]) it takes no more than may be sent at once: by the stream's limit and the connection's, beside all
     /// that waits to be sent (RFC 9000, section 4.1). Then no byte waits for credit, so no STREAM_DATA_BLOCKED or DATA_BLOCKED is
-    /// due: the owner sees by the answer that its write was cut short.
+    /// due: the owner sees by the answer that its write was cut short. Where all streams together are bounded
+    /// ([`Tuning::send_window`]) it takes no more than that leaves beside all that they keep until it is acknowledged (section 13.3),
+    /// and asks for no memory where nothing is left. It takes constant time beside the bytes.
     ///
     /// Refused, and then unchanged: `Closed`; `NoSuchStream` or `WrongDirection` where the stream has no sending half; `WasReset`;
     /// `Finished`; and `NoMemory` where memory was refused.
@@ -32,17 +34,21 @@ impl Endpoint {
         }
     }
 
-    // As many of the bytes as credit lets go, where writes keep within it.
+    // As many of the bytes as credit lets go, and as the window over all streams leaves.
     fn offered<'a>(&self, stream: StreamId, bytes: &'a [u8]) -> &'a [u8] {
+        let bytes = self.let_go(stream, bytes);
+        match self.window_left() {
+            Some(left) => front(bytes, left),
+            None => bytes,
+        }
+    }
+
+    // As many of the bytes as credit lets go, where writes keep within it.
+    fn let_go<'a>(&self, stream: StreamId, bytes: &'a [u8]) -> &'a [u8] {
         if !self.core.limits.tuning.within_credit {
             return bytes;
         }
-        let credit = self.credit_for(stream);
-        if credit < bytes.len() as u64 {
-            &bytes[..credit as usize]
-        } else {
-            bytes
-        }
+        front(bytes, self.credit_for(stream))
     }
 
     /// Asks for the end of the stream after the bytes written so far.
@@ -248,5 +254,14 @@ fn use_fault(fault: SendFault) -> UseFault {
         SendFault::Finished => UseFault::Finished,
         SendFault::WasReset => UseFault::WasReset,
         SendFault::NoMemory => UseFault::NoMemory,
+    }
+}
+
+// As many of the bytes.
+fn front(bytes: &[u8], most: u64) -> &[u8] {
+    if most < bytes.len() as u64 {
+        &bytes[..most as usize]
+    } else {
+        bytes
     }
 }

@@ -75,11 +75,12 @@ impl Endpoint {
         Ok(())
     }
 
-    // The peer reads a stream no more.
+    // The peer reads a stream no more: that breaks it off, or its owner answers it.
     fn on_stop_sending(&mut self, stream: StreamId, code: u64) -> Result<(), NoMemory> {
         debug_assert!(code <= 0x3fff_ffff_ffff_ffff);
         self.open_by_peer(stream)?;
-        self.core.outbox.stopped(stream, code);
+        let answers = self.core.limits.tuning.answers_stops;
+        self.core.outbox.stopped(stream, code, answers);
         self.core.untold_sends.set(stream, true);
         Ok(())
     }

@@ -6,7 +6,7 @@ use crate::proved::qs_conn::places::{index_from, index_of, type_of};
 use crate::proved::qs_conn::send_lanes::SendLanes;
 use crate::proved::qs_conn::send_marks::{Search, Task};
 use crate::proved::qs_conn::told_streams::ToldStreams;
-use crate::proved::qs_send::SendHalf;
+use crate::proved::qs_send::SendView;
 use crate::proved::qs_wire::StreamId;
 
 /// Whether the stream has a sending half.
@@ -16,7 +16,7 @@ pub(super) fn is_open(types: &[SendLanes; 4], stream: StreamId) -> bool {
 }
 
 /// The half of an open stream.
-pub(super) fn half_of(types: &[SendLanes; 4], stream: StreamId) -> &SendHalf {
+pub(super) fn half_of(types: &[SendLanes; 4], stream: StreamId) -> SendView<'_> {
     let lanes = &types[type_of(stream)];
     lanes.get(index_of(stream))
 }

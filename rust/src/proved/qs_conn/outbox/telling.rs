@@ -8,7 +8,7 @@ use super::halves::{
 use crate::proved::qs_conn::marks::Marks;
 use crate::proved::qs_conn::send_marks::{Search, Task};
 use crate::proved::qs_conn::told_streams::ToldStreams;
-use crate::proved::qs_send::{Item, MAX_VARINT, Reset, SendState};
+use crate::proved::qs_send::{Item, MAX_VARINT, Reset, SendState, SendView};
 use crate::proved::qs_wire::StreamId;
 
 impl Outbox {
@@ -70,12 +70,12 @@ impl Outbox {
         half_of(&self.types, stream).limit() < limit
     }
 
-    /// Whether a STOP_SENDING would change an open stream.
-    pub(crate) fn stop_changes(&self, stream: StreamId) -> bool {
+    /// Whether a STOP_SENDING, which the owner answers or not, would change an open stream.
+    pub(crate) fn stop_changes(&self, stream: StreamId, owner_answers: bool) -> bool {
         if !is_open(&self.types, stream) {
             return false;
         }
-        half_of(&self.types, stream).stop_changes()
+        changed_by_stop(&half_of(&self.types, stream), owner_answers)
     }
 
     /// Whether a stream has bytes that only the connection's credit holds back.
@@ -239,5 +239,14 @@ fn reset_by(code: Option<u64>, size: Option<u64>) -> Option<Reset> {
         (Some(code), Some(size)) => Some(Reset { code, size }),
         (Some(_), None) => None,
         (None, _) => None,
+    }
+}
+
+// Whether a STOP_SENDING would change a half.
+fn changed_by_stop(half: &SendView<'_>, owner_answers: bool) -> bool {
+    if owner_answers {
+        half.told_changes()
+    } else {
+        half.stop_changes()
     }
 }

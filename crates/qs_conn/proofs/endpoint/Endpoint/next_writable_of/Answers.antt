@@ -1,7 +1,11 @@
-use Rattle.std.proofs.Common.{sym, subst, ◌∙◌, ◌<◌, ℕ, arith}
-use Rattle.qs_conn.proofs.Hearing.{takes_found, takes_next, takes_none}
+use Rattle.std.proofs.Common.{refl, sym, subst, ◌∙◌, ◌<◌, ℕ, arith}
+use Rattle.qs_conn.proofs.Hearing.{takes_found, takes_full, takes_next, takes_none}
 use Rattle.qs_conn.proofs.Least.{clear_at}
 use Rattle.qs_conn.proofs.endpoint.Endpoint.next_writable_of.Goals as goal
+
+pub returns-then-is_window_full : goal.returns-then-is_window_full
+returns-then-is_window_full c =
+    takes_full c.args.self.now c.args.self.now refl c.args.short.now (c.is_window_full.ensures c.if-is_window_full.true)
 
 pub returns-then-room-gt0 : goal.returns-then-room-gt0
 returns-then-room-gt0 c =

@@ -7,4 +7,4 @@ pub stopped-requires-clause-open : goal.stopped-requires-clause-open
 stopped-requires-clause-open c = out_there c.args.self.now _ c.args.stream c.requires.passed (c.self.view_is ∙ c.in_ok-open_by_peer.ensures.ok)
 
 pub invariant_of-self : goal.invariant_of-self
-invariant_of-self c = kept_outbox c.self.inside.core _ _ _ _ _ c.self.invariant _ _ (rest_told_to_stop c.self.inside.core c.self.invariant.rest c.args.stream c.args.code _ _ c.stopped.ensures c.set.ensures)
+invariant_of-self c = kept_outbox c.self.inside.core _ _ _ _ _ c.self.invariant _ _ (rest_told_to_stop c.self.inside.core c.self.invariant.rest c.self.inside.core.limits.tuning.answers_stops c.args.stream c.args.code _ _ c.stopped.ensures c.set.ensures)

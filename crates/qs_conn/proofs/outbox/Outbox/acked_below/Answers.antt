@@ -10,4 +10,4 @@ returns-then-not-is_open c =
     sym (ap acked_below_of (no_lookup _ c.args.self.now (tables_of c.self.inside.types) c.args.stream c.self.view_is refl (sym c.is_open.ensures ∙ none)))
 
 pub returns : goal.returns
-returns c = ap Some c.unacked_from.ensures ∙ sym (ap acked_below_of (lookup_now _ c.args.self.now (tables_of c.self.inside.types) c.args.stream c.half_of-half.result.now c.self.view_is refl c.half_of-half.ensures))
+returns c = ap Some c.unacked_from.ensures ∙ sym (ap acked_below_of (lookup_now _ c.args.self.now (tables_of c.self.inside.types) c.args.stream c.half_of-half.result c.self.view_is refl c.half_of-half.ensures))

@@ -17,7 +17,7 @@ finish-requires c = open_there c.self.inside.types c.args.stream _ _ _ c.self.in
 pub invariant_of-self : goal.invariant_of-self
 invariant_of-self c =
     let is = updated_is c.self.inside.types c.args.stream _ _ _ _ after_finish c.self.invariant.3 c.type_of.ensures.value c.index_of.ensures.value c.finish.ensures.after in
-    (box_finished _ _ _ _ _ _ _ _ _ c.self.invariant.0 c.args.stream c.half_of.result.now c.half_of.ensures c.is_lawful.ensures is, c.self.invariant.1, sent_finish (tables_of c.self.inside.types) _ _ c.self.invariant.2 c.args.stream is, length-set _ _ _ ∙ c.self.invariant.3)
+    (box_finished _ _ _ _ _ _ _ _ _ c.self.invariant.0 c.args.stream c.half_of.result c.half_of.ensures c.is_lawful.ensures is, c.self.invariant.1, sent_finish (tables_of c.self.inside.types) _ _ c.self.invariant.2 c.args.stream is, length-set _ _ _ ∙ c.self.invariant.3)
 
 pub returns : goal.returns
 returns c =

@@ -9,7 +9,7 @@ returns-then-not-is_open c =
     acked_none _ (no_lookup _ c.args.self.now (tables_of c.self.inside.types) c.args.stream c.self.view_is refl (sym c.is_open.ensures ∙ none))
 
 pub returns-in-ResetRecvd : goal.returns-in-ResetRecvd
-returns-in-ResetRecvd c = acked_yes _ _ (lookup_now _ c.args.self.now (tables_of c.self.inside.types) c.args.stream c.half_of.result.now c.self.view_is refl c.half_of.ensures) (recvd_acked c.half_of.result.now.lane (sym c.state.ensures ∙ c.in-ResetRecvd.is))
+returns-in-ResetRecvd c = acked_yes _ _ (lookup_now _ c.args.self.now (tables_of c.self.inside.types) c.args.stream c.half_of.result c.self.view_is refl c.half_of.ensures) (recvd_acked c.half_of.result.lane (sym c.state.ensures ∙ c.in-ResetRecvd.is))
 
 pub returns-in_default : goal.returns-in_default
-returns-in_default c = acked_no _ _ (lookup_now _ c.args.self.now (tables_of c.self.inside.types) c.args.stream c.half_of.result.now c.self.view_is refl c.half_of.ensures) (λ a. c.in_default.not-ResetRecvd (c.state.ensures ∙ acked_recvd c.half_of.result.now.lane a))
+returns-in_default c = acked_no _ _ (lookup_now _ c.args.self.now (tables_of c.self.inside.types) c.args.stream c.half_of.result c.self.view_is refl c.half_of.ensures) (λ a. c.in_default.not-ResetRecvd (c.state.ensures ∙ acked_recvd c.half_of.result.lane a))

@@ -12,4 +12,4 @@ returns-then-not-is_open c =
 pub returns : goal.returns
 returns c =
     rw (c.saturating_sub.ensures, c.limit.ensures.exact, c.written.ensures.exact)
-    (sym (ap (λ o. limit_left (or_none o)) (lookup_now _ c.args.self.now (tables_of c.self.inside.types) c.args.stream c.half_of-half.result.now c.self.view_is refl c.half_of-half.ensures)))
+    (sym (ap (λ o. limit_left (or_none o)) (lookup_now _ c.args.self.now (tables_of c.self.inside.types) c.args.stream c.half_of-half.result c.self.view_is refl c.half_of-half.ensures)))

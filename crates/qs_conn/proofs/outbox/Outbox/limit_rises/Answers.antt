@@ -14,4 +14,4 @@ returns-then-not-is_open c =
 pub returns : goal.returns
 returns c =
     ap (λ k. nat_lt k c.args.limit) c.limit.ensures.exact
-    ∙ sym (ap (half_changes (λ (l : SendLane). nat_lt l.limit c.args.limit)) (lookup_now _ c.args.self.now (tables_of c.self.inside.types) c.args.stream c.half_of.result.now c.self.view_is refl c.half_of.ensures))
+    ∙ sym (ap (half_changes (λ (l : SendLane). nat_lt l.limit c.args.limit)) (lookup_now _ c.args.self.now (tables_of c.self.inside.types) c.args.stream c.half_of.result c.self.view_is refl c.half_of.ensures))

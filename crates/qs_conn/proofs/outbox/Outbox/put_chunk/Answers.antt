@@ -20,18 +20,18 @@ sent-requires-clause-there c = open_there c.self.inside.types c.args.stream _ _ 
 
 pub sent-requires-clause-due : goal.sent-requires-clause-due
 sent-requires-clause-due c =
-    subst (λ (s : Sending). IsDueChunk s c.args.chunk) (half_known c.self.inside.types c.args.stream _ _ _ c.self.invariant.3 c.type_of.ensures.value c.half_of-half.result.now c.index_of.ensures.value c.half_of-half.ensures)
-    (due_half c.args.self.now c.args.stream c.half_of-half.result.now c.args.chunk c.requires.due (sending_is _ c.args.self.now (tables_of c.self.inside.types) c.args.stream c.half_of-half.result.now c.self.view_is refl c.half_of-half.ensures c.is_lawful.ensures (c.self.invariant.0.tied.lanes c.args.stream c.half_of-half.result.now c.half_of-half.ensures)))
+    subst (λ (s : Sending). IsDueChunk s c.args.chunk) (half_known c.self.inside.types c.args.stream _ _ _ c.self.invariant.3 c.type_of.ensures.value c.half_of-half.result c.index_of.ensures.value c.half_of-half.ensures)
+    (due_half c.args.self.now c.args.stream c.half_of-half.result c.args.chunk c.requires.due (sending_is _ c.args.self.now (tables_of c.self.inside.types) c.args.stream c.half_of-half.result c.self.view_is refl c.half_of-half.ensures c.is_lawful.ensures (c.self.invariant.0.tied.lanes c.args.stream c.half_of-half.result c.half_of-half.ensures)))
 
 pub half_of-requires-clause-len : goal.half_of-requires-clause-len
 half_of-requires-clause-len c = length-set _ _ _ ∙ c.self.invariant.3
 
 pub half_of-requires-clause-open : goal.half_of-requires-clause-open
-half_of-requires-clause-open c = still_open (tables_of c.self.inside.types) _ c.args.stream c.half_of-half.result.now c.args.chunk c.half_of-half.ensures (updated_is c.self.inside.types c.args.stream _ _ _ _ (λ s. after_sent s c.args.chunk) c.self.invariant.3 c.type_of.ensures.value c.index_of.ensures.value c.sent.ensures)
+half_of-requires-clause-open c = still_open (tables_of c.self.inside.types) _ c.args.stream c.half_of-half.result c.args.chunk c.half_of-half.ensures (updated_is c.self.inside.types c.args.stream _ _ _ _ (λ s. after_sent s c.args.chunk) c.self.invariant.3 c.type_of.ensures.value c.index_of.ensures.value c.sent.ensures)
 
 pub overflow_sub-self : goal.overflow_sub-self
 overflow_sub-self c =
-    let within = end_within (tables_of c.self.inside.types) c.args.stream c.half_of-half.result.now c.half_of-half.ensures in
+    let within = end_within (tables_of c.self.inside.types) c.args.stream c.half_of-half.result c.half_of-half.ensures in
     let sum = c.self.invariant.0.sum in
     let is = c.sent_end-before.ensures.exact in
     omega (arith, within, sum, is)
@@ -41,12 +41,12 @@ invariant_of-self c =
     let room = c.hold.ensures.room in
     let was = c.self.invariant.0.room in
     let is = updated_is c.self.inside.types c.args.stream _ _ _ _ (λ s. after_sent s c.args.chunk) c.self.invariant.3 c.type_of.ensures.value c.index_of.ensures.value c.sent.ensures in (
-      box_chunk _ _ _ _ _ _ _ _ _ _ _ c.args.stream _ _ c.half_of-half.result.now c.half_of-half.result.now c.args.chunk c.self.invariant.0 c.half_of-half.ensures c.is_lawful.ensures
-          (due_half c.args.self.now c.args.stream c.half_of-half.result.now c.args.chunk c.requires.due (sending_is _ c.args.self.now (tables_of c.self.inside.types) c.args.stream c.half_of-half.result.now c.self.view_is refl c.half_of-half.ensures c.is_lawful.ensures (c.self.invariant.0.tied.lanes c.args.stream c.half_of-half.result.now c.half_of-half.ensures)))
+      box_chunk _ _ _ _ _ _ _ _ _ _ _ c.args.stream _ _ c.half_of-half.result c.half_of-half.result c.args.chunk c.self.invariant.0 c.half_of-half.ensures c.is_lawful.ensures
+          (due_half c.args.self.now c.args.stream c.half_of-half.result c.args.chunk c.requires.due (sending_is _ c.args.self.now (tables_of c.self.inside.types) c.args.stream c.half_of-half.result c.self.view_is refl c.half_of-half.ensures c.is_lawful.ensures (c.self.invariant.0.tied.lanes c.args.stream c.half_of-half.result c.half_of-half.ensures)))
           is c.hold.ensures.items (rw (← c.self.view_is) at c.requires.spare) (omega (arith, room, was))
           (subst (λ (n : ℕ). n ≤ MAX_VARINT) (sum_now _ c.args.self.now (tables_of c.self.inside.types) _ c.args.stream c.args.chunk c.self.view_is refl is) c.requires.small)
           c.sent_end-before.ensures.exact
-          (c.sent_end-after.ensures.exact ∙ ap (λ (s : Sending). s.lane.sent_end) (sent_half (tables_of c.self.inside.types) _ c.args.stream c.half_of-half.result.now c.half_of.result.now c.args.chunk c.half_of-half.ensures is c.half_of.ensures)),
+          (c.sent_end-after.ensures.exact ∙ ap (λ (s : Sending). s.lane.sent_end) (sent_half (tables_of c.self.inside.types) _ c.args.stream c.half_of-half.result c.half_of.result c.args.chunk c.half_of-half.ensures is c.half_of.ensures)),
       indexed_chunk_put _ _ _ _ _ _ _ c.args.stream c.args.chunk c.self.invariant.1 c.self.invariant.0.below c.hold.ensures.items,
       sent_put (tables_of c.self.inside.types) _ _ c.self.invariant.2 c.args.stream c.args.chunk is,
       length-set _ _ _ ∙ c.self.invariant.3,

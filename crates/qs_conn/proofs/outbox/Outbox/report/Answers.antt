@@ -11,4 +11,4 @@ returns-then-not-is_open c =
 pub returns : goal.returns
 returns c =
     rw (c.state.ensures, c.written.ensures.exact, c.final_size.ensures.value, c.reset_code.ensures.value, c.limit.ensures.exact)
-    (report_some _ c.args.self.now (tables_of c.self.inside.types) c.args.stream c.half_of-half.result.now c.self.view_is refl c.half_of-half.ensures)
+    (report_some _ c.args.self.now (tables_of c.self.inside.types) c.args.stream c.half_of-half.result c.self.view_is refl c.half_of-half.ensures)

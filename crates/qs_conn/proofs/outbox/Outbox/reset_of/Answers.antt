@@ -9,4 +9,4 @@ returns-then-not-is_open-clause-value c =
     reset_none _ (no_lookup _ c.args.self.now (tables_of c.self.inside.types) c.args.stream c.self.view_is refl (sym c.is_open.ensures ∙ none))
 
 pub returns-clause-value : goal.returns-clause-value
-returns-clause-value c = c.reset_by.ensures.value ∙ reset_same _ c.half_of-half.result.now.lane c.reset_code.result c.final_size.result (lookup_now _ c.args.self.now (tables_of c.self.inside.types) c.args.stream c.half_of-half.result.now c.self.view_is refl c.half_of-half.ensures) c.reset_code.ensures.value c.final_size.ensures.value
+returns-clause-value c = c.reset_by.ensures.value ∙ reset_same _ c.half_of-half.result.lane c.reset_code.result c.final_size.result (lookup_now _ c.args.self.now (tables_of c.self.inside.types) c.args.stream c.half_of-half.result c.self.view_is refl c.half_of-half.ensures) c.reset_code.ensures.value c.final_size.ensures.value

@@ -9,9 +9,9 @@ returns-then-not-is_open c =
     room_none _ (no_lookup _ c.args.self.now (tables_of c.self.inside.types) c.args.stream c.self.view_is refl (sym c.is_open.ensures ∙ none))
 
 pub returns-then-is_some : goal.returns-then-is_some
-returns-then-is_some c = room_refused _ c.half_of-half.result.now.lane (lookup_now _ c.args.self.now (tables_of c.self.inside.types) c.args.stream c.half_of-half.result.now c.self.view_is refl c.half_of-half.ensures) (ap is_some (sym c.refusal.ensures) ∙ sym c.is_some.ensures ∙ c.if-is_some.true)
+returns-then-is_some c = room_refused _ c.half_of-half.result.lane (lookup_now _ c.args.self.now (tables_of c.self.inside.types) c.args.stream c.half_of-half.result c.self.view_is refl c.half_of-half.ensures) (ap is_some (sym c.refusal.ensures) ∙ sym c.is_some.ensures ∙ c.if-is_some.true)
 
 pub returns : goal.returns
 returns c =
     rw (c.min.ensures, c.room.ensures, c.written.ensures.exact)
-    (room_free _ c.half_of-half.result.now.lane (lookup_now _ c.args.self.now (tables_of c.self.inside.types) c.args.stream c.half_of-half.result.now c.self.view_is refl c.half_of-half.ensures) (ap is_some (sym c.refusal.ensures) ∙ sym c.is_some.ensures ∙ c.if-is_some.false))
+    (room_free _ c.half_of-half.result.lane (lookup_now _ c.args.self.now (tables_of c.self.inside.types) c.args.stream c.half_of-half.result c.self.view_is refl c.half_of-half.ensures) (ap is_some (sym c.refusal.ensures) ∙ sym c.is_some.ensures ∙ c.if-is_some.false))

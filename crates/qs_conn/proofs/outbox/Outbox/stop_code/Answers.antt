@@ -11,4 +11,4 @@ returns-then-not-is_open c =
 
 pub returns : goal.returns
 returns c =
-    c.stop_code.ensures ∙ sym (ap stop_of (lookup_now _ c.args.self.now (tables_of c.self.inside.types) c.args.stream c.half_of-half.result.now c.self.view_is refl c.half_of-half.ensures))
+    c.stop_code.ensures ∙ sym (ap stop_of (lookup_now _ c.args.self.now (tables_of c.self.inside.types) c.args.stream c.half_of-half.result c.self.view_is refl c.half_of-half.ensures))

@@ -9,9 +9,9 @@ returns-then-not-is_open c =
     unsent_none _ (no_lookup _ c.args.self.now (tables_of c.self.inside.types) c.args.stream c.self.view_is refl (sym c.is_open.ensures ∙ none))
 
 pub returns-in-Some : goal.returns-in-Some
-returns-in-Some c = unsent_reset _ c.half_of-half.result.now.lane (lookup_now _ c.args.self.now (tables_of c.self.inside.types) c.args.stream c.half_of-half.result.now c.self.view_is refl c.half_of-half.ensures) (has_code c.half_of-half.result.now.lane c.reset_code.result c.in-Some._code c.reset_code.ensures.value c.in-Some.is)
+returns-in-Some c = unsent_reset _ c.half_of-half.result.lane (lookup_now _ c.args.self.now (tables_of c.self.inside.types) c.args.stream c.half_of-half.result c.self.view_is refl c.half_of-half.ensures) (has_code c.half_of-half.result.lane c.reset_code.result c.in-Some._code c.reset_code.ensures.value c.in-Some.is)
 
 pub returns : goal.returns
 returns c =
     rw (c.saturating_sub.ensures, c.written.ensures.exact, c.sent_end.ensures.exact)
-    (unsent_open _ c.half_of-half.result.now.lane (lookup_now _ c.args.self.now (tables_of c.self.inside.types) c.args.stream c.half_of-half.result.now c.self.view_is refl c.half_of-half.ensures) (no_code c.half_of-half.result.now.lane (sym c.reset_code.ensures.value ∙ c.in_default.is)))
+    (unsent_open _ c.half_of-half.result.lane (lookup_now _ c.args.self.now (tables_of c.self.inside.types) c.args.stream c.half_of-half.result c.self.view_is refl c.half_of-half.ensures) (no_code c.half_of-half.result.lane (sym c.reset_code.ensures.value ∙ c.in_default.is)))

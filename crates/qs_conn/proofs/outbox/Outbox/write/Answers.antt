@@ -17,7 +17,7 @@ pub invariant_of-self : goal.invariant_of-self
 invariant_of-self c =
     let ok = written_is c.self.inside.types c.args.stream _ _ _ _ c.args.bytes.now c.write.result c.self.invariant.3 c.type_of.ensures.value c.index_of.ensures.value c.write.ensures.accepted in
     let err = refused_is c.self.inside.types c.args.stream _ _ _ _ c.write.result c.self.invariant.3 c.type_of.ensures.value c.index_of.ensures.value c.write.ensures.refused in
-    (box_written _ _ _ _ _ _ _ _ _ c.self.invariant.0 c.args.stream c.args.bytes.now c.half_of.result.now c.write.result c.half_of.ensures c.is_lawful.ensures ok err, c.self.invariant.1, sent_write (tables_of c.self.inside.types) _ _ c.self.invariant.2 c.args.stream c.args.bytes.now c.write.result ok err, length-set _ _ _ ∙ c.self.invariant.3)
+    (box_written _ _ _ _ _ _ _ _ _ c.self.invariant.0 c.args.stream c.args.bytes.now c.half_of.result c.write.result c.half_of.ensures c.is_lawful.ensures ok err, c.self.invariant.1, sent_write (tables_of c.self.inside.types) _ _ c.self.invariant.2 c.args.stream c.args.bytes.now c.write.result ok err, length-set _ _ _ ∙ c.self.invariant.3)
 
 pub returns-clause-accepted : goal.returns-clause-accepted
 returns-clause-accepted c = write_ok _ c.args.self.now (tables_of c.self.inside.types) _ c.args.stream c.args.bytes.now c.write.result c.self.view_is refl (written_is c.self.inside.types c.args.stream _ _ _ _ c.args.bytes.now c.write.result c.self.invariant.3 c.type_of.ensures.value c.index_of.ensures.value c.write.ensures.accepted)

@@ -16,7 +16,7 @@ pub reset_acked-requires-clause-sent : goal.reset_acked-requires-clause-sent
 reset_acked-requires-clause-sent c =
     elim c.match-matches.branch [
       | in-ResetSent w ↦
-          subst (λ (s : Sending). state s.lane ≡ ResetSent) (half_known c.args.types.now c.args.stream _ _ _ c.told-types c.type_of.ensures.value c.half_of.result.now c.index_of.ensures.value c.half_of.ensures) (sym c.state.ensures ∙ w.in-ResetSent.is)
+          subst (λ (s : Sending). state s.lane ≡ ResetSent) (half_known c.args.types.now c.args.stream _ _ _ c.told-types c.type_of.ensures.value c.half_of.result c.index_of.ensures.value c.half_of.ensures) (sym c.state.ensures ∙ w.in-ResetSent.is)
       | in_default w ↦ absurd (both_ways c.match-matches.matches w.matches-is c.if-matches.true)
     ]
 
@@ -27,5 +27,5 @@ pub returns-else-matches-clause-after : goal.returns-else-matches-clause-after
 returns-else-matches-clause-after c =
     elim c.match-matches.branch [
       | in-ResetSent w ↦ absurd (both_ways c.match-matches.matches c.if-matches.false w.matches-is)
-      | in_default w ↦ not_sent_again (tables_of c.args.types.now) c.args.stream c.half_of.result.now c.state.result c.half_of.ensures c.requires c.state.ensures w.in_default.not-ResetSent
+      | in_default w ↦ not_sent_again (tables_of c.args.types.now) c.args.stream c.half_of.result c.state.result c.half_of.ensures c.requires c.state.ensures w.in_default.not-ResetSent
     ]

@@ -5,4 +5,4 @@ pub get-requires : goal.get-requires
 get-requires c = open_there c.args.types.now c.args.stream c.type_of.result c.index_of.result c.index-types-type_of.result c.requires.len c.type_of.ensures.value c.index_of.ensures.value c.requires.open
 
 pub returns : goal.returns
-returns c = (half_at c.args.types.now c.args.stream c.type_of.result c.index_of.result c.index-types-type_of.result c.get.result.now c.requires.len c.type_of.ensures.value c.index_of.ensures.value c.requires.open c.get.ensures)
+returns c = (half_at c.args.types.now c.args.stream c.type_of.result c.index_of.result c.index-types-type_of.result c.get.result c.requires.len c.type_of.ensures.value c.index_of.ensures.value c.requires.open c.get.ensures)

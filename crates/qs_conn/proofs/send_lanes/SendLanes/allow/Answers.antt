@@ -1,24 +1,34 @@
-use Rattle.std.proofs.Common.{ap}
+use Rattle.std.proofs.Common.{◌<◌, length, refl, sym, ap, ◌∙◌}
+use Rattle.qs_send.specs.Halves.{half_at}
+use Rattle.qs_send.specs.Lane.{after_allow}
 use Rattle.qs_conn.specs.Tasks.{IsQuiet, marks_of}
 use Rattle.qs_conn.proofs.LaneEdits.{changed_at}
 use Rattle.qs_conn.proofs.SendEdits.{stop_of}
 use Rattle.qs_conn.proofs.Marked.{mark_there}
-use Rattle.qs_conn.proofs.Tasks.{all_looked, still_unstopped}
-use Rattle.qs_conn.proofs.Promised.{promised_of, kept_of, sums_same}
+use Rattle.qs_conn.proofs.OverHalves.{there_at, set_read, put_looked, still_marked}
+use Rattle.qs_conn.proofs.Tasks.{still_unstopped}
+use Rattle.qs_conn.proofs.Promised.{sums_same}
 use Rattle.qs_conn.proofs.send_lanes.SendLanes.allow.Goals as goal
 
 pub look-requires-clause-there : goal.look-requires-clause-there
-look-requires-clause-there c = λ t. mark_there (IsQuiet t) c.self.inside.halves.items (marks_of c.self.inside.marks t) c.args.index (c.self.invariant.1 t) (rw c.self.view_is c.requires.there)
+look-requires-clause-there c = λ t. mark_there (IsQuiet t) c.self.inside.halves (marks_of c.self.inside.marks t) c.args.index (c.self.invariant.1 t) (rw c.self.view_is c.requires.there)
 
 pub look-requires-clause-stop : goal.look-requires-clause-stop
-look-requires-clause-stop c = still_unstopped c.self.inside.halves.items c.self.inside.marks c.args.index c.index_mut-half.result.now c.allow.new.self c.self.invariant.1 (rw c.self.view_is c.requires.there) c.index_mut-half.ensures.value (ap stop_of c.allow.ensures)
+look-requires-clause-stop c =
+    let there : c.args.index < length c.self.inside.halves = rw c.self.view_is c.requires.there in
+    still_unstopped c.self.inside.halves c.self.inside.marks c.args.index (half_at c.self.inside.halves c.args.index) c.in-Some.half.now c.self.invariant.1 there (there_at c.self.inside.halves c.args.index there) (ap stop_of (set_read c.self.inside.halves c.allow.new.self c.args.index (after_allow (half_at c.self.inside.halves c.args.index) c.args.limit) c.in-Some.half.now there c.allow.ensures c.in-Some.ensures.found))
 
-pub invariant_of-self : goal.invariant_of-self
-invariant_of-self c =
-    all_looked _ _ _ _ _ _ _ c.args.index c.allow.new.self c.look.ensures c.self.invariant
-    (sums_same c.self.inside.halves.items c.self.inside.promised c.self.inside.kept c.args.index c.index_mut-half.result.now c.allow.new.self (rw c.self.view_is c.requires.there) c.index_mut-half.ensures.value (ap promised_of c.allow.ensures) (ap kept_of c.allow.ensures) c.self.invariant.2)
+pub invariant_of-self-2 : goal.invariant_of-self-2
+invariant_of-self-2 c =
+    let there : c.args.index < length c.self.inside.halves = rw c.self.view_is c.requires.there in
+    put_looked c.self.inside.halves c.allow.new.self c.self.inside.marks _ c.args.index c.self.inside.promised c.self.inside.kept (after_allow (half_at c.self.inside.halves c.args.index) c.args.limit) c.in-Some.half.now there c.allow.ensures c.in-Some.ensures.found c.look.ensures refl refl c.self.invariant
 
 pub returns : goal.returns
 returns c =
-    rw (← c.self.view_is)
-    (changed_at c.self.inside.halves.items c.args.index c.index_mut-half.result.now c.allow.new.self _ (rw c.self.view_is c.requires.there) c.index_mut-half.ensures.value c.allow.ensures)
+    let there : c.args.index < length c.self.inside.halves = rw c.self.view_is c.requires.there in
+    rw (← c.self.view_is) (c.allow.ensures ∙ changed_at c.self.inside.halves c.args.index (half_at c.self.inside.halves c.args.index) (after_allow (half_at c.self.inside.halves c.args.index) c.args.limit) (λ s. after_allow s c.args.limit) there (there_at c.self.inside.halves c.args.index there) refl)
+
+pub invariant_of-self : goal.invariant_of-self
+invariant_of-self c =
+    let there : c.args.index < length c.self.inside.halves = rw c.self.view_is c.requires.there in
+    still_marked c.self.inside.halves c.allow.new.self c.self.inside.marks c.args.index c.self.inside.promised c.self.inside.kept (after_allow (half_at c.self.inside.halves c.args.index) c.args.limit) there refl c.in_default.ensures.over c.allow.ensures refl refl c.self.invariant

@@ -9,33 +9,37 @@ use Rattle.qs_conn.proofs.SendEdits.{sent_again, stop_of}
 use Rattle.qs_conn.proofs.Marked.{mark_there}
 use Rattle.qs_conn.proofs.Tasks.{all_looked, still_quiet, still_unstopped}
 use Rattle.qs_conn.proofs.Promised.{kept_of, sums_same, sent_promises}
+use Rattle.qs_conn.proofs.OverHalves.{lent_at, over_sent}
 use Rattle.qs_conn.proofs.send_lanes.SendLanes.sent.Goals as goal
 
 pub look_sent-requires-clause-there : goal.look_sent-requires-clause-there
-look_sent-requires-clause-there c = λ t. mark_there (IsQuiet t) c.self.inside.halves.items (marks_of c.self.inside.marks t) c.args.index (c.self.invariant.1 t) (rw c.self.view_is c.requires.there)
+look_sent-requires-clause-there c = λ t. mark_there (IsQuiet t) c.self.inside.halves (marks_of c.self.inside.marks t) c.args.index (c.self.invariant.1 t) (rw c.self.view_is c.requires.there)
 
 pub look_sent-requires-clause-again : goal.look_sent-requires-clause-again
 look_sent-requires-clause-again c =
-    let due = subst (λ s. IsDueChunk s c.args.chunk) (sym (c.index_mut-half.ensures.value ∙ get_or_default c.self.inside.halves.items c.args.index _ no_sending (rw c.self.view_is c.requires.there))) (rw c.self.view_is c.requires.due) in
-    still_quiet tasks.Again c.self.inside.halves.items c.self.inside.marks c.args.index c.index_mut-half.result.now c.sent.new.self c.self.invariant.1 (rw c.self.view_is c.requires.there) c.index_mut-half.ensures.value (λ q. subst (IsQuiet tasks.Again) (sym c.sent.ensures) (sent_again c.index_mut-half.result.now c.args.chunk due q))
+    let due = subst (λ s. IsDueChunk s c.args.chunk) (sym ((lent_at c.self.inside.halves c.args.index c.in-Some.half.now (rw c.self.view_is c.requires.there) c.in-Some.ensures.found) ∙ get_or_default c.self.inside.halves c.args.index _ no_sending (rw c.self.view_is c.requires.there))) (rw c.self.view_is c.requires.due) in
+    still_quiet tasks.Again c.self.inside.halves c.self.inside.marks c.args.index c.in-Some.half.now c.sent.new.self c.self.invariant.1 (rw c.self.view_is c.requires.there) (lent_at c.self.inside.halves c.args.index c.in-Some.half.now (rw c.self.view_is c.requires.there) c.in-Some.ensures.found) (λ q. subst (IsQuiet tasks.Again) (sym c.sent.ensures) (sent_again c.in-Some.half.now c.args.chunk due q))
 
 pub look_sent-requires-clause-room : goal.look_sent-requires-clause-room
 look_sent-requires-clause-room c =
-    still_quiet tasks.Writable c.self.inside.halves.items c.self.inside.marks c.args.index c.index_mut-half.result.now c.sent.new.self c.self.invariant.1 (rw c.self.view_is c.requires.there) c.index_mut-half.ensures.value (λ q. subst (IsQuiet tasks.Writable) (sym c.sent.ensures) q)
+    still_quiet tasks.Writable c.self.inside.halves c.self.inside.marks c.args.index c.in-Some.half.now c.sent.new.self c.self.invariant.1 (rw c.self.view_is c.requires.there) (lent_at c.self.inside.halves c.args.index c.in-Some.half.now (rw c.self.view_is c.requires.there) c.in-Some.ensures.found) (λ q. subst (IsQuiet tasks.Writable) (sym c.sent.ensures) q)
 
 pub look_sent-requires-clause-end : goal.look_sent-requires-clause-end
 look_sent-requires-clause-end c =
-    still_quiet tasks.Ended c.self.inside.halves.items c.self.inside.marks c.args.index c.index_mut-half.result.now c.sent.new.self c.self.invariant.1 (rw c.self.view_is c.requires.there) c.index_mut-half.ensures.value (λ q. subst (IsQuiet tasks.Ended) (sym c.sent.ensures) q)
+    still_quiet tasks.Ended c.self.inside.halves c.self.inside.marks c.args.index c.in-Some.half.now c.sent.new.self c.self.invariant.1 (rw c.self.view_is c.requires.there) (lent_at c.self.inside.halves c.args.index c.in-Some.half.now (rw c.self.view_is c.requires.there) c.in-Some.ensures.found) (λ q. subst (IsQuiet tasks.Ended) (sym c.sent.ensures) q)
 
 pub look_sent-requires-clause-stop : goal.look_sent-requires-clause-stop
-look_sent-requires-clause-stop c = still_unstopped c.self.inside.halves.items c.self.inside.marks c.args.index c.index_mut-half.result.now c.sent.new.self c.self.invariant.1 (rw c.self.view_is c.requires.there) c.index_mut-half.ensures.value (ap stop_of c.sent.ensures)
+look_sent-requires-clause-stop c = still_unstopped c.self.inside.halves c.self.inside.marks c.args.index c.in-Some.half.now c.sent.new.self c.self.invariant.1 (rw c.self.view_is c.requires.there) (lent_at c.self.inside.halves c.args.index c.in-Some.half.now (rw c.self.view_is c.requires.there) c.in-Some.ensures.found) (ap stop_of c.sent.ensures)
 
-pub invariant_of-self : goal.invariant_of-self
-invariant_of-self c =
+pub invariant_of-self-2 : goal.invariant_of-self-2
+invariant_of-self-2 c =
     all_looked _ _ _ _ _ _ _ c.args.index c.sent.new.self c.look_sent.ensures c.self.invariant
-    (sums_same c.self.inside.halves.items c.self.inside.promised c.self.inside.kept c.args.index c.index_mut-half.result.now c.sent.new.self (rw c.self.view_is c.requires.there) c.index_mut-half.ensures.value (sent_promises c.index_mut-half.result.now c.sent.new.self c.args.chunk c.is_lawful.ensures (subst (λ s. IsDueChunk s c.args.chunk) (sym (c.index_mut-half.ensures.value ∙ get_or_default c.self.inside.halves.items c.args.index _ no_sending (rw c.self.view_is c.requires.there))) (rw c.self.view_is c.requires.due)) c.sent.ensures) (ap kept_of c.sent.ensures) c.self.invariant.2)
+    (sums_same c.self.inside.halves c.self.inside.promised c.self.inside.kept c.args.index c.in-Some.half.now c.sent.new.self (rw c.self.view_is c.requires.there) (lent_at c.self.inside.halves c.args.index c.in-Some.half.now (rw c.self.view_is c.requires.there) c.in-Some.ensures.found) (sent_promises c.in-Some.half.now c.sent.new.self c.args.chunk c.is_lawful.ensures (subst (λ s. IsDueChunk s c.args.chunk) (sym ((lent_at c.self.inside.halves c.args.index c.in-Some.half.now (rw c.self.view_is c.requires.there) c.in-Some.ensures.found) ∙ get_or_default c.self.inside.halves c.args.index _ no_sending (rw c.self.view_is c.requires.there))) (rw c.self.view_is c.requires.due)) c.sent.ensures) (ap kept_of c.sent.ensures) c.self.invariant.2)
 
 pub returns : goal.returns
 returns c =
     rw (← c.self.view_is)
-    (changed_at c.self.inside.halves.items c.args.index c.index_mut-half.result.now c.sent.new.self _ (rw c.self.view_is c.requires.there) c.index_mut-half.ensures.value c.sent.ensures)
+    (changed_at c.self.inside.halves c.args.index c.in-Some.half.now c.sent.new.self _ (rw c.self.view_is c.requires.there) (lent_at c.self.inside.halves c.args.index c.in-Some.half.now (rw c.self.view_is c.requires.there) c.in-Some.ensures.found) c.sent.ensures)
+
+pub returns-in_default : goal.returns-in_default
+returns-in_default c = absurd (over_sent _ c.in_default.ensures.over c.args.chunk (rw c.self.view_is c.requires.due))

@@ -1,7 +1,7 @@
-use Rattle.std.proofs.Common.{◌∙◌, ap, refl, not}
+use Rattle.std.proofs.Common.{refl}
 use Rattle.qs_recv.proofs.LetGoLaws.{let_go_gone}
 use Rattle.qs_recv.proofs.SoundLaws.{sound_stop}
 use Rattle.qs_recv.proofs.live.LiveHalf.stop.Goals as goal
 
 pub invariant_of-self : goal.invariant_of-self
-invariant_of-self g c = rw c.discard.ensures.after (sound_stop _ _ _ _ c.args.code (c.is_none.ensures ∙ ap not c.if-is_none.true) c.requires c.self.invariant.0, let_go_gone _ _ refl c.discard.ensures.gone)
+invariant_of-self g c = rw c.discard.ensures.after (sound_stop _ _ _ _ c.args.code c.requires c.self.invariant.0, let_go_gone _ _ refl c.discard.ensures.gone)

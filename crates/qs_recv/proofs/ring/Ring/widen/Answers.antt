@@ -1,5 +1,7 @@
-use Rattle.std.proofs.Common.{arith}
+use Rattle.std.proofs.Common.{ap, arith, length, subst, sym, vec_len}
+use Rattle.qs_recv.specs.Ring.{IsThere, RingBytes}
 use Rattle.qs_recv.proofs.RingTurned.{length_places, stayed}
+use Rattle.qs_recv.proofs.WrittenLaws.{stayed_written}
 use Rattle.qs_recv.proofs.ring.Ring.widen.Goals as goal
 
 pub returns-clause-moved : goal.returns-clause-moved
@@ -7,9 +9,26 @@ returns-clause-moved c =
     let s = c.self-2.inside in
     let i = c.self-2.invariant in
     let within = i.within in
-    let size = rw c.self-2.view_is at (length_places s.turn s.size s.bytes.items i.turned (omega (arith, within))) in
+    let size = rw (ap (λ (x : RingBytes). x.0) c.self-2.view_is) at (length_places s.turn s.size s.bytes.items i.turned (omega (arith, within))) in
     let had = c.requires.had in
     let more = c.requires.more in
     rw (← c.self-2.view_is) (stayed c.args.from s.turn s.size c.place_of-place.result c.args.count c.args.size c.turn_to-self-inside.result s.bytes.items c.reserve_exact.new.self.items
     (omega (arith, size, had, c.if-count-eq0.false)) i.turned (omega (arith, within)) c.place_of-place.ensures (omega (arith, c.if-count-self.false, c.if-count-eq0.false))
     (omega (arith, size, more)) c.turn_to-self-inside.ensures.turned c.turn_to-self-inside.ensures.there c.reserve_exact.ensures.items)
+
+pub returns-then-count-self-clause-there : goal.returns-then-count-self-clause-there
+returns-then-count-self-clause-there c = λ q low high was. subst (λ r. IsThere r q) (sym c.drop-then-count-self.view_is) (c.in_ok-self-inside-2.ensures.there q low high)
+
+pub returns-clause-there : goal.returns-clause-there
+returns-clause-there c =
+    let s = c.self-2.inside in
+    let i = c.self-2.invariant in
+    let within = i.within in
+    let size = rw (ap (λ (x : RingBytes). x.0) c.self-2.view_is) at (length_places s.turn s.size s.bytes.items i.turned (omega (arith, within))) in
+    let had = c.requires.had in
+    let more = c.requires.more in
+    let len = ap length c.reserve_exact.ensures.items in
+    rw (← c.self-2.view_is)
+    (stayed_written c.args.from s.turn s.size c.place_of-place.result c.args.count c.args.size c.turn_to-self-inside.result (vec_len s.bytes) (vec_len c.reserve_exact.new.self) s.bytes.items c.reserve_exact.new.self.items
+    (omega (arith, size, had, c.if-count-eq0.false)) i.turned (omega (arith, within)) c.place_of-place.ensures (omega (arith, c.if-count-self.false, c.if-count-eq0.false))
+    (omega (arith, size, more)) c.turn_to-self-inside.ensures.turned c.turn_to-self-inside.ensures.there (omega (arith, len, within, size, more)) (omega (arith, len)))

@@ -1,4 +1,4 @@
-use Rattle.std.proofs.Common.{◌∙◌, ◌≡◌, ◌≤◌, ◌+◌, ◌-◌, ℕ, max, ap, sym, refl, arith, length, true, false, inr}
+use Rattle.std.proofs.Common.{◌∙◌, ◌≡◌, ◌≤◌, ◌+◌, ◌-◌, ℕ, max, ap, refl, arith, length, true, false}
 use Rattle.std.proofs.lemmas.Bool.{both_ways}
 use Rattle.std.specs.FinSet as set
 use Rattle.qs_recv.specs.Assembled.{Assembled}
@@ -7,6 +7,7 @@ use Rattle.qs_recv.proofs.AssembledLaws.{put_is}
 use Rattle.qs_recv.proofs.RingApart.{IsPutNear, apart_near, apart_taken, begun_anywhere, put_near, refused_near, ring_moved}
 use Rattle.qs_recv.proofs.RingCount.{least_of}
 use Rattle.qs_recv.proofs.RingLaws.{put_stored, ring_put, same_bytes, same_ring, stored_within}
+use Rattle.qs_recv.proofs.WrittenLaws.{came_moved, came_near, came_still, stay_begun}
 use Rattle.qs_recv.proofs.ring_assembly.RingAssembly.put_beyond.Goals as goal
 
 pub overflow_add-self : goal.overflow_add-self
@@ -16,9 +17,9 @@ overflow_add-self c =
     let bytes = c.args.bytes.now in
     let offset = c.args.offset in
     let first = c.args.first in
-    let ring = s.ring in
-    let wide = c.reach.new.ring in
-    let new = c.store.new.ring in
+    let ring = s.ring.0 in
+    let wide = c.reach.new.ring.0 in
+    let new = c.store.new.ring.0 in
     let pages = s.apart.pages in
     let f = byte_of ring s.near pages in
     let view = ap (λ v. v.0) c.self-2.view_is ∙ c.in_ok-draw.ensures.same in
@@ -60,9 +61,9 @@ invariant_of-self-in-Ok c =
     let bytes = c.args.bytes.now in
     let offset = c.args.offset in
     let first = c.args.first in
-    let ring = s.ring in
-    let wide = c.reach.new.ring in
-    let new = c.store.new.ring in
+    let ring = s.ring.0 in
+    let wide = c.reach.new.ring.0 in
+    let new = c.store.new.ring.0 in
     let pages = s.apart.pages in
     let f = byte_of ring s.near pages in
     let view = ap (λ v. v.0) c.self-2.view_is ∙ c.in_ok-draw.ensures.same in
@@ -105,6 +106,9 @@ invariant_of-self-in-Ok c =
         none = λ off. absurd (both_ways false refl off);
         apart = λ _. apart_near r s.read_count s.near s.end s.stored offset first s.window c.max-self-inside-in-Ok.result bytes ring wide new pages p c.max-self-inside-in-Ok.ensures;
       },
+      came_near r s.read_count s.near offset (length bytes) first (max s.near (offset + length bytes)) c.reach.new.ring c.store.new.ring
+          (came_moved r s.read_count s.read_count s.near (s.read_count + (s.near - s.read_count)) s.ring c.reach.new.ring (rw on at c.self-2.invariant.2) (omega arith) (omega arith) (stay_begun first s.read_count (s.near - s.read_count) s.ring c.reach.new.ring (rw c.front_of.ensures at c.reach.ensures.there)))
+          c.store.ensures.kept c.store.ensures.there req.gap.came p.last refl,
     )
 
 pub invariant_of-self-in-Err : goal.invariant_of-self-in-Err
@@ -114,9 +118,9 @@ invariant_of-self-in-Err c =
     let bytes = c.args.bytes.now in
     let offset = c.args.offset in
     let first = c.args.first in
-    let ring = s.ring in
-    let wide = c.reach.new.ring in
-    let new = c.store.new.ring in
+    let ring = s.ring.0 in
+    let wide = c.reach.new.ring.0 in
+    let new = c.store.new.ring.0 in
     let pages = s.apart.pages in
     let f = byte_of ring s.near pages in
     let view = ap (λ v. v.0) c.self-2.view_is ∙ c.in_ok-draw.ensures.same in
@@ -144,7 +148,7 @@ invariant_of-self-in-Err c =
       same_len = c.store.ensures.same_len;
       filled = c.store.ensures.filled;
     } in
-    let less = c.shed.new.ring in
+    let less = c.shed.new.ring.0 in
     let g = byte_of less s.near pages in
     let same : (q : ℕ) → s.read_count ≤ q → set.contains r q ≡ true → g q ≡ f q =
     λ q low came. ring_moved new less pages s.read_count s.near (s.near - s.read_count) q refl c.shed.ensures.moved low ∙ refused_near r s.read_count s.near s.end s.stored offset first s.window bytes ring wide new pages p q low came in
@@ -159,6 +163,11 @@ invariant_of-self-in-Err c =
         none = λ off. absurd (both_ways false refl off);
         apart = λ _. apart_taken ring less pages r s.read_count s.read_count s.near s.end a a.starts c.shed.ensures.reaches;
       },
+      came_moved r s.read_count s.read_count s.near (s.read_count + (s.near - s.read_count)) c.store.new.ring c.shed.new.ring
+          (came_still r s.read_count s.near c.reach.new.ring c.store.new.ring
+          (came_moved r s.read_count s.read_count s.near (s.read_count + (s.near - s.read_count)) s.ring c.reach.new.ring (rw on at c.self-2.invariant.2) (omega arith) (omega arith) (stay_begun first s.read_count (s.near - s.read_count) s.ring c.reach.new.ring (rw c.front_of.ensures at c.reach.ensures.there)))
+          c.store.ensures.kept)
+          (omega arith) (omega arith) c.shed.ensures.there,
     )
 
 pub returns-in-Ok-clause-ok : goal.returns-in-Ok-clause-ok
@@ -168,9 +177,9 @@ returns-in-Ok-clause-ok c =
     let bytes = c.args.bytes.now in
     let offset = c.args.offset in
     let first = c.args.first in
-    let ring = s.ring in
-    let wide = c.reach.new.ring in
-    let new = c.store.new.ring in
+    let ring = s.ring.0 in
+    let wide = c.reach.new.ring.0 in
+    let new = c.store.new.ring.0 in
     let pages = s.apart.pages in
     let f = byte_of ring s.near pages in
     let view = ap (λ v. v.0) c.self-2.view_is ∙ c.in_ok-draw.ensures.same in
@@ -210,9 +219,9 @@ returns-in-Err-clause-err c =
     let bytes = c.args.bytes.now in
     let offset = c.args.offset in
     let first = c.args.first in
-    let ring = s.ring in
-    let wide = c.reach.new.ring in
-    let new = c.store.new.ring in
+    let ring = s.ring.0 in
+    let wide = c.reach.new.ring.0 in
+    let new = c.store.new.ring.0 in
     let pages = s.apart.pages in
     let f = byte_of ring s.near pages in
     let view = ap (λ v. v.0) c.self-2.view_is ∙ c.in_ok-draw.ensures.same in
@@ -240,7 +249,7 @@ returns-in-Err-clause-err c =
       same_len = c.store.ensures.same_len;
       filled = c.store.ensures.filled;
     } in
-    let less = c.shed.new.ring in
+    let less = c.shed.new.ring.0 in
     let g = byte_of less s.near pages in
     let same : (q : ℕ) → s.read_count ≤ q → set.contains r q ≡ true → g q ≡ f q =
     λ q low came. ring_moved new less pages s.read_count s.near (s.near - s.read_count) q refl c.shed.ensures.moved low ∙ refused_near r s.read_count s.near s.end s.stored offset first s.window bytes ring wide new pages p q low came in

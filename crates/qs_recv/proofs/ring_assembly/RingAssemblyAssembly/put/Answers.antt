@@ -1,10 +1,10 @@
-use Rattle.std.proofs.Common.{◌∙◌, ◌≡◌, ◌≤◌, ◌+◌, ◌-◌, ℕ, max, ap, sym, refl, arith, length, true, false, inr}
+use Rattle.std.proofs.Common.{◌≡◌, ◌≤◌, ◌+◌, ℕ, max, refl, arith, length, true, false, inr}
 use Rattle.std.proofs.lemmas.Bool.{both_ways}
 use Rattle.std.specs.FinSet as set
 use Rattle.qs_recv.specs.Assembled.{Assembled}
 use Rattle.qs_recv.specs.Ring.{byte_of, ring_bytes}
 use Rattle.qs_recv.proofs.AssembledLaws.{put_is}
-use Rattle.qs_recv.proofs.RingApart.{IsPutNear, apart_near, apart_taken, begun_anywhere, put_near, refused_near, ring_moved}
+use Rattle.qs_recv.proofs.RingApart.{IsPutNear, apart_near, apart_taken, put_near, refused_near}
 use Rattle.qs_recv.proofs.RingCount.{least_of}
 use Rattle.qs_recv.proofs.RingLaws.{put_stored, ring_put, same_bytes, same_ring, stored_within}
 use Rattle.qs_ranges.proofs.Sets.{end_of-ends}
@@ -12,6 +12,7 @@ use Rattle.qs_recv.proofs.NewsLaws.{on_err, refused_news}
 use Rattle.qs_recv.proofs.PageCount.{none_apart}
 use Rattle.qs_recv.proofs.RingLaws.{all_known, gap_news, put_known, ring_noted}
 use Rattle.qs_recv.proofs.RingApart.{sized_noted}
+use Rattle.qs_recv.proofs.WrittenLaws.{came_near, came_off, came_still}
 use Rattle.qs_recv.proofs.ring_assembly.RingAssemblyAssembly.put.Goals as goal
 
 pub returns-then-offset-end-clause-ok : goal.returns-then-offset-end-clause-ok
@@ -22,8 +23,9 @@ pub invariant_of-self : goal.invariant_of-self
 invariant_of-self c =
     let s = c.self.inside in
     rw c.if-self.true (
-      ring_noted c.insert.result (byte_of s.ring s.near s.apart.pages) s.received c.insert.new.self s.window s.read_count s.stored c.args.offset (length c.args.bytes.now) c.insert.ensures.ok c.insert.ensures.err (rw c.if-self.true at c.self.invariant.0),
-      sized_noted s.ring s.apart.pages s.received c.insert.new.self s.read_count s.near s.end s.window (rw c.if-self.true at c.self.invariant.1),
+      ring_noted c.insert.result (byte_of s.ring.0 s.near s.apart.pages) s.received c.insert.new.self s.window s.read_count s.stored c.args.offset (length c.args.bytes.now) c.insert.ensures.ok c.insert.ensures.err (rw c.if-self.true at c.self.invariant.0),
+      sized_noted s.ring.0 s.apart.pages s.received c.insert.new.self s.read_count s.near s.end s.window (rw c.if-self.true at c.self.invariant.1),
+      came_off c.insert.new.self s.read_count s.near s.ring,
     )
 
 pub returns-then-self-clause-news : goal.returns-then-self-clause-news
@@ -37,7 +39,7 @@ pub returns-then-first-end-clause-ok : goal.returns-then-first-end-clause-ok
 returns-then-first-end-clause-ok c =
     let s = c.self.inside in
     rw (← c.self.view_is) (put_known _ c.args.offset c.args.bytes.now
-    (all_known s.received (byte_of s.ring s.near s.apart.pages) s.window s.read_count s.stored c.args.offset (c.args.offset + length c.args.bytes.now) c.first_gap-first.result.0 s.discarding c.self.invariant.0
+    (all_known s.received (byte_of s.ring.0 s.near s.apart.pages) s.window s.read_count s.stored c.args.offset (c.args.offset + length c.args.bytes.now) c.first_gap-first.result.0 s.discarding c.self.invariant.0
     (rw c.max-start.ensures at c.first_gap-first.ensures.came) c.if-first-end.true))
 
 -- Where bytes stand apart, or the ring doesn't reach
@@ -63,8 +65,8 @@ invariant_of-self-in_err-count c =
     let bytes = c.args.bytes.now in
     let offset = c.args.offset in
     let first = c.first_gap-first.result.0 in
-    let ring = s.ring in
-    let new = c.store.new.ring in
+    let ring = s.ring.0 in
+    let new = c.store.new.ring.0 in
     let pages = s.apart.pages in
     let f = byte_of ring s.near pages in
     let on = c.if-self.false in
@@ -101,6 +103,7 @@ invariant_of-self-in_err-count c =
         none = λ off. absurd (both_ways false refl off);
         apart = λ _. apart_taken ring new pages r s.read_count s.read_count s.near s.end a a.starts (omega (arith, same_len, far));
       },
+      came_still r s.read_count s.near s.ring c.store.new.ring (rw on at c.self.invariant.2) c.store.ensures.kept,
     )
 
 pub returns-in_err-count-clause-err : goal.returns-in_err-count-clause-err
@@ -110,8 +113,8 @@ returns-in_err-count-clause-err c =
     let bytes = c.args.bytes.now in
     let offset = c.args.offset in
     let first = c.first_gap-first.result.0 in
-    let ring = s.ring in
-    let new = c.store.new.ring in
+    let ring = s.ring.0 in
+    let new = c.store.new.ring.0 in
     let pages = s.apart.pages in
     let f = byte_of ring s.near pages in
     let on = c.if-self.false in
@@ -152,8 +155,8 @@ overflow_add-self c =
     let bytes = c.args.bytes.now in
     let offset = c.args.offset in
     let first = c.first_gap-first.result.0 in
-    let ring = s.ring in
-    let new = c.store.new.ring in
+    let ring = s.ring.0 in
+    let new = c.store.new.ring.0 in
     let pages = s.apart.pages in
     let f = byte_of ring s.near pages in
     let on = c.if-self.false in
@@ -189,8 +192,8 @@ invariant_of-self-2 c =
     let bytes = c.args.bytes.now in
     let offset = c.args.offset in
     let first = c.first_gap-first.result.0 in
-    let ring = s.ring in
-    let new = c.store.new.ring in
+    let ring = s.ring.0 in
+    let new = c.store.new.ring.0 in
     let pages = s.apart.pages in
     let f = byte_of ring s.near pages in
     let on = c.if-self.false in
@@ -226,6 +229,8 @@ invariant_of-self-2 c =
         none = λ off. absurd (both_ways false refl off);
         apart = λ _. apart_near r s.read_count s.near s.end s.stored offset first s.window c.max-self-inside-2.result bytes ring ring new pages p c.max-self-inside-2.ensures;
       },
+      came_near r s.read_count s.near offset (length bytes) first (max s.near (offset + length bytes)) s.ring c.store.new.ring (rw on at c.self.invariant.2) c.store.ensures.kept c.store.ensures.there
+          (rw c.max-start.ensures at c.first_gap-first.ensures.came) p.last refl,
     )
 
 pub returns-clause-ok : goal.returns-clause-ok
@@ -235,8 +240,8 @@ returns-clause-ok c =
     let bytes = c.args.bytes.now in
     let offset = c.args.offset in
     let first = c.first_gap-first.result.0 in
-    let ring = s.ring in
-    let new = c.store.new.ring in
+    let ring = s.ring.0 in
+    let new = c.store.new.ring.0 in
     let pages = s.apart.pages in
     let f = byte_of ring s.near pages in
     let on = c.if-self.false in

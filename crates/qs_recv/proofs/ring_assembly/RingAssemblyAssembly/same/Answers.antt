@@ -1,4 +1,4 @@
-use Rattle.std.proofs.Common.{◌∙◌, sym, refl, arith, length, true}
+use Rattle.std.proofs.Common.{sym, refl, arith, true}
 use Rattle.std.specs.Ordering.{nat_cmp}
 use Rattle.std.specs.FinMap as map
 use Rattle.qs_ranges.proofs.Sets.{below-end_of}
@@ -18,17 +18,17 @@ returns-then-self-start c =
     let a = (rw c.if-self.false at c.self.invariant.1).apart refl in
     let ends = a.ends in
     rw (← c.self.view_is, c.if-self.false)
-    (same_kept s.received (byte_of s.ring s.near s.apart.pages) c.args.bytes.now s.window s.read_count s.stored c.max-start.result c.args.offset true (rw c.if-self.false at c.self.invariant.0) c.max-start.ensures
+    (same_kept s.received (byte_of s.ring.0 s.near s.apart.pages) c.args.bytes.now s.window s.read_count s.stored c.max-start.result c.args.offset true (rw c.if-self.false at c.self.invariant.0) c.max-start.ensures
     (λ _ q low high came. (let below = below-end_of s.received q came in absurd (omega (arith, below, ends, low, c.if-self-start.true))), λ _. refl))
 
 pub is_kept-requires-clause-missing : goal.is_kept-requires-clause-missing
 is_kept-requires-clause-missing c =
     let s = c.self.inside in
-    near_missing s.ring s.apart.pages s.received s.read_count s.near s.end ((rw c.if-self.false at c.self.invariant.1).apart refl)
+    near_missing s.ring.0 s.apart.pages s.received s.read_count s.near s.end ((rw c.if-self.false at c.self.invariant.1).apart refl)
 
 pub returns : goal.returns
 returns c =
     let s = c.self.inside in
     rw (← c.self.view_is, c.if-self.false)
-    (same_kept s.received (byte_of s.ring s.near s.apart.pages) c.args.bytes.now s.window s.read_count s.stored c.max-start.result c.args.offset c.is_kept.result (rw c.if-self.false at c.self.invariant.0) c.max-start.ensures
+    (same_kept s.received (byte_of s.ring.0 s.near s.apart.pages) c.args.bytes.now s.window s.read_count s.stored c.max-start.result c.args.offset c.is_kept.result (rw c.if-self.false at c.self.invariant.0) c.max-start.ensures
     c.is_kept.ensures)

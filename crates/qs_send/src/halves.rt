@@ -1,0 +1,242 @@
+//! The sending halves of the streams of one type, by index. One that is over takes 24 bytes.
+ghost use Rattle.std.specs.Prelude.{◌≡◌, ◌+◌, ◌*◌, ◌/◌, ◌%◌, ◌≤◌, ◌<◌, ◌^◌, ◌⊎◌, ◌==◌, ◌++◌, ◌∷◌, ℕ, [], length, take, slice_set, Some, None, OnOk, OnErr, IfSome, IfNone};
+ghost use Rattle.std.specs.Borrow.{sem};
+ghost use Rattle.qs_ranges.specs.Numbers.{MAX_VARINT};
+ghost use Rattle.qs_send.specs.Lane.{after_allow, after_buffer, after_blocked};
+ghost use Rattle.qs_send.specs.Halves.{half_at, slot_half, halves_from, IsOver, IsOverSlot, ArePlaced};
+ghost use Rattle.qs_send.specs.LendsHalf.{lends_half};
+
+pub(crate) mod slot;
+
+use crate::half::SendHalf;
+use crate::view::SendView;
+use qs_ranges::NoMemory;
+use slot::SendSlot;
+use std::alloc::Global;
+use std::marker::Model;
+
+/// The sending halves of the streams of one type, by index. Each has a slot. One that is over stands in it; the others stand apart, in a
+/// row, and their slots name their places.
+#[derive(Drop)]
+pub struct SendHalves {
+    // The type of the streams, 0 to 3.
+    stream_type: u64,
+    slots: Vec<SendSlot>,
+    full: Vec<SendHalf>,
+}
+
+// Clauses see the halves.
+impl Model for SendHalves {
+    ghost use Rattle.std.specs.Prelude.{◌<◌, List};
+    ghost use Rattle.std.specs.Coded.{coded_list};
+    ghost use Rattle.qs_send.specs.Lane.{Sending};
+    ghost use Rattle.qs_send.specs.Codes.{sending_code};
+
+    ghost Value = { List Sending };
+
+    ghost coded = { coded_list sending_code };
+
+    ghost use Rattle.std.specs.Prelude.{length};
+    ghost use Rattle.qs_send.specs.Halves.{halves_from, ArePlaced};
+
+    ghost view = { λ h. halves_from h.stream_type h.full.items 0 h.slots.items };
+
+    ghost invariant = { λ h. (h.stream_type < 4) × ArePlaced h.slots.items (length h.full.items) };
+}
+
+impl SendHalves {
+    /// None yet, of a type of streams.
+    pub fn new(alloc: Global, stream_type: u64) -> Self
+        requires { stream_type < 4 }
+        ensures { result ≡ [] }
+    {
+        SendHalves {
+            stream_type,
+            slots: Vec::new(alloc),
+            full: Vec::new(alloc),
+        }
+    }
+
+    /// How many there are.
+    #[inline(always)]
+    pub fn len(&self) -> usize
+        ensures value { result ≡ length self.now }
+        ensures small { result ≤ 2 ^ 60 }
+    {
+        self.slots.len()
+    }
+
+    /// The half at an index, to be read.
+    #[inline(always)]
+    pub fn at(&self, index: usize) -> SendView<'_>
+        requires { index < length self.now }
+        ensures { result ≡ half_at self.now index }
+    {
+        let slot = self.slots[index];
+        match slot.written.get() {
+            Some(written) => {
+                let number = index as u64 * 4 + self.stream_type;
+                SendView::of_over(number, written, slot)
+            }
+            None => SendView::of_full(&self.full[slot.rest as usize]),
+        }
+    }
+
+    /// A half that isn't over, to be read.
+    #[inline(always)]
+    pub fn full(&self, index: usize) -> Option<&SendHalf>
+        requires { index < length self.now }
+        ensures found { IfSome result (λ half. half.now ≡ half_at self.now index) }
+        ensures over { IfNone result (IsOver (half_at self.now index)) }
+    {
+        let slot = self.slots[index];
+        if slot.is_over() {
+            return None;
+        }
+        Some(&self.full[slot.rest as usize])
+    }
+
+    /// A half that isn't over, to be changed.
+    #[inline(always)]
+    pub fn full_mut(&mut self, index: usize) -> Option<&mut SendHalf>
+        requires { index < length self.old }
+        ensures* writes_back { sem 𝓛 (lends_half self.entry index result) }
+        ensures found { IfSome result (λ half. half.now ≡ half_at self.old index) }
+        ensures over { IfNone result (IsOver (half_at self.old index)) }
+    {
+        let none = self.full.len();
+        let place = self.slots[index].place_or(none);
+        self.full.get_mut(place)
+    }
+
+    /// Takes the memory for so many more.
+    pub fn reserve(&mut self, more: usize) -> Result<(), NoMemory>
+        ensures { self.new ≡ self.old }
+    {
+        if let Err(_refused) = self.slots.reserve(more) {
+            return Err(NoMemory);
+        }
+        match self.full.reserve(more) {
+            Ok(()) => Ok(()),
+            Err(_refused) => Err(NoMemory),
+        }
+    }
+
+    /// Puts a half behind the others.
+    pub fn push(&mut self, half: SendHalf) -> Result<(), NoMemory>
+        requires { length self.old < 2 ^ 60 }
+        ensures ok { OnOk result (self.new ≡ self.old ++ half ∷ []) }
+        ensures err { OnErr result (self.new ≡ self.old) }
+    {
+        let slot = SendSlot::full(self.full.len());
+        if let Err(_refused) = self.full.push(half) {
+            return Err(NoMemory);
+        }
+        if let Err(_refused) = self.slots.push(slot) {
+            let _half = self.full.pop();
+            return Err(NoMemory);
+        }
+        Ok(())
+    }
+
+    /// Takes the halves from a count on away.
+    pub fn truncate(&mut self, count: usize)
+        ensures { self.new ≡ take count self.old }
+    {
+        while self.slots.len() > count {
+            let last = self.slots.len() - 1;
+            put_over(&mut self.slots, &mut self.full, last, SendSlot::none());
+            self.slots.truncate(last);
+        }
+    }
+
+    /// Keeps a half in its slot where it is over. That takes no memory, and gives some back.
+    pub fn settle(&mut self, index: usize)
+        requires { index < length self.old }
+        ensures { self.new ≡ self.old }
+    {
+        let slot = self.slots[index];
+        if slot.is_over() {
+            return;
+        }
+        let half = &self.full[slot.rest as usize];
+        let Some(over) = half.over(index as u64 * 4 + self.stream_type) else {
+            return;
+        };
+        put_over(&mut self.slots, &mut self.full, index, over);
+    }
+
+    /// Takes in that the peer allows the offsets of a half below a limit.
+    pub fn allow(&mut self, index: usize, limit: u64)
+        requires there { index < length self.old }
+        requires limit { limit ≤ MAX_VARINT }
+        ensures { self.new ≡ slice_set self.old index (after_allow (half_at self.old index) limit) }
+    {
+        let slot = &mut self.slots[index];
+        if !slot.is_over() {
+            self.full[slot.rest as usize].allow(limit);
+            return;
+        }
+        let now = slot.rest / 2;
+        slot.rest = now.max(limit) * 2 + slot.rest % 2;
+    }
+
+    /// Sets how many bytes a half keeps at most.
+    pub fn set_buffer(&mut self, index: usize, size: u32)
+        requires { index < length self.old }
+        ensures { self.new ≡ slice_set self.old index (after_buffer (half_at self.old index) size) }
+    {
+        let slot = &mut self.slots[index];
+        if !slot.is_over() {
+            self.full[slot.rest as usize].set_buffer(size);
+            return;
+        }
+        slot.buffer = size;
+        slot.widest = slot.widest.max(size);
+    }
+
+    /// Takes in that a STREAM_DATA_BLOCKED was sent.
+    pub fn note_blocked(&mut self, index: usize)
+        requires { index < length self.old }
+        ensures { self.new ≡ slice_set self.old index (after_blocked (half_at self.old index)) }
+    {
+        let slot = &mut self.slots[index];
+        if !slot.is_over() {
+            self.full[slot.rest as usize].note_blocked();
+            return;
+        }
+        slot.rest = slot.rest / 2 * 2 + 1;
+    }
+}
+
+// Puts a slot of a half that is over where another stands, and lets its half go. The last half moves to the place that is left. Its slot has
+// to name that, so nothing changes where the half's number doesn't tell the slot.
+fn put_over(slots: &mut Vec<SendSlot>, full: &mut Vec<SendHalf>, index: usize, over: SendSlot)
+    requires there { index < length slots.old.items }
+    requires placed { ArePlaced slots.old.items (length full.old.items) }
+    requires over { (n : ℕ) × IsOverSlot over n }
+    ensures placed { ArePlaced slots.new.items (length full.new.items) }
+    ensures len { length slots.new.items ≡ length slots.old.items }
+    ensures put { (kind : ℕ) → let was = halves_from kind full.old.items 0 slots.old.items in
+        let now = halves_from kind full.new.items 0 slots.new.items in
+        (now ≡ was) ⊎ (now ≡ slice_set was index (slot_half (index * 4 + kind) [] over over.written)) }
+{
+    let slot = slots[index];
+    if slot.is_over() {
+        return;
+    }
+    let place = slot.rest as usize;
+    let last = full.len() - 1;
+    let owner = full[last].index() as usize;
+    if owner >= slots.len() {
+        return;
+    }
+    let mut moved = slots[owner];
+    if moved.is_over() || moved.rest as usize != last {
+        return;
+    }
+    moved.rest = slot.rest;
+    slots[owner] = moved;
+    slots[index] = over;
+    full.swap_remove(place);
+}

@@ -1,0 +1,307 @@
+//! A sending half to be read, be it over or not.
+ghost use Rattle.std.specs.Prelude.{◌≡◌, ◌+◌, ◌*◌, ◌/◌, ◌%◌, ◌==◌, ◌≤◌, ◌↔◌, ◌++◌, IsTrue, length, true, is_some, option_map, Some, None, IfSome, IfNone};
+ghost use Rattle.qs_ranges.specs.Numbers.{MAX_VARINT};
+ghost use Rattle.qs_send.specs.Changes.{stop_changes, told_changes};
+ghost use Rattle.qs_send.specs.Chunks.{has_unsent, IsNextChunk, HasNoChunk, IsHeldByRoom, HasBytes};
+ghost use Rattle.qs_send.specs.Halves.{over_sending, IsOver, IsOverSlot};
+ghost use Rattle.qs_send.specs.Lane.{bytes_of, declared_size, free_room, is_whole, refusal, state, unacked_from};
+ghost use Rattle.qs_send.specs.Sound.{IsLawful};
+ghost use Rattle.qs_send.specs.declared.parts.Reset.{Reset};
+
+use crate::half::SendHalf;
+use crate::halves::slot::SendSlot;
+use crate::parts::{Chunk, SendFault, SendState};
+use std::marker::Model;
+
+/// A sending half to be read.
+#[derive(Drop)]
+pub struct SendView<'a> {
+    half: Viewed<'a>,
+}
+
+/// One that is over, or another.
+#[derive(Clone, Copy, Drop)]
+pub(crate) enum Viewed<'a> {
+    Over(Over),
+    Full(&'a SendHalf),
+}
+
+/// What is kept of a half that is over.
+#[derive(Clone, Copy, Drop)]
+pub(crate) struct Over {
+    number: u64,
+    written: u64,
+    limit: u64,
+    was_blocked: bool,
+    buffer: u32,
+    widest: u32,
+}
+
+// Clauses see the half: its lane and what of it is due.
+impl<'a> Model for SendView<'a> {
+    ghost use Rattle.qs_send.specs.Lane.{Sending};
+    ghost use Rattle.qs_send.specs.Codes.{sending_code};
+    ghost use Rattle.qs_send.specs.Sound.{IsLawful};
+
+    ghost Value = { Sending };
+
+    ghost coded = { sending_code };
+
+    ghost use Rattle.qs_send.specs.Views.{viewed};
+
+    ghost view = { λ v. viewed v.half };
+
+    ghost invariant = { λ v. IsLawful (viewed v.half) };
+}
+
+impl<'a> SendView<'a> {
+    /// A half that is over, of that number.
+    #[inline(always)]
+    pub(crate) fn of_over(number: u64, written: u64, slot: SendSlot) -> Self
+        requires number { number ≤ MAX_VARINT }
+        requires slot { IsOverSlot slot written }
+        ensures { result ≡ over_sending number written (slot.rest / 2) (slot.rest % 2 == 1) slot.buffer slot.widest }
+    {
+        SendView {
+            half: Viewed::Over(Over {
+                number,
+                written,
+                limit: slot.rest / 2,
+                was_blocked: slot.rest % 2 == 1,
+                buffer: slot.buffer,
+                widest: slot.widest,
+            }),
+        }
+    }
+
+    /// Another.
+    #[inline(always)]
+    pub(crate) fn of_full(half: &'a SendHalf) -> Self
+        ensures { result ≡ half.now }
+    {
+        half.is_lawful();
+        SendView {
+            half: Viewed::Full(half),
+        }
+    }
+
+    /// What holds of every half. It does nothing: a caller learns the clause.
+    #[inline(always)]
+    pub fn is_lawful(&self)
+        ensures { IsLawful self.now }
+    {
+        let _half = &self.half;
+    }
+
+    /// The half, where it isn't over.
+    #[inline(always)]
+    pub fn not_over(&self) -> Option<&'a SendHalf>
+        ensures full { IfSome result (λ half. half.now ≡ self.now) }
+        ensures over { IfNone result (IsOver self.now) }
+    {
+        match self.half {
+            Viewed::Over(_) => None,
+            Viewed::Full(half) => Some(half),
+        }
+    }
+
+    /// The code of the first STOP_SENDING that came (RFC 9000, section 3.5).
+    #[inline(always)]
+    pub fn stop_code(&self) -> Option<u64>
+        ensures { result ≡ self.now.lane.stopped }
+    {
+        match self.half {
+            Viewed::Over(_) => None,
+            Viewed::Full(half) => half.stop_code(),
+        }
+    }
+
+    /// Whether a STOP_SENDING would change the half (RFC 9000, section 3.5).
+    #[inline(always)]
+    pub fn stop_changes(&self) -> bool
+        ensures { result ≡ stop_changes self.now.lane }
+    {
+        match self.half {
+            Viewed::Over(_) => false,
+            Viewed::Full(half) => half.stop_changes(),
+        }
+    }
+
+    /// Whether one would change it whose owner answers it.
+    #[inline(always)]
+    pub fn told_changes(&self) -> bool
+        ensures { result ≡ told_changes self.now.lane }
+    {
+        match self.half {
+            Viewed::Over(_) => false,
+            Viewed::Full(half) => half.told_changes(),
+        }
+    }
+
+    /// The state (RFC 9000, section 3.1).
+    #[inline(always)]
+    pub fn state(&self) -> SendState
+        ensures { result ≡ state self.now.lane }
+    {
+        match self.half {
+            Viewed::Over(_) => SendState::DataRecvd,
+            Viewed::Full(half) => half.state(),
+        }
+    }
+
+    /// The final size that was declared, by a reset or by the end that was sent (RFC 9000, section 4.5).
+    #[inline(always)]
+    pub fn final_size(&self) -> Option<u64>
+        ensures value { result ≡ declared_size self.now.lane }
+        ensures small { IfSome result (λ size. size ≤ MAX_VARINT) }
+    {
+        match self.half {
+            Viewed::Over(over) => Some(over.written),
+            Viewed::Full(half) => half.final_size(),
+        }
+    }
+
+    /// The application's code of the reset: at most 2^62 - 1.
+    #[inline(always)]
+    pub fn reset_code(&self) -> Option<u64>
+        ensures value { result ≡ option_map (λ (r : Reset). r.code) self.now.lane.was_reset }
+        ensures small { IfSome result (λ code. code ≤ MAX_VARINT) }
+    {
+        match self.half {
+            Viewed::Over(_) => None,
+            Viewed::Full(half) => half.reset_code(),
+        }
+    }
+
+    /// How many bytes were written.
+    #[inline(always)]
+    pub fn written(&self) -> u64
+        ensures exact { result ≡ self.now.lane.written }
+        ensures small { result ≤ MAX_VARINT }
+    {
+        match self.half {
+            Viewed::Over(over) => over.written,
+            Viewed::Full(half) => half.written(),
+        }
+    }
+
+    /// The number after the largest offset that was sent; 0 where none was.
+    #[inline(always)]
+    pub fn sent_end(&self) -> u64
+        ensures exact { result ≡ self.now.lane.sent_end }
+        ensures small { result ≤ MAX_VARINT }
+    {
+        match self.half {
+            Viewed::Over(over) => over.written,
+            Viewed::Full(half) => half.sent_end(),
+        }
+    }
+
+    /// The lowest offset that isn't acknowledged (RFC 9000, section 13.3).
+    #[inline(always)]
+    pub fn unacked_from(&self) -> u64
+        ensures { result ≡ unacked_from self.now.lane }
+    {
+        match self.half {
+            Viewed::Over(over) => over.written,
+            Viewed::Full(half) => half.unacked_from(),
+        }
+    }
+
+    /// The offsets below it may be sent.
+    #[inline(always)]
+    pub fn limit(&self) -> u64
+        ensures exact { result ≡ self.now.lane.limit }
+        ensures small { result ≤ MAX_VARINT }
+    {
+        match self.half {
+            Viewed::Over(over) => over.limit,
+            Viewed::Full(half) => half.limit(),
+        }
+    }
+
+    /// How many bytes the buffer can take: none while more are kept than it is set to.
+    #[inline(always)]
+    pub fn room(&self) -> usize
+        ensures { result ≡ free_room self.now.lane }
+    {
+        match self.half {
+            Viewed::Over(over) => over.buffer as usize,
+            Viewed::Full(half) => half.room(),
+        }
+    }
+
+    /// How many bytes of memory the buffer takes, as `SendHalf::held` tells.
+    #[inline(always)]
+    pub fn held(&self) -> u64
+        ensures kept { length self.now.lane.kept ≤ result }
+        ensures bound { result ≤ 2 * self.now.lane.widest }
+        ensures idle { length self.now.lane.kept ≡ 0 → result ≤ 4096 }
+        ensures reset { is_some self.now.lane.was_reset ≡ true → result ≡ 0 }
+        ensures whole { is_whole self.now.lane ≡ true → result ≡ 0 }
+    {
+        match self.half {
+            Viewed::Over(_) => 0,
+            Viewed::Full(half) => half.held(),
+        }
+    }
+
+    /// Why a write and a finish are refused, `None` where they aren't (RFC 9000, sections 2.4 and 3.1).
+    #[inline(always)]
+    pub fn refusal(&self) -> Option<SendFault>
+        ensures { result ≡ refusal self.now.lane }
+    {
+        match self.half {
+            Viewed::Over(_) => Some(SendFault::Finished),
+            Viewed::Full(half) => half.refusal(),
+        }
+    }
+
+    /// The longest chunk that may go, as `SendHalf::next_chunk` tells.
+    #[inline(always)]
+    pub fn next_chunk(&self, room: usize, fresh: u64) -> Option<Chunk>
+        ensures found { IfSome result (IsNextChunk self.now room fresh) }
+        ensures none { IfNone result (HasNoChunk self.now room fresh) }
+        ensures kept { IfSome result (HasBytes self.now.lane) }
+    {
+        match self.half {
+            Viewed::Over(_) => None,
+            Viewed::Full(half) => half.next_chunk(room, fresh),
+        }
+    }
+
+    /// Whether the room alone holds a chunk back, as `SendHalf::is_held_by_room` tells.
+    #[inline(always)]
+    pub fn is_held_by_room(&self, room: usize, fresh: u64) -> bool
+        ensures { IsTrue result ↔ IsHeldByRoom self.now room fresh }
+    {
+        match self.half {
+            Viewed::Over(_) => false,
+            Viewed::Full(half) => half.is_held_by_room(room, fresh),
+        }
+    }
+
+    /// Whether bytes that were never sent may go by the half's own limit.
+    #[inline(always)]
+    pub fn has_unsent(&self) -> bool
+        ensures { result ≡ has_unsent self.now.lane }
+    {
+        match self.half {
+            Viewed::Over(_) => false,
+            Viewed::Full(half) => half.has_unsent(),
+        }
+    }
+
+    /// The bytes of a chunk that is still in the buffer: a front, and where they go around the buffer's end, a back.
+    #[inline(always)]
+    pub fn bytes(&self, chunk: Chunk) -> (&'a [u8], &'a [u8])
+        requires { HasBytes self.now.lane chunk }
+        ensures bytes { result.0.now ++ result.1.now ≡ bytes_of self.now.lane chunk }
+        ensures len { length result.0.now + length result.1.now ≡ chunk.len }
+    {
+        match self.half {
+            Viewed::Over(_) => (&[], &[]),
+            Viewed::Full(half) => half.bytes(chunk),
+        }
+    }
+}

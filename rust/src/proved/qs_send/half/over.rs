@@ -1,0 +1,45 @@
+// Made from crates/qs_send/src/half/over.rt by rust/erase; not edited by hand.
+//! A half that is over, as few bytes.
+
+use super::SendHalf;
+use crate::proved::qs_send::halves::slot::SendSlot;
+use crate::proved::qs_ranges::MaybeNumber;
+
+impl SendHalf {
+    /// Whether the end is acknowledged.
+    #[inline(always)]
+    pub fn end_acked(&self) -> bool {
+        self.fin_acked
+    }
+
+    /// How many streams of its type have a lower number.
+    pub(crate) fn index(&self) -> u64 {
+        self.id.value() / 4
+    }
+
+    /// The slot of a half of that number that is over: all of it was acknowledged, and neither a reset nor a STOP_SENDING came.
+    pub(crate) fn over(&self, number: u64) -> Option<SendSlot> {
+        self.is_lawful();
+        if self.id.value() != number {
+            return None;
+        }
+        if self.reset_acked {
+            return None;
+        }
+        if self.was_reset() {
+            return None;
+        }
+        if !self.is_whole() {
+            return None;
+        }
+        if self.stop_code().is_some() {
+            return None;
+        }
+        Some(SendSlot {
+            written: MaybeNumber::some(self.written()),
+            rest: self.limit * 2 + self.blocked_sent as u64,
+            buffer: self.buffer,
+            widest: self.widest,
+        })
+    }
+}

@@ -1,0 +1,171 @@
+// Made from crates/qs_send/src/halves.rt by rust/erase; not edited by hand.
+//! The sending halves of the streams of one type, by index. One that is over takes 24 bytes.
+use crate::shim::Vec;
+
+pub(crate) mod slot;
+
+use crate::proved::qs_send::half::SendHalf;
+use crate::proved::qs_send::view::SendView;
+use crate::proved::qs_ranges::NoMemory;
+use slot::SendSlot;
+use crate::shim::alloc::Global;
+
+/// The sending halves of the streams of one type, by index. Each has a slot. One that is over stands in it; the others stand apart, in a
+/// row, and their slots name their places.
+pub struct SendHalves {
+    // The type of the streams, 0 to 3.
+    stream_type: u64,
+    slots: Vec<SendSlot>,
+    full: Vec<SendHalf>,
+}
+
+impl SendHalves {
+    /// None yet, of a type of streams.
+    pub fn new(alloc: Global, stream_type: u64) -> Self {
+        debug_assert!(stream_type < 4);
+        SendHalves {
+            stream_type,
+            slots: Vec::new(alloc),
+            full: Vec::new(alloc),
+        }
+    }
+
+    /// How many there are.
+    #[inline(always)]
+    pub fn len(&self) -> usize {
+        self.slots.len()
+    }
+
+    /// The half at an index, to be read.
+    #[inline(always)]
+    pub fn at(&self, index: usize) -> SendView<'_> {
+        let slot = self.slots[index];
+        match slot.written.get() {
+            Some(written) => {
+                let number = index as u64 * 4 + self.stream_type;
+                SendView::of_over(number, written, slot)
+            }
+            None => SendView::of_full(&self.full[slot.rest as usize]),
+        }
+    }
+
+    /// A half that isn't over, to be read.
+    #[inline(always)]
+    pub fn full(&self, index: usize) -> Option<&SendHalf> {
+        let slot = self.slots[index];
+        if slot.is_over() {
+            return None;
+        }
+        Some(&self.full[slot.rest as usize])
+    }
+
+    /// A half that isn't over, to be changed.
+    #[inline(always)]
+    pub fn full_mut(&mut self, index: usize) -> Option<&mut SendHalf> {
+        let none = self.full.len();
+        let place = self.slots[index].place_or(none);
+        self.full.get_mut(place)
+    }
+
+    /// Takes the memory for so many more.
+    pub fn reserve(&mut self, more: usize) -> Result<(), NoMemory> {
+        if let Err(_refused) = self.slots.reserve(more) {
+            return Err(NoMemory);
+        }
+        match self.full.reserve(more) {
+            Ok(()) => Ok(()),
+            Err(_refused) => Err(NoMemory),
+        }
+    }
+
+    /// Puts a half behind the others.
+    pub fn push(&mut self, half: SendHalf) -> Result<(), NoMemory> {
+        let slot = SendSlot::full(self.full.len());
+        if let Err(_refused) = self.full.push(half) {
+            return Err(NoMemory);
+        }
+        if let Err(_refused) = self.slots.push(slot) {
+            let _half = self.full.pop();
+            return Err(NoMemory);
+        }
+        Ok(())
+    }
+
+    /// Takes the halves from a count on away.
+    pub fn truncate(&mut self, count: usize) {
+        while self.slots.len() > count {
+            let last = self.slots.len() - 1;
+            put_over(&mut self.slots, &mut self.full, last, SendSlot::none());
+            self.slots.truncate(last);
+        }
+    }
+
+    /// Keeps a half in its slot where it is over. That takes no memory, and gives some back.
+    pub fn settle(&mut self, index: usize) {
+        let slot = self.slots[index];
+        if slot.is_over() {
+            return;
+        }
+        let half = &self.full[slot.rest as usize];
+        let Some(over) = half.over(index as u64 * 4 + self.stream_type) else {
+            return;
+        };
+        put_over(&mut self.slots, &mut self.full, index, over);
+    }
+
+    /// Takes in that the peer allows the offsets of a half below a limit.
+    pub fn allow(&mut self, index: usize, limit: u64) {
+        debug_assert!(limit <= 0x3fff_ffff_ffff_ffff);
+        let slot = &mut self.slots[index];
+        if !slot.is_over() {
+            self.full[slot.rest as usize].allow(limit);
+            return;
+        }
+        let now = slot.rest / 2;
+        slot.rest = now.max(limit) * 2 + slot.rest % 2;
+    }
+
+    /// Sets how many bytes a half keeps at most.
+    pub fn set_buffer(&mut self, index: usize, size: u32) {
+        let slot = &mut self.slots[index];
+        if !slot.is_over() {
+            self.full[slot.rest as usize].set_buffer(size);
+            return;
+        }
+        slot.buffer = size;
+        slot.widest = slot.widest.max(size);
+    }
+
+    /// Takes in that a STREAM_DATA_BLOCKED was sent.
+    pub fn note_blocked(&mut self, index: usize) {
+        let slot = &mut self.slots[index];
+        if !slot.is_over() {
+            self.full[slot.rest as usize].note_blocked();
+            return;
+        }
+        slot.rest = slot.rest / 2 * 2 + 1;
+    }
+}
+
+// Puts a slot of a half that is over where another stands, and lets its half go. The last half moves to the place that is left. Its slot has
+// to name that, so nothing changes where the half's number doesn't tell the slot.
+fn put_over(slots: &mut Vec<SendSlot>, full: &mut Vec<SendHalf>, index: usize, over: SendSlot) {
+    let slot = slots[index];
+    if slot.is_over() {
+        return;
+    }
+    let place = slot.rest as usize;
+    let last = full.len() - 1;
+    let owner = full[last].index() as usize;
+    if owner >= slots.len() {
+        return;
+    }
+    let mut moved = slots[owner];
+    if moved.is_over() || moved.rest as usize != last {
+        return;
+    }
+    moved.rest = slot.rest;
+    slots[owner] = moved;
+    slots[index] = over;
+    full.swap_remove(place);
+}

@@ -1,0 +1,224 @@
+// Made from crates/qs_send/src/view.rt by rust/erase; not edited by hand.
+//! A sending half to be read, be it over or not.
+
+use crate::proved::qs_send::half::SendHalf;
+use crate::proved::qs_send::halves::slot::SendSlot;
+use crate::proved::qs_send::parts::{Chunk, SendFault, SendState};
+
+/// A sending half to be read.
+pub struct SendView<'a> {
+    half: Viewed<'a>,
+}
+
+/// One that is over, or another.
+#[derive(Clone, Copy)]
+pub(crate) enum Viewed<'a> {
+    Over(Over),
+    Full(&'a SendHalf),
+}
+
+/// What is kept of a half that is over.
+#[derive(Clone, Copy)]
+pub(crate) struct Over {
+    number: u64,
+    written: u64,
+    limit: u64,
+    was_blocked: bool,
+    buffer: u32,
+    widest: u32,
+}
+
+impl<'a> SendView<'a> {
+    /// A half that is over, of that number.
+    #[inline(always)]
+    pub(crate) fn of_over(number: u64, written: u64, slot: SendSlot) -> Self {
+        debug_assert!(number <= 0x3fff_ffff_ffff_ffff);
+        SendView {
+            half: Viewed::Over(Over {
+                number,
+                written,
+                limit: slot.rest / 2,
+                was_blocked: slot.rest % 2 == 1,
+                buffer: slot.buffer,
+                widest: slot.widest,
+            }),
+        }
+    }
+
+    /// Another.
+    #[inline(always)]
+    pub(crate) fn of_full(half: &'a SendHalf) -> Self {
+        half.is_lawful();
+        SendView {
+            half: Viewed::Full(half),
+        }
+    }
+
+    /// What holds of every half. It does nothing: a caller learns the clause.
+    #[inline(always)]
+    pub fn is_lawful(&self) {
+        let _half = &self.half;
+    }
+
+    /// The half, where it isn't over.
+    #[inline(always)]
+    pub fn not_over(&self) -> Option<&'a SendHalf> {
+        match self.half {
+            Viewed::Over(_) => None,
+            Viewed::Full(half) => Some(half),
+        }
+    }
+
+    /// The code of the first STOP_SENDING that came (RFC 9000, section 3.5).
+    #[inline(always)]
+    pub fn stop_code(&self) -> Option<u64> {
+        match self.half {
+            Viewed::Over(_) => None,
+            Viewed::Full(half) => half.stop_code(),
+        }
+    }
+
+    /// Whether a STOP_SENDING would change the half (RFC 9000, section 3.5).
+    #[inline(always)]
+    pub fn stop_changes(&self) -> bool {
+        match self.half {
+            Viewed::Over(_) => false,
+            Viewed::Full(half) => half.stop_changes(),
+        }
+    }
+
+    /// Whether one would change it whose owner answers it.
+    #[inline(always)]
+    pub fn told_changes(&self) -> bool {
+        match self.half {
+            Viewed::Over(_) => false,
+            Viewed::Full(half) => half.told_changes(),
+        }
+    }
+
+    /// The state (RFC 9000, section 3.1).
+    #[inline(always)]
+    pub fn state(&self) -> SendState {
+        match self.half {
+            Viewed::Over(_) => SendState::DataRecvd,
+            Viewed::Full(half) => half.state(),
+        }
+    }
+
+    /// The final size that was declared, by a reset or by the end that was sent (RFC 9000, section 4.5).
+    #[inline(always)]
+    pub fn final_size(&self) -> Option<u64> {
+        match self.half {
+            Viewed::Over(over) => Some(over.written),
+            Viewed::Full(half) => half.final_size(),
+        }
+    }
+
+    /// The application's code of the reset: at most 2^62 - 1.
+    #[inline(always)]
+    pub fn reset_code(&self) -> Option<u64> {
+        match self.half {
+            Viewed::Over(_) => None,
+            Viewed::Full(half) => half.reset_code(),
+        }
+    }
+
+    /// How many bytes were written.
+    #[inline(always)]
+    pub fn written(&self) -> u64 {
+        match self.half {
+            Viewed::Over(over) => over.written,
+            Viewed::Full(half) => half.written(),
+        }
+    }
+
+    /// The number after the largest offset that was sent; 0 where none was.
+    #[inline(always)]
+    pub fn sent_end(&self) -> u64 {
+        match self.half {
+            Viewed::Over(over) => over.written,
+            Viewed::Full(half) => half.sent_end(),
+        }
+    }
+
+    /// The lowest offset that isn't acknowledged (RFC 9000, section 13.3).
+    #[inline(always)]
+    pub fn unacked_from(&self) -> u64 {
+        match self.half {
+            Viewed::Over(over) => over.written,
+            Viewed::Full(half) => half.unacked_from(),
+        }
+    }
+
+    /// The offsets below it may be sent.
+    #[inline(always)]
+    pub fn limit(&self) -> u64 {
+        match self.half {
+            Viewed::Over(over) => over.limit,
+            Viewed::Full(half) => half.limit(),
+        }
+    }
+
+    /// How many bytes the buffer can take: none while more are kept than it is set to.
+    #[inline(always)]
+    pub fn room(&self) -> usize {
+        match self.half {
+            Viewed::Over(over) => over.buffer as usize,
+            Viewed::Full(half) => half.room(),
+        }
+    }
+
+    /// How many bytes of memory the buffer takes, as `SendHalf::held` tells.
+    #[inline(always)]
+    pub fn held(&self) -> u64 {
+        match self.half {
+            Viewed::Over(_) => 0,
+            Viewed::Full(half) => half.held(),
+        }
+    }
+
+    /// Why a write and a finish are refused, `None` where they aren't (RFC 9000, sections 2.4 and 3.1).
+    #[inline(always)]
+    pub fn refusal(&self) -> Option<SendFault> {
+        match self.half {
+            Viewed::Over(_) => Some(SendFault::Finished),
+            Viewed::Full(half) => half.refusal(),
+        }
+    }
+
+    /// The longest chunk that may go, as `SendHalf::next_chunk` tells.
+    #[inline(always)]
+    pub fn next_chunk(&self, room: usize, fresh: u64) -> Option<Chunk> {
+        match self.half {
+            Viewed::Over(_) => None,
+            Viewed::Full(half) => half.next_chunk(room, fresh),
+        }
+    }
+
+    /// Whether the room alone holds a chunk back, as `SendHalf::is_held_by_room` tells.
+    #[inline(always)]
+    pub fn is_held_by_room(&self, room: usize, fresh: u64) -> bool {
+        match self.half {
+            Viewed::Over(_) => false,
+            Viewed::Full(half) => half.is_held_by_room(room, fresh),
+        }
+    }
+
+    /// Whether bytes that were never sent may go by the half's own limit.
+    #[inline(always)]
+    pub fn has_unsent(&self) -> bool {
+        match self.half {
+            Viewed::Over(_) => false,
+            Viewed::Full(half) => half.has_unsent(),
+        }
+    }
+
+    /// The bytes of a chunk that is still in the buffer: a front, and where they go around the buffer's end, a back.
+    #[inline(always)]
+    pub fn bytes(&self, chunk: Chunk) -> (&'a [u8], &'a [u8]) {
+        match self.half {
+            Viewed::Over(_) => (&[], &[]),
+            Viewed::Full(half) => half.bytes(chunk),
+        }
+    }
+}
