@@ -1,5 +1,6 @@
-//! Two ends of quinn on a clock that stands still unless they wait: transfers, short streams, and random ones over a link that drops
-//! datagrams. The same file is played over quinn's streams and over ours. A line 'clock NAME: ..' tells of each.
+//! Two ends of quinn on a clock that stands still unless they wait: transfers, by priority and beside unreliable datagrams, too, short
+//! streams, and random ones over a link that drops datagrams. The same file is played over quinn's streams and over ours. A line
+//! 'clock NAME: SECONDS s..' tells of each.
 use std::collections::{HashMap, HashSet, VecDeque};
 
 use rand::{rngs::StdRng, Rng, SeedableRng};
@@ -15,9 +16,13 @@ struct Half {
     to_open: u64,
     open: bool,
     size: fn(StreamId) -> usize,
+    priority: Option<fn(StreamId) -> i32>,
     writing: HashMap<StreamId, usize>,
     ready: VecDeque<StreamId>,
     came: HashMap<StreamId, u64>,
+    // When each stream was read to its end, and what is the time.
+    ends: Vec<(StreamId, Duration)>,
+    now: Duration,
     sent_done: u64,
     read_done: u64,
     bytes: u64,
@@ -43,33 +48,35 @@ fn is_stopped(id: StreamId) -> bool {
 }
 
 impl Half {
-    fn new(
-        ch: ConnectionHandle,
-        is_client: bool,
-        to_open: u64,
-        size: fn(StreamId) -> usize,
-    ) -> Self {
+    fn new(ch: ConnectionHandle, is_client: bool, play: &Play) -> Self {
         let (writing, ready, came) = Default::default();
         Half {
             ch,
             is_client,
-            to_open,
+            to_open: play.streams[usize::from(!is_client)],
             open: true,
-            size,
+            size: play.size,
+            priority: play.priority,
             writing,
             ready,
             came,
+            ends: Vec::new(),
+            now: Duration::ZERO,
             sent_done: 0,
             read_done: 0,
             bytes: 0,
         }
     }
 
-    fn turn(&mut self, pair: &mut Pair, breaks: bool) {
-        let conn = match self.is_client {
+    fn conn<'a>(&self, pair: &'a mut Pair) -> &'a mut Connection {
+        match self.is_client {
             true => pair.client_conn_mut(self.ch),
             false => pair.server_conn_mut(self.ch),
-        };
+        }
+    }
+
+    fn turn(&mut self, pair: &mut Pair, breaks: bool) {
+        let conn = self.conn(pair);
         while let Some(event) = conn.poll() {
             match event {
                 Event::Stream(StreamEvent::Opened { dir }) => {
@@ -93,18 +100,25 @@ impl Half {
                 _ => {}
             }
         }
+        self.open_more(conn);
+        while let Some(id) = self.ready.pop_front() {
+            self.write(conn, id, breaks);
+        }
+    }
+
+    fn open_more(&mut self, conn: &mut Connection) {
         while self.open && self.to_open > 0 {
             match conn.streams().open(Dir::Uni) {
                 Some(id) => {
                     self.to_open -= 1;
+                    if let Some(priority) = self.priority {
+                        conn.send_stream(id).set_priority(priority(id)).unwrap();
+                    }
                     self.writing.insert(id, 0);
                     self.ready.push_back(id);
                 }
                 None => self.open = false,
             }
-        }
-        while let Some(id) = self.ready.pop_front() {
-            self.write(conn, id, breaks);
         }
     }
 
@@ -169,11 +183,17 @@ impl Half {
         };
         let _ = chunks.finalize();
         if over {
-            // (one that is over already isn't there any more)
-            let _ = breaks && is_stopped(id) && conn.recv_stream(id).stop(CODE.into()).is_ok();
-            self.came.remove(&id);
-            self.read_done += 1;
+            self.leave(conn, id, breaks);
         }
+    }
+
+    // All of the stream was read, or as much as is to be.
+    fn leave(&mut self, conn: &mut Connection, id: StreamId, breaks: bool) {
+        // (one that is over already isn't there any more)
+        let _ = breaks && is_stopped(id) && conn.recv_stream(id).stop(CODE.into()).is_ok();
+        self.came.remove(&id);
+        self.ends.push((id, self.now));
+        self.read_done += 1;
     }
 }
 
@@ -181,6 +201,8 @@ struct Play {
     name: &'static str,
     streams: [u64; 2],
     size: fn(StreamId) -> usize,
+    // A stream of a higher one goes first.
+    priority: Option<fn(StreamId) -> i32>,
     breaks: bool,
     // So many of 100 datagrams are dropped.
     drops: u32,
@@ -188,15 +210,14 @@ struct Play {
     seed: u64,
 }
 
-fn processor_ms() -> u64 {
-    let stat = std::fs::read_to_string("/proc/thread-self/stat").unwrap_or_default();
-    let fields: Vec<&str> = stat.rsplit(')').next().unwrap_or("").split(' ').collect();
-    let ticks =
-        |place: usize| fields.get(place).and_then(|field| field.parse::<u64>().ok()).unwrap_or(0);
-    10 * (ticks(12) + ticks(13))
+// How long this thread was on a processor.
+fn processor_ms() -> f64 {
+    let stat = std::fs::read_to_string("/proc/thread-self/schedstat").unwrap_or_default();
+    let ns = stat.split(' ').next().and_then(|field| field.parse::<f64>().ok());
+    ns.unwrap_or(0.0) / 1e6
 }
 
-fn play(play: Play, transport: impl Fn(&mut TransportConfig)) {
+fn begin(play: &Play, transport: impl Fn(&mut TransportConfig)) -> (Pair, [Half; 2]) {
     let mut config = TransportConfig::default();
     transport(&mut config);
     let config = Arc::new(config);
@@ -206,25 +227,31 @@ fn play(play: Play, transport: impl Fn(&mut TransportConfig)) {
     let mut client = client_config();
     client.transport_config(config);
     let (client_ch, server_ch) = pair.connect_with(client);
-    let mut halves = [
-        Half::new(client_ch, true, play.streams[0], play.size),
-        Half::new(server_ch, false, play.streams[1], play.size),
-    ];
+    (pair, [Half::new(client_ch, true, play), Half::new(server_ch, false, play)])
+}
+
+fn are_done(play: &Play, halves: &[Half; 2]) -> bool {
+    (0..2).all(|side| {
+        halves[side].sent_done == play.streams[side]
+            && halves[side].read_done == play.streams[1 - side]
+    })
+}
+
+fn drive(play: &Play, pair: &mut Pair, halves: &mut [Half; 2]) -> (u64, u64) {
     let mut random = StdRng::seed_from_u64(play.seed);
-    let (start, began) = (pair.time, processor_ms());
+    let (mut now, start) = (pair.time, pair.time);
     let (mut turns, mut dropped, mut idle) = (0u64, 0u64, 0);
     loop {
-        for half in &mut halves {
-            half.turn(&mut pair, play.breaks);
+        for half in halves.iter_mut() {
+            half.now = now - start;
+            half.turn(pair, play.breaks);
         }
-        if halves[0].read_done == play.streams[1]
-            && halves[1].read_done == play.streams[0]
-            && halves[0].sent_done == play.streams[0]
-            && halves[1].sent_done == play.streams[1]
-        {
-            break;
+        if are_done(play, halves) {
+            return (turns, dropped);
         }
-        let arrival = pair.time + pair.latency;
+        // (a step takes in what comes now, and then sets the clock)
+        now = pair.time;
+        let arrival = now + pair.latency;
         idle = if pair.step() { 0 } else { idle + 1 };
         let told = |half: &Half| {
             (half.to_open, half.sent_done, half.read_done, half.came.len(), half.writing.len())
@@ -241,8 +268,15 @@ fn play(play: Play, transport: impl Fn(&mut TransportConfig)) {
         }
         turns += 1;
     }
+}
+
+// Tells when the streams ended that the server read, in that order.
+fn play(play: Play, transport: impl Fn(&mut TransportConfig)) -> Vec<(StreamId, Duration)> {
+    let (mut pair, mut halves) = begin(&play, transport);
+    let (start, began) = (pair.time, processor_ms());
+    let (turns, dropped) = drive(&play, &mut pair, &mut halves);
     println!(
-        "clock {}: {:.3} s, {} streams, {} bytes, {} datagrams dropped, {} turns, {} ms of the processor",
+        "clock {}: {:.3} s, {} streams, {} bytes, {} datagrams dropped, {} turns, {:.1} ms of the processor",
         play.name,
         (pair.time - start).as_secs_f64(),
         play.streams[0] + play.streams[1],
@@ -251,6 +285,58 @@ fn play(play: Play, transport: impl Fn(&mut TransportConfig)) {
         turns,
         processor_ms() - began
     );
+    let [_, server] = halves;
+    server.ends
+}
+
+// One datagram is sent so often.
+const BEAT: Duration = Duration::from_millis(5);
+
+fn datagram(number: u32) -> Vec<u8> {
+    let rest = (4..500).map(|place| (number ^ place) as u8);
+    number.to_be_bytes().into_iter().chain(rest).collect()
+}
+
+/// The unreliable datagrams of one side: how many it sent, and how long each waited that came.
+#[derive(Default)]
+struct Beats {
+    sent: u32,
+    waits: Vec<Duration>,
+}
+
+impl Beats {
+    fn send(&mut self, conn: &mut Connection, now: Duration) {
+        while BEAT * self.sent <= now {
+            conn.datagrams().send(datagram(self.sent).into()).unwrap();
+            self.sent += 1;
+        }
+    }
+
+    // They come whole and in order, since the link drops none.
+    fn receive(&mut self, conn: &mut Connection, now: Duration) {
+        while let Some(bytes) = conn.datagrams().recv() {
+            let number = self.waits.len() as u32;
+            assert!(bytes == datagram(number), "datagram {}", number);
+            self.waits.push(now - BEAT * number);
+        }
+    }
+
+    fn are_there(&self) -> bool {
+        self.waits.len() as u32 == self.sent
+    }
+
+    fn tell(&self, name: &str) {
+        let (sum, most) = (self.waits.iter().sum::<Duration>(), self.waits.iter().max().unwrap());
+        let mean = sum / self.sent;
+        println!("clock {}, in the mean: {:.4} s, {} came", name, mean.as_secs_f64(), self.sent);
+        println!("clock {}, the slowest: {:.4} s", name, most.as_secs_f64());
+    }
+}
+
+// Sets the clock to where something happens, at the latest to that time.
+fn advance(pair: &mut Pair, latest: Option<Instant>) {
+    let times = [pair.client.next_wakeup(), pair.server.next_wakeup(), latest];
+    pair.time = pair.time.max(times.into_iter().flatten().min().expect("not stuck"));
 }
 
 fn size_of_1_mib(_: StreamId) -> usize {
@@ -261,6 +347,7 @@ const PLAIN: Play = Play {
     name: "10 streams of 1 MiB",
     streams: [10, 0],
     size: size_of_1_mib,
+    priority: None,
     breaks: false,
     drops: 0,
     latency: Duration::from_millis(50),
@@ -307,5 +394,52 @@ fn random_streams() {
             config.receive_window((window * 3).into());
             config.send_window(u64::from(window) * 2);
         });
+    }
+}
+
+#[test]
+fn bulk_beside_datagrams() {
+    let name = "32 MiB at 100 ms, beside datagrams both ways";
+    let play = Play { name, streams: [1, 0], size: |_| 32 << 20, ..PLAIN };
+    let (mut pair, mut halves) = begin(&play, |_| {});
+    let start = pair.time;
+    let mut beats = [Beats::default(), Beats::default()];
+    let mut took = None;
+    // Once the transfer is over none is sent any more, and those that are under way come.
+    while took.is_none() || !beats.iter().all(Beats::are_there) {
+        let now = pair.time - start;
+        for (half, beats) in halves.iter_mut().zip(&mut beats) {
+            half.turn(&mut pair, play.breaks);
+            if took.is_none() {
+                beats.send(half.conn(&mut pair), now);
+            }
+        }
+        if are_done(&play, &halves) {
+            took = took.or(Some(now));
+        }
+        pair.drive_client();
+        pair.drive_server();
+        beats[0].receive(halves[1].conn(&mut pair), now);
+        beats[1].receive(halves[0].conn(&mut pair), now);
+        advance(&mut pair, took.is_none().then(|| start + BEAT * beats[0].sent));
+    }
+    println!("clock {}: {:.3} s", name, took.unwrap().as_secs_f64());
+    beats[0].tell("datagrams to the server beside 32 MiB");
+    beats[1].tell("datagrams to the client beside 32 MiB");
+}
+
+// All differ, and don't follow the order in which the streams open.
+fn priority_of(id: StreamId) -> i32 {
+    (id.index() * 7 % 10) as i32 - 5
+}
+
+#[test]
+fn priorities() {
+    let name = "10 streams of 1 MiB by priority";
+    let mut ends = play(Play { name, priority: Some(priority_of), ..PLAIN }, |_| {});
+    ends.sort_by_key(|&(id, _)| -priority_of(id));
+    assert!(ends.windows(2).all(|two| two[0].1 < two[1].1), "{:?}", ends);
+    for (id, end) in ends {
+        println!("clock a stream of priority {}: {:.3} s", priority_of(id), end.as_secs_f64());
     }
 }

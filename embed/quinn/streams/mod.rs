@@ -1,7 +1,6 @@
 //! quinn-proto's streams over gotsavena: what quinn's applications call.
 //!
-//! `state` is what quinn's connection calls: frames in, packets out, acknowledged and lost. `gaps` keeps what the layer
-//! can't be asked for yet.
+//! `state` is what quinn's connection calls: frames in, packets out, acknowledged and lost.
 use bytes::Bytes;
 use gotsavena::{RecvReport, RecvState, SendState};
 use thiserror::Error;
@@ -9,7 +8,6 @@ use thiserror::Error;
 use super::spaces::Retransmits;
 use crate::{Dir, StreamId, VarInt};
 
-mod gaps;
 mod read;
 mod state;
 mod write;
@@ -33,7 +31,7 @@ impl Streams<'_> {
             return None;
         }
         let stream = end.open(theirs(dir)).ok()?;
-        self.state.gaps.send_streams += 1;
+        self.state.send_streams += 1;
         Some(quinns(stream))
     }
 
@@ -41,14 +39,14 @@ impl Streams<'_> {
     pub fn accept(&mut self, dir: Dir) -> Option<StreamId> {
         let stream = self.state.end.accept_of(theirs(dir))?;
         if dir == Dir::Bi {
-            self.state.gaps.send_streams += 1;
+            self.state.send_streams += 1;
         }
         Some(quinns(stream))
     }
 
     /// How many streams may have bytes that aren't acknowledged.
     pub fn send_streams(&self) -> usize {
-        self.state.gaps.send_streams
+        self.state.send_streams
     }
 }
 
@@ -74,9 +72,7 @@ impl RecvStream<'_> {
             return Err(UnknownStream(()));
         }
         let stopped = self.state.end.stop_and_forget(ours(self.id), error_code.into());
-        stopped.map_err(|_| UnknownStream(()))?;
-        self.state.gaps.thrown_away.insert(self.id);
-        Ok(())
+        stopped.map_err(|_| UnknownStream(()))
     }
 }
 
@@ -91,19 +87,19 @@ pub struct SendStream<'a> {
 impl SendStream<'_> {
     /// Writes the front of the bytes, and tells how many.
     pub fn write(&mut self, data: &[u8]) -> Result<usize, WriteError> {
-        Ok(self.write_all_of(&mut ByteSlice::from_slice(data))?.bytes)
+        self.open()?;
+        self.state.write(self.id, data)
     }
 
     /// The same of chunks: those that were written are taken out of the slice.
     pub fn write_chunks(&mut self, data: &mut [Bytes]) -> Result<Written, WriteError> {
-        self.write_all_of(&mut BytesArray::from_chunks(data))
+        self.open()?;
+        self.state.write_all_of(self.id, &mut BytesArray::from_chunks(data))
     }
 
-    fn write_all_of<B: BytesSource>(&mut self, source: &mut B) -> Result<Written, WriteError> {
-        if self.conn_state.is_closed() {
-            return Err(WriteError::Blocked);
-        }
-        self.state.write(self.id, source)
+    // (nothing is written once the connection closed)
+    fn open(&self) -> Result<(), WriteError> {
+        (!self.conn_state.is_closed()).then_some(()).ok_or(WriteError::Blocked)
     }
 
     /// The code with which the peer asked to stop, if it did.
@@ -125,9 +121,6 @@ impl SendStream<'_> {
 
     /// Breaks the stream off.
     pub fn reset(&mut self, error_code: VarInt) -> Result<(), UnknownStream> {
-        if self.state.let_go(self.id) {
-            return Ok(());
-        }
         let reset = self.state.end.reset(ours(self.id), error_code.into());
         reset.map_err(|_| UnknownStream(()))
     }
@@ -166,7 +159,7 @@ impl StreamsState {
             Some(
                 Some(RecvReport { state: RecvState::DataRead | RecvState::ResetRead, .. }) | None,
             ) => false,
-            Some(Some(_)) => !self.gaps.thrown_away.contains(&id),
+            Some(Some(half)) => half.stop_code.is_none(),
         }
     }
 }

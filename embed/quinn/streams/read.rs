@@ -1,14 +1,15 @@
 //! Reading a stream in chunks.
-use bytes::Bytes;
-use gotsavena::Read;
+use gotsavena::{Peek, Read};
 use thiserror::Error;
 
 use super::{code_of, ours, ShouldTransmit, StreamId, StreamsState};
 use crate::connection::assembler::Chunk;
 use crate::VarInt;
 
-// A chunk is no longer than this: the layer copies, and what lies ahead isn't known to have come.
-const MOST: u64 = 1 << 16;
+// A chunk is no longer than this, since it is copied.
+const MOST: usize = 1 << 16;
+// So many bytes are copied again with less work than a call more takes.
+const LAST: usize = 1 << 12;
 
 /// What there is to read of a stream.
 pub struct Chunks<'a> {
@@ -19,16 +20,20 @@ pub struct Chunks<'a> {
 impl Chunks<'_> {
     /// The bytes that are next, at most so many; `None` at the end.
     pub fn next(&mut self, max_length: usize) -> Result<Option<Chunk>, ReadError> {
-        let stream = ours(self.id);
-        let report = self.streams.end.report(stream).and_then(|report| report.recv);
-        let (offset, ahead) =
-            report.map_or((0, 0), |half| (half.read_count, half.highest - half.read_count));
-        let mut bytes = vec![0; max_length.min(ahead.min(MOST) as usize)];
-        match self.streams.end.read(stream, &mut bytes) {
-            Ok(Read::Bytes(count)) if count > 0 => {
-                bytes.truncate(count);
-                Ok(Some(Chunk { offset, bytes: Bytes::from(bytes) }))
-            }
+        let (stream, end) = (ours(self.id), &mut self.streams.end);
+        let mut bytes = match end.peek(stream) {
+            Ok(Peek::Bytes(front, _)) => front[..front.len().min(max_length).min(MOST)].to_vec(),
+            Ok(Peek::Wait) => return Err(ReadError::Blocked),
+            _ => Vec::new(),
+        };
+        let offset = end.taken(stream).unwrap_or(0);
+        // What was copied is taken, and the last of it read: to take bytes up to the end would tell the end, too.
+        let most = bytes.len().saturating_sub(LAST);
+        if most > 0 {
+            let _ = end.consume(stream, most);
+        }
+        match end.read(stream, &mut bytes[most..]) {
+            Ok(Read::Bytes(count)) if count > 0 => Ok(Some(Chunk { offset, bytes: bytes.into() })),
             Ok(Read::End) => Ok(None),
             Ok(Read::Reset(code)) => Err(ReadError::Reset(code_of(code))),
             Ok(Read::Bytes(_) | Read::Wait) | Err(_) => Err(ReadError::Blocked),

@@ -1,17 +1,16 @@
 //! What quinn's connection calls: frames in, packets out, acknowledged and lost.
-use std::collections::{BTreeSet, VecDeque};
+use std::collections::VecDeque;
 use std::ops::Range;
 use std::{iter, mem};
 
 use bytes::Bytes;
 use gotsavena::{
-    Closing, Endpoint, Event, Fill, Frame, PeerLimits, Role, SendState, Settings, Share, TakeFault,
-    Token, Tuning, MIN_FILL,
+    Closing, Endpoint, Event, Fill, Frame, PeerLimits, Role, Settings, Share, TakeFault, Token,
+    Tuning, MIN_FILL,
 };
 use rustc_hash::FxHashMap;
 use tinyvec::TinyVec;
 
-use super::gaps::Gaps;
 use super::{code_of, ours, quinns, theirs, Retransmits, ShouldTransmit, StreamEvent};
 use crate::coding::Codec;
 use crate::connection::spaces::ThinRetransmits;
@@ -32,18 +31,17 @@ pub struct StreamsState {
     pub(super) side: Side,
     pub(super) settings: Settings,
     pub(super) window: u64,
-    // How many bytes all streams may keep until they are acknowledged, and the streams that wait for that alone: the bound is
-    // quinn's, and not the layer's.
-    pub(super) send_window: u64,
-    pub(super) bounded: BTreeSet<StreamId>,
+    send_window: u64,
     pub(super) events: VecDeque<StreamEvent>,
     opened: [bool; 2],
     // Priorities that were set, and the stream from which on bytes go into the next packet.
     pub(super) priorities: FxHashMap<StreamId, i32>,
     turn: gotsavena::StreamId,
-    // What went into the packet that is being made.
+    // What went into the packet that is being made, and where its frames are written first.
     pub(super) carried: Carried,
-    pub(super) gaps: Gaps,
+    space: Vec<u8>,
+    // How many sending halves aren't over: no call counts them.
+    pub(super) send_streams: usize,
 }
 
 /// What a packet carries, kept beside its number: the tokens of its fills, and the stream of each STREAM frame.
@@ -58,11 +56,15 @@ pub fn told(setting: VarInt, most: u64) -> VarInt {
     VarInt(setting.0.min(most))
 }
 
-fn new_end(side: Side, settings: Settings) -> Endpoint {
+fn new_end(side: Side, settings: Settings, send_window: u64) -> Endpoint {
     let role = if side.is_client() { Role::Client } else { Role::Server };
+    let tuning = Tuning::default()
+        .within_credit(true)
+        .send_window(Some(send_window))
+        .answers_stops(true)
+        .credit_step(Share::Eighth)
+        .reads_when_closed(true);
     // The peer's limits come with the handshake, or are remembered.
-    let tuning =
-        Tuning::default().within_credit(true).credit_step(Share::Eighth).reads_when_closed(true);
     Endpoint::new_wide(role, settings, tuning, PeerLimits::default()).expect("in range")
 }
 
@@ -82,18 +84,18 @@ impl StreamsState {
             .bidi_streams(max_remote_bi.0.min(MOST_STREAMS), MOST_IN_ALL)
             .uni_streams(max_remote_uni.0.min(MOST_STREAMS), MOST_IN_ALL);
         Self {
-            end: new_end(side, settings),
+            end: new_end(side, settings, send_window),
             side,
             settings,
             window: settings.limits().max_data,
             send_window,
-            bounded: BTreeSet::new(),
             events: VecDeque::new(),
             opened: [false; 2],
             priorities: FxHashMap::default(),
             turn: ours(StreamId(0)),
             carried: Carried::default(),
-            gaps: Gaps::default(),
+            space: Vec::new(),
+            send_streams: 0,
         }
     }
 
@@ -129,11 +131,10 @@ impl StreamsState {
 
     /// Nothing that was sent before the handshake counts: a fresh end.
     pub fn zero_rtt_rejected(&mut self) {
-        self.end = new_end(self.side, self.settings);
+        self.end = new_end(self.side, self.settings, self.send_window);
         self.window = self.settings.limits().max_data;
         self.priorities.clear();
-        self.bounded.clear();
-        self.gaps = Gaps::default();
+        self.send_streams = 0;
     }
 
     /// A Retry: all that was sent goes out again.
@@ -169,16 +170,8 @@ impl StreamsState {
     }
 
     pub fn received_stop_sending(&mut self, id: StreamId, error_code: VarInt) {
-        let stream = ours(id);
-        let frame = Frame::StopSending { stream, code: error_code.into() };
-        use SendState::{DataRecvd, ResetRecvd, ResetSent};
-        let was_over = matches!(self.send_state(id), Some(DataRecvd | ResetSent | ResetRecvd));
-        let was_stopped = self.end.stopped_with(stream).is_some();
         // (quinn asked before whether the frame breaks a rule)
-        let _ = self.take(frame);
-        if !was_over && !was_stopped {
-            self.gaps.stopped.insert(id);
-        }
+        let _ = self.take(Frame::StopSending { stream: ours(id), code: error_code.into() });
     }
 
     pub fn received_max_data(&mut self, n: VarInt) {
@@ -244,8 +237,11 @@ impl StreamsState {
     ) {
         let begin = buf.len();
         self.fill(buf, max_size, &Fill::control());
-        for frame in frame::Iter::new(Bytes::copy_from_slice(&buf[begin..])) {
-            stats.record(&frame);
+        // (most packets have none)
+        if buf.len() > begin {
+            for frame in frame::Iter::new(Bytes::copy_from_slice(&buf[begin..])) {
+                stats.record(&frame);
+            }
         }
     }
 
@@ -276,17 +272,18 @@ impl StreamsState {
 
     // Fills what is wanted in behind the packet's frames so far.
     pub(super) fn fill(&mut self, buf: &mut Vec<u8>, max_size: usize, want: &Fill) {
-        let begin = buf.len();
-        if begin + MIN_FILL > max_size {
+        let room = max_size.saturating_sub(buf.len());
+        if room < MIN_FILL {
             return;
         }
-        buf.resize(max_size, 0);
-        let filled = self.end.fill(&mut buf[begin..], want).ok().flatten();
-        buf.truncate(begin + filled.map_or(0, |filled| filled.len));
-        if let Some(filled) = filled {
-            self.carried.add(filled.token, &buf[begin..]);
-            self.turn =
-                filled.last_stream.map_or(self.turn, |last| ours(StreamId(last.value() + 1)));
+        if self.space.len() < room {
+            self.space.resize(room, 0);
+        }
+        if let Ok(Some(filled)) = self.end.fill(&mut self.space[..room], want) {
+            let frames = &self.space[..filled.len];
+            buf.extend_from_slice(frames);
+            self.carried.add(filled.token, frames);
+            self.turn = filled.last_stream.map_or(self.turn, |id| ours(StreamId(id.value() + 1)));
         }
     }
 
@@ -305,11 +302,14 @@ impl StreamsState {
     // A sending half is over.
     pub(super) fn over(&mut self, id: StreamId) {
         self.priorities.remove(&id);
-        self.gaps.send_streams -= 1;
+        self.send_streams -= 1;
     }
 
     pub fn poll(&mut self) -> Option<StreamEvent> {
-        self.hear();
+        // (a search begins once all that was found is told)
+        if self.events.is_empty() {
+            self.hear();
+        }
         if let Some(dir) = Dir::iter().find(|&dir| mem::take(&mut self.opened[dir as usize])) {
             return Some(StreamEvent::Opened { dir });
         }
@@ -330,31 +330,22 @@ impl StreamsState {
                 Event::Readable(stream) if opened.binary_search(&stream).is_ok() => None,
                 Event::Readable(stream) => Some(StreamEvent::Readable { id: quinns(stream) }),
                 Event::Writable(stream) => Some(StreamEvent::Writable { id: quinns(stream) }),
-                Event::Stopped(stream, code) => self.stopped(quinns(stream), code_of(code)),
+                Event::Stopped(stream, code) => {
+                    let (id, error_code) = (quinns(stream), code_of(code));
+                    Some(StreamEvent::Stopped { id, error_code })
+                }
                 Event::Finished(stream) => {
                     self.over(quinns(stream));
                     Some(StreamEvent::Finished { id: quinns(stream) })
                 }
                 Event::ResetAcked(stream) => {
-                    self.reset_is_known(quinns(stream));
-                    None
-                }
-                Event::Ended(stream) => {
-                    self.gaps.thrown_away.remove(&quinns(stream));
+                    self.over(quinns(stream));
                     None
                 }
                 // (that another one may be opened is told as the peer says so, asked for or not)
                 _ => None,
             };
             self.events.extend(told);
-        }
-        if self.end.kept_sum() < self.send_window {
-            for id in mem::take(&mut self.bounded) {
-                match self.end.room(ours(id)) {
-                    0 => self.wait(id, 0),
-                    _ => self.events.push_back(StreamEvent::Writable { id }),
-                }
-            }
         }
     }
 

@@ -2,55 +2,47 @@
 use std::mem;
 
 use bytes::Bytes;
-use gotsavena::{SendReport, SendState};
+use gotsavena::{SendReport, SendState, UseFault};
 use thiserror::Error;
 
 use super::{code_of, ours, StreamId, StreamsState};
 use crate::VarInt;
 
 impl StreamsState {
-    /// Writes as much of the source as is allowed now.
-    pub(super) fn write<B: BytesSource>(
-        &mut self,
-        id: StreamId,
-        source: &mut B,
-    ) -> Result<Written, WriteError> {
+    /// Writes the front of the bytes, as many as is allowed now.
+    pub(super) fn write(&mut self, id: StreamId, bytes: &[u8]) -> Result<usize, WriteError> {
         if let Some(code) = self.stop_code(id) {
             return Err(WriteError::Stopped(code));
         }
-        let half = self.send_report(id).ok_or(WriteError::UnknownStream)?;
-        if half.final_size.is_some() || half.reset_code.is_some() {
-            return Err(WriteError::UnknownStream);
+        // (a write that is cut short is noted, and an event tells once there is room)
+        match self.end.write(ours(id), bytes) {
+            Ok(0) if !bytes.is_empty() => Err(WriteError::Blocked),
+            Ok(count) => Ok(count),
+            Err(UseFault::NoMemory) => panic!("no memory for what is written"),
+            Err(_) => Err(WriteError::UnknownStream),
         }
-        // (the end writes within the peer's limits)
-        let room = self.end.room(ours(id));
-        let mut left = room.min(self.send_window.saturating_sub(self.end.kept_sum())) as usize;
+    }
+
+    /// The same of chunks.
+    pub(super) fn write_all_of(
+        &mut self,
+        id: StreamId,
+        source: &mut BytesArray<'_>,
+    ) -> Result<Written, WriteError> {
+        let mut left = self.end.room(ours(id)) as usize;
         if left == 0 {
-            self.wait(id, room);
-            return Err(WriteError::Blocked);
+            // A byte is offered, which isn't taken: that tells why.
+            self.write(id, &[0])?;
         }
         let mut written = Written::default();
         loop {
             let (bytes, chunks) = source.pop_chunk(left);
             written.chunks += chunks;
             if bytes.is_empty() {
-                break;
+                return Ok(written);
             }
-            let count = self.end.write(ours(id), &bytes);
-            assert_eq!(count, Ok(bytes.len()), "as much room as was told, and memory");
-            written.bytes += bytes.len();
+            written.bytes += self.write(id, &bytes)?;
             left -= bytes.len();
-        }
-        Ok(written)
-    }
-
-    // Nothing is written: an event tells once something may be.
-    pub(super) fn wait(&mut self, id: StreamId, room: u64) {
-        if room > 0 {
-            self.bounded.insert(id);
-        } else {
-            // A write that takes nothing is cut short, which the layer notes.
-            let _ = self.end.write(ours(id), &[0]);
         }
     }
 
@@ -64,8 +56,10 @@ impl StreamsState {
 
     /// The code with which the peer stopped the stream, unless the application let go of it since.
     pub(super) fn stop_code(&self, id: StreamId) -> Option<VarInt> {
-        let stopped = self.gaps.stopped.contains(&id);
-        stopped.then(|| self.end.stopped_with(ours(id)).map(code_of)).flatten()
+        let code = self.end.stopped_with(ours(id))?;
+        let half = self.send_report(id)?;
+        let is_over = half.reset_code.is_some() || half.state == SendState::DataRecvd;
+        (!is_over).then(|| code_of(code))
     }
 }
 
