@@ -183,7 +183,11 @@ mod tests {
             .conn_window(1 << 20)
             .stream_windows(1 << 16);
         let idle = Duration::from_secs(30);
-        Config { settings, idle }
+        Config {
+            settings,
+            most_window: 0,
+            idle,
+        }
     }
 
     // The address of a server of files, which goes with the test.

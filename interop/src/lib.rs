@@ -34,4 +34,5 @@ pub mod recovery;
 pub mod server;
 pub mod streams;
 pub mod tls;
+pub mod windows;
 pub mod zone;

@@ -115,6 +115,11 @@ impl Words {
         self.options.remove(name)
     }
 
+    /// Whether an option is given.
+    pub fn has(&self, name: &str) -> bool {
+        self.options.contains_key(name)
+    }
+
     /// The number that an option has, or the usual one.
     pub fn number(&mut self, name: &str, usual: u64) -> Result<u64, Refusal> {
         match self.option(name) {
@@ -225,15 +230,19 @@ pub fn listen_on_all(texts: &[String]) -> Result<Vec<UdpSocket>, Refusal> {
 }
 
 /// What a connection for files is made with: `--window BYTES` is the window of the connection, and of a stream as far as one goes,
-/// where `--stream-window BYTES` doesn't say otherwise;
+/// where `--stream-window BYTES` doesn't say otherwise; such a window stays, and others grow by themselves, a stream's up to 16 MiB, or
+/// to `--most-window BYTES`;
 /// `--streams N` how many the peer may open at once, of which the stream layer allows 2,097,152 in all; `--idle SECONDS` after how long a
 /// silence it ends.
 pub fn config(words: &mut Words) -> Result<Config, Refusal> {
+    let stays = words.has("window") || words.has("stream-window");
     let window = words.number("window", 1 << 22)?;
     let stream_window = words.number("stream-window", window.min(1 << 20))?;
+    let most_window = words.number("most-window", if stays { 0 } else { 1 << 24 })?;
     let (streams, lifetime) = streams(words)?;
     let idle = words.number("idle", 30)?;
-    if !(1..=1 << 32).contains(&window) || !(1..=1 << 28).contains(&stream_window) {
+    let is_stream_window = (1..=1 << 28).contains(&stream_window) && most_window <= 1 << 28;
+    if !(1..=1 << 32).contains(&window) || !is_stream_window {
         let reason = "a window has 1 to 4294967296 bytes, and that of a stream 1 to 268435456";
         return Err(Refusal::Usage(reason.to_owned()));
     }
@@ -246,6 +255,7 @@ pub fn config(words: &mut Words) -> Result<Config, Refusal> {
         .uni_streams(streams, MOST_STREAMS);
     Ok(Config {
         settings,
+        most_window,
         idle: Duration::from_secs(idle),
     })
 }

@@ -42,7 +42,11 @@ fn ask(mut words: Words) -> Result<(), Refusal> {
         .stream_windows(1 << 16)
         .bidi_streams(0, 0)
         .uni_streams(0, 0);
-    let config = Config { settings, idle };
+    let config = Config {
+        settings,
+        most_window: 0,
+        idle,
+    };
     let make = || client(PROTOCOL, "localhost", version, config);
     let connections = run_errand(&addresses(server)?, make, &mut asker, NO_ERROR)?;
     for (name, reply) in &asker.answers {

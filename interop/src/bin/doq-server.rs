@@ -36,6 +36,7 @@ fn serve(mut words: Words) -> Result<(), Refusal> {
         .uni_streams(0, 0);
     let config = Config {
         settings,
+        most_window: 0,
         idle: Duration::from_secs(30),
     };
     let socket = listen(&address)?;

@@ -11,7 +11,7 @@ use std::time::Instant;
 
 fn main() -> ExitCode {
     program::run(
-        "h3-client [--download DIR] [--stop-after BYTES] [--resets N] [--unread N] [--window BYTES] [--stream-window BYTES] [--streams N] [--idle SECONDS] [--qlog FOLDER] [--quic-version HEX] URL..",
+        "h3-client [--download DIR] [--stop-after BYTES] [--resets N] [--unread N] [--window BYTES] [--stream-window BYTES] [--most-window BYTES] [--streams N] [--idle SECONDS] [--qlog FOLDER] [--quic-version HEX] URL..",
         load,
     )
 }

@@ -17,7 +17,7 @@ use std::thread;
 
 fn main() -> ExitCode {
     program::run(
-        "h3-server [--cert FILE --key FILE | --identity FOLDER] [--window BYTES] [--stream-window BYTES] [--streams N] [--idle SECONDS] [--qlog FOLDER] DIR ADDR..",
+        "h3-server [--cert FILE --key FILE | --identity FOLDER] [--window BYTES] [--stream-window BYTES] [--most-window BYTES] [--streams N] [--idle SECONDS] [--qlog FOLDER] DIR ADDR..",
         serve,
     )
 }

@@ -10,7 +10,7 @@ use std::time::Instant;
 
 fn main() -> ExitCode {
     program::run(
-        "raw-client [--window BYTES] [--stream-window BYTES] [--streams N] [--idle SECONDS] [--qlog FOLDER] [--quic-version HEX] ADDR DIR PATH..",
+        "raw-client [--window BYTES] [--stream-window BYTES] [--most-window BYTES] [--streams N] [--idle SECONDS] [--qlog FOLDER] [--quic-version HEX] ADDR DIR PATH..",
         load,
     )
 }

@@ -132,6 +132,7 @@ impl Connection {
                 let delay = Duration::from_micros(micros.unwrap_or(u64::MAX));
                 self.take_ack(Level::Data, largest, ranges, delay, now);
             }
+            Frame::Stream { stream, .. } => self.windows.came(stream, now),
             Frame::Crypto { offset, bytes } => self.take_crypto(Level::Data, offset, bytes)?,
             Frame::NewConnectionId { .. } => self.take_new_id(frame)?,
             Frame::PathChallenge { bytes } => {
@@ -142,7 +143,7 @@ impl Connection {
                 self.peer_closed(false, code, reason, now)
             }
             Frame::ApplicationClose { code, reason } => self.peer_closed(true, code, reason, now),
-            // What is the stream layer's own, a token, and a path that wasn't challenged.
+            // What else is the stream layer's own, a token, and a path that wasn't challenged.
             _ => {}
         }
         Ok(())

@@ -22,6 +22,7 @@ use crate::qlog::Trace;
 use crate::ranges::Numbers;
 use crate::recovery::{Control, Recovery, Standing};
 use crate::tls::Session;
+use crate::windows::Windows;
 use ending::State;
 use gotsavena::{Endpoint, Role, Settings, StreamId};
 use ring::rand::{SecureRandom, SystemRandom};
@@ -44,6 +45,8 @@ const MOST_EARLY: usize = 32;
 pub struct Config {
     /// The stream layer's settings, of which the peer is told.
     pub settings: Settings,
+    /// How far the window of a stream may grow by itself.
+    pub most_window: u64,
     /// After how long a silence the connection ends.
     pub idle: Duration,
 }
@@ -96,6 +99,7 @@ pub struct Connection {
     spaces: [Space; 3],
     data_keys: Option<DataKeys>,
     end: Option<Endpoint>,
+    windows: Windows,
     /// The stream behind the one that sent last: from it on the next packet takes bytes, so that streams send by turns.
     turn: StreamId,
     /// One more than the largest number of a 1-RTT packet that came.
@@ -187,6 +191,7 @@ impl Connection {
             spaces: first_spaces(role, destination),
             data_keys: None,
             end: None,
+            windows: Windows::new(role, config.settings.limits(), config.most_window, now),
             turn: stream_behind(None),
             expected: 0,
             early: Vec::new(),

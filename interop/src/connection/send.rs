@@ -39,6 +39,10 @@ impl Connection {
         if let (Some(trace), Some(end)) = (&mut self.trace, &self.end) {
             trace.moves(end, now);
         }
+        // What came was read since then.
+        if let Some(end) = &mut self.end {
+            self.windows.look(end, self.recovery.smoothed(), now);
+        }
         let planned = match self.state {
             State::Open => self.plan(out, now),
             State::Closing { .. } => self.plan_closing(out, now),

@@ -27,12 +27,20 @@ struct World {
 
 impl World {
     fn new(lost: u64, idle: Duration) -> World {
-        let now = Instant::now();
         let settings = Settings::small()
             .conn_window(1 << 20)
             .stream_windows(1 << 18)
             .send_buffer(1 << 18);
-        let config = Config { settings, idle };
+        let config = Config {
+            settings,
+            most_window: 0,
+            idle,
+        };
+        World::of(config, lost)
+    }
+
+    fn of(config: Config, lost: u64) -> World {
+        let now = Instant::now();
         let setup = ClientSetup {
             tls: client_config(PROTOCOL),
             name: "localhost".to_owned(),
@@ -317,4 +325,30 @@ fn gaps_on_a_stream_that_was_stopped_close_in_the_end() {
     assert_eq!(send_on(1, 40_000), Ok(()));
     assert_eq!(send_on(2, 16_000), Ok(()));
     assert_eq!(send_on(2, 40_000).unwrap_err().code, PROTOCOL_VIOLATION);
+}
+
+// How long 8 MB take over a round trip of 100 ms, where windows of 64 KiB grow so far.
+fn sends_over_a_long_way(most_window: u64) -> Duration {
+    let settings = Settings::small()
+        .conn_window(1 << 17)
+        .stream_windows(1 << 16)
+        .send_buffer(1 << 23);
+    let idle = Duration::from_secs(30);
+    let config = Config {
+        settings,
+        most_window,
+        idle,
+    };
+    let mut world = World::of(config, 0);
+    world.one_way = Duration::from_millis(50);
+    world.connect();
+    sends(&mut world, 8_000_000)
+}
+
+#[test]
+fn a_window_that_grows_uses_up_a_long_way() {
+    let (stays, grows) = (sends_over_a_long_way(0), sends_over_a_long_way(1 << 23));
+    // A window of 64 KiB goes in a round trip, and no more; seven doublings take some two each.
+    assert!(stays > Duration::from_secs(12), "{stays:?}");
+    assert!(grows < Duration::from_secs(3), "{grows:?}");
 }
