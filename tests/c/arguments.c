@@ -1,4 +1,5 @@
 /* What a caller may not pass is answered with GV_INVALID, and nothing changes. */
+#include <stddef.h>
 #include <stdint.h>
 #include <stdio.h>
 #include <stdlib.h>
@@ -42,7 +43,7 @@ static void tuned(const gv_settings *settings, const gv_limits *limits) {
   gv_tuning tuning;
   gv_endpoint *end = NULL;
   want(gv_tuning_init(NULL, sizeof tuning), GV_INVALID, "no tuning");
-  want(gv_tuning_init(&tuning, sizeof tuning - sizeof tuning.epoch - 1), GV_INVALID, "small tuning");
+  want(gv_tuning_init(&tuning, offsetof(gv_tuning, epoch) - 1), GV_INVALID, "small tuning");
   want(gv_tuning_init(&tuning, sizeof tuning), GV_OK, "tuning");
   tuning.credit_step = GV_SHARE_NONE;
   want(gv_endpoint_new_tuned(GV_ROLE_CLIENT, settings, &tuning, limits, NULL, &end), GV_INVALID, "no share of a window");
@@ -52,6 +53,12 @@ static void tuned(const gv_settings *settings, const gv_limits *limits) {
   tuning.count_step = (gv_share)5;
   want(gv_endpoint_new_tuned(GV_ROLE_CLIENT, settings, &tuning, limits, NULL, &end), GV_INVALID, "another share of a grant");
   tuning.count_step = GV_SHARE_EIGHTH;
+  tuning.answers_stops = (gv_switch)2;
+  want(gv_endpoint_new_tuned(GV_ROLE_CLIENT, settings, &tuning, limits, NULL, &end), GV_INVALID, "another answer to a stop");
+  tuning.answers_stops = GV_ON;
+  tuning.spare = GV_ON;
+  want(gv_endpoint_new_tuned(GV_ROLE_CLIENT, settings, &tuning, limits, NULL, &end), GV_INVALID, "a choice that there isn't");
+  tuning.spare = GV_OFF;
   tuning.size = 8;
   want(gv_endpoint_new_tuned(GV_ROLE_CLIENT, settings, &tuning, limits, NULL, &end), GV_INVALID, "a small tuning");
   tuning.size = sizeof tuning;
@@ -378,8 +385,7 @@ int main(void) {
   want(gv_token_acked(end, token_at(end, 2)), GV_OK, "acked again");
   want(gv_stopped_with(end, 2, &number), GV_NONE, "not stopped");
   want(gv_receive(end, 7, stops, sizeof stops), GV_OK, "receive two STOP_SENDING");
-  want(gv_stopped_with(end, 2, &number), GV_OK, "stopped");
-  want(number == 7 ? GV_OK : GV_INVALID, GV_OK, "with the first code");
+  want(gv_stopped_with(end, 2, &number), GV_NONE, "not stopped once all is acknowledged");
   want(gv_stopped_with(end, big, &number), GV_INVALID, "stopped_with");
   want(gv_stopped_with(end, 2, NULL), GV_INVALID, "stopped_with to null");
   want(gv_last_stream(NULL, 0, &number), GV_NONE, "no payload");

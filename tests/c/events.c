@@ -6,6 +6,7 @@
 #include <string.h>
 
 #include "gotsavena.h"
+#include "refusing.h"
 
 static int failed;
 
@@ -16,21 +17,6 @@ static void want(gv_status status, gv_status wanted, const char *what) {
 }
 
 static void holds(bool is, const char *what) { want(is ? GV_OK : GV_INVALID, GV_OK, what); }
-
-static bool is_refused; /* whether memory is */
-
-static void *allocate(void *context, size_t size, size_t align) {
-  (void)context;
-  (void)align;
-  return is_refused ? NULL : malloc(size);
-}
-
-static void release(void *context, void *at, size_t size, size_t align) {
-  (void)context;
-  (void)size;
-  (void)align;
-  free(at);
-}
 
 /* One stream of each direction at a time, and buffers of 16 bytes. */
 static gv_endpoint *new_end(gv_role role) {
@@ -199,12 +185,45 @@ static void refused(gv_endpoint *client, gv_endpoint *server) {
   hears(client, "opened 3;readable 3;", "the client is told, but not of stream 4 again");
 }
 
+/* One bound over what all streams keep: the second stream hears once the first one's bytes are acknowledged. */
+static void bounded(void) {
+  gv_settings settings = {sizeof settings, 4096, 1024, 1024, 1024, 2048, 8, 8, 8, 8};
+  gv_limits limits = {sizeof limits, 4096, 1024, 1024, 1024, 8, 8};
+  gv_endpoint *client = NULL, *server = NULL;
+  gv_tuning tuning;
+  uint64_t room = 99, stream = 99;
+  want(gv_tuning_init(&tuning, sizeof tuning), GV_OK, "tuning");
+  holds(tuning.send_window == 0, "no bound to begin with");
+  tuning.send_window = 5;
+  want(gv_endpoint_new_tuned(GV_ROLE_CLIENT, &settings, &tuning, &limits, NULL, &client), GV_OK, "a bounded end");
+  tuning.send_window = 0;
+  want(gv_endpoint_new_tuned(GV_ROLE_SERVER, &settings, &tuning, &limits, NULL, &server), GV_OK, "one that isn't");
+  for (int i = 0; i < 2; i++) want(gv_open(client, GV_DIR_UNI, &stream, NULL), GV_OK, "open");
+  holds(stream == 6, "two streams");
+  write_all(client, 2, "abc", 3, "within the bound");
+  write_all(client, 6, "defg", 2, "what it leaves");
+  write_all(client, 2, "hi", 0, "nothing is left");
+  want(gv_room(client, 6, &room), GV_OK, "room");
+  holds(room == 0, "no room");
+  hears(client, "", "nothing to write to");
+  carry(client, server);
+  hears(client, "writable 2;writable 6;", "what was kept is acknowledged");
+  write_all(client, 6, "fg", 2, "the rest");
+  for (int i = 0; i < 4; i++) {
+    want(gv_open(server, GV_DIR_BIDI, &stream, NULL), GV_OK, "open at the other end");
+    write_all(server, stream, "0123456789", 10, "which has no bound");
+  }
+  gv_endpoint_free(client);
+  gv_endpoint_free(server);
+}
+
 int main(void) {
   gv_endpoint *client = new_end(GV_ROLE_CLIENT), *server = new_end(GV_ROLE_SERVER);
   arguments();
   a_stream(client, server);
   broken_off(client, server);
   refused(client, server);
+  bounded();
   gv_endpoint_free(client);
   gv_endpoint_free(server);
   return failed;

@@ -41,15 +41,16 @@ static void drop(void *at, size_t size) {
 #endif
 #define DROP(at) (LATER(at), drop((at), sizeof *(at)))
 
-/* Of the tuning of before, which has no epoch, no byte behind is touched, and the epoch is as before. */
-static void of_before(gv_role role, const gv_settings *settings, const gv_limits *limits) {
-  size_t size = offsetof(gv_tuning, epoch);
+/* Of a tuning of before, which has no epoch, or no bound over all streams, no byte behind is touched, and that is as before. */
+static void of_before(gv_role role, const gv_settings *settings, const gv_limits *limits, size_t size) {
   gv_tuning *tuning = block_of(sizeof *tuning);
   gv_token token = {.size = sizeof token, .epoch = 9};
   gv_endpoint *end = NULL;
   check(gv_tuning_init(tuning, size) == GV_OK && tuning->size == size && tuning->credit_step == GV_SHARE_HALF, "tuning of before");
   check(gv_endpoint_new_tuned(role, settings, tuning, limits, NULL, &end) == GV_OK && gv_token_of(end, 0, &token) == GV_OK, "an end of before");
   check(token.epoch == 0, "its epoch");
+  uint64_t stream = 0, room = 0;
+  check(gv_open(end, GV_DIR_UNI, &stream, NULL) == GV_OK && gv_room(end, stream, &room) == GV_OK && room == settings->send_buffer, "no bound");
   gv_endpoint_free(end);
   drop(tuning, size);
 }
@@ -78,7 +79,8 @@ static gv_endpoint *new_end(gv_role role, uint64_t grant) {
   check(gv_endpoint_new_tuned(role, settings, tuning, limits, NULL, &end) == GV_OK, "a tuned end");
   gv_endpoint_free(end);
   check(gv_endpoint_new(role, settings, limits, &end) == GV_OK && gv_raise_limits(end, limits) == GV_OK, "an end");
-  of_before(role, settings, limits);
+  of_before(role, settings, limits, offsetof(gv_tuning, epoch));
+  of_before(role, settings, limits, offsetof(gv_tuning, send_window));
   settings->size = 79;
   check(gv_endpoint_new(role, settings, limits, &end) == GV_INVALID, "too small a struct");
   settings->size = 4097;

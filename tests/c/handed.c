@@ -4,6 +4,7 @@
 #include <string.h>
 
 #include "gotsavena.h"
+#include "refusing.h"
 
 static int failed;
 
@@ -14,25 +15,6 @@ static void want(gv_status status, gv_status wanted, const char *what) {
 }
 
 static void holds(bool is, const char *what) { want(is ? GV_OK : GV_INVALID, GV_OK, what); }
-
-static bool is_refused; /* whether memory is */
-
-static int left = -1; /* or how often it is still given, where that isn't negative */
-
-static void *allocate(void *context, size_t size, size_t align) {
-  (void)context;
-  (void)align;
-  if (is_refused || left == 0) return NULL;
-  if (left > 0) left--;
-  return malloc(size);
-}
-
-static void release(void *context, void *at, size_t size, size_t align) {
-  (void)context;
-  (void)size;
-  (void)align;
-  free(at);
-}
 
 static gv_endpoint *new_end(void) {
   gv_settings settings = {sizeof settings, 4096, 1024, 1024, 1024, 2048, 8, 8, 8, 8};
@@ -308,28 +290,46 @@ static void closes(gv_endpoint *end) {
 static void is_told(gv_endpoint *end) {
   gv_closing_info why = {.size = sizeof why};
   gv_taken taken = untouched;
+  gv_closer by = GV_CLOSER_US;
+  gv_close_kind kind = GV_CLOSE_TRANSPORT;
   uint64_t code = 0;
   uint8_t out[200];
   size_t len = 0;
   want(gv_tell_closed(NULL, GV_CLOSER_US, GV_CLOSE_TRANSPORT, 0), GV_INVALID, "no end");
   want(gv_tell_closed(end, (gv_closer)2, GV_CLOSE_TRANSPORT, 0), GV_INVALID, "no side");
   want(gv_tell_closed(end, GV_CLOSER_US, (gv_close_kind)2, 0), GV_INVALID, "no kind");
+  want(gv_told_close(end, &by, &kind, &code), GV_NONE, "it wasn't told yet");
   want(gv_tell_closed(end, GV_CLOSER_PEER, GV_CLOSE_APPLICATION, 0x100), GV_OK, "the peer closed");
   want(gv_tell_closed(end, GV_CLOSER_US, GV_CLOSE_TRANSPORT, 1), GV_OK, "and is closed already");
   want(gv_take_frame(end, &first, &taken), GV_CLOSED_BY_PEER, "it says so again");
   want(gv_peer_closed(end, &code), GV_NONE, "but no frame did it");
   want(gv_closing(end, &why), GV_NONE, "nor this end");
   want(gv_close_payload(end, out, sizeof out, &len), GV_NONE, "so it has no payload");
+  want(gv_told_close(NULL, &by, &kind, &code), GV_INVALID, "of no end");
+  want(gv_told_close(end, NULL, &kind, &code), GV_INVALID, "the side to null");
+  want(gv_told_close(end, &by, NULL, &code), GV_INVALID, "the kind to null");
+  want(gv_told_close(end, &by, &kind, NULL), GV_INVALID, "the code to null");
+  holds(by == GV_CLOSER_US && kind == GV_CLOSE_TRANSPORT && code == 0, "nothing was told");
+  want(gv_told_close(end, &by, &kind, &code), GV_OK, "what it was told");
+  holds(by == GV_CLOSER_PEER && kind == GV_CLOSE_APPLICATION && code == 0x100, "which it was, first");
+  gv_endpoint *other = new_end();
+  want(gv_tell_closed(other, GV_CLOSER_US, GV_CLOSE_TRANSPORT, 1), GV_OK, "this side closed");
+  want(gv_told_close(other, &by, &kind, &code), GV_OK, "what that one was told");
+  holds(by == GV_CLOSER_US && kind == GV_CLOSE_TRANSPORT && code == 1, "which it was");
+  gv_endpoint_free(other);
 }
 
 static void is_closed_by_peer(gv_endpoint *end) {
   static const uint8_t payload[] = {0x1c, 0x05, 0x00, 0x00};
   gv_taken taken = untouched;
+  gv_closer by = GV_CLOSER_US;
+  gv_close_kind kind = GV_CLOSE_TRANSPORT;
   uint64_t code = 0;
   want(gv_receive(end, 0, payload, sizeof payload), GV_CLOSED_BY_PEER, "the peer closes");
   want(gv_take_frame(end, &first, &taken), GV_CLOSED_BY_PEER, "it is closed");
   want(gv_peer_closed(end, &code), GV_OK, "with a code");
   holds(code == 5, "which it is");
+  want(gv_told_close(end, &by, &kind, &code), GV_NONE, "and nobody told it");
 }
 
 int main(void) {

@@ -4,6 +4,7 @@
 #include <string.h>
 
 #include "gotsavena.h"
+#include "refusing.h"
 
 enum { TOTAL = 100000, STREAM = 3 };
 
@@ -17,22 +18,6 @@ static void want(gv_status status, gv_status wanted, const char *what) {
   if (status == wanted) return;
   fprintf(stderr, "%s: %s, not %s\n", what, gv_strerror(status), gv_strerror(wanted));
   exit(1);
-}
-
-static size_t given; /* how often memory was given */
-
-static void *allocate(void *context, size_t size, size_t align) {
-  (void)context;
-  (void)align;
-  given++;
-  return malloc(size);
-}
-
-static void release(void *context, void *at, size_t size, size_t align) {
-  (void)context;
-  (void)size;
-  (void)align;
-  free(at);
 }
 
 static gv_endpoint *new_end(void) {
@@ -72,6 +57,8 @@ static void ask_all(const gv_endpoint *end) {
   gv_receiving receiving = {.size = sizeof receiving};
   gv_closing_info closing = {.size = sizeof closing};
   gv_token token = {.size = sizeof token};
+  gv_closer by;
+  gv_close_kind kind;
   (void)gv_next_number(end, &number);
   (void)gv_is_sendable(end, &answer);
   (void)gv_ack_is_due(end, &answer);
@@ -105,6 +92,7 @@ static void ask_all(const gv_endpoint *end) {
   (void)gv_closing(end, &closing);
   (void)gv_close_payload(end, out, sizeof out, &len);
   (void)gv_peer_closed(end, &number);
+  (void)gv_told_close(end, &by, &kind, &number);
 }
 
 static void refused(gv_endpoint *end) {

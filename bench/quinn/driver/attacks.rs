@@ -77,7 +77,7 @@ fn limit(value: u64) -> VarInt {
 impl Target for Theirs {
     fn new(setup: Setup) -> Self {
         let streams = limit(setup.streams);
-        let (conn_window, window) = (limit(1 << 24), limit(1 << 20));
+        let (conn_window, window) = (limit(16 * setup.window), limit(setup.window));
         let mut state =
             StreamsState::new(Side::Server, streams, streams, 1 << 30, conn_window, window);
         state.set_params(&TransportParameters {

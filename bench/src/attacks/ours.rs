@@ -9,8 +9,8 @@ pub struct Ours(Endpoint);
 impl Target for Ours {
     fn new(setup: Setup) -> Ours {
         let settings = Settings::small()
-            .conn_window(1 << 24)
-            .stream_windows(1 << 20)
+            .conn_window(16 * setup.window)
+            .stream_windows(setup.window)
             .send_buffer(1 << 20)
             .streams(setup.streams, 1 << 16);
         let peer = PeerLimits {

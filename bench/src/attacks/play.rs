@@ -7,9 +7,11 @@ use gotsavena::{Dir, Frame, Role, StreamId};
 use std::process::ExitCode;
 use std::time::Duration;
 
-/// What an end is set to, beside the windows of a server: 1 MiB a stream, 16 MiB a connection.
+/// What an end is set to.
 #[derive(Clone, Copy)]
 pub struct Setup {
+    /// Its window of a stream; that of the connection is 16 times as wide.
+    pub window: u64,
     /// How many streams of each direction the peer may open at once, of 65,536 in all.
     pub streams: u64,
     /// What the peer grants: bytes on all streams together.

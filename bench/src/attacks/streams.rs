@@ -9,6 +9,9 @@ const MANY: u64 = 128;
 const SOME: u64 = 16;
 /// The runs of a stream that is reset over holes.
 const RUNS: u64 = 4096;
+/// The bytes of a page, and how many pages lie nearer than those that stand apart from a ring.
+const PAGE: u64 = 1 << 14;
+const APART: u64 = 4;
 /// The window of a stream, in bytes.
 const WINDOW: u64 = 1 << 20;
 /// In how many pieces three quarters of a window come.
@@ -114,6 +117,16 @@ pub fn near_and_far_byte<T: Target>(play: &mut Play<T>, offset: u64, step: u64) 
     }
     play.deliver();
     play.aside(|play| abandon(play, streams, offset + 1));
+}
+
+/// A byte in each page that stands apart from the ring, and at last one before them all, which lets the ring reach to their end.
+pub fn page_or_gap<T: Target>(play: &mut Play<T>, pages: u64, step: u64) {
+    let page = if step < pages {
+        APART + step
+    } else {
+        APART - 1
+    };
+    play.send(byte(uni(0), PAGE * page));
 }
 
 // The streams are reset, and their readers told.

@@ -5,9 +5,15 @@ use super::play::{Attack, Setup, Target};
 use super::streams as s;
 
 const SERVER: Setup = Setup {
+    window: 1 << 20,
     streams: 100,
     max_data: 1 << 40,
     max_stream_data: 1 << 40,
+};
+/// Its windows hold a long fat path.
+const WIDE: Setup = Setup {
+    window: 1 << 28,
+    ..SERVER
 };
 /// It lets the peer open 4,096 streams at once.
 pub const BUSY: Setup = Setup {
@@ -74,6 +80,15 @@ impl<T: Target + 'static> Attack<T> {
             ready: p::nothing,
             steps: |_| 64,
             step: s::near_and_far_byte,
+        },
+        Attack {
+            name: "pages-then-filled",
+            what: "a byte in each of so many pages of 16 KiB past the first four, then the one that fills the gap before them",
+            sizes: [252, 4092, 16_380],
+            setup: WIDE,
+            ready: p::nothing,
+            steps: |pages| pages + 1,
+            step: s::page_or_gap,
         },
         Attack {
             name: "window-downwards",
