@@ -147,7 +147,7 @@ fn read_all(half: &mut RecvHalf<RingAssembly>, out: &mut [u8], from: u64, len: u
 pub fn half_takes_in_order() -> impl FnMut() {
     let source = Source::new(CHUNK);
     let mut out = vec![0; 64 << 10];
-    let mut half = RecvHalf::new(Global, 1 << 20, Share::Half);
+    let mut half = RecvHalf::new(Global, 1 << 20, Share::Half).expect("64 bytes are there");
     let mut next = 0;
     move || {
         put(&mut half, next, source.at(next));
@@ -170,7 +170,7 @@ fn half_in_order() -> Run {
 fn half_in_reverse() -> Run {
     let source = Source::new(CHUNK);
     let mut out = vec![0; 64 << 10];
-    let mut half = RecvHalf::new(Global, 1 << 17, Share::Half);
+    let mut half = RecvHalf::new(Global, 1 << 17, Share::Half).expect("64 bytes are there");
     let rounds = 20_000;
     let time = time(|| {
         for round in 0..rounds {
@@ -191,7 +191,7 @@ fn half_in_reverse() -> Run {
 fn half_by_bytes(order: impl Fn() -> Vec<u64>) -> Run {
     let source = Source::new(1);
     let mut out = vec![0; 64 << 10];
-    let mut half = RecvHalf::new(Global, 1 << 17, Share::Half);
+    let mut half = RecvHalf::new(Global, 1 << 17, Share::Half).expect("64 bytes are there");
     let (rounds, order) = (10, order());
     let time = time(|| {
         for round in 0..rounds {

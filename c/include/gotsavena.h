@@ -175,14 +175,17 @@ typedef enum gv_taken {
 /** What an end tells of by itself, in this order, and of a kind those of a lower stream first; ::GV_EVENT_FINISHED and
  * ::GV_EVENT_RESET_ACKED are of one kind there. A later version may have more. */
 typedef enum gv_event_kind {
-  GV_EVENT_OPENED = 0,      /**< the peer opened the stream, whether or not gv_accept() gave it out; the first of its events (section 2.1) */
-  GV_EVENT_READABLE = 1,    /**< a read of the stream tells something new: bytes, the end or a reset (sections 2.2 and 3.2) */
-  GV_EVENT_WRITABLE = 2,    /**< a write to the stream was cut short, and now one of a byte is accepted (sections 2.2 and 2.4) */
-  GV_EVENT_STOPPED = 3,     /**< the peer asked for no more of the stream, with this code first (section 3.5) */
-  GV_EVENT_FINISHED = 4,    /**< all that was written was acknowledged, and the end too (section 3.1) */
-  GV_EVENT_RESET_ACKED = 5, /**< the reset of the stream was acknowledged (section 3.1) */
-  GV_EVENT_ENDED = 6,       /**< each half that the stream has here came to its end (section 3) */
-  GV_EVENT_AVAILABLE = 7    /**< a stream of the direction may be opened, where gv_open() was refused for the limit (section 4.6) */
+  GV_EVENT_OPENED = 0,              /**< the peer opened the stream, be it accepted or not; the first of its events (section 2.1) */
+  GV_EVENT_READABLE = 1,            /**< a read of the stream tells something new: bytes, the end or a reset (sections 2.2 and 3.2) */
+  GV_EVENT_WRITABLE = 2,            /**< a write to the stream was cut short, and now one of a byte is accepted (sections 2.2 and 2.4) */
+  GV_EVENT_STOPPED = 3,             /**< the peer asked for no more of the stream, with this code first (section 3.5) */
+  GV_EVENT_FINISHED = 4,            /**< all that was written was acknowledged, and the end too (section 3.1) */
+  GV_EVENT_RESET_ACKED = 5,         /**< the reset of the stream was acknowledged (section 3.1) */
+  GV_EVENT_ENDED = 6,               /**< each half that the stream has here came to its end (section 3) */
+  GV_EVENT_AVAILABLE = 7,           /**< a stream of the direction may be opened, where gv_open() was refused for the limit (section 4.6) */
+  GV_EVENT_DATA_BLOCKED = 8,        /**< the peer said that the connection's limit holds its bytes back (sections 4.1 and 19.12) */
+  GV_EVENT_STREAM_DATA_BLOCKED = 9, /**< the peer said that the stream's limit holds its bytes back (sections 4.1 and 19.13) */
+  GV_EVENT_STREAMS_BLOCKED = 10     /**< the peer said that the count of the direction holds its streams back (sections 4.6 and 19.14) */
 } gv_event_kind;
 
 /** With so many bytes of room gv_fill() puts something in wherever something may go that it was asked for. */
@@ -293,8 +296,8 @@ typedef struct gv_token {
 typedef struct gv_event {
   size_t size;        /**< of this struct */
   gv_event_kind kind; /**< what came about */
-  gv_dir dir;         /**< ::GV_EVENT_AVAILABLE: the direction; else 0 */
-  uint64_t stream;    /**< the stream; 0 for ::GV_EVENT_AVAILABLE */
+  gv_dir dir;         /**< ::GV_EVENT_AVAILABLE and ::GV_EVENT_STREAMS_BLOCKED: the direction; else 0 */
+  uint64_t stream;    /**< the stream; 0 for these two and ::GV_EVENT_DATA_BLOCKED */
   uint64_t code;      /**< ::GV_EVENT_STOPPED: the peer's code; else 0 */
 } gv_event;
 
@@ -534,8 +537,9 @@ GV_API gv_status gv_next_newly_acked(const gv_endpoint *end, const uint8_t *payl
  * control takes effect as in a payload, and then the limits move; one of any other kind changes nothing. *taken tells which it was. The
  * stack acknowledges a packet only once each of its frames was taken (sections 13.1 and 19). ::GV_PROTOCOL_ERROR: the frame breaks a rule,
  * or has numbers that no text has, as an offset plus a length above 2^62-1; this end is closed, gv_closing() tells why, at place 0, and
- * gv_close_payload() tells the peer. ::GV_NO_MEMORY: nothing changed, and the frame may come again. An end that was closed before says
- * so: ::GV_PROTOCOL_ERROR, or ::GV_CLOSED_BY_PEER. ::GV_INVALID, too, where kind or dir is none, or stream isn't below 2^62. */
+ * gv_close_payload() tells the peer. ::GV_NO_MEMORY: nothing changed, or one that says what holds the peer back wasn't noted for
+ * gv_next_event(); the frame may come again. An end that was closed before says so: ::GV_PROTOCOL_ERROR, or ::GV_CLOSED_BY_PEER.
+ * ::GV_INVALID, too, where kind or dir is none, or stream isn't below 2^62. */
 GV_API gv_status gv_take_frame(gv_endpoint *end, const gv_frame *frame, gv_taken *taken);
 
 /** Takes in frames of one packet, as gv_take_frame() each of them, one after the other, but that the limits move once, as the call ends
@@ -687,9 +691,16 @@ GV_API gv_status gv_acked_below(const gv_endpoint *end, uint64_t stream, uint64_
  *
  * ::GV_EVENT_READABLE comes again once a stream was read until nothing was left, and more came; until then the stream isn't told again.
  * ::GV_EVENT_WRITABLE comes for each stream to which gv_write() accepted fewer bytes than it was handed, ::GV_EVENT_AVAILABLE for each
- * direction of which gv_open() answered ::GV_STREAM_LIMIT, each once until that is so again. The others come at most once of a stream
- * (sections 2 to 4). */
+ * direction of which gv_open() answered ::GV_STREAM_LIMIT, each once until that is so again. The last three kinds come each time that the
+ * peer said so of a limit that hadn't risen, once for all that it said since the last one: from gv_take_frame() and gv_take_frames() from
+ * the first call of this on, and from gv_receive() where gv_hear_blocked() chose so. An owner whose windows grow answers them with
+ * gv_set_conn_window(), gv_set_stream_window() or gv_set_grant(). The others come at most once of a stream (sections 2 to 4). */
 GV_API gv_status gv_next_event(gv_endpoint *end, gv_event *event);
+
+/** Chooses whether gv_receive() and gv_receive_telling() look each payload through, once it was taken in, for what the peer says to hold
+ * it back (sections 19.12 to 19.14). Not at first, since the payload is read a second time for it. ::GV_NO_MEMORY of gv_receive() may tell
+ * then that all took effect, and one of these couldn't be noted; the same payload may come again. */
+GV_API gv_status gv_hear_blocked(gv_endpoint *end, bool is_chosen);
 
 /** @}
  * @name Credit

@@ -104,7 +104,7 @@ gv_status gv_endpoint_new_tuned(gv_role role, const gv_settings *settings, const
   if (allocator != NULL && !take_allocator(&memory, allocator)) return GV_INVALID;
   gv_endpoint *end = memory.allocate(memory.context, sizeof *end, alignof(gv_endpoint));
   if (end == NULL) return GV_NO_MEMORY;
-  gv_endpoint fresh = {{false, NULL}, {false, NULL}, {false, false}, memory, NULL, no_numbers, 0};
+  gv_endpoint fresh = {{false, NULL}, {false, NULL}, {false, false}, memory, NULL, no_numbers, 0, false, false, UINT64_MAX};
   *end = fresh;
   gv_status status = leave(end, gvp_reserve(enter(end)));
   if (status == GV_OK) status = leave(end, gvp_new(enter(end), (uint32_t)role, &own, &chosen, &limits));
@@ -158,10 +158,42 @@ gv_status gv_set_grant(gv_endpoint *end, gv_dir dir, uint64_t streams) {
 
 /* Packets. */
 
+/* What was heard is kept from the first note on; false where there is no memory for it. */
+static bool listens(gv_endpoint *end) { return end->heard.live || leave(end, gvp_heard_new(enter_heard(end))) == GV_OK; }
+
+/* What a frame says to hold the peer back is noted, where its owner hears of that; no other frame is looked at. */
+static gv_status note_frame(gv_endpoint *end, const gvp_frame *frame) {
+  if (frame->kind < GV_FRAME_DATA_BLOCKED || frame->kind > GV_FRAME_STREAMS_BLOCKED) return GV_OK;
+  if (!end->hears && !end->looks) return GV_OK;
+  if (!listens(end)) return GV_NO_MEMORY;
+  return leave(end, gvp_was_told(&end->heard, enter(end), frame, none, 0));
+}
+
+/* A payload was taken in, and is looked through for such frames. Of one that was processed before nothing is noted again, but where there
+ * was no memory for it. */
+static gv_status look_through(gv_endpoint *end, uint64_t number, const uint8_t *payload, size_t len, gv_status status) {
+  gvp_frame frame;
+  gvp_fault fault = {0, 0, 0, 0};
+  size_t place = 0;
+  bool comes_again = status == GV_DUPLICATE && end->half_heard == number;
+  if (!end->looks || (status != GV_OK && !comes_again)) return status;
+  memset(&frame, 0, sizeof frame);
+  while (gvp_frames_next(payload, len, &place, &frame, &fault) == GV_OK) {
+    if (note_frame(end, &frame) == GV_NO_MEMORY) {
+      end->half_heard = number;
+      return GV_NO_MEMORY;
+    }
+  }
+  if (comes_again) end->half_heard = UINT64_MAX;
+  return GV_OK;
+}
+
 gv_status gv_receive(gv_endpoint *end, uint64_t number, const uint8_t *payload, size_t len) {
   gvp_closing_info told = {0, 0, 0};
   if (end == NULL || !is_slice(payload, len)) return GV_INVALID;
-  return leave(end, gvp_receive(enter(end), number, read_from(payload, len), len, &told));
+  const uint8_t *from = read_from(payload, len);
+  gv_status status = leave(end, gvp_receive(enter(end), number, from, len, &told));
+  return look_through(end, number, from, len, status);
 }
 
 /* Twice as many numbers have a place; false where memory is refused. */
@@ -187,7 +219,7 @@ gv_status gv_receive_telling(gv_endpoint *end, uint64_t number, const uint8_t *p
     status = leave(end, gvp_receive_telling(enter(end), number, from, len, &why, end->told, end->told_room, &count));
   } while (status == GV_NO_ROOM && grow_told(end));
   for (size_t i = 0; i < count; i++) told(context, end->told[i]);
-  return status == GV_NO_ROOM ? GV_NO_MEMORY : status;
+  return status == GV_NO_ROOM ? GV_NO_MEMORY : look_through(end, number, from, len, status);
 }
 
 static gv_status give_made(gv_made *to, gv_status status, gvp_made made) {
@@ -241,9 +273,6 @@ gv_status gv_next_newly_acked(const gv_endpoint *end, const uint8_t *payload, si
 
 /* Events. */
 
-/* What was heard is kept from the first note on; false where there is no memory for it. */
-static bool listens(gv_endpoint *end) { return end->heard.live || leave(end, gvp_heard_new(enter_heard(end))) == GV_OK; }
-
 /* A stream was read, or stopped: where nothing is left to read it is heard of again once something is. */
 static gv_status read_on(gv_endpoint *end, uint64_t stream, gv_status status) {
   if (end->heard.live) (void)leave(end, gvp_was_read(&end->heard, enter(end), stream));
@@ -254,6 +283,7 @@ gv_status gv_next_event(gv_endpoint *end, gv_event *event) {
   gvp_news got = {0, 0, 0, 0};
   if (end == NULL || !is_sized(event, UP_TO(gv_event, code))) return GV_INVALID;
   if (!listens(end)) return GV_NO_MEMORY;
+  end->hears = true;
   for (uint32_t dir = GV_DIR_BIDI; dir <= GV_DIR_UNI; dir++) {
     if (end->wants[dir]) (void)leave(end, gvp_wants(enter_heard(end), dir));
     end->wants[dir] = false;
@@ -262,6 +292,12 @@ gv_status gv_next_event(gv_endpoint *end, gv_event *event) {
   gv_event told = {0, (gv_event_kind)got.kind, (gv_dir)got.dir, got.stream, got.code};
   if (status == GV_OK) copy_out(event, &told, sizeof told);
   return status;
+}
+
+gv_status gv_hear_blocked(gv_endpoint *end, bool is_chosen) {
+  if (end == NULL) return GV_INVALID;
+  end->looks = is_chosen;
+  return GV_OK;
 }
 
 /* Streams. */
@@ -637,6 +673,7 @@ gv_status gv_take_frame(gv_endpoint *end, const gv_frame *frame, gv_taken *taken
   if (!is_slice(f.bytes, f.len)) return GV_INVALID;
   gvp_frame given = frame_of(&f);
   gv_status status = leave(end, gvp_take_frame(enter(end), &given, read_from(f.bytes, f.len), f.len, &got));
+  if (status == GV_OK) status = note_frame(end, &given);
   if (status == GV_OK) *taken = (gv_taken)got;
   return status;
 }
@@ -659,6 +696,17 @@ static gv_status take_each(gv_endpoint *end, const gvp_given *given, size_t coun
   uint32_t taken = 0;
   for (size_t i = 0; i < count; i++) {
     gv_status status = leave(end, gvp_take_frame(enter(end), &given[i].frame, given[i].bytes, given[i].bytes_len, &taken));
+    if (status == GV_OK) status = note_frame(end, &given[i].frame);
+    if (status == GV_NO_MEMORY) *went = i;
+    if (status != GV_OK) return status;
+  }
+  return GV_OK;
+}
+
+/* All frames went in; *went tells the first one that finds no memory to be noted. */
+static gv_status note_each(gv_endpoint *end, const gvp_given *given, size_t count, size_t *went) {
+  for (size_t i = 0; i < count; i++) {
+    gv_status status = note_frame(end, &given[i].frame);
     if (status == GV_NO_MEMORY) *went = i;
     if (status != GV_OK) return status;
   }
@@ -671,6 +719,8 @@ static gv_status take_all(gv_endpoint *end, const gvp_given *given, size_t count
   if (status == GV_NO_MEMORY) {
     got = GV_TAKEN_TOOK;
     status = take_each(end, given, count, went);
+  } else if (status == GV_OK) {
+    status = note_each(end, given, count, went);
   }
   if (status != GV_OK) return status;
   *went = count;

@@ -17,6 +17,9 @@ struct gv_endpoint {
   const gv_allocator *outer; /* from where the thread takes memory again once the call ends */
   uint64_t *told;            /* where gv_receive_telling() has the numbers written */
   size_t told_room;          /* how many have a place there */
+  bool hears;                /* whether an event was asked for: then frames are noted that say what holds the peer back */
+  bool looks;                /* whether payloads are looked through for such frames */
+  uint64_t half_heard;       /* the number of a payload of which one found no memory, else above all numbers */
 };
 
 /* What a struct takes up to a field, and it: what it took in the version of which this was the last field. */

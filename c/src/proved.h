@@ -211,6 +211,7 @@ uint32_t gvp_next_news(gvp_heard *heard, gvp_handle *end, gvp_news *news);
 uint32_t gvp_will_write(gvp_heard *heard, gvp_handle *end, uint64_t stream, size_t len);
 uint32_t gvp_wants(gvp_heard *heard, uint32_t dir);
 uint32_t gvp_was_read(gvp_heard *heard, gvp_handle *end, uint64_t stream);
+uint32_t gvp_was_told(gvp_heard *heard, gvp_handle *end, const gvp_frame *frame, const uint8_t *bytes, size_t len);
 uint32_t gvp_closing(gvp_handle *end, gvp_closing_info *closing);
 uint32_t gvp_close_payload(gvp_handle *end, uint8_t *out, size_t room, size_t *len);
 uint32_t gvp_peer_closed(gvp_handle *end, uint64_t *code);

@@ -13,13 +13,13 @@ use crate::faults::{
 use crate::filling::{Fill, Filled};
 use crate::frame::{Frame, MAX_VARINT};
 use crate::ids::{Dir, Role, StreamId};
-use crate::proved::qs_conn as conn;
+use crate::proved::{qs_calls as calls, qs_conn as conn, qs_wire as wire};
 use crate::settings::{PeerLimits, Settings};
 use crate::shim::Vec;
 use crate::shim::alloc::Global;
 use crate::streams::{RecvStream, SendStream};
 use crate::tuning::Tuning;
-use core::{array, fmt};
+use core::{array, fmt, slice};
 use hearing::Hearing;
 
 /// The least room of a packet's payload, in bytes.
@@ -600,13 +600,26 @@ impl Endpoint {
     ///
     /// `Closing` where the frame breaks a rule (sections 4, 19 and 20.1), or has values that no text has
     /// (FRAME_ENCODING_ERROR); the end is closed from now on, and [`Endpoint::close_payload`] tells the peer so. It names the
-    /// type of the frame's canonical text, and place 0. `NoMemory`: nothing changed, and the frame may come again. An end
-    /// that is closed says so again: `Closing`, or `PeerClosed` with the peer's code.
+    /// type of the frame's canonical text, and place 0. `NoMemory`: nothing changed, or a STREAM_DATA_BLOCKED alone opened its
+    /// stream and wasn't noted for [`next_event`](Endpoint::next_event); the frame may come again. An end that is closed says so
+    /// again: `Closing`, or `PeerClosed` with the peer's code.
+    #[inline]
     pub fn take_frame(&mut self, frame: &Frame<'_>) -> Result<Taken, TakeFault> {
-        match self.inner.take_frame(&frame.inner()) {
-            Ok(taken) => Ok(Taken::of(taken)),
-            Err(fault) => Err(TakeFault::of(fault)),
+        if let Frame::Stream {
+            stream,
+            offset,
+            fin,
+            bytes,
+        } = *frame
+        {
+            let taken = self
+                .inner
+                .take_stream_frame(stream.inner(), offset, bytes, fin);
+            return taken.map(Taken::of).map_err(TakeFault::of);
         }
+        let frame = frame.inner();
+        let taken = self.inner.take_frame(&frame);
+        self.told_of(taken, slice::from_ref(&frame))
     }
 
     /// Takes in the frames of one packet, as [`take_frame`](Endpoint::take_frame) each of them, one after the other, but that
@@ -639,21 +652,37 @@ impl Endpoint {
     /// As of [`take_frame`](Endpoint::take_frame), by the first frame that is refused: those before it took effect. After
     /// `NoMemory` the same frames may come again.
     pub fn take_frames(&mut self, frames: &[Frame<'_>]) -> Result<Taken, TakeFault> {
-        let taken = if frames.len() <= FEW_FRAMES {
+        if frames.len() <= FEW_FRAMES {
             let few: [_; FEW_FRAMES] =
                 array::from_fn(|place| frames.get(place).unwrap_or(&Frame::Ping).inner());
-            self.inner.take_frames(&few[..frames.len()])
-        } else {
-            let Ok(mut all) = Vec::with_capacity(Global, frames.len()) else {
-                return Err(TakeFault::NoMemory);
-            };
-            for frame in frames {
-                // (there is room)
-                let _ = all.push(frame.inner());
-            }
-            self.inner.take_frames(&all)
+            let few = &few[..frames.len()];
+            let taken = self.inner.take_frames(few);
+            return self.told_of(taken, few);
+        }
+        let Ok(mut all) = Vec::with_capacity(Global, frames.len()) else {
+            return Err(TakeFault::NoMemory);
         };
-        taken.map(Taken::of).map_err(TakeFault::of)
+        for frame in frames {
+            // (there is room)
+            let _ = all.push(frame.inner());
+        }
+        let taken = self.inner.take_frames(&all);
+        self.told_of(taken, &all)
+    }
+
+    // What came of frames, once it is noted what they say to hold the peer back.
+    fn told_of(
+        &mut self,
+        taken: Result<calls::Taken, calls::TakeFault>,
+        frames: &[wire::Frame<'_>],
+    ) -> Result<Taken, TakeFault> {
+        let taken = taken.map_err(TakeFault::of)?;
+        for frame in frames {
+            if self.hearing.was_told(&self.inner, frame).is_err() {
+                return Err(TakeFault::NoMemory);
+            }
+        }
+        Ok(Taken::of(taken))
     }
 
     /// The token of a packet that [`make_packet`](Endpoint::make_packet) made, by the number of [`Made`], for a stack that
@@ -719,7 +748,8 @@ impl Endpoint {
         if number > MAX_VARINT || payload.len() > MAX_PAYLOAD {
             return Err(ReceiveFault::Invalid);
         }
-        answer_of(self.inner.receive(number, payload))
+        let answer = answer_of(self.inner.receive(number, payload));
+        self.hearing.received(&self.inner, number, payload, answer)
     }
 
     /// As [`Endpoint::receive`], and `told` is told each packet that the payload newly acknowledges, once: one that was
@@ -764,10 +794,9 @@ impl Endpoint {
         if number > MAX_VARINT || payload.len() > MAX_PAYLOAD {
             return Err(ReceiveFault::Invalid);
         }
-        answer_of(
-            self.inner
-                .receive_telling(number, payload, &mut Telling(&mut told)),
-        )
+        let mut telling = Telling(&mut told);
+        let answer = answer_of(self.inner.receive_telling(number, payload, &mut telling));
+        self.hearing.received(&self.inner, number, payload, answer)
     }
 
     /// Writes the payload that tells of this end's own closing: a CONNECTION_CLOSE with an empty reason (RFC 9000,

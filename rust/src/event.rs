@@ -29,6 +29,18 @@ pub enum Event {
     Ended(StreamId),
     /// An [`open`](crate::Endpoint::open) was `Blocked`, and now a stream of that direction may be opened (section 4.6).
     Available(Dir),
+    /// The peer said that the connection's limit holds its bytes back: [`granted`](crate::Endpoint::granted), as it was when it
+    /// said so (sections 4.1 and 19.12). An owner whose windows grow calls
+    /// [`set_conn_window`](crate::Endpoint::set_conn_window). This kind and the next two come from
+    /// [`take_frame`](crate::Endpoint::take_frame) and [`take_frames`](crate::Endpoint::take_frames) once an event was asked for,
+    /// and from [`receive`](crate::Endpoint::receive) where [`hear_blocked`](crate::Endpoint::hear_blocked) was chosen.
+    DataBlocked,
+    /// The peer said that the stream's limit holds its bytes back (sections 4.1 and 19.13): see
+    /// [`set_stream_window`](crate::Endpoint::set_stream_window).
+    StreamDataBlocked(StreamId),
+    /// The peer said that the count of that direction holds its streams back (sections 4.6 and 19.14): see
+    /// [`set_grant`](crate::Endpoint::set_grant).
+    StreamsBlocked(Dir),
 }
 
 impl Event {
@@ -42,6 +54,9 @@ impl Event {
             conn::News::ResetAcked(stream) => Event::ResetAcked(StreamId::of(stream)),
             conn::News::Ended(stream) => Event::Ended(StreamId::of(stream)),
             conn::News::Available(dir) => Event::Available(Dir::of(dir)),
+            conn::News::DataBlocked => Event::DataBlocked,
+            conn::News::StreamDataBlocked(stream) => Event::StreamDataBlocked(StreamId::of(stream)),
+            conn::News::StreamsBlocked(dir) => Event::StreamsBlocked(Dir::of(dir)),
         }
     }
 }

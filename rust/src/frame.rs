@@ -290,6 +290,7 @@ impl FusedIterator for AckRanges<'_> {}
 impl<'a> Iterator for Frames<'a> {
     type Item = Result<Placed<'a>, WireFault>;
 
+    #[inline]
     fn next(&mut self) -> Option<Self::Item> {
         if self.faulty {
             return None;
@@ -497,6 +498,7 @@ impl EcnCounts {
 }
 
 impl<'a> Placed<'a> {
+    #[inline]
     fn of(placed: wire::Placed<'a>) -> Placed<'a> {
         Placed {
             place: placed.place,

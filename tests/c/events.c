@@ -50,17 +50,19 @@ static void carry(gv_endpoint *a, gv_endpoint *b) {
 
 /* All events of an end, in words. */
 static void hears(gv_endpoint *end, const char *wanted, const char *what) {
-  static const char *const kinds[] = {"opened", "readable", "writable", "stopped", "finished", "reset-acked", "ended", "available"};
+  static const char *const kinds[] = {"opened", "readable",  "writable",     "stopped", "finished",     "reset-acked",
+                                      "ended",  "available", "conn-blocked", "blocked", "count-blocked"};
   char text[400] = "";
   gv_event event = {.size = sizeof event};
   gv_status status;
   while ((status = gv_next_event(end, &event)) == GV_OK && strlen(text) < 300) {
     char *at = text + strlen(text);
     size_t room = sizeof text - strlen(text);
-    if (event.kind == GV_EVENT_AVAILABLE) snprintf(at, room, "%s %s;", kinds[event.kind], event.dir == GV_DIR_UNI ? "uni" : "bidi");
+    bool of_dir = event.kind == GV_EVENT_AVAILABLE || event.kind == GV_EVENT_STREAMS_BLOCKED;
+    if (of_dir) snprintf(at, room, "%s %s;", kinds[event.kind], event.dir == GV_DIR_UNI ? "uni" : "bidi");
     else if (event.kind == GV_EVENT_STOPPED) snprintf(at, room, "stopped %" PRIu64 " %" PRIu64 ";", event.stream, event.code);
     else snprintf(at, room, "%s %" PRIu64 ";", kinds[event.kind], event.stream);
-    if (event.kind != GV_EVENT_AVAILABLE) holds(event.dir == GV_DIR_BIDI, "no direction");
+    if (!of_dir) holds(event.dir == GV_DIR_BIDI, "no direction");
     if (event.kind != GV_EVENT_STOPPED) holds(event.code == 0, "no code");
   }
   want(status, GV_NONE, what);
@@ -217,6 +219,51 @@ static void bounded(void) {
   gv_endpoint_free(server);
 }
 
+/* What the peer says to hold it back, at these limits: all three kinds, in the frames of one packet. */
+static gv_status says(gv_endpoint *end, uint64_t conn, uint64_t of_stream, uint64_t count, size_t *went) {
+  gv_frame frames[3] = {
+    {.size = sizeof frames[0], .kind = GV_FRAME_STREAMS_BLOCKED, .dir = GV_DIR_BIDI, .limit = count},
+    {.size = sizeof frames[0], .kind = GV_FRAME_DATA_BLOCKED, .limit = conn},
+    {.size = sizeof frames[0], .kind = GV_FRAME_STREAM_DATA_BLOCKED, .stream = 0, .limit = of_stream},
+  };
+  gv_taken taken = GV_TAKEN_NOT_OURS;
+  return gv_take_frames(end, frames, 3, went, &taken);
+}
+
+/* Each is told once where it is said of a limit of the present, and of one that rose it isn't. */
+static void held_back(void) {
+  static const uint8_t payload[] = {0x14, 0x50, 0x00, 0x15, 0x00, 0x44, 0x00}; /* of the connection at 4096, and of stream 0 at 1024 */
+  gv_endpoint *end = new_end(GV_ROLE_SERVER);
+  gv_frame of_conn = {.size = sizeof of_conn, .kind = GV_FRAME_DATA_BLOCKED, .limit = 8192};
+  gv_taken taken = GV_TAKEN_TOOK;
+  size_t went = 0;
+  want(says(end, 4096, 1024, 1, &went), GV_OK, "nobody asked for events yet");
+  hears(end, "opened 0;", "the stream opened");
+  is_refused = true;
+  want(says(end, 4096, 1024, 1, &went), GV_NO_MEMORY, "there is no note for the stream");
+  is_refused = false;
+  holds(went == 2, "the others were noted");
+  hears(end, "conn-blocked 0;count-blocked bidi;", "so they are told");
+  want(says(end, 4096, 1024, 1, &went), GV_OK, "the same frames again");
+  hears(end, "conn-blocked 0;blocked 0;count-blocked bidi;", "all three");
+  hears(end, "", "each once");
+  want(says(end, 4095, 1023, 0, &went), GV_OK, "limits that rose");
+  hears(end, "", "hold nobody back");
+  want(gv_set_conn_window(end, 8192), GV_OK, "a wider window");
+  want(gv_receive(end, 1, payload, sizeof payload), GV_OK, "a payload says so");
+  hears(end, "", "and isn't looked through");
+  want(gv_take_frame(end, &of_conn, &taken), GV_OK, "one frame");
+  hears(end, "conn-blocked 0;", "of the limit that stands now");
+  want(gv_hear_blocked(NULL, true), GV_INVALID, "of no end");
+  want(gv_hear_blocked(end, true), GV_OK, "payloads are looked through");
+  want(gv_receive(end, 2, payload, sizeof payload), GV_OK, "one is");
+  want(gv_receive(end, 2, payload, sizeof payload), GV_DUPLICATE, "once");
+  hears(end, "blocked 0;", "the connection's limit rose");
+  want(gv_receive(end, 2, payload, sizeof payload), GV_DUPLICATE, "the packet again");
+  hears(end, "", "says nothing new");
+  gv_endpoint_free(end);
+}
+
 int main(void) {
   gv_endpoint *client = new_end(GV_ROLE_CLIENT), *server = new_end(GV_ROLE_SERVER);
   arguments();
@@ -224,6 +271,7 @@ int main(void) {
   broken_off(client, server);
   refused(client, server);
   bounded();
+  held_back();
   gv_endpoint_free(client);
   gv_endpoint_free(server);
   return failed;

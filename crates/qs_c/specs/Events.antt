@@ -5,7 +5,7 @@ use Rattle.qs_ranges.specs.declared.NoMemory.{NoMemory}
 use Rattle.qs_wire.specs.declared.stream_id.Dir.{Dir}
 use Rattle.qs_wire.specs.declared.stream_id.Dir.TheVariants.{Bidi, Uni}
 use Rattle.qs_calls.specs.declared.news.News.{News}
-use Rattle.qs_calls.specs.declared.news.News.TheVariants.{Opened, Readable, Writable, Stopped, Finished, ResetAcked, Ended, Available}
+use Rattle.qs_calls.specs.declared.news.News.TheVariants.{Opened, Readable, Writable, Stopped, Finished, ResetAcked, Ended, Available, DataBlocked, StreamDataBlocked, StreamsBlocked}
 use Rattle.qs_machine.specs.Heard.{Hearing}
 use Rattle.qs_c.specs.declared.news.GvNews.{GvNews}
 
@@ -38,6 +38,9 @@ news_of (Finished n) = record { kind = 4; dir = 0; stream = n; code = 0 }
 news_of (ResetAcked n) = record { kind = 5; dir = 0; stream = n; code = 0 }
 news_of (Ended n) = record { kind = 6; dir = 0; stream = n; code = 0 }
 news_of (Available d) = record { kind = 7; dir = dir_number d; stream = 0; code = 0 }
+news_of DataBlocked = record { kind = 8; dir = 0; stream = 0; code = 0 }
+news_of (StreamDataBlocked n) = record { kind = 9; dir = 0; stream = n; code = 0 }
+news_of (StreamsBlocked d) = record { kind = 10; dir = dir_number d; stream = 0; code = 0 }
 
 abbrev pub news_told : Result (Option News) NoMemory → GvNews → ℕ × GvNews
 news_told (Ok (Some news)) old = (0, news_of news)

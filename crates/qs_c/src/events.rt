@@ -1,17 +1,21 @@
 //! What an owner hears of its end, and what it tells for that. What was heard has a handle of its own, beside that of the end.
-ghost use Rattle.std.specs.Prelude.{◌≡◌, ℕ, true, Option, Some, None, Result, MatchBool, nat_eq};
+ghost use Rattle.std.specs.Prelude.{◌≡◌, ℕ, true, [], Option, Some, None, Result, MatchBool, nat_eq};
 ghost use Rattle.qs_ranges.specs.declared.NoMemory.{NoMemory};
 ghost use Rattle.qs_calls.specs.declared.news.News.{News};
-ghost use Rattle.qs_machine.specs.Heard.{heard_nothing, IsNextNews, IsReadOn, WillWrite, with_wants};
+ghost use Rattle.qs_machine.specs.Heard.{heard_nothing, IsNextNews, IsNoted, IsReadOn, WillWrite, with_wants};
+ghost use Rattle.qs_machine.specs.Seen.{seen};
 ghost use Rattle.qs_c.specs.Statuses.{Asked, Invalid, is_small, is_flag, dir_of, status_of};
 ghost use Rattle.qs_c.specs.Events.{TestedHeard, CalledHeard, memory_status, news_told};
+ghost use Rattle.qs_c.specs.Frames.{frame_in, is_frame};
 
 use crate::answers::{INVALID, NO_MEMORY, OK};
 use crate::calls::dir_of;
+use crate::frame::GvFrame;
 use crate::handle::Handle;
 use crate::listener::Listener;
 use crate::listener_handle::ListenerHandle;
 use crate::news::{GvNews, of_news, of_note};
+use crate::puts::{frame_of, is_known};
 use crate::thing::Thing;
 use qs_conn::{Endpoint, Heard};
 use qs_wire::StreamId;
@@ -106,6 +110,25 @@ pub extern "C" fn gvp_was_read(
     status
 }
 
+/// A frame of these bytes was handed in, which may say what holds the peer back.
+#[unsafe(no_mangle)]
+pub extern "C" fn gvp_was_told(
+    alloc: Global,
+    heard: &mut ListenerHandle,
+    end: &mut Handle,
+    frame: &GvFrame,
+    bytes: &[u8],
+) -> u32
+    ensures { Asked end.old.cell.value end.new.cell.value true ((result ≡ 1) × (heard.new.cell.value ≡ heard.old.cell.value)) (λ e. CalledHeard heard.old.cell.value heard.new.cell.value (is_frame frame.now) (result ≡ 1) (λ g h. (a : Result (Unit {0}) NoMemory) × (result ≡ status_of memory_status a) × IsNoted e (seen (frame_in frame.now bytes.now [])) g a h)) }
+{
+    let Some(thing) = end.take(alloc) else {
+        return INVALID;
+    };
+    let status = thing.was_told(alloc, heard, frame, bytes);
+    end.put(thing);
+    status
+}
+
 impl Thing {
     pub(crate) fn next_news(
         &self,
@@ -150,6 +173,23 @@ impl Thing {
         heard.put(listener);
         status
     }
+
+    pub(crate) fn was_told(
+        &self,
+        alloc: Global,
+        heard: &mut ListenerHandle,
+        frame: &GvFrame,
+        bytes: &[u8],
+    ) -> u32
+        ensures { CalledHeard heard.old.cell.value heard.new.cell.value (is_frame frame.now) (result ≡ 1) (λ g h. (a : Result (Unit {0}) NoMemory) × (result ≡ status_of memory_status a) × IsNoted self.now (seen (frame_in frame.now bytes.now [])) g a h) }
+    {
+        let Some(mut listener) = heard.take(alloc) else {
+            return INVALID;
+        };
+        let status = listener.was_told(&self.end, frame, bytes);
+        heard.put(listener);
+        status
+    }
 }
 
 impl Listener {
@@ -186,5 +226,17 @@ impl Listener {
         };
         self.heard.was_read(end, id);
         OK
+    }
+
+    pub(crate) fn was_told(&mut self, end: &Endpoint, frame: &GvFrame, bytes: &[u8]) -> u32
+        ensures { TestedHeard (is_frame frame.now) self.old self.new (result ≡ 1) ((a : Result (Unit {0}) NoMemory) × (result ≡ status_of memory_status a) × IsNoted end.now (seen (frame_in frame.now bytes.now [])) self.old a self.new) }
+    {
+        if !is_known(frame) || StreamId::new(frame.stream).is_none() {
+            return INVALID;
+        }
+        let Some(given) = frame_of(frame, bytes, &[]) else {
+            return INVALID;
+        };
+        of_note(self.heard.was_told(end, &given))
     }
 }

@@ -24,6 +24,12 @@ const ENDED: u32 = 6;
 
 const AVAILABLE: u32 = 7;
 
+const DATA_BLOCKED: u32 = 8;
+
+const STREAM_DATA_BLOCKED: u32 = 9;
+
+const STREAMS_BLOCKED: u32 = 10;
+
 /// What its kind hasn't is 0.
 #[repr(C)]
 #[derive(Clone, Copy, Drop)]
@@ -46,12 +52,15 @@ impl GvNews {
             News::Finished(stream) => of_stream(FINISHED, stream, 0),
             News::ResetAcked(stream) => of_stream(RESET_ACKED, stream, 0),
             News::Ended(stream) => of_stream(ENDED, stream, 0),
-            News::Available(dir) => GvNews {
-                kind: AVAILABLE,
-                dir: dir_number(dir),
+            News::Available(dir) => of_dir(AVAILABLE, dir),
+            News::DataBlocked => GvNews {
+                kind: DATA_BLOCKED,
+                dir: 0,
                 stream: 0,
                 code: 0,
             },
+            News::StreamDataBlocked(stream) => of_stream(STREAM_DATA_BLOCKED, stream, 0),
+            News::StreamsBlocked(dir) => of_dir(STREAMS_BLOCKED, dir),
         }
     }
 }
@@ -64,6 +73,17 @@ fn of_stream(kind: u32, stream: StreamId, code: u64) -> GvNews
         dir: 0,
         stream: stream.value(),
         code,
+    }
+}
+
+fn of_dir(kind: u32, dir: Dir) -> GvNews
+    ensures { result ≡ record { kind = kind; dir = dir_number dir; stream = 0; code = 0 } }
+{
+    GvNews {
+        kind,
+        dir: dir_number(dir),
+        stream: 0,
+        code: 0,
     }
 }
 

@@ -121,3 +121,7 @@ both_summed ms os ws vs are others =
     none : (i word : ℕ) (b : Bool) → is_marked ws word ≡ b → (is_marked ws word && is_marked vs word) ≡ false → i / 64 ≡ word → (is_marked ms i && is_marked os i) ≡ false
     none i word true is unmarked at = ap (λ b. is_marked ms i && b) (others.none word (ap (λ b. b && is_marked vs word) (sym is) ∙ unmarked) i at) ∙ no_more (is_marked ms i)
     none i word false is unmarked at = ap (λ b. b && is_marked os i) (are.none word is i at)
+
+-- an index without a mark in one row
+pub not_both : (ms os : List Bool) (i : ℕ) → is_marked ms i ≡ false → is_marked (both ms os) i ≡ false
+not_both ms os i none = both_is ms os i ∙ ap (λ b. b && is_marked os i) none

@@ -1,5 +1,5 @@
 -- What holds of the tables of an end: each change of a part keeps it.
-use Rattle.std.proofs.Common.{◌≡◌, ℕ, ◌+◌, ◌-◌, ◌≤◌, ◌^◌, Bool, true, false, List, length, Option, None, Some, Result, Ok, Err, is_some, cond, refl, sym, ap, ◌∙◌, subst, arith}
+use Rattle.std.proofs.Common.{◌≡◌, ℕ, zero, suc, ◌+◌, ◌-◌, ◌≤◌, ◌^◌, Bool, true, false, List, [], length, take, append-nil, Option, None, Some, Result, Ok, Err, is_some, cond, refl, sym, ap, ◌∙◌, subst, arith}
 use Rattle.std.specs.FinMap as fmap
 use Rattle.std.specs.Result.{OnOk, OnErr}
 use Rattle.std.proofs.lemmas.Bool.{true≢false}
@@ -15,13 +15,14 @@ use Rattle.qs_send.specs.declared.piece.Piece.{Piece}
 use Rattle.qs_send.specs.declared.piece.Piece.TheVariants.{Data, Told}
 use Rattle.qs_calls.specs.declared.settings.PeerLimits.{PeerLimits}
 use Rattle.qs_calls.specs.declared.closing.Closed.{Closed}
-use Rattle.qs_machine.specs.Tables.{Tables, lookup, updated, open_to}
+use Rattle.qs_machine.specs.Tables.{Tables, lookup, update, updated, open_to}
 use Rattle.qs_machine.specs.Ends.{End, new_end, window_by}
 use Rattle.qs_machine.specs.Lawful.{frame_put}
 use Rattle.qs_machine.specs.Seen.{Seen, Stream, Control}
 use Rattle.qs_machine.specs.Outgoing.{Outgoing, HasSending, IsIdle, with_sends, on_lane, sent_sum, IsBlockedAt, IsCarried, first_piece, first_acked_out, first_lost_out, without_piece_out, acked_at, item_put_out, chunk_put}
 use Rattle.qs_machine.specs.Standing.{KeepsCredit}
 use Rattle.qs_machine.specs.Sums.{or_none}
+use Rattle.qs_machine.proofs.TablesAfter.{update_back}
 use Rattle.qs_machine.proofs.Taken.{sum_open}
 use Rattle.qs_conn.specs.declared.by_dir.ByDir.{ByDir}
 use Rattle.qs_conn.specs.declared.middle.Core.{Core}
@@ -358,6 +359,18 @@ fills_within a b xs ys i j own most le f =
       rest = f.rest;
       room = f.room;
     }
+
+-- a write of nothing leaves the sending halves as they are
+pub none_written : (n count : ℕ) (bytes : List ℕ) (a b : Outgoing) → count ≤ 0 → b ≡ on_lane n (λ l. write_lane l (take count bytes)) a → b ≡ a
+none_written n zero bytes a b none is = is ∙ go (lookup a.sends n) refl
+  where
+    same : (l : SendLane) → write_lane l [] ≡ l
+    same l = let no_more : l.written + 0 ≡ l.written = omega arith in rw (append-nil l.kept, no_more) refl
+
+    go : (x : Option SendLane) → lookup a.sends n ≡ x → with_sends (updated a.sends n (λ l. write_lane l []) x) a ≡ a
+    go None at = refl
+    go (Some l) at = ap (λ t. with_sends t a) (ap (update a.sends n) (same l) ∙ update_back a.sends n l at)
+none_written n (suc k) bytes a b none is = absurd (omega (arith, none))
 
 -- What holds of an end between calls
 

@@ -1,8 +1,9 @@
 -- What is news at an end: the next stream that the peer opened, of those that its owner didn't hear of; and what a search for streams finds.
-use Rattle.std.proofs.Common.{◌≡◌, ◌≢◌, ℕ, zero, suc, ◌+◌, ◌-◌, ◌*◌, ◌/◌, ◌%◌, ◌<◌, ◌≤◌, ◌⊎◌, ◌==◌, Bool, true, false, nat_lt, IsTrue, Option, None, Some, is_some, refl, sym, ap, ◌∙◌, subst, arith, inl, inr, if◌then◌else◌}
+use Rattle.std.proofs.Common.{◌≡◌, ◌≢◌, ℕ, zero, suc, ◌+◌, ◌-◌, ◌*◌, ◌/◌, ◌%◌, ◌<◌, ◌≤◌, ◌⊎◌, ◌==◌, Bool, true, false, nat_lt, IsTrue, Option, None, Some, unwrap_or, is_some, refl, sym, ap, ◌∙◌, subst, arith, inl, inr, if◌then◌else◌}
 use Rattle.std.proofs.lemmas.Bool.Decides.{nat_tests}
 use Rattle.std.proofs.lemmas.Bool.{cases_lt, both_ways, true≢false}
 use Rattle.std.proofs.lemmas.Option.{none-some, same_Some}
+use Rattle.qs_ranges.specs.Numbers.{MAX_VARINT}
 use Rattle.qs_wire.specs.Streams.{dir_of}
 use Rattle.qs_wire.specs.declared.stream_id.Role.{Role}
 use Rattle.qs_wire.specs.declared.stream_id.Role.TheVariants.{Client, Server}
@@ -174,6 +175,23 @@ room_is e n lt = go (is_some e.closed) (send_lane e n) refl lt
     go false None at some = absurd (omega (arith, some))
     go false (Some l) at some = (l, at, accepts l (refusal l) refl some)
 
+-- no stream takes more bytes than it has offsets
+room_few : (e : End) (n : ℕ) → room e n ≤ MAX_VARINT
+room_few e n = go (is_some e.closed) (send_lane e n)
+  where
+    takes : (l : SendLane) (b : Bool) → (if b then 0 else accepted_by e l (free_room l)) ≤ MAX_VARINT
+    takes l true = omega arith
+    takes l false = omega (arith, accepted_few e l (free_room l))
+
+    go : (b : Bool) (x : Option SendLane) → (if b then 0 else room_of e x) ≤ MAX_VARINT
+    go true x = omega arith
+    go false None = omega arith
+    go false (Some l) = takes l (is_some (refusal l))
+
+-- a write of more is cut short
+pub cut_past : (e : End) (n len : ℕ) → MAX_VARINT < len → nat_lt (room e n) len ≡ true
+cut_past e n len past = (let few = room_few e n in grind (arith, nat_tests, few, past))
+
 pub readable_at : (v old : End) (b r : Bool) (n : ℕ) → v ≡ old → b ≡ is_read_no_more old → b ≡ false → r ≡ has_news (lookup v.recvs n) → (IsTrue r → IsReadable old n) × (IsReadable old n → IsTrue r)
 readable_at v old b r n same is none found =
     let at : r ≡ has_news (lookup old.recvs n) = found ∙ ap (λ (x : End). has_news (lookup x.recvs n)) same in
@@ -218,6 +236,14 @@ module _ (v old : End) (same : v ≡ old) (short : Tables Bool) where
 
   pub takes_full : ((n : ℕ) → 0 < room old n → ⊥) → IsLeast Takes 0 None
   takes_full none = least_by Takes 0 None (λ n is. absurd (none-some n is)) (λ n ge before p. none n p.0)
+
+  -- none is cut short
+  pub takes_untold : ((n : ℕ) (b : Bool) → lookup short n ≡ Some b → b ≡ false) → IsLeast Takes 0 None
+  takes_untold none = least_by Takes 0 None (λ n is. absurd (none-some n is)) (λ n ge before p. go n (lookup short n) refl p.1)
+    where
+      go : (n : ℕ) (x : Option Bool) → lookup short n ≡ x → unwrap_or x false ≡ true → ⊥
+      go n None at is = true≢false (sym is)
+      go n (Some b) at is = both_ways b (none n b at) is
 
   pub takes_none : (next : ℕ) → IsClear Takes 0 next → IsLeast Writable next None → IsLeast Takes 0 None
   takes_none next clear h =

@@ -1,9 +1,11 @@
 -- The last STREAM frame of a packet in the making has the stream of the last chunk in its record.
-use Rattle.std.proofs.Common.{◌≡◌, ℕ, List, [], ◌∷◌, ◌++◌, Option, Some, None, refl, sym, ap, ◌∙◌}
+use Rattle.std.proofs.Common.{◌≡◌, ℕ, zero, suc, ◌+◌, List, [], ◌∷◌, ◌++◌, length, slice_get, Option, Some, None, refl, sym, ap, ◌∙◌, subst, arith}
+use Rattle.std.proofs.lemmas.Option.{same_Some}
 use Rattle.std.specs.FinMap as fmap
 use Rattle.qs_wire.specs.LastStream.{stream_or, last_stream_of}
 use Rattle.qs_wire.specs.Layout.{FrameValue, padding, ping, ack, reset_stream, stop_sending, crypto, new_token, stream, max_data, max_stream_data, max_streams, data_blocked, stream_data_blocked, streams_blocked, new_connection_id, retire_connection_id, path_challenge, path_response, connection_close, application_close, handshake_done}
 use Rattle.qs_send.specs.Lane.{sent_lane}
+use Rattle.qs_send.specs.declared.parts.Chunk.{Chunk}
 use Rattle.qs_send.specs.declared.piece.Piece.{Piece}
 use Rattle.qs_send.specs.declared.piece.Piece.TheVariants.{Data, Told}
 use Rattle.qs_machine.specs.Ends.{End, Records, on_send}
@@ -24,6 +26,14 @@ pieces_there m k (p ∷ ps) below = ap (λ (o : Option (List Piece)). elim o [ N
 pub last_more : (last : Option ℕ) (ps : List Piece) (p : Piece) → last_data last (ps ++ p ∷ []) ≡ data_or (last_data last ps) p
 last_more last [] p = refl
 last_more last (q ∷ ps) p = last_more (data_or last q) ps p
+
+-- the last one, where it is a chunk
+pub last_at : (last : Option ℕ) (ps : List Piece) (i n : ℕ) (c : Chunk) → i + 1 ≡ length ps → Some (Data n c) ≡ slice_get ps i → Some n ≡ last_data last ps
+last_at last [] i n c at is = absurd (omega (arith, at))
+last_at last (q ∷ []) zero n c at is = subst (λ p. Some n ≡ data_or last p) (same_Some (Data n c) q is) refl
+last_at last (q ∷ []) (suc i) n c at is = absurd (omega (arith, at))
+last_at last (q ∷ r ∷ ps) zero n c at is = absurd (omega (arith, at))
+last_at last (q ∷ r ∷ ps) (suc i) n c at is = last_at (data_or last q) (r ∷ ps) i n c (omega (arith, at)) is
 
 last_noted : (p : Piece) (e : End) → last_data None (pieces_so_far (noted p e) (noted p e).next) ≡ data_or (last_data None (pieces_so_far e e.next)) p
 last_noted p e = ap (λ (o : Option (List Piece)). last_data None (elim o [ None ↦ [] | Some qs ↦ qs ])) (get_new e.outstanding e.next (pieces_so_far e e.next ++ p ∷ [])) ∙ last_more None (pieces_so_far e e.next) p

@@ -41,6 +41,7 @@ pub mod Promised
 pub mod Putting
 pub mod Refusals
 pub mod Rests
+pub mod Rises
 pub mod Runs
 pub mod AckRuns
 pub mod RangeAcks
@@ -64,6 +65,7 @@ pub mod UntoldMarks
 pub mod UntoldSearch
 pub mod SoughtTold
 pub mod EndedUntold
+pub mod ToldSearch
 pub mod ToldTables
 pub mod Summed
 pub mod Most
@@ -75,7 +77,6 @@ pub mod Least
 pub mod Sought
 pub mod Overs
 pub mod OverHalves
-pub mod OverEdits
 pub mod NewlyTold
 pub mod TurnsTold
 pub mod Within

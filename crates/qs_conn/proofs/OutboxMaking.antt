@@ -109,15 +109,19 @@ box_begun t m m' r r' ps qs next sent spare free count free' h same is ready roo
       ready = λ some. ready;
     }
 
-pub box_chunk : (t t' : Tables Sending) (m : Records) (r : Bool) (ps qs : List Piece) (next sent spare free free' n before after : ℕ) (s s' : Sending) (c : Chunk) → IsOutbox t m r ps next sent spare free
-    → lookup t n ≡ Some s → IsLawful s → IsDueChunk s c → t' ≡ updated t n (λ x. after_sent x c) (lookup t n) → qs ≡ ps ++ Data n c ∷ [] → 0 < spare → spare ≤ free' + 1
-    → sent_sum (lanes_of t') ≤ MAX_VARINT → before ≡ s.lane.sent_end → after ≡ (after_sent s c).lane.sent_end → IsOutbox t' m r qs next (sent - before + after) (spare - 1) free'
-box_chunk t t' m r ps qs next sent spare free free' n before after s s' c h there law due halves pushed some room small was is =
+-- the sum of the sent ends moves as that of the half does
+pub chunk_sum : (t t' : Tables Sending) (n sent moved : ℕ) (s : Sending) (c : Chunk) → lookup t n ≡ Some s → t' ≡ updated t n (λ x. after_sent x c) (lookup t n) → sent_sum (lanes_of t) ≡ sent → s.lane.sent_end + moved ≡ (after_sent s c).lane.sent_end → sent_sum (lanes_of t') ≡ sent + moved
+chunk_sum t t' n sent moved s c there halves was is =
     let at : t' ≡ update t n (after_sent s c) = halves ∙ ap (updated t n (λ x. after_sent x c)) there in
     let sums = total_update (λ (l : SendLane). l.sent_end) (lanes_of t) n s.lane (sent_lane s.lane c) (lane_there t n s there) in
     let now : sent_sum (lanes_of t') ≡ sent_sum (update (lanes_of t) n (sent_lane s.lane c)) = ap (λ x. sent_sum (lanes_of x)) at ∙ ap sent_sum (update_lanes t n (after_sent s c)) in
-    let low = total_update (λ (l : SendLane). l.sent_end) (lanes_of t) n s.lane (record s.lane { sent_end = 0 }) (lane_there t n s there) in
-    let sum : sent_sum (lanes_of t') ≡ sent - before + after = omega (arith, now, sums, low, h.sum, was, is) in
+    omega (arith, now, sums, was, is)
+
+pub box_chunk : (t t' : Tables Sending) (m : Records) (r : Bool) (ps qs : List Piece) (next sent spare free free' n moved : ℕ) (s : Sending) (c : Chunk) → IsOutbox t m r ps next sent spare free
+    → lookup t n ≡ Some s → IsLawful s → IsDueChunk s c → t' ≡ updated t n (λ x. after_sent x c) (lookup t n) → qs ≡ ps ++ Data n c ∷ [] → 0 < spare → spare ≤ free' + 1
+    → sent_sum (lanes_of t') ≤ MAX_VARINT → sent_sum (lanes_of t') ≡ sent + moved → IsOutbox t' m r qs next (sent + moved) (spare - 1) free'
+box_chunk t t' m r ps qs next sent spare free free' n moved s c h there law due halves pushed some room small sum =
+    let at : t' ≡ update t n (after_sent s c) = halves ∙ ap (updated t n (λ x. after_sent x c)) there in
     record {
       tied =
           subst (λ (x : Records). AreTied t' x) (sym (ap (with_pending m next) pushed ∙ one_more m next ps (Data n c) h.below))
@@ -222,16 +226,6 @@ due_half o n s c h g = subst (λ (x : Sending). IsDueChunk x c) (same_sending o 
 
 pub open_half : (o : Outgoing) (n : ℕ) (c : Chunk) → ((x : Sending) × HasSending o n x × IsDueChunk x c) → is_some (lookup o.sends n) ≡ true
 open_half o n c h = ap is_some h.1.lane
-
-pub sent_half : (t t' : Tables Sending) (n : ℕ) (s x : Sending) (c : Chunk) → lookup t n ≡ Some s → t' ≡ updated t n (λ y. after_sent y c) (lookup t n) → lookup t' n ≡ Some x → x ≡ after_sent s c
-sent_half t t' n s x c there is at =
-    some_is (lookup t' n) x (after_sent s c) at (ap (λ y. lookup y n) (is ∙ ap (updated t n (λ y. after_sent y c)) there) ∙ lookup_same t n s (after_sent s c) there)
-
-pub still_open : (t t' : Tables Sending) (n : ℕ) (s : Sending) (c : Chunk) → lookup t n ≡ Some s → t' ≡ updated t n (λ y. after_sent y c) (lookup t n) → is_some (lookup t' n) ≡ true
-still_open t t' n s c there is = ap is_some (ap (λ y. lookup y n) (is ∙ ap (updated t n (λ y. after_sent y c)) there) ∙ lookup_same t n s (after_sent s c) there)
-
-pub end_within : (t : Tables Sending) (n : ℕ) (s : Sending) → lookup t n ≡ Some s → s.lane.sent_end ≤ sent_sum (lanes_of t)
-end_within t n s there = (let low = total_update (λ (l : SendLane). l.sent_end) (lanes_of t) n s.lane (record s.lane { sent_end = 0 }) (lane_there t n s there) in omega (arith, low))
 
 pub sum_now : (e now : Outgoing) (t t' : Tables Sending) (n : ℕ) (c : Chunk) → e ≡ now → e.sends ≡ lanes_of t → t' ≡ updated t n (λ y. after_sent y c) (lookup t n) → sent_sum (on_lane n (λ l. sent_lane l c) now).sends ≡ sent_sum (lanes_of t')
 sum_now e now t t' n c is sends halves =

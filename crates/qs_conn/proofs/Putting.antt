@@ -81,6 +81,11 @@ stage_kind wish room old text e false P kind from idle s =
     (IsPassed (and_kind P kind))
     (λ t p. elim p [ inl before ↦ inl (inl before) | inr (n, at) ↦ elim (cases_lt n from) [ inl below ↦ inl (inr (n, below, at)) | inr ge ↦ inr (n, ge, at) ] ])
 
+-- where none of the streams has one
+pub stage_none : (wish : Wish) (room : ℕ) (old : End) (text : List ℕ) (e : End) (b : Bool) (P : Passed) (kind : Kind) → ((n : ℕ) → IsIdle e (slot_at kind n)) → Stage wish room old text e b P → Stage wish room old text e b (and_kind P kind)
+stage_none wish room old text e b P kind idle s =
+    stage_kind wish room old text e b P kind 0 (λ n le. idle n) (stage_fewer wish room old text e b P (and_below P kind 0) (λ t p. elim p [ inl before ↦ before | inr (n, lt, at) ↦ absurd (omega (arith, lt)) ]) s)
+
 -- below the next number
 pub below_next : (P : Passed) (kind : Kind) (n m : ℕ) (slot s : Slot) → slot ≡ slot_at kind n → m ≡ n + 1 → IsPassed (and_below P kind m) s → IsPassed (and_slot (and_below P kind n) slot) s
 below_next P kind n m slot s is next (inl p) = inl (inl p)

@@ -1,5 +1,5 @@
 -- The packets of a token are acknowledged, as an ACK of them alone does.
-use Rattle.std.proofs.Common.{◌≡◌, ℕ, ◌+◌, ◌<◌, ◌≤◌, nat_lt, nat_le, ◌&&◌, ◌||◌, Bool, true, false, List, [], ◌∷◌, ◌++◌, map, Option, None, Some, is_some, Result, Ok, Err, refl, sym, ap, ◌∙◌, subst, inl, inr, arith}
+use Rattle.std.proofs.Common.{◌≡◌, ℕ, zero, suc, ◌+◌, ◌<◌, ◌≤◌, nat_lt, nat_le, ◌&&◌, ◌||◌, Bool, true, false, List, [], ◌∷◌, ◌++◌, map, Option, None, Some, is_some, Result, Ok, Err, refl, sym, ap, ◌∙◌, subst, inl, inr, arith}
 use Rattle.std.specs.Prelude.{reverse, flat_map}
 use Rattle.std.specs.List.{filter}
 use Rattle.std.specs.FinMap as fmap
@@ -13,11 +13,11 @@ use Rattle.qs_machine.specs.Ends.{End, Records, LostPackets}
 use Rattle.qs_machine.specs.FrameStep.{AckedPiece, acked_at, is_named, pieces_of, named_in, named, acks, frame_taken}
 use Rattle.qs_machine.specs.Receiving.{RunsOut}
 use Rattle.qs_machine.specs.Alone.{only}
-use Rattle.qs_machine.specs.Outgoing.{Outgoing, with_outgoing}
+use Rattle.qs_machine.specs.Outgoing.{Outgoing, with_outgoing, first_piece}
 use Rattle.qs_machine.proofs.Named.{filter_first, filter_nothing, filter_alike, filter_held}
 use Rattle.qs_conn.specs.Runs.{held_out, acks_out, AcksBy, AcksPacket, AcksAhead, AcksBoth, AreSameBelow, is_ahead, ahead_pieces, from_below, named_out}
 use Rattle.qs_conn.proofs.Chunks.{same_truth}
-use Rattle.qs_conn.proofs.AckRuns.{acks_append, acks_some, others_at, lost_stays, by_ok, by_err}
+use Rattle.qs_conn.proofs.AckRuns.{packet_end, acks_append, acks_some, others_at, lost_stays, by_ok, by_err}
 
 abbrev listed : Bool → ℕ → Option (List Piece) → List AckedPiece
 listed late k x = elim x [ None ↦ [] | Some ps ↦ map (acked_at late k) ps ]
@@ -98,6 +98,15 @@ both_done first end o mid new result one late =
 pub both_stops : (first end : ℕ) (o new : Outgoing) (e e' : NoMemory) → AcksAhead false (from_below first end) o (Err e) new → AcksBoth (from_below first end) o (Err e') new
 unfolding AcksAhead AcksBoth
 both_stops first end o new e e' one = acks_some (ahead_pieces false o.outstanding (from_below first end)) (ahead_pieces true o.lost.pieces (from_below first end)) o new e (one o.outstanding tt (λ k lt. refl))
+
+-- none is lost
+pub none_late : (first end : ℕ) (o : Outgoing) → ((n : ℕ) → fmap.get o.lost.pieces n ≡ None) → AcksAhead true (from_below first end) o (Ok tt) o
+none_late first zero o none = range_end true first zero o (omega arith)
+none_late first (suc k) o none =
+    elim (cases_lt first (suc k)) [
+      | inl lt ↦ range_more true first (suc k) k o o o (Ok tt) lt (omega arith) (packet_end true k o (ap first_piece (none k))) (none_late first k o none)
+      | inr ge ↦ range_end true first (suc k) o ge
+    ]
 
 -- What an end is then
 

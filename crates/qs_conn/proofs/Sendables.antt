@@ -1,5 +1,5 @@
 -- What a walk over control items and streams tells.
-use Rattle.std.proofs.Common.{◌≡◌, ℕ, ◌+◌, ◌-◌, ◌<◌, ◌≤◌, ◌&&◌, min, nat_lt, Bool, true, false, not, IsTrue, ◌↔◌, Option, None, Some, is_some, refl, sym, ap, ◌∙◌, subst, arith, inl, inr}
+use Rattle.std.proofs.Common.{◌≡◌, ℕ, zero, suc, ◌+◌, ◌-◌, ◌<◌, ◌≤◌, ◌&&◌, min, nat_lt, Bool, true, false, not, IsTrue, ◌↔◌, Option, None, Some, is_some, refl, sym, ap, ◌∙◌, subst, arith, inl, inr}
 use Rattle.std.proofs.lemmas.Bool.{true≢false, both_ways, cases_lt}
 use Rattle.std.proofs.lemmas.Bool.Decides.{nat_tests}
 use Rattle.std.specs.FinSet as set
@@ -14,7 +14,7 @@ use Rattle.qs_conn.specs.declared.slot.Slot.{Slot}
 use Rattle.qs_conn.specs.declared.slot.Kind.{Kind}
 use Rattle.qs_conn.specs.declared.limits.Limits.{Limits}
 use Rattle.qs_calls.specs.declared.filling.Fill.{Fill}
-use Rattle.qs_machine.specs.Filling.{IsAsked, WantedGoes}
+use Rattle.qs_machine.specs.Filling.{IsAsked, WantedGoes, still_asked}
 use Rattle.qs_machine.specs.Tables.{Tables, lookup}
 use Rattle.qs_machine.specs.Ends.{End}
 use Rattle.qs_machine.specs.Due.{IsCovered, StreamGoes, Sendable}
@@ -74,6 +74,10 @@ tells_kind e false P kind from idle none = λ i p due. elim p [
 -- as the walk over a kind begins
 pub tells_first : (e : End) (b : Bool) (P : Passed) (kind : Kind) → TellsDue b e P → TellsDue b e (and_below P kind 0)
 tells_first e b P kind = tells_fewer e b P (and_below P kind 0) (λ s p. elim p [ inl before ↦ before | inr (n, lt, at) ↦ absurd (omega (arith, lt)) ])
+
+-- where none of its streams has an item
+pub tells_none : (e : End) (b : Bool) (P : Passed) (kind : Kind) → ((n : ℕ) → IsIdle e (slot_at kind n)) → TellsDue b e P → TellsDue b e (and_kind P kind)
+tells_none e b P kind idle before = tells_kind e b P kind 0 (λ n le. idle n) (tells_first e b P kind before)
 
 -- each item has a slot that is passed
 pub passed_all : (i : Item) → IsPassed all_items (slot_of i)
@@ -144,14 +148,14 @@ going_some e n b is goes = (n, going_is e n b is goes)
 
 -- Both
 
-pub frame_item : (e : End) (b : Bool) → b ≡ true → TellsDue b e all_items → TellsFrame true e
-frame_item e true is found = inl found
-frame_item e false is none = absurd (true≢false (sym is))
+pub frame_stream : (e : End) (b : Bool) → b ≡ true → TellsAnyGoing b e → TellsFrame true e
+frame_stream e true is goes = inr goes
+frame_stream e false is none = absurd (true≢false (sym is))
 
-pub frame_stream : (e : End) (b c : Bool) → b ≡ false → TellsDue b e all_items → TellsAnyGoing c e → TellsFrame c e
-frame_stream e true c is found goes = absurd (true≢false is)
-frame_stream e false true is none goes = inr goes
-frame_stream e false false is none goes = λ some. elim some [ inl (i, due) ↦ none i (passed_all i) due | inr (n, at) ↦ goes n at ]
+pub frame_item : (e : End) (b c : Bool) → b ≡ false → TellsAnyGoing b e → TellsDue c e all_items → TellsFrame c e
+frame_item e true c is goes found = absurd (true≢false is)
+frame_item e false true is none found = inl found
+frame_item e false false is none due = λ some. elim some [ inl (i, at) ↦ due i (passed_all i) at | inr (n, at) ↦ none n at ]
 
 -- Something is sendable
 
@@ -208,6 +212,16 @@ pub wanted_then : (want : Fill) (e : End) (b c : Bool) → b ≡ false → Tells
 wanted_then want e true c is goes found = absurd (true≢false is)
 wanted_then want e false true is none found = inl found
 wanted_then want e false false is none item = λ some. elim some [ inl due ↦ item due | inr stream ↦ none stream ]
+
+-- with no byte left of the cap items alone are
+pub wanted_capped : (want : Fill) (e : End) (left : ℕ) (b : Bool) → left ≡ 0 → TellsItem want b e → TellsWanted (still_asked want left) b e
+wanted_capped want e zero true is found = inl found
+wanted_capped want e zero false is none = λ goes. elim goes [ inl item ↦ none item | inr (n, asked, some) ↦ true≢false (sym asked.0) ]
+wanted_capped want e (suc left) b is item = absurd (omega (arith, is))
+
+pub wanted_left : (want : Fill) (e : End) (left : ℕ) (b : Bool) → 0 < left → TellsWanted want b e → TellsWanted (still_asked want left) b e
+wanted_left want e zero b some goes = absurd (omega (arith, some))
+wanted_left want e (suc left) b some goes = goes
 
 pub wanted_is : (v old : End) (c : Core) (want : Fill) (b : Bool) → v ≡ old → end_of c v ≡ v → ((e : End) → TellsWanted want b (end_of c e)) → IsTrue b ↔ WantedGoes want old
 wanted_is v old c want b same parts tells = subst (λ e. IsTrue b ↔ WantedGoes want e) same (go b (subst (TellsWanted want b) parts (tells v)))

@@ -1,5 +1,5 @@
 -- Indexes that are marked and weren't told: words of their flags, and the words that were told whole.
-use Rattle.std.proofs.Common.{◌≡◌, ℕ, zero, suc, ◌+◌, ◌-◌, ◌*◌, ◌/◌, ◌%◌, ◌^◌, ◌<◌, ◌≤◌, ◌==◌, ◌&&◌, not, w64, Bool, true, false, List, [], ◌∷◌, ◌++◌, replicate, Result, Ok, Err, length, get_or, min, bit_and, Option, None, Some, refl, sym, ap, ◌∙◌, subst, arith, inl, inr}
+use Rattle.std.proofs.Common.{◌≡◌, ℕ, zero, suc, ◌+◌, ◌-◌, ◌*◌, ◌/◌, ◌%◌, ◌^◌, ◌<◌, ◌≤◌, ◌==◌, ◌&&◌, ◌⊎◌, not, max, w64, Bool, true, false, List, [], ◌∷◌, ◌++◌, replicate, Result, Ok, Err, length, get_or, min, bit_and, Option, None, Some, refl, sym, ap, ◌∙◌, subst, arith, inl, inr}
 use Rattle.std.specs.Int.{bit_at, bit_not}
 use Rattle.std.proofs.lemmas.Bool.{cases_lt, eqb-true, both_ways}
 use Rattle.std.specs.Result.{OnOk, OnErr}
@@ -9,7 +9,7 @@ use Rattle.std.proofs.lemmas.List.{length-append, length-replicate, length-set, 
 use Rattle.std.proofs.lemmas.Nat.Bits.{bit_at-zero, bit_at_and, bit_at-lt, bit_at_not, bit_at_ones}
 use Rattle.std.proofs.lemmas.Option.{none-some, same_Some}
 use Rattle.qs_ranges.specs.Bits.{IsLowestBit}
-use Rattle.qs_conn.specs.Marks.{is_marked, both, untold, IsNextMark, IsNextInWord, HasAllMarks, IsBefore, AreSummed, AreFull}
+use Rattle.qs_conn.specs.Marks.{is_marked, both, untold, IsNextMark, IsNextInWord, HasAllMarks, IsBefore, AreSummed, AreFull, AreMarkedBelow, IsClearBelow}
 use Rattle.qs_conn.specs.Words.{flags, AreFlags, IsWordOf}
 use Rattle.qs_conn.proofs.Words.{flags_len, marked_is, flag_past, padded}
 use Rattle.qs_conn.proofs.Boths.{both_len, both_is}
@@ -202,3 +202,36 @@ module _ (marks full marks_now full_now : List Bool) (i : ℕ) (b whole : Bool) 
               | inr ge ↦ elim (cases_lt (i / 64) word) [ inl lt ↦ other word (λ e. omega (arith, lt, e)) set_now | inr le ↦ here word (omega (arith, ge, le)) set_now ]
             ];
       }
+
+-- Below an index all were told
+
+pub told_opened : {A E : Type 0} (r : Result A E) (ms now : List Bool) (n first : ℕ) → OnOk r (now ≡ ms ++ replicate n false) → OnErr r (now ≡ ms) → AreMarkedBelow ms first → AreMarkedBelow now first
+told_opened (Ok a) ms now n first ok err below i lt = ap (λ xs. is_marked xs i) ok ∙ padded ms n i false ∙ below i lt
+told_opened (Err e) ms now n first ok err below i lt = ap (λ xs. is_marked xs i) err ∙ below i lt
+
+pub told_set : (ms now : List Bool) (k first r : ℕ) (b whole : Bool) → now ≡ set ms k b → (whole ≡ true → HasAllMarks now (k / 64))
+    → (whole ≡ true → (r ≤ first) ⊎ ((first / 64 ≡ k / 64) × (r ≤ k / 64 * 64 + 64))) → (whole ≡ false → (r ≤ first) × (r ≤ k))
+    → AreMarkedBelow ms first → AreMarkedBelow now r
+told_set ms now k first r b false is looked full other below i lt =
+    let le = other refl in
+    let before : i < k = omega (arith, lt, le.1) in
+    ap (λ xs. is_marked xs i) is ∙ get_or-set_other ms k i b false (λ e. omega (arith, before, e)) ∙ below i (omega (arith, lt, le.0))
+told_set ms now k first r b true is looked full other below i lt = go (cases_lt (i / 64) (k / 64)) (cases_lt (k / 64) (i / 64))
+  where
+    aside : (i / 64 ≡ k / 64 → ⊥) → is_marked now i ≡ true
+    aside not_here =
+        ap (λ xs. is_marked xs i) is ∙ get_or-set_other ms k i b false (λ e. not_here (ap (λ n. n / 64) e))
+        ∙ below i (elim (full refl) [ inl le ↦ omega (arith, lt, le) | inr (at, le) ↦ elim (cases_lt (i / 64) (k / 64)) [ inl under ↦ omega (arith, at, under) | inr over ↦ absurd (not_here (omega (arith, lt, le, over))) ] ])
+
+    go : (i / 64 < k / 64) ⊎ (k / 64 ≤ i / 64) → (k / 64 < i / 64) ⊎ (i / 64 ≤ k / 64) → is_marked now i ≡ true
+    go (inl under) past = aside (λ e. omega (arith, e, under))
+    go (inr over) (inl past) = aside (λ e. omega (arith, e, past))
+    go (inr over) (inr le) = looked refl i (omega (arith, over, le))
+
+-- no index is left below one where none is marked, nor below one where all were told
+pub left_from : (ms os ts : List Bool) (least first r : ℕ) → r ≤ max least first → IsClearBelow ms least → AreMarkedBelow ts first → IsClearBelow (untold (both ms os) ts) r
+left_from ms os ts least first r within clear told i lt =
+    untold_is (both ms os) ts i ∙ elim (cases_lt i least) [
+      | inl below ↦ ap (λ b. b && not (is_marked ts i)) (both_is ms os i) ∙ ap (λ b. (b && is_marked os i) && not (is_marked ts i)) (clear i below)
+      | inr past ↦ ap (λ b. is_marked (both ms os) i && not b) (told i (omega (arith, lt, within, past))) ∙ no_more (is_marked (both ms os) i)
+    ]

@@ -71,6 +71,13 @@ none_closed ws count to marks is le = sym (take_all to marks (omega (arith, le, 
 flag_added : (ws : List ℕ) (n i : ℕ) → length ws ≤ n → flag (take n ws ++ replicate (n - length ws) 0) i ≡ flag ws i
 flag_added ws n i le = rw (take_all n ws le, padded ws (n - length ws) (i / 64) 0) refl
 
+-- the words have room for more flags
+pub flags_room : (ws : List ℕ) (count to : ℕ) → AreFlags ws count → count < to → flags ws to ≡ flags ws count ++ replicate (to - length (flags ws count)) false
+flags_room ws count to are more =
+    flags_are ws to (flags ws count ++ replicate (to - length (flags ws count)) false)
+    (omega (arith, more, flags_len ws count, length-append (flags ws count) (replicate (to - length (flags ws count)) false), length-replicate (to - length (flags ws count)) false))
+    (λ i lt. padded (flags ws count) (to - length (flags ws count)) i false ∙ marked_is ws count i are)
+
 module _ (ws now : List ℕ) (count to n len : ℕ) (are : AreFlags ws count) (more : count < to) (le : length ws ≤ n) (is_len : len ≡ length ws) (is : now ≡ take n ws ++ replicate (n - len) 0) where
   flag_opened : (i : ℕ) → flag now i ≡ flag ws i
   flag_opened i = rw (is, is_len) (flag_added ws n i le)

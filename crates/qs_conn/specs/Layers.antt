@@ -18,11 +18,7 @@ use Rattle.qs_machine.specs.Seen.{seen, asks_ack}
 use Rattle.qs_machine.specs.FrameStep.{frame_taken}
 use Rattle.qs_machine.specs.Receiving.{Stops, GoesOn}
 use Rattle.qs_machine.specs.Sums.{tally_on, EachLawful}
-
--- the limit of a lane of which no final size is known
-abbrev pub limit_to_tell : Option RecvLane → Option ℕ
-limit_to_tell None = None
-limit_to_tell (Some lane) = if is_some lane.final_size then None else Some lane.limit
+pub use Rattle.qs_machine.specs.Heard.{limit_to_tell}
 
 -- the code of a stop, while more may come (RFC 9000, section 3.5)
 abbrev pub stop_to_tell : Option RecvLane → Option ℕ

@@ -98,6 +98,10 @@ HasNoMark marks word = (i : ℕ) → i / 64 ≡ word → is_marked marks i ≡ f
 abbrev pub IsClearBelow : List Bool → ℕ → Type 0
 IsClearBelow marks least = (i : ℕ) → i < least → is_marked marks i ≡ false
 
+-- each index below one is marked
+abbrev pub AreMarkedBelow : List Bool → ℕ → Type 0
+AreMarkedBelow marks first = (i : ℕ) → i < first → is_marked marks i ≡ true
+
 -- each index of a word of 64 is marked
 abbrev pub HasAllMarks : List Bool → ℕ → Type 0
 HasAllMarks marks word = (i : ℕ) → i / 64 ≡ word → is_marked marks i ≡ true

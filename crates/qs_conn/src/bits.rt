@@ -43,19 +43,6 @@ impl Bits {
         }
     }
 
-    /// Takes the memory for the indexes below a count.
-    pub(crate) fn reserve(&mut self, count: usize) -> Result<(), NoMemory>
-        ensures { self.new ≡ self.old }
-    {
-        let missing = count
-            .div_ceil(FLAGS_PER_WORD)
-            .saturating_sub(self.words.len());
-        match self.words.reserve(missing) {
-            Ok(()) => Ok(()),
-            Err(_refused) => Err(NoMemory),
-        }
-    }
-
     /// How many indexes there are.
     pub(crate) fn len(&self) -> usize
         ensures value { result ≡ length self.now }
@@ -72,7 +59,13 @@ impl Bits {
         if count <= self.count {
             return Ok(());
         }
-        match self.words.resize(count.div_ceil(FLAGS_PER_WORD), 0) {
+        let words = count.div_ceil(FLAGS_PER_WORD);
+        // Mostly the last word has room.
+        if words <= self.words.len() {
+            self.count = count;
+            return Ok(());
+        }
+        match self.words.resize(words, 0) {
             Ok(()) => {
                 self.count = count;
                 Ok(())

@@ -1,27 +1,32 @@
 //! What an owner heard of at its end, and what it hears next.
 ghost use Rattle.std.specs.Prelude.{◌≡◌, ◌<◌, ◌^◌, ◌⊎◌, ℕ, true, false, None, Some, Ok, OnOk, OnErr};
-ghost use Rattle.qs_machine.specs.Heard.{heard_nothing, heard_opened, WasResetAcked, IsFirstNews, IsHeardBy, IsNextNews, IsReadOn, TakesMemory, WillWrite, with_opened, with_wants};
+ghost use Rattle.qs_machine.specs.Heard.{heard_nothing, heard_opened, WasResetAcked, IsFirstNews, IsHeardBy, IsNextNews, IsNoted, IsReadOn, TakesMemory, WillWrite, with_opened, with_wants};
 ghost use Rattle.qs_machine.specs.News.{IsHeld};
 ghost use Rattle.qs_send.specs.Lane.{SendLane};
 ghost use Rattle.qs_machine.specs.Tables.{lookup, index_of};
 ghost use Rattle.qs_calls.specs.declared.news.News.TheVariants as News;
+ghost use Rattle.qs_machine.specs.Seen.{seen};
+ghost use Rattle.qs_wire.specs.Layout.{view};
 ghost use Rattle.qs_wire.specs.Streams.{dir_of};
+ghost use Rattle.qs_conn.specs.Hearing.{IsFirstFrom};
 
+use crate::blocked::BlockedMarks;
 use crate::by_dir::ByDir;
 use crate::endpoint::Endpoint;
 use crate::places::index_of;
 use crate::told_streams::ToldStreams;
 use qs_calls::News;
 use qs_ranges::NoMemory;
-use qs_wire::{Dir, StreamId};
+use qs_wire::{Dir, Frame, StreamId};
 use std::alloc::Global;
 use std::marker::Model;
 
 /// What an owner heard of at its end, so that it hears of each piece of news once (RFC 9000, sections 2 to 4).
 ///
-/// It stands beside the end and is kept as marks of streams: an end whose owner asks for no news pays nothing for it. Three things the
+/// It stands beside the end and is kept as marks of streams: an end whose owner asks for no news pays nothing for it. Four things the
 /// end doesn't know, so its owner tells them: that it is about to write ([`will_write`](Heard::will_write)), that it waits for a stream
-/// to open ([`wants`](Heard::wants)), and that it read a stream ([`was_read`](Heard::was_read)).
+/// to open ([`wants`](Heard::wants)), that it read a stream ([`was_read`](Heard::was_read)), and that the peer says what holds it back
+/// ([`was_told`](Heard::was_told)).
 #[derive(Drop)]
 pub struct Heard {
     opened: ByDir<u64>,
@@ -31,6 +36,7 @@ pub struct Heard {
     sent: ToldStreams,
     ended: ToldStreams,
     wanted: ByDir<bool>,
+    blocked: BlockedMarks,
 }
 
 impl Model for Heard {
@@ -51,6 +57,7 @@ impl Model for Heard {
       ended = h.ended;
       wants_bidi = h.wanted.bidi;
       wants_uni = h.wanted.uni;
+      blocked = h.blocked;
     } };
 }
 
@@ -67,6 +74,7 @@ impl Heard {
             sent: ToldStreams::new(alloc),
             ended: ToldStreams::new(alloc),
             wanted: ByDir::new(false, false),
+            blocked: BlockedMarks::new(alloc),
         }
     }
 
@@ -74,7 +82,8 @@ impl Heard {
     /// those of the next, in the order of [`News`], and those of a lower stream first.
     ///
     /// `NoMemory` where there was no memory to note it; then nothing changed, and it comes again. It takes memory where no mark was made
-    /// yet for its stream, or a higher one of its type, among those of its kind: never for `Opened`, `Writable` and `Available`.
+    /// yet for its stream, or a higher one of its type, among those of its kind: never for `Opened`, `Writable`, `Available` and the kinds
+    /// behind it.
     #[tactic(auto, using(crate::proofs::FirstNews::first_is_next, crate::proofs::FirstNews::refused_next))]
     pub fn next_news(&mut self, end: &Endpoint) -> Result<Option<News>, NoMemory>
         ensures { IsNextNews end.now self.old result self.new }
@@ -118,6 +127,38 @@ impl Heard {
         }
     }
 
+    /// A frame of the peer's was taken in. Where it says that a limit of the present holds the peer back, that of the connection, of a
+    /// stream whose final size isn't known, or a count of streams, that is news from now on until it is told, be it that the limit rises
+    /// meanwhile. A limit that rose before isn't, and any other frame changes nothing (RFC 9000, sections 4.1, 4.6 and 19.12 to 19.14).
+    ///
+    /// `NoMemory` where there was no memory to note it; then nothing changed. It takes memory where it names a stream, and no limit of this
+    /// stream or of a higher one of its type was noted before.
+    pub fn was_told(&mut self, end: &Endpoint, frame: &Frame<'_>) -> Result<(), NoMemory>
+        ensures { IsNoted end.now (seen (view frame.now)) self.old result self.new }
+    {
+        match *frame {
+            Frame::DataBlocked { limit } => {
+                if end.granted() <= limit {
+                    self.blocked.set_conn(true);
+                }
+                Ok(())
+            }
+            Frame::StreamDataBlocked { stream, limit } => {
+                if end.is_met(stream, limit) {
+                    return self.blocked.tell(stream);
+                }
+                Ok(())
+            }
+            Frame::StreamsBlocked { dir, count } => {
+                if end.granted_streams(dir) <= count {
+                    self.blocked.set_dir(dir, true);
+                }
+                Ok(())
+            }
+            _ => Ok(()),
+        }
+    }
+
     // The first piece of news.
     fn first(&self, end: &Endpoint) -> Option<News>
         ensures { IsFirstNews end.now self.now result }
@@ -142,6 +183,25 @@ impl Heard {
         }
         match end.next_available(self.wanted) {
             Some(dir) => Some(News::Available(dir)),
+            None => self.first_blocked(end),
+        }
+    }
+
+    // The first of what the peer said.
+    fn first_blocked(&self, end: &Endpoint) -> Option<News>
+        ensures { IsFirstFrom 7 end.now self.now result }
+    {
+        if end.is_closed() {
+            return None;
+        }
+        if self.blocked.has_conn() {
+            return Some(News::DataBlocked);
+        }
+        if let Some(stream) = self.blocked.next_stream() {
+            return Some(News::StreamDataBlocked(stream));
+        }
+        match self.blocked.next_dir() {
+            Some(dir) => Some(News::StreamsBlocked(dir)),
             None => None,
         }
     }
@@ -155,25 +215,20 @@ impl Heard {
         ensures asks { OnErr result ((news : News) × (answer.now ≡ Some news) × TakesMemory news self.old) }
     {
         match *answer {
-            None => Ok(()),
-            Some(News::Opened(stream)) => {
-                self.hear_opened(stream);
-                Ok(())
-            }
-            Some(News::Readable(stream)) => self.readable.tell(stream),
-            Some(News::Writable(stream)) => {
-                self.short.forget(stream);
-                Ok(())
-            }
-            Some(News::Stopped(stream, _code)) => self.stopped.tell(stream),
-            Some(News::Finished(stream)) => self.sent.tell(stream),
-            Some(News::ResetAcked(stream)) => self.sent.tell(stream),
-            Some(News::Ended(stream)) => self.ended.tell(stream),
-            Some(News::Available(dir)) => {
-                self.wanted.set(dir, false);
-                Ok(())
-            }
+            None => {}
+            Some(News::Opened(stream)) => self.hear_opened(stream),
+            Some(News::Readable(stream)) => return self.readable.tell(stream),
+            Some(News::Writable(stream)) => self.short.forget(stream),
+            Some(News::Stopped(stream, _code)) => return self.stopped.tell(stream),
+            Some(News::Finished(stream)) => return self.sent.tell(stream),
+            Some(News::ResetAcked(stream)) => return self.sent.tell(stream),
+            Some(News::Ended(stream)) => return self.ended.tell(stream),
+            Some(News::Available(dir)) => self.wanted.set(dir, false),
+            Some(News::DataBlocked) => self.blocked.set_conn(false),
+            Some(News::StreamDataBlocked(stream)) => self.blocked.forget(stream),
+            Some(News::StreamsBlocked(dir)) => self.blocked.set_dir(dir, false),
         }
+        Ok(())
     }
 
     // The next stream of its direction opened.

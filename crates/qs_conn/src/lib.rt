@@ -3,6 +3,7 @@
 
 mod ack_names;
 mod bits;
+mod blocked;
 mod by_dir;
 mod ended;
 mod endpoint;

@@ -50,6 +50,7 @@ impl Marks {
     }
 
     /// Whether some index may have a mark.
+    #[inline(always)]
     pub(crate) fn may_have(&self) -> bool
         ensures { result ≡ false → IsClear self.now }
     {
@@ -83,14 +84,6 @@ impl Marks {
         ensures { result.now ≡ self.now }
     {
         &self.marks
-    }
-
-    /// Takes the memory for the indexes below a count.
-    pub(crate) fn reserve(&mut self, count: usize) -> Result<(), NoMemory>
-        ensures { self.new ≡ self.old }
-    {
-        self.marks.reserve(count)?;
-        self.words.reserve(count.div_ceil(FLAGS_PER_WORD))
     }
 
     /// Makes room for all indexes below a count: the new ones aren't marked.
@@ -128,19 +121,30 @@ impl Marks {
     }
 
     /// Marks an index, or takes its mark away.
+    #[inline(always)]
     pub(crate) fn set(&mut self, index: usize, is_marked: bool)
         requires { index < length self.old }
         ensures { self.new ≡ slice_set self.old index is_marked }
     {
         // Most marks stay as they are.
-        if self.marks.has(index) == is_marked {
+        if self.has(index) == is_marked {
             return;
         }
-        self.marks.set(index, is_marked);
-        self.least = least_after(self.least, index, is_marked);
+        self.turn(index, is_marked);
+    }
+
+    // The same, where that changes it. It stands apart, so that where it doesn't a caller pays for the look at the mark alone.
+    #[inline(never)]
+    fn turn(&mut self, index: usize, mark: bool)
+        requires there { index < length self.old }
+        requires turns { mark ≡ false → is_marked self.old index ≡ true }
+        ensures { self.new ≡ slice_set self.old index mark }
+    {
+        self.marks.set(index, mark);
+        self.least = least_after(self.least, index, mark);
         let word = index / FLAGS_PER_WORD;
-        self.words.set(word, has_mark(&self.marks, word));
-        if !is_marked {
+        self.words.set(word, has_mark(&self.marks, word, mark));
+        if !mark {
             self.most -= 1;
         } else if self.most < self.marks.len() {
             self.most += 1;
@@ -203,6 +207,14 @@ impl Marks {
         if self.most == 0 {
             return None;
         }
+        let below = self.least.max(told.first());
+        self.search_untold(others, told, from.max(below))
+    }
+
+    // The same, by a look at each index from that one on.
+    fn search_untold(&self, others: &Marks, told: &ToldMarks, from: usize) -> Option<usize>
+        ensures { IsNextMark (untold (both self.now others.now) told.now) from result }
+    {
         let marks = told.bits();
         if let Some(index) = self.marks.next_untold_in_word(&others.marks, marks, from) {
             return Some(index);
@@ -234,11 +246,14 @@ fn least_after(least: usize, index: usize, is_marked: bool) -> usize
     }
 }
 
-// Whether a word of marks has one.
-fn has_mark(marks: &Bits, word: usize) -> bool
+// Whether a word of marks may have one: it has where one was set.
+fn has_mark(marks: &Bits, word: usize, was_set: bool) -> bool
     requires { word * 64 < 2 ^ 64 }
     ensures { result ≡ false → HasNoMark marks.now word }
 {
+    if was_set {
+        return true;
+    }
     marks.next_in_word(word * FLAGS_PER_WORD).is_some()
 }
 

@@ -17,7 +17,7 @@ use crate::places::{index_of, type_of};
 use crate::send_lanes::SendLanes;
 use crate::told::ToldItems;
 use crate::told_index::ToldIndex;
-use halves::{half_of, is_open};
+use halves::{half_of, is_lawful, is_open};
 use qs_calls::SendReport;
 use qs_ranges::NoMemory;
 use qs_send::{LostRecords, Piece, Records, SendFault, SendState};
@@ -114,7 +114,7 @@ impl Outbox {
         ensures { (s : Sending) × HasSending self.now stream s }
     {
         let _next = self.next;
-        half_of(&self.types, stream).is_lawful();
+        is_lawful(&self.types, stream);
     }
 
     /// Whether the stream has a sending half.
@@ -273,7 +273,7 @@ impl Outbox {
             IfErr result (λ fault. (self.new ≡ self.old) × (fault ≡ unwrap_or (refusal lane) SendFault.NoMemory)) }
         ensures grows { result ≡ Err SendFault.NoMemory → 0 < accepted (or_none (lookup self.old.sends stream)) (length bytes.now) }
     {
-        half_of(&self.types, stream).is_lawful();
+        is_lawful(&self.types, stream);
         let lanes = &mut self.types[type_of(stream)];
         lanes.write(index_of(stream), bytes)
     }
@@ -285,7 +285,7 @@ impl Outbox {
         ensures ok { OnOk result (self.new ≡ on_lane stream finish_lane self.old) }
         ensures err { OnErr result (self.new ≡ self.old) }
     {
-        half_of(&self.types, stream).is_lawful();
+        is_lawful(&self.types, stream);
         let lanes = &mut self.types[type_of(stream)];
         lanes.finish(index_of(stream))
     }

@@ -1,5 +1,5 @@
 //! The receiving halves of the streams of one type.
-ghost use Rattle.std.specs.Prelude.{◌≡◌, ◌+◌, ◌-◌, ◌≤◌, ◌<◌, ◌^◌, ◌++◌, [], length, drop, map, min, take, slice_get, slice_set, slice_index_or, option_map, ℕ, false, None, Some, IfSome, OnOk, OnErr, IsOk, IfOk, Ok};
+ghost use Rattle.std.specs.Prelude.{◌≡◌, ◌+◌, ◌-◌, ◌≤◌, ◌<◌, ◌^◌, ◌++◌, ◌∷◌, [], length, drop, map, min, take, slice_get, slice_index_or, option_map, ℕ, false, None, Some, IfSome, OnOk, OnErr, IsOk, IfOk, Ok};
 ghost use Rattle.std.specs.List.{sum_by};
 ghost use Rattle.qs_ranges.specs.Numbers.{MAX_VARINT};
 ghost use Rattle.qs_recv.specs.Lane.{MAX_WINDOW, RecvLane, new_lane, check_stream, check_reset, check_bytes, highest, highest_after, taken, take_stream, take_reset, read_answer, bytes_read, after_read, raise, stop, stop_and_forget, set_window};
@@ -20,7 +20,7 @@ ghost use Rattle.qs_machine.specs.News.{IsLeast};
 ghost use Rattle.qs_conn.specs.Marks.{AreMarked, IsAt, IsUntoldAt};
 ghost use Rattle.qs_conn.specs.declared.recv_marks.RecvTask.TheVariants as tasks;
 ghost use Rattle.qs_conn.specs.Untold.{HasMore, IsRaisedMarked, AreRaisedMarked};
-ghost use Rattle.qs_conn.specs.RecvTasks.{has, has_news, marks_of, HasOne, HasNone};
+ghost use Rattle.qs_conn.specs.RecvTasks.{has_news, HasOne, HasNone};
 
 use crate::marks::Marks;
 use crate::recv_marks::{RecvMarks, RecvTask, has};
@@ -30,9 +30,7 @@ use crate::untold::Untold;
 use qs_calls::RecvReport;
 use qs_machine::Tally;
 use qs_ranges::NoMemory;
-use qs_recv::{
-    Highest, Peek, Read, RecvFault, RecvHalf, RecvHalves, RecvState, RingAssembly, Share,
-};
+use qs_recv::{Highest, Peek, Read, RecvFault, RecvHalf, RecvState, RingAssembly, Share};
 use qs_wire::StreamId;
 use std::alloc::Global;
 use std::marker::Model;
@@ -43,7 +41,7 @@ type Half = RecvHalf<RingAssembly>;
 #[derive(Drop)]
 pub(crate) struct RecvLanes {
     alloc: Global,
-    halves: RecvHalves,
+    halves: Vec<Half>,
     tally: Tally,
     // A lane that wasn't touched has no limit that is to be raised.
     touched: Touches,
@@ -64,9 +62,9 @@ impl Model for RecvLanes {
 
     ghost coded = { coded_list lane_code };
 
-    ghost view = { λ l. l.halves };
+    ghost view = { λ l. l.halves.items };
 
-    ghost invariant = { λ l. AreCounted l.halves l.tally l.touched × AreNoted l.halves l.news };
+    ghost invariant = { λ l. AreCounted l.halves.items l.tally l.touched × AreNoted l.halves.items l.news };
 }
 
 impl RecvLanes {
@@ -75,7 +73,7 @@ impl RecvLanes {
     {
         RecvLanes {
             alloc,
-            halves: RecvHalves::new(alloc),
+            halves: Vec::new(alloc),
             tally: Tally {
                 spent: 0,
                 taken: 0,
@@ -128,10 +126,10 @@ impl RecvLanes {
         ensures value { (share : Share) → result ≡ check_stream (or_new (slice_get self.now index) window share) offset len fin }
         ensures in_range { IfOk result (λ h. h.after ≤ MAX_VARINT) }
     {
-        if let Some(half) = self.halves.full(index) {
-            return half.check_stream(offset, len, fin);
+        match self.halves.get(index) {
+            Some(half) => half.check_stream(offset, len, fin),
+            None => Half::check_first(self.alloc, window, offset, len, fin),
         }
-        self.check_apart(window, index, offset, len, fin)
     }
 
     /// Whether a frame's bytes are those that are stored at an index, whose lane may have yet to be opened.
@@ -147,12 +145,9 @@ impl RecvLanes {
         requires small { window ≤ MAX_WINDOW }
         ensures { (share : Share) → result ≡ check_bytes (or_new (slice_get self.now index) window share) offset bytes.now }
     {
-        // One that is over stores nothing, as a new one.
-        if let Some(half) = self.halves.full(index) {
-            half.check_bytes(offset, bytes)
-        } else {
-            let fresh: Half = RecvHalf::new(self.alloc, window, Share::Half);
-            fresh.check_bytes(offset, bytes)
+        match self.halves.get(index) {
+            Some(half) => half.check_bytes(offset, bytes),
+            None => Half::check_first_bytes(self.alloc, window, offset, bytes),
         }
     }
 
@@ -168,11 +163,9 @@ impl RecvLanes {
         requires small { window ≤ MAX_WINDOW }
         ensures { (share : Share) → result ≡ check_reset (or_new (slice_get self.now index) window share) size }
     {
-        if let Some(view) = self.halves.get(index) {
-            view.half().check_reset(size)
-        } else {
-            let fresh: Half = RecvHalf::new(self.alloc, window, Share::Half);
-            fresh.check_reset(size)
+        match self.halves.get(index) {
+            Some(half) => half.check_reset(size),
+            None => Half::check_first_reset(self.alloc, window, size),
         }
     }
 
@@ -181,53 +174,17 @@ impl RecvLanes {
         requires { offset + len ≤ MAX_VARINT }
         ensures { result ≡ half_changes (λ l. stream_changes l offset len fin) (slice_get self.now index) }
     {
-        if let Some(half) = self.halves.full(index) {
-            return half.stream_changes(offset, len, fin);
-        }
-        self.changes_apart(index, offset, len, fin)
-    }
-
-    // The first check at a lane that is over or has yet to be opened. It is seldom called, and apart so that the other is small.
-    #[inline(never)]
-    fn check_apart(
-        &self,
-        window: u64,
-        index: usize,
-        offset: u64,
-        len: u64,
-        fin: bool,
-    ) -> Result<Highest, RecvFault>
-        requires in_range { offset + len ≤ MAX_VARINT }
-        requires some { 1 ≤ window }
-        requires small { window ≤ MAX_WINDOW }
-        ensures value { (share : Share) → result ≡ check_stream (or_new (slice_get self.now index) window share) offset len fin }
-        ensures in_range { IfOk result (λ h. h.after ≤ MAX_VARINT) }
-    {
-        if let Some(view) = self.halves.get(index) {
-            view.half().check_stream(offset, len, fin)
-        } else {
-            let fresh: Half = RecvHalf::new(self.alloc, window, Share::Half);
-            fresh.check_stream(offset, len, fin)
-        }
-    }
-
-    // The same for whether a frame would change such a lane.
-    #[inline(never)]
-    fn changes_apart(&self, index: usize, offset: u64, len: u64, fin: bool) -> bool
-        requires { offset + len ≤ MAX_VARINT }
-        ensures { result ≡ half_changes (λ l. stream_changes l offset len fin) (slice_get self.now index) }
-    {
-        let Some(view) = self.halves.get(index) else {
+        let Some(half) = self.halves.get(index) else {
             return false;
         };
-        view.half().stream_changes(offset, len, fin)
+        half.stream_changes(offset, len, fin)
     }
 
     /// Whether a reset that passed the check would change an open lane.
     pub(crate) fn reset_changes(&self, index: usize) -> bool
         ensures { result ≡ half_changes reset_changes (slice_get self.now index) }
     {
-        let Some(half) = self.halves.full(index) else {
+        let Some(half) = self.halves.get(index) else {
             return false;
         };
         matches!(half.state(), RecvState::Recv | RecvState::SizeKnown)
@@ -249,8 +206,7 @@ impl RecvLanes {
         let before = self.halves.len();
         let missing = count.saturating_sub(before);
         for _opened in 0..missing {
-            let fresh: Half = RecvHalf::new(self.alloc, window, share);
-            if let Err(_refused) = self.halves.push(fresh) {
+            if let Err(_refused) = open_one(&mut self.halves, self.alloc, window, share) {
                 self.halves.truncate(before);
                 return Err(NoMemory);
             }
@@ -273,8 +229,7 @@ impl RecvLanes {
     {
         let missing = count.saturating_sub(self.halves.len());
         self.halves.reserve(missing)?;
-        self.touched.reserve(count)?;
-        self.news.reserve(count)
+        Ok(())
     }
 
     /// Takes the lanes from a count on away, which nothing came for.
@@ -306,9 +261,7 @@ impl RecvLanes {
         ensures err { OnErr result (self.new ≡ self.old) }
         ensures news { OnErr result (HasNews (slice_index_or self.old index (new_lane 0 Share.Half)) offset (length bytes.now)) }
     {
-        let Some(half) = self.halves.full_mut(index) else {
-            return Ok(());
-        };
+        let half = &mut self.halves[index];
         let was = measure(half);
         let stopped = half.stop_code().is_some();
         if let Err(_refused) = half.take_stream(offset, bytes, fin) {
@@ -332,9 +285,7 @@ impl RecvLanes {
         ensures after { self.new ≡ changed self.old index (λ l. take_reset l code size) (slice_get self.old index) }
         ensures grown { sum_by highest self.new + highest (slice_index_or self.old index (new_lane 0 Share.Half)) ≡ sum_by highest self.old + size }
     {
-        let Some(half) = self.halves.full_mut(index) else {
-            return;
-        };
+        let half = &mut self.halves[index];
         let was = measure(half);
         half.take_reset(code, size);
         let is = measure(half);
@@ -354,7 +305,7 @@ impl RecvLanes {
     pub(crate) fn is_readable(&self, index: usize) -> bool
         ensures { result ≡ has_news (slice_get self.now index) }
     {
-        match self.halves.full(index) {
+        match self.halves.get(index) {
             Some(half) => half.is_readable(),
             None => false,
         }
@@ -369,16 +320,13 @@ impl RecvLanes {
         ensures after { self.new ≡ changed self.old index (λ l. after_read l (length into.old)) (slice_get self.old index) }
         ensures same { sum_by highest self.new ≡ sum_by highest self.old }
     {
-        let Some(half) = self.halves.full_mut(index) else {
-            return Read::End;
-        };
+        let half = &mut self.halves[index];
         let was = measure(half);
         let answer = half.read(into);
         let is = measure(half);
         self.news.look(index, half);
         self.tally = moved(self.tally, was, is);
         self.touched.touch(index);
-        self.halves.settle_after(answer, index);
         answer
     }
 
@@ -390,16 +338,13 @@ impl RecvLanes {
         ensures after { self.new ≡ changed self.old index (λ l. after_read l most) (slice_get self.old index) }
         ensures same { sum_by highest self.new ≡ sum_by highest self.old }
     {
-        let Some(half) = self.halves.full_mut(index) else {
-            return Read::End;
-        };
+        let half = &mut self.halves[index];
         let was = measure(half);
         let answer = half.skip(most);
         let is = measure(half);
         self.news.look(index, half);
         self.tally = moved(self.tally, was, is);
         self.touched.touch(index);
-        self.halves.settle_after(answer, index);
         answer
     }
 
@@ -408,10 +353,8 @@ impl RecvLanes {
         requires { index < length self.now }
         ensures { IsPeek (slice_index_or self.now index (new_lane 0 Share.Half)) result }
     {
-        match self.halves.full(index) {
-            Some(half) => half.peek(),
-            None => Peek::End,
-        }
+        let half = &self.halves[index];
+        half.peek()
     }
 
     /// Stops an open lane.
@@ -422,9 +365,7 @@ impl RecvLanes {
         ensures after { self.new ≡ changed self.old index (λ l. stop l code) (slice_get self.old index) }
         ensures same { sum_by highest self.new ≡ sum_by highest self.old }
     {
-        let Some(half) = self.halves.full_mut(index) else {
-            return;
-        };
+        let half = &mut self.halves[index];
         let was = measure(half);
         half.stop(code);
         let is = measure(half);
@@ -441,9 +382,7 @@ impl RecvLanes {
         ensures after { self.new ≡ changed self.old index (λ l. stop_and_forget l code) (slice_get self.old index) }
         ensures same { sum_by highest self.new ≡ sum_by highest self.old }
     {
-        let Some(half) = self.halves.full_mut(index) else {
-            return;
-        };
+        let half = &mut self.halves[index];
         let was = measure(half);
         half.stop_and_forget(code);
         let is = measure(half);
@@ -461,10 +400,11 @@ impl RecvLanes {
         ensures after { self.new ≡ changed self.old index (λ l. set_window l window) (slice_get self.old index) }
         ensures same { sum_by highest self.new ≡ sum_by highest self.old }
     {
-        let was = measure_at(&self.halves, index);
-        self.halves.set_window(index, window);
-        let is = measure_at(&self.halves, index);
-        look_at(&mut self.news, &self.halves, index);
+        let half = &mut self.halves[index];
+        let was = measure(half);
+        half.set_window(window);
+        let is = measure(half);
+        self.news.look(index, half);
         self.tally = moved(self.tally, was, is);
         self.touched.touch(index);
     }
@@ -473,8 +413,8 @@ impl RecvLanes {
     pub(crate) fn has_ended(&self, index: usize) -> bool
         ensures { result ≡ recv_over (slice_get self.now index) }
     {
-        let Some(half) = self.halves.full(index) else {
-            return index < self.halves.len();
+        let Some(half) = self.halves.get(index) else {
+            return false;
         };
         if !half.is_told() {
             return false;
@@ -486,8 +426,7 @@ impl RecvLanes {
     pub(crate) fn report(&self, index: usize) -> Option<RecvReport>
         ensures { result ≡ option_map recv_report (slice_get self.now index) }
     {
-        let view = self.halves.get(index)?;
-        let half = view.half();
+        let half = self.halves.get(index)?;
         Some(RecvReport {
             state: half.state(),
             read_count: half.read_count(),
@@ -503,8 +442,7 @@ impl RecvLanes {
     pub(crate) fn taken(&self, index: usize) -> Option<u64>
         ensures { result ≡ option_map taken (slice_get self.now index) }
     {
-        let view = self.halves.get(index)?;
-        let half = view.half();
+        let half = self.halves.get(index)?;
         Some(half.taken())
     }
 
@@ -513,9 +451,7 @@ impl RecvLanes {
         ensures value { result ≡ limit_to_tell (slice_get self.now index) }
         ensures small { IfSome result (λ limit. limit ≤ MAX_VARINT) }
     {
-        let Some(half) = self.halves.full(index) else {
-            return None;
-        };
+        let half = self.halves.get(index)?;
         half.is_lawful();
         match half.final_size() {
             Some(_known) => None,
@@ -528,9 +464,7 @@ impl RecvLanes {
         ensures value { result ≡ stop_to_tell (slice_get self.now index) }
         ensures small { IfSome result (λ code. code ≤ MAX_VARINT) }
     {
-        let Some(half) = self.halves.full(index) else {
-            return None;
-        };
+        let half = self.halves.get(index)?;
         match half.state() {
             RecvState::Recv | RecvState::SizeKnown => half.stop_code(),
             _ => None,
@@ -566,7 +500,7 @@ impl RecvLanes {
     {
         let mut next = from;
         while let Some(index) = self.news.next(task, next) {
-            if has_at(task, &self.halves, index) {
+            if has(task, &self.halves[index]) {
                 return Some(index);
             }
             next = index + 1;
@@ -576,20 +510,46 @@ impl RecvLanes {
 }
 
 impl RecvLanes {
+    /// Whether any lane may have an answer for its owner.
+    #[inline(always)]
+    pub(crate) fn may_have(&self, task: RecvTask) -> bool
+        ensures { result ≡ false → (i : ℕ) → IsAt (HasOne task) self.now i → ⊥ }
+    {
+        self.news.may_have(task)
+    }
+
     /// The least index whose lane has an answer for its owner that wasn't told.
+    #[inline(never)]
     pub(crate) fn next_untold(&self, task: RecvTask, told: &ToldMarks) -> Option<usize>
         ensures least { IsLeast (IsUntoldAt (HasOne task) self.now told.now) 0 result }
         ensures small { IfSome result (λ n. n < 2 ^ 60) }
     {
         let mut next = 0;
         while let Some(index) = self.news.next_untold(task, told, next) {
-            if has_at(task, &self.halves, index) {
+            if has(task, &self.halves[index]) {
                 return Some(index);
             }
             next = index + 1;
         }
         None
     }
+}
+
+// One lane more.
+fn open_one(
+    halves: &mut Vec<Half>,
+    alloc: Global,
+    window: u64,
+    share: Share,
+) -> Result<(), NoMemory>
+    requires some { 1 ≤ window }
+    requires small { window ≤ MAX_WINDOW }
+    ensures ok { OnOk result (halves.new.items ≡ halves.old.items ++ (new_lane window share ∷ [])) }
+    ensures err { OnErr result (halves.new.items ≡ halves.old.items) }
+{
+    let fresh: Half = RecvHalf::new(alloc, window, share)?;
+    halves.push(fresh)?;
+    Ok(())
 }
 
 // What a half adds to the sums.
@@ -608,55 +568,15 @@ fn measure(half: &Half) -> Tally
     }
 }
 
-// What the half of an index adds.
-fn measure_at(halves: &RecvHalves, index: usize) -> Tally
-    requires { index < length halves.now }
-    ensures value { result ≡ tally_of (slice_index_or halves.now index (new_lane 0 Share.Half)) }
-    ensures small { result.spent ≤ MAX_VARINT }
-    ensures lawful { IsLawful (slice_index_or halves.now index (new_lane 0 Share.Half)) }
-    ensures paid { IsPaid result }
-{
-    let view = halves.at(index);
-    measure(view.half())
-}
-
-// Looks again at the half of an index, which changed.
-fn look_at(news: &mut RecvMarks, halves: &RecvHalves, index: usize)
-    requires there { index < length halves.now }
-    requires marks { (t : RecvTask) → index < length (marks_of news.old t) }
-    ensures { (t : RecvTask) → marks_of news.new t ≡ slice_set (marks_of news.old t) index (has t (slice_index_or halves.now index (new_lane 0 Share.Half))) }
-{
-    let view = halves.at(index);
-    news.look(index, view.half());
-}
-
-// Whether the half of an index has an answer of that kind.
-fn has_at(task: RecvTask, halves: &RecvHalves, index: usize) -> bool
-    requires { index < length halves.now }
-    ensures { result ≡ has task (slice_index_or halves.now index (new_lane 0 Share.Half)) }
-{
-    let view = halves.at(index);
-    has(task, view.half())
-}
-
-// What the ring of the half of an index takes.
-fn held_at(halves: &RecvHalves, index: usize) -> u64
-    requires { index < length halves.now }
-    ensures stored { stored_on (slice_index_or halves.now index (new_lane 0 Share.Half)) ≤ result }
-    ensures most { result ≤ most_held (slice_index_or halves.now index (new_lane 0 Share.Half)) }
-{
-    let view = halves.at(index);
-    view.half().held()
-}
-
 // What the rings of some halves take. A sum that is no u64 is the greatest one.
-fn held_of(halves: &RecvHalves) -> u64
+fn held_of(halves: &[Half]) -> u64
     ensures stored { min (sum_by stored_on halves.now) (2 ^ 64 - 1) ≤ result }
     ensures most { result ≤ sum_by most_held halves.now }
 {
     let mut held: u64 = 0;
     for index in 0..halves.len() {
-        held = held.saturating_add(held_at(halves, index));
+        let half = &halves[index];
+        held = held.saturating_add(half.held());
     }
     held
 }
@@ -682,19 +602,19 @@ fn moved(total: Tally, was: Tally, is: Tally) -> Tally
 // the look at that alone.
 #[inline(never)]
 fn raise_touched(
-    halves: &mut RecvHalves,
+    halves: &mut Vec<Half>,
     touched: &mut Touches,
     stream_type: usize,
     untold: &mut Untold,
 )
     requires stream_type { stream_type < 4 }
-    requires few { length halves.old ≤ 2 ^ 60 }
-    requires settled { AreSettled touched.old halves.old }
-    ensures after { halves.new ≡ map raise halves.old }
+    requires few { length halves.old.items ≤ 2 ^ 60 }
+    requires settled { AreSettled touched.old halves.old.items }
+    ensures after { halves.new.items ≡ map raise halves.old.items }
     ensures room { length touched.new.marks ≡ length touched.old.marks }
-    ensures settled { AreSettled touched.new halves.new }
+    ensures settled { AreSettled touched.new halves.new.items }
     ensures marks { HasMore untold.old untold.new }
-    ensures marked { AreRaisedMarked stream_type halves.old untold.new }
+    ensures marked { AreRaisedMarked stream_type halves.old.items untold.new }
 {
     while let Some(index) = touched.pop() {
         if index < halves.len() {
@@ -704,18 +624,16 @@ fn raise_touched(
 }
 
 #[tactic(auto, using(crate::proofs::Untolds::has_same, crate::proofs::Untolds::has_marked, crate::proofs::LaneMarks::raised_none, crate::proofs::LaneMarks::raised_some, crate::proofs::LaneEdits::changed_at))]
-fn raise_at(halves: &mut RecvHalves, index: usize, stream_type: usize, untold: &mut Untold)
-    requires there { index < length halves.old }
+fn raise_at(halves: &mut Vec<Half>, index: usize, stream_type: usize, untold: &mut Untold)
+    requires there { index < length halves.old.items }
     requires stream_type { stream_type < 4 }
-    requires few { length halves.old ≤ 2 ^ 60 }
-    ensures after { halves.new ≡ changed halves.old index raise (slice_get halves.old index) }
-    ensures len { length halves.new ≡ length halves.old }
+    requires few { length halves.old.items ≤ 2 ^ 60 }
+    ensures after { halves.new.items ≡ changed halves.old.items index raise (slice_get halves.old.items index) }
+    ensures len { length halves.new.items ≡ length halves.old.items }
     ensures marks { HasMore untold.old untold.new }
-    ensures marked { IsRaisedMarked stream_type halves.old untold.new index }
+    ensures marked { IsRaisedMarked stream_type halves.old.items untold.new index }
 {
-    let Some(half) = halves.full_mut(index) else {
-        return;
-    };
+    let half = &mut halves[index];
     if let Some(_limit) = half.raise() {
         let stream = StreamId::new((index * 4 + stream_type) as u64).unwrap();
         untold.set(stream, true);

@@ -4,6 +4,7 @@ ghost use Rattle.qs_recv.specs.News.{is_readable};
 ghost use Rattle.qs_machine.specs.Credit.{recv_ended};
 ghost use Rattle.qs_conn.specs.Marks.{is_marked, untold, IsNextMark};
 ghost use Rattle.qs_conn.specs.RecvTasks.{has, marks_of};
+ghost use Rattle.qs_conn.specs.Untold.{IsClear};
 
 use crate::marks::Marks;
 use crate::told_marks::ToldMarks;
@@ -35,14 +36,6 @@ impl RecvMarks {
             readable: Marks::new(alloc),
             ended: Marks::new(alloc),
         }
-    }
-
-    /// Takes the memory for the indexes below a count.
-    pub(crate) fn reserve(&mut self, count: usize) -> Result<(), NoMemory>
-        ensures { (t : RecvTask) → marks_of self.new t ≡ marks_of self.old t }
-    {
-        self.readable.reserve(count)?;
-        self.ended.reserve(count)
     }
 
     /// Makes room for all indexes below a count: the new ones have no mark.
@@ -91,6 +84,17 @@ impl RecvMarks {
         &self.ended
     }
 
+    /// Whether any index may be marked.
+    #[inline(always)]
+    pub(crate) fn may_have(&self, task: RecvTask) -> bool
+        ensures { result ≡ false → IsClear (marks_of self.now task) }
+    {
+        match task {
+            RecvTask::Readable => self.readable.may_have(),
+            RecvTask::Ended => self.ended.may_have(),
+        }
+    }
+
     /// The least marked index from one on.
     pub(crate) fn next(&self, task: RecvTask, from: usize) -> Option<usize>
         ensures { IsNextMark (marks_of self.now task) from result }
@@ -126,5 +130,8 @@ pub(crate) fn has(task: RecvTask, half: &RecvHalf<RingAssembly>) -> bool
 fn has_ended(half: &RecvHalf<RingAssembly>) -> bool
     ensures { result ≡ recv_ended half.now }
 {
+    if !half.is_told() {
+        return false;
+    }
     matches!(half.state(), RecvState::DataRead | RecvState::ResetRead)
 }

@@ -6,6 +6,7 @@ ghost use Rattle.qs_machine.specs.Tables.{no_streams, table, with_table, lookup,
 ghost use Rattle.qs_machine.specs.Memory.{HasNews};
 ghost use Rattle.qs_machine.specs.Changes.{half_changes, reset_changes};
 ghost use Rattle.qs_recv.specs.Changes.{stream_changes};
+ghost use Rattle.qs_recv.specs.Lawful.{IsLawful};
 ghost use Rattle.qs_recv.specs.Peek.{IsPeek};
 ghost use Rattle.qs_machine.specs.Reports.{recv_report};
 ghost use Rattle.qs_machine.specs.Verdicts.{or_new};
@@ -138,6 +139,15 @@ impl RecvTables {
     {
         let lanes = &self.types[type_of(stream)];
         lanes.stream_changes(index_of(stream), offset, len, fin)
+    }
+
+    /// The half of an open stream is lawful. It does nothing: a caller learns the clause.
+    pub(crate) fn is_lawful(&self, stream: StreamId)
+        ensures { (l : RecvLane) → lookup self.now stream ≡ Some l → IsLawful l }
+    {
+        let lanes = &self.types[type_of(stream)];
+        let _index = index_of(stream);
+        let _tally = lanes.tally();
     }
 
     /// Whether a reset that passed the check would change an open stream.
@@ -400,6 +410,7 @@ impl RecvTables {
     }
 
     /// The least number of a stream whose receiving half has an answer for its owner that wasn't told.
+    #[inline(always)]
     pub(crate) fn next_untold(&self, task: RecvTask, told: &ToldStreams) -> Option<StreamId>
         ensures { IsLeast (IsUntold (IsHeld (HasOne task) self.now) told.now) 0 result }
     {
@@ -418,12 +429,16 @@ impl RecvTables {
     }
 
     // The least such number among the streams of a type.
+    #[inline(always)]
     fn next_untold_of(&self, task: RecvTask, stream_type: usize, told: &ToldStreams) -> Option<u64>
         requires { stream_type < 4 }
         ensures least { IsLeast (IsUntoldOf (IsHeld (HasOne task) self.now) told.now stream_type) 0 result }
         ensures small { IfSome result (λ n. n < 2 ^ 62) }
     {
         let lanes = &self.types[stream_type];
+        if !lanes.may_have(task) {
+            return None;
+        }
         match lanes.next_untold(task, told.of_type(stream_type)) {
             Some(index) => Some((index * 4 + stream_type) as u64),
             None => None,

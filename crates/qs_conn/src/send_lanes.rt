@@ -4,6 +4,7 @@ ghost use Rattle.std.specs.List.{sum_by};
 ghost use Rattle.qs_ranges.specs.Numbers.{MAX_VARINT};
 ghost use Rattle.qs_send.specs.Lane.{Sending, new_sending, accepted, refusal, reset_refusal, answer_of, state, after_write, after_finish, after_reset, after_stop, after_reset_acked, after_blocked, after_allow, after_buffer, after_sent, after_acked, after_lost};
 ghost use Rattle.qs_send.specs.Chunks.{IsDueChunk, WasSent};
+ghost use Rattle.qs_send.specs.Sound.{IsLawful};
 ghost use Rattle.qs_machine.specs.Tables.{widened};
 ghost use Rattle.qs_machine.specs.Memory.{ChunkMayRunOut};
 ghost use Rattle.qs_machine.specs.Sums.{changed, no_sending};
@@ -107,6 +108,15 @@ impl SendLanes {
         self.kept
     }
 
+    /// What holds of an open half. It does nothing: a caller learns the clause.
+    #[inline(always)]
+    pub(crate) fn is_lawful(&self, index: usize)
+        requires { index < length self.now }
+        ensures { IsLawful (slice_index_or self.now index no_sending) }
+    {
+        self.halves.is_lawful(index);
+    }
+
     /// An open half.
     #[inline(always)]
     pub(crate) fn get(&self, index: usize) -> SendView<'_>
@@ -153,8 +163,7 @@ impl SendLanes {
         ensures { self.new ≡ self.old }
     {
         let missing = count.saturating_sub(self.halves.len());
-        self.halves.reserve(missing)?;
-        self.marks.reserve(count)
+        self.halves.reserve(missing)
     }
 
     /// Takes the halves from a count on away. Nothing of them was sent or is to be sent, and they keep nothing.
@@ -292,18 +301,22 @@ impl SendLanes {
         self.marks.look(index, half);
     }
 
-    /// Takes in that a chunk was sent.
-    pub(crate) fn sent(&mut self, index: usize, chunk: Chunk)
+    /// Takes in that a chunk was sent, and answers how far that moves the sent end.
+    pub(crate) fn sent(&mut self, index: usize, chunk: Chunk) -> u64
         requires there { index < length self.old }
         requires due { IsDueChunk (slice_index_or self.old index no_sending) chunk }
-        ensures { self.new ≡ changed self.old index (λ s. after_sent s chunk) (slice_get self.old index) }
+        ensures after { self.new ≡ changed self.old index (λ s. after_sent s chunk) (slice_get self.old index) }
+        ensures moved { let half = slice_index_or self.old index no_sending in half.lane.sent_end + result ≡ (after_sent half chunk).lane.sent_end }
     {
         let Some(half) = self.halves.full_mut(index) else {
-            return;
+            return 0;
         };
         half.is_lawful();
+        let before = half.sent_end();
         half.sent(chunk);
+        let moved = half.sent_end() - before;
         self.marks.look_sent(index, half);
+        moved
     }
 
     /// Takes in that a chunk is acknowledged, or changes nothing.
@@ -346,6 +359,7 @@ impl SendLanes {
     }
 
     /// Whether any half may have a task.
+    #[inline(always)]
     pub(crate) fn may_have(&self, task: Task) -> bool
         ensures { result ≡ false → (i : ℕ) (s : Sending) → slice_get self.now i ≡ Some s → IsQuiet task s }
     {
@@ -388,6 +402,7 @@ impl SendLanes {
     }
 
     /// The least index from one on whose half is sought.
+    #[inline(never)]
     pub(crate) fn next_sought(&self, search: Search, told: &ToldMarks, from: usize) -> Option<usize>
         ensures least { IsLeast (IsSoughtAt search self.now told.now) from result }
         ensures small { IfSome result (λ n. n < 2 ^ 60) }

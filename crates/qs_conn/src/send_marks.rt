@@ -57,17 +57,6 @@ impl SendMarks {
         }
     }
 
-    /// Takes the memory for the indexes below a count.
-    pub(crate) fn reserve(&mut self, count: usize) -> Result<(), NoMemory>
-        ensures { (t : Task) → marks_of self.new t ≡ marks_of self.old t }
-    {
-        self.bytes.reserve(count)?;
-        self.again.reserve(count)?;
-        self.writable.reserve(count)?;
-        self.ended.reserve(count)?;
-        self.stopped.reserve(count)
-    }
-
     /// Makes room for all indexes below a count: the new ones have no mark but that they may be written to.
     pub(crate) fn open_to(&mut self, count: usize) -> Result<(), NoMemory>
         ensures ok { OnOk result ((t : Task) → marks_of self.new t ≡ marks_of self.old t ++ replicate (count - length (marks_of self.old t)) (begins t)) }
@@ -180,6 +169,7 @@ impl SendMarks {
     }
 
     /// Whether any index may be marked.
+    #[inline(always)]
     pub(crate) fn may_have(&self, task: Task) -> bool
         ensures { result ≡ false → IsClear (marks_of self.now task) }
     {

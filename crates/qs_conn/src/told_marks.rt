@@ -1,6 +1,7 @@
 //! Which indexes of the streams of one type an owner was told of.
-ghost use Rattle.std.specs.Prelude.{◌≡◌, ◌++◌, ◌-◌, ◌<◌, ◌^◌, [], false, length, slice_get, slice_set, replicate, None, OnOk, OnErr};
-ghost use Rattle.qs_conn.specs.Marks.{is_marked, IsMarkedBeside, IsUnmarkedBeside, AreFull};
+ghost use Rattle.std.specs.Prelude.{◌≡◌, ◌++◌, ◌+◌, ◌-◌, ◌*◌, ◌/◌, ◌<◌, ◌≤◌, ◌^◌, ◌⊎◌, [], true, false, length, slice_get, slice_set, replicate, None, OnOk, OnErr};
+ghost use Rattle.qs_conn.specs.Marks.{is_marked, IsMarkedBeside, IsUnmarkedBeside, AreFull, AreMarkedBelow};
+ghost use Rattle.qs_conn.specs.Untold.{IsClear};
 
 use crate::bits::{Bits, FLAGS_PER_WORD};
 use crate::marks::Marks;
@@ -15,12 +16,14 @@ pub(crate) struct ToldMarks {
     marks: Marks,
     // Each index of a word with a flag is marked.
     full: Bits,
+    // Each index below it is marked: a search passes what was told long ago at once.
+    first: usize,
 }
 
 impl Model for ToldMarks {
     ghost use Rattle.std.specs.Prelude.{List, Bool};
     ghost use Rattle.std.specs.Coded.{coded_list, coded_bool};
-    ghost use Rattle.qs_conn.specs.Marks.{AreFull};
+    ghost use Rattle.qs_conn.specs.Marks.{AreFull, AreMarkedBelow};
 
     ghost Value = { List Bool };
 
@@ -28,7 +31,7 @@ impl Model for ToldMarks {
 
     ghost view = { λ t. t.marks };
 
-    ghost invariant = { λ t. AreFull t.marks t.full };
+    ghost invariant = { λ t. AreFull t.marks t.full × AreMarkedBelow t.marks t.first };
 }
 
 impl ToldMarks {
@@ -39,6 +42,7 @@ impl ToldMarks {
         ToldMarks {
             marks: Marks::new(alloc),
             full: Bits::new(alloc),
+            first: 0,
         }
     }
 
@@ -84,7 +88,17 @@ impl ToldMarks {
         }
         self.marks.set(index, is_marked);
         let word = index / FLAGS_PER_WORD;
-        self.full.set(word, self.marks.is_full(word));
+        let is_full = self.marks.is_full(word);
+        self.full.set(word, is_full);
+        self.first = first_after(self.first, index, is_full);
+    }
+
+    /// Whether some index may have been told.
+    #[inline(always)]
+    pub(crate) fn may_have(&self) -> bool
+        ensures { result ≡ false → IsClear self.now }
+    {
+        self.marks.may_have()
     }
 
     /// An index was told: all up to it get room. It takes memory where it is past the last.
@@ -127,5 +141,28 @@ impl ToldMarks {
         ensures { AreFull self.now result.now }
     {
         &self.full
+    }
+
+    /// Each index below it was told.
+    pub(crate) fn first(&self) -> usize
+        ensures { AreMarkedBelow self.now result }
+    {
+        self.first
+    }
+}
+
+// Below which index all were told, once an index was told or may be told again. Words become full in their order, mostly.
+fn first_after(first: usize, index: usize, is_full: bool) -> usize
+    ensures full { is_full ≡ true → (result ≤ first) ⊎ ((first / 64 ≡ index / 64) × (result ≤ index / 64 * 64 + 64)) }
+    ensures other { is_full ≡ false → (result ≤ first) × (result ≤ index) }
+{
+    if !is_full {
+        return first.min(index);
+    }
+    let word = index / FLAGS_PER_WORD;
+    if first / FLAGS_PER_WORD == word {
+        (word * FLAGS_PER_WORD).saturating_add(FLAGS_PER_WORD)
+    } else {
+        first
     }
 }

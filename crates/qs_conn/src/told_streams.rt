@@ -1,5 +1,5 @@
 //! Which streams an owner was told of.
-ghost use Rattle.std.specs.Prelude.{◌≡◌, ◌<◌, None, OnOk, OnErr};
+ghost use Rattle.std.specs.Prelude.{◌≡◌, ◌<◌, ℕ, Bool, false, None, Some, OnOk, OnErr};
 ghost use Rattle.qs_machine.specs.Tables.{no_streams, table, lookup};
 ghost use Rattle.qs_machine.specs.Heard.{is_told, IsToldBeside, IsForgotten};
 
@@ -72,6 +72,23 @@ impl ToldStreams {
     {
         let marks = &mut self.types[type_of(stream)];
         marks.forget(index_of(stream));
+    }
+
+    /// Whether some stream may have been told.
+    #[inline(always)]
+    pub(crate) fn may_have(&self) -> bool
+        ensures { result ≡ false → (n : ℕ) (b : Bool) → lookup self.now n ≡ Some b → b ≡ false }
+    {
+        if self.types[0].may_have() {
+            return true;
+        }
+        if self.types[1].may_have() {
+            return true;
+        }
+        if self.types[2].may_have() {
+            return true;
+        }
+        self.types[3].may_have()
     }
 
     /// The marks of the streams of a type, by index.

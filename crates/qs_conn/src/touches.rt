@@ -35,13 +35,6 @@ impl Touches {
         }
     }
 
-    /// Takes the memory for the indexes below a count.
-    pub(crate) fn reserve(&mut self, count: usize) -> Result<(), NoMemory>
-        ensures { self.new ≡ self.old }
-    {
-        self.marks.reserve(count)
-    }
-
     /// Makes room for all indexes below a count: the new ones weren't touched.
     pub(crate) fn open_to(&mut self, count: usize) -> Result<(), NoMemory>
         ensures lanes { self.new.lanes ≡ self.old.lanes }

@@ -43,12 +43,6 @@ impl UntoldLanes {
         }
     }
 
-    fn reserve(&mut self, count: usize) -> Result<(), NoMemory>
-        ensures { self.new ≡ self.old }
-    {
-        self.marks.reserve(count)
-    }
-
     fn open_to(&mut self, count: usize) -> Result<(), NoMemory>
         requires { count ≤ 2 ^ 60 }
         ensures ok { OnOk result (self.new ≡ self.old ++ replicate (count - length self.old) false) }
@@ -115,14 +109,6 @@ impl Untold {
                 UntoldLanes::new(alloc),
             ],
         }
-    }
-
-    /// Takes the memory for a stream and all lower ones of its type, and opens none.
-    pub(crate) fn reserve(&mut self, stream: StreamId) -> Result<(), NoMemory>
-        ensures { self.new ≡ self.old }
-    {
-        let lanes = &mut self.types[type_of(stream)];
-        lanes.reserve(index_of(stream) + 1)
     }
 
     /// Makes room for a stream and all lower ones of its type: the new ones aren't marked.

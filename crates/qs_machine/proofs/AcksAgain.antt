@@ -191,7 +191,7 @@ named_bare e ranges late k is = subst (λ (x : End). IsBare (fmap.get (held late
 
 -- What an ACK takes again
 
-bare_none : (late : Bool) (m : Records) (k : ℕ) → IsBare (fmap.get m k) → pieces_of late m k ≡ []
+pub bare_none : (late : Bool) (m : Records) (k : ℕ) → IsBare (fmap.get m k) → pieces_of late m k ≡ []
 bare_none late m k h = go (fmap.get m k) h
   where
     go : (o : Option (List Piece)) → IsBare o → piece_list late k o ≡ []

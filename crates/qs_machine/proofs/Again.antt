@@ -90,7 +90,7 @@ send_back n f l e was is stays =
 -- Verdicts on the stream
 
 -- by the counts that are granted
-abbrev count_fault : ℕ → ℕ → ℕ → Option ℕ
+abbrev pub count_fault : ℕ → ℕ → ℕ → Option ℕ
 count_fault bidi uni n = fault_if (nat_le (cond (is_uni n) uni bidi) (n / 4)) 0x04
 
 abbrev in_of : Role → Option RecvLane → ℕ → ℕ → ℕ → Option ℕ
@@ -100,7 +100,7 @@ abbrev out_of : Role → Option SendLane → ℕ → ℕ → ℕ → Option ℕ
 out_of role o bidi uni n = cond (is_own_by role n) (fault_if (is_none o) 0x05) (cond (is_uni n) (Some 0x05) (count_fault bidi uni n))
 
 -- a stream within the counts stays so where they rise
-count_stays : (bidi uni more_bidi more_uni n : ℕ) → bidi ≤ more_bidi → uni ≤ more_uni → count_fault bidi uni n ≡ None → count_fault more_bidi more_uni n ≡ None
+pub count_stays : (bidi uni more_bidi more_uni n : ℕ) → bidi ≤ more_bidi → uni ≤ more_uni → count_fault bidi uni n ≡ None → count_fault more_bidi more_uni n ≡ None
 count_stays bidi uni more_bidi more_uni n le_bidi le_uni = go (is_uni n)
   where
     within : (few more : ℕ) → few ≤ more → fault_if (nat_le few (n / 4)) 0x04 ≡ None → fault_if (nat_le more (n / 4)) 0x04 ≡ None
@@ -118,13 +118,13 @@ count_stays bidi uni more_bidi more_uni n le_bidi le_uni = go (is_uni n)
     go false h = within bidi more_bidi le_bidi h
 
 -- a half that is there stays there
-own_stays : {X : Type 0} (own : Bool) (other later : Option ℕ) (o p : Option X) → (is_some o ≡ true → is_some p ≡ true) → (other ≡ None → later ≡ None) → cond own (fault_if (is_none o) 0x05) other ≡ None → cond own (fault_if (is_none p) 0x05) later ≡ None
+pub own_stays : {X : Type 0} (own : Bool) (other later : Option ℕ) (o p : Option X) → (is_some o ≡ true → is_some p ≡ true) → (other ≡ None → later ≡ None) → cond own (fault_if (is_none o) 0x05) other ≡ None → cond own (fault_if (is_none p) 0x05) later ≡ None
 own_stays true other later None p more fine h = absurd (none-some 0x05 (sym h))
 own_stays true other later (Some x) None more fine h = absurd (both_ways false refl (more refl))
 own_stays true other later (Some x) (Some y) more fine h = refl
 own_stays false other later o p more fine h = fine h
 
-uni_stays : (uni : Bool) (few more : Option ℕ) → (few ≡ None → more ≡ None) → cond uni (Some 0x05) few ≡ None → cond uni (Some 0x05) more ≡ None
+pub uni_stays : (uni : Bool) (few more : Option ℕ) → (few ≡ None → more ≡ None) → cond uni (Some 0x05) few ≡ None → cond uni (Some 0x05) more ≡ None
 uni_stays true few more fine h = h
 uni_stays false few more fine h = fine h
 

@@ -1,22 +1,22 @@
 -- How many streams ended: no fewer where halves that ended stay so, and as many once limits were raised.
 use Rattle.std.proofs.Common.{◌≡◌, ℕ, zero, suc, ◌+◌, ◌-◌, ◌*◌, ◌/◌, ◌%◌, ◌<◌, ◌≤◌, Bool, true, false, cond, List, [], ◌∷◌, length, map, Option, None, Some, slice_get, refl, sym, ap, ◌∙◌, subst, arith}
-use Rattle.std.specs.Prelude.{max, min, zip}
+use Rattle.std.specs.Prelude.{max, zip}
 use Rattle.std.specs.List.{filter}
 use Rattle.std.proofs.lemmas.Option.{none-some, same_Some}
 use Rattle.std.proofs.lemmas.Bool.{both_ways, and_parts, and_from}
 use Rattle.std.proofs.lemmas.Nat.{le-div, mod_below}
-use Rattle.std.proofs.Math.Nat.{mul-le-mul_left}
+use Rattle.std.proofs.Math.Nat.{mul-le-mul_right}
 use Rattle.qs_wire.specs.declared.stream_id.Dir.{Dir}
 use Rattle.qs_wire.specs.declared.stream_id.Dir.TheVariants.{Bidi, Uni}
 use Rattle.qs_wire.specs.declared.stream_id.Role.{Role}
-use Rattle.qs_recv.specs.Lane.{RecvLane, raise, parts}
+use Rattle.qs_recv.specs.Lane.{RecvLane, raise}
 use Rattle.qs_send.specs.Lane.{SendLane}
 use Rattle.qs_calls.specs.declared.settings.Settings.{Settings}
 use Rattle.qs_calls.specs.declared.settings.Tuning.{Tuning}
 use Rattle.qs_recv.specs.declared.credit.Share.{Share}
 use Rattle.qs_machine.specs.Tables.{Tables, table, lookup, each}
 use Rattle.qs_machine.specs.Ends.{End, role_bit, peer_type}
-use Rattle.qs_machine.specs.Credit.{recv_ended, send_ended, both_ended, ended, first_grant, lifetime, count_step, in_steps, count_after, next_count, settle}
+use Rattle.qs_machine.specs.Credit.{recv_ended, send_ended, both_ended, ended, lifetime, count_step, in_steps, count_after, next_count, settle}
 use Rattle.qs_machine.specs.Standing.{CountsStand, CountsAreSettled, CountsRise}
 use Rattle.qs_machine.proofs.EndedHalves.{RecvStays, SendStays}
 use Rattle.qs_machine.proofs.TablesAfter.{KeptIn}
@@ -104,6 +104,13 @@ steps_within k n pos = omega (arith, mod_below n k pos)
 -- steps of one are all
 pub steps_of_one : (n : ℕ) → in_steps 1 n ≡ n
 steps_of_one n = omega arith
+
+-- more streams make no fewer whole steps, and no lower count
+steps_more : (k a b : ℕ) → 0 < k → a ≤ b → in_steps k a ≤ in_steps k b
+steps_more k a b pos le = mul-le-mul_right k (le-div (a / k) b k pos (omega (arith, le, steps_within k a pos)))
+
+pub count_more : (s : Settings) (t : Tuning) (d : Dir) (grant a b : ℕ) → a ≤ b → count_after s t d grant a ≤ count_after s t d grant b
+count_more s t d grant a b le = (let more = steps_more (count_step t.count_step grant) a b (one_step t.count_step grant) le in omega (arith, more))
 
 -- where none ended the next count is the grant
 pub count_first : (s : Settings) (t : Tuning) (d : Dir) (grant n : ℕ) → n ≡ 0 → grant ≤ lifetime s d → count_after s t d grant n ≡ grant

@@ -7,7 +7,7 @@ use Rattle.qs_recv.specs.News.{is_readable}
 use Rattle.qs_send.specs.Lane.{SendLane, unacked_from}
 use Rattle.qs_ranges.specs.declared.NoMemory.{NoMemory}
 use Rattle.qs_calls.specs.declared.news.News.{News}
-use Rattle.qs_calls.specs.declared.news.News.TheVariants.{Opened, Readable, Writable, Stopped, Finished, ResetAcked, Ended, Available}
+use Rattle.qs_calls.specs.declared.news.News.TheVariants.{Opened, Readable, Writable, Stopped, Finished, ResetAcked, Ended, Available, DataBlocked, StreamDataBlocked, StreamsBlocked}
 use Rattle.qs_machine.specs.Ends.{End}
 use Rattle.qs_machine.specs.Tables.{lookup}
 use Rattle.qs_machine.specs.Credit.{send_ended}
@@ -39,6 +39,8 @@ news =
       not_reset = λ h. false≢true (only_is WasResetAcked finished h.0);
       not_wanted = λ h. false≢true h.1;
       closed = λ h. none-some _ (sym h.0.0);
+      unsaid = λ h. false≢true h.1;
+      said_before = λ h. none-some _ (sym h.0);
     }
 
 opens_first : IsNews (server_with all_came) heard_nothing (Opened 0)
@@ -69,6 +71,10 @@ noted =
       whole = λ refused h. false≢true (ap is_ok (h.whole refl).0);
       marked = λ refused h. none-some false (sym (h.short refl).1);
       read_empty = λ h. true≢false ((h.dry nothing_readable).0 0);
+      told_again = λ h. true≢false (ap (λ (x : Hearing). x.blocked.conn) h);
+      risen = λ h. true≢false (ap (λ (x : Hearing). x.blocked.conn) h.1);
+      present = λ h. false≢true (ap (λ (x : Hearing). x.blocked.conn) h.1);
+      all_known = λ h. true≢false (ap (λ (x : Hearing). is_told x.blocked.streams 0) h.1);
     }
 
 -- what comes behind a stream that opened comes behind any that did
@@ -81,6 +87,9 @@ behind_opened h (Finished n) takes = inl (omega arith)
 behind_opened h (ResetAcked n) takes = inl (omega arith)
 behind_opened h (Ended n) takes = inl (omega arith)
 behind_opened h (Available d) takes = absurd takes
+behind_opened h DataBlocked takes = absurd takes
+behind_opened h (StreamDataBlocked n) takes = absurd takes
+behind_opened h (StreamsBlocked d) takes = absurd takes
 
 abbrev marks_one : Hearing
 marks_one = record heard_one { readable = only false }
@@ -96,6 +105,9 @@ behind_readable (Finished n) takes = inl (omega arith)
 behind_readable (ResetAcked n) takes = inl (omega arith)
 behind_readable (Ended n) takes = inl (omega arith)
 behind_readable (Available d) takes = absurd takes
+behind_readable DataBlocked takes = absurd takes
+behind_readable (StreamDataBlocked n) takes = absurd takes
+behind_readable (StreamsBlocked d) takes = absurd takes
 
 -- a piece of news before the one that is first
 too_early : (e : End) (h : Hearing) (news other : News) → IsFirstNews e h (Some news) → IsNews e h other → ComesBefore other news → ⊥

@@ -51,7 +51,15 @@ pub mod OffsetParts
 pub mod Claims
 pub mod Ways
 pub mod AckPackets
+pub mod AckSwaps
+pub mod AckPieces
+pub mod AckParts
+pub mod AckSettles
 pub mod AckTokens
+pub mod AckRanges
+pub mod AckJoins
+pub mod AckPayloads
+pub mod AckOrders
 pub mod Plains
 pub mod NewlyTold
 pub mod Writing

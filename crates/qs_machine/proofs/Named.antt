@@ -154,7 +154,7 @@ module _ {X : Type 0} (m : fmap.FinMap nat_cmp X) where
 
 -- Filters of filters
 
-filter_both : (f g : ℕ → Bool) (xs : List ℕ) → filter f (filter g xs) ≡ filter (λ x. g x && f x) xs
+pub filter_both : (f g : ℕ → Bool) (xs : List ℕ) → filter f (filter g xs) ≡ filter (λ x. g x && f x) xs
 filter_both f g [] = refl
 filter_both f g (x ∷ xs) = go (g x) (filter g xs) (filter (λ y. g y && f y) xs) (filter_both f g xs)
   where

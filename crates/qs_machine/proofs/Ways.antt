@@ -4,7 +4,7 @@ use Rattle.std.specs.Prelude.{MatchBool, Result}
 use Rattle.std.specs.List.{AllByRecursion}
 use Rattle.std.proofs.lemmas.Bool.{false≢true}
 use Rattle.qs_wire.specs.Layout.{FrameValue, PlacedValue}
-use Rattle.qs_wire.specs.Grammar.{Fits, AreBytes, frames_of}
+use Rattle.qs_wire.specs.Grammar.{Fits, AreBytes}
 use Rattle.qs_wire.specs.Reading.{reading_of}
 use Rattle.qs_wire.specs.declared.fault.WireFault.{WireFault}
 use Rattle.qs_wire.proofs.FaultAgain.{bytes_fit}
@@ -17,12 +17,12 @@ use Rattle.qs_calls.specs.declared.token.Taken.TheVariants.{Took, Unchanged, Not
 use Rattle.qs_calls.specs.declared.token.TakeFault.{TakeFault}
 use Rattle.qs_machine.specs.Ends.{End}
 use Rattle.qs_machine.specs.Credit.{settle}
-use Rattle.qs_machine.specs.Seen.{Seen, Ack, Stream, Control, Close, Plain, seen, seen_all, any_asks, asks_ack}
+use Rattle.qs_machine.specs.Seen.{Seen, Ack, Stream, Control, Close, Plain, seen, seen_all, any_asks}
 use Rattle.qs_machine.specs.Verdicts.{verdict}
 use Rattle.qs_machine.specs.FrameStep.{NoFault, frame_taken, frames_taken}
 use Rattle.qs_machine.specs.Recording.{recorded}
-use Rattle.qs_machine.specs.Receiving.{ReceiveStep, ReceiveBy, Stops, EndsBy, OpenReceive}
-use Rattle.qs_machine.specs.Alone.{is_ours, MayTake, TakesOne, TakesEach, TakeBy, TakeFrameStep, TakeFramesStep, TakeAllBy, of_both, after_one}
+use Rattle.qs_machine.specs.Receiving.{ReceiveStep, ReceiveBy, Stops, EndsBy}
+use Rattle.qs_machine.specs.Alone.{is_ours, TakesOne, TakesEach, TakeBy, TakeFrameStep, TakeFramesStep, TakeAllBy, of_both, after_one}
 use Rattle.qs_machine.specs.Changes.{changes}
 use Rattle.qs_machine.specs.Ways.{frames_in, IsNew, is_ack, HaveNoAck}
 use Rattle.qs_machine.proofs.Prefix.{takes_prefix, seen_in}
@@ -75,7 +75,7 @@ first_fine e (Close code) fs ours h = absurd (false≢true ours)
 first_fine e (Plain asks) fs ours h = h
 
 -- a frame of another kind changes nothing, but for an ACK
-other_fine : (e : End) (f : Seen) (fs : List Seen) → is_ours f ≡ false → is_ack f ≡ false → NoFault e (f ∷ fs) → NoFault e fs × (frame_taken f e ≡ e)
+pub other_fine : (e : End) (f : Seen) (fs : List Seen) → is_ours f ≡ false → is_ack f ≡ false → NoFault e (f ∷ fs) → NoFault e fs × (frame_taken f e ≡ e)
 unfolding frame_taken
 other_fine e (Ack largest ranges) fs other none h = absurd (false≢true (sym none))
 other_fine e (Stream n offset bytes fin) fs other none h = absurd (false≢true (sym other))
@@ -87,7 +87,7 @@ pick : (X Y : Type 0) (b : Bool) → b ≡ true → X → MatchBool b X Y
 pick X Y true is x = x
 pick X Y false is x = absurd (false≢true is)
 
-pass_by : (X Y : Type 0) (b : Bool) → b ≡ false → Y → MatchBool b X Y
+pub pass_by : (X Y : Type 0) (b : Bool) → b ≡ false → Y → MatchBool b X Y
 pass_by X Y true is y = absurd (false≢true (sym is))
 pass_by X Y false is y = y
 
@@ -99,7 +99,7 @@ takes_one e f ours fits first = go (changes e (seen f)) refl
     go true some = (Took, ((fits, first), refl, frame_differs (seen f) e first some))
     go false none = (Unchanged, ((fits, first), refl, frame_same (seen f) e ours first none))
 
-takes_each : (fs : List FrameValue) (e : End) → HaveNoAck fs → AllByRecursion Fits fs → NoFault e (seen_all fs) → (taken : Taken) × TakesEach fs e (Ok taken) (frames_taken (seen_all fs) e)
+pub takes_each : (fs : List FrameValue) (e : End) → HaveNoAck fs → AllByRecursion Fits fs → NoFault e (seen_all fs) → (taken : Taken) × TakesEach fs e (Ok taken) (frames_taken (seen_all fs) e)
 unfolding frames_taken
 takes_each [] e none fit fine = (NotOurs, (refl, refl))
 takes_each (f ∷ fs) e none fit fine = go (λ x later. takes_each fs x none.1 fit.1 later) (is_ours (seen f)) refl

@@ -1,17 +1,26 @@
 -- Of laws.
--- What is no news, and what an owner didn't hear by it (RFC 9000, sections 2.2 to 2.4, 3 and 4.6).
+-- What is no news, and what an owner didn't hear by it (RFC 9000, sections 2.2 to 2.4, 3 and 4).
 use Rattle.std.specs.Prelude.{◌≡◌, ℕ, true, false, Option, None, Some, Ok, Err}
 use Rattle.qs_ranges.specs.declared.NoMemory.{NoMemory}
 use Rattle.qs_wire.specs.declared.stream_id.Dir.TheVariants.{Bidi, Uni}
-use Rattle.qs_calls.specs.declared.news.News.TheVariants.{Opened, Readable, Writable, Stopped, Finished, ResetAcked, Ended, Available}
+use Rattle.qs_calls.specs.declared.news.News.TheVariants.{Opened, Readable, Writable, Stopped, Finished, ResetAcked, Ended, Available, DataBlocked}
 use Rattle.qs_recv.specs.Lane.{RecvLane}
-use Rattle.qs_machine.specs.Heard.{Hearing, heard_nothing, IsNews, IsFirstNews, IsHeardBy, IsNextNews, WillWrite, IsReadOn}
-use Rattle.qs_machine.specs.SmallEnds.{client_with, server_with, only, begun, finished, reset_half, fresh, all_came}
+use Rattle.qs_send.specs.declared.piece.Item.TheVariants as items
+use Rattle.qs_machine.specs.Seen.{Control}
+use Rattle.qs_machine.specs.Heard.{Hearing, heard_nothing, nothing_blocked, IsNews, IsFirstNews, IsHeardBy, IsNextNews, IsNoted, WillWrite, IsReadOn}
+use Rattle.qs_machine.specs.SmallEnds.{client_with, server_with, raised, only, begun, finished, reset_half, fresh, all_came}
 use Rattle.qs_machine.specs.ExclusionsOwner.{over}
 
 -- an owner that heard of the peer's first stream, and of nothing else
 abbrev pub heard_one : Hearing
 heard_one = record heard_nothing { opened_bidi = 1 }
+
+-- the peer said that the connection's limit holds it back, or that of its first stream
+abbrev pub conn_blocked : Hearing
+conn_blocked = record heard_nothing { blocked = record nothing_blocked { conn = true } }
+
+abbrev pub stream_blocked : Hearing
+stream_blocked = record heard_nothing { blocked = record nothing_blocked { streams = only true } }
 
 -- a reset came before any byte
 abbrev pub reset_came : RecvLane
@@ -40,6 +49,9 @@ pub record NoNews : Type 0 where
   -- a stream may be opened for which nobody waits, or at a closed end
   pub not_wanted : IsNews (client_with begun) heard_nothing (Available Bidi) → ⊥
   pub closed : IsNews (over (client_with begun)) (record heard_nothing { wants_bidi = true }) (Available Bidi) → ⊥
+  -- the connection's limit holds the peer back, of which it said nothing, or at a closed end
+  pub unsaid : IsNews (server_with fresh) heard_nothing DataBlocked → ⊥
+  pub said_before : IsNews (over (server_with fresh)) conn_blocked DataBlocked → ⊥
 
 -- the first piece of news isn't told so
 pub record NotFirst : Type 0 where
@@ -71,6 +83,12 @@ pub record NotNoted : Type 0 where
   pub whole : (refused : NoMemory) → WillWrite (client_with begun) 0 1 heard_nothing (Err refused) heard_nothing → ⊥
   -- a stream that was read empty isn't heard of again
   pub read_empty : IsReadOn (server_with fresh) 0 (record heard_one { readable = only true }) (record heard_one { readable = only true }) → ⊥
+  -- what the peer said is told, and is to be told again
+  pub told_again : IsHeardBy DataBlocked conn_blocked conn_blocked → ⊥
+  -- a limit that rose since is noted, or the present one isn't, or that of a stream whose final size is known is
+  pub risen : IsNoted raised (Control (items.DataBlocked 4999)) heard_nothing (Ok tt) conn_blocked → ⊥
+  pub present : IsNoted raised (Control (items.DataBlocked 5000)) heard_nothing (Ok tt) heard_nothing → ⊥
+  pub all_known : IsNoted (server_with all_came) (Control (items.StreamDataBlocked 0 1024)) heard_nothing (Ok tt) stream_blocked → ⊥
 
 pub record NotHeard : Type 0 where
   pub news : NoNews

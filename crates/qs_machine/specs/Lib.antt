@@ -49,3 +49,4 @@ pub mod ExclusionsHeard
 pub mod Exclusions
 pub mod SettledLimits
 pub mod OffsetParts
+pub mod AckOrders

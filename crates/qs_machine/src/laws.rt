@@ -2,7 +2,8 @@
 
 ghost use Rattle.qs_machine.specs.Laws.{NewEndsAreSound, NewEndsAreWide, CallsKeepEndsSound, StoredBytesWereGranted, EndedIsLastState, NewEndsSettleCounts, CallsSettleCounts, CountsNeverFall, LimitsNeverFall, ClosedEndsStay, AnAckIsAPacket, AFillIsAPacket, ClaimedNumbersAreKnown, PayloadsAreTakenInOrder, EffectsRepeat, PayloadsRepeat, ProcessedPayloadsRepeat, NewEndsSentNothing, CallsSendWhatWasWritten};
 ghost use Rattle.qs_machine.specs.Plains.{PlainFramesTellNothing};
-ghost use Rattle.qs_machine.specs.Ways.{APayloadIsItsFrames, APayloadIsTakeFrames, AFrameIsItsPayload, AnAckIsItsToken};
+ghost use Rattle.qs_machine.specs.Ways.{APayloadIsItsFrames, APayloadIsTakeFrames, AFrameIsItsPayload, AnAckIsItsToken, AnAckIsItsTokens, AnAckMayBeTold, ItsRangesAreTokens, AJoinedTokenIsItsParts, APayloadIsTokensAndFrames};
+ghost use Rattle.qs_machine.specs.AckOrders.{AStopIsntMoved};
 ghost use Rattle.qs_machine.specs.SettledLimits.{NewEndsSettleLimits, CallsSettleLimits};
 ghost use Rattle.qs_machine.specs.OffsetParts.{OffsetsAreInOnePart};
 ghost use Rattle.qs_machine.specs.Examples.{Examples};
@@ -122,14 +123,23 @@ pub fn exclusions()
 {}
 
 /// A payload that is processed is its frames, which take effect one after the other, and then its number; where it has no ACK it is
-/// `take_frames` of them, and of a single frame `take_frame`.
+/// `take_frames` of them, and of a single frame `take_frame`; where it has one ACK, with no frame of streams or flow control before it, it is
+/// first the tokens of the ACK's packets. A STOP_SENDING before the ACK isn't as one behind it.
 pub fn payloads_are_their_frames()
     ensures effects { APayloadIsItsFrames }
     ensures several { APayloadIsTakeFrames }
     ensures one { AFrameIsItsPayload }
+    ensures tokens { APayloadIsTokensAndFrames }
+    ensures order { AStopIsntMoved }
 {}
 
-/// An ACK of one range of packets is the token of that range, in time or late.
+/// An ACK of one range of packets is the token of that range, in time or late. An ACK of any ranges is tokens of the same packets, told one
+/// after the other, of an end whose outstanding data was written; and unless one of them is refused they may be told so. The ranges of an
+/// ACK without a fault are such tokens, and a joined token is its two parts.
 pub fn acks_are_their_tokens()
-    ensures { AnAckIsItsToken }
+    ensures one { AnAckIsItsToken }
+    ensures several { AnAckIsItsTokens }
+    ensures told { AnAckMayBeTold }
+    ensures ranges { ItsRangesAreTokens }
+    ensures joined { AJoinedTokenIsItsParts }
 {}

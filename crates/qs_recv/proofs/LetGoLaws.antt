@@ -1,15 +1,14 @@
 -- What a receiving half lets go stays so.
 --     let_go_noted, let_go_read, ..      each call keeps it
-use Rattle.std.specs.Prelude.{◌≡◌, ℕ, ◌+◌, ◌<◌, ◌≤◌, ◌⊎◌, Bool, true, false, cond, ◌||◌, nat_eq, List, length, Option, None, Some, is_some, unwrap_or, IsOk}
+use Rattle.std.specs.Prelude.{◌≡◌, ℕ, ◌+◌, ◌<◌, ◌≤◌, ◌⊎◌, Bool, true, false, cond, ◌||◌, List, length, Option, None, Some, is_some, unwrap_or, IsOk}
 use Rattle.std.proofs.Common.{◌∙◌, ap, arith, inl, inr}
 use Rattle.std.specs.FinMap as map
-use Rattle.std.specs.Option.{option_eq}
 use Rattle.std.proofs.lemmas.Bool.{both_ways}
 use Rattle.std.proofs.lemmas.Bool.Decides.{nat_tests}
 use Rattle.qs_ranges.specs.Numbers.{covers, end_of}
 use Rattle.qs_ranges.proofs.Sets.{below-end_of, covers-of}
 use Rattle.qs_recv.specs.Assembled.{put, take_front}
-use Rattle.qs_recv.specs.Lane.{RecvLane, check_stream, breaks_known, highest}
+use Rattle.qs_recv.specs.Lane.{RecvLane, check_stream, breaks_known, highest, at_final_size}
 use Rattle.qs_recv.specs.Lawful.{IsLawful}
 use Rattle.qs_recv.specs.Sound.{IsLetGo}
 use Rattle.qs_recv.proofs.GrowthLaws.{same_size}
@@ -102,10 +101,10 @@ pub let_go_raised : (lane : RecvLane) (size limit : ℕ) → IsLetGo lane size �
 let_go_raised lane size limit h = record { gone = h.gone; over = h.over; ended = h.ended }
 
 -- whether what was read is all of the stream, as it is tested
-pub tested_size : (f : Option ℕ) (n : ℕ) → option_eq nat_eq f (Some n) ≡ true → f ≡ Some n
-tested_size None n is = cc
-tested_size (Some s) n is = let e : s ≡ n = grind (arith, nat_tests) in ap Some e
+pub all_read : (f : Option ℕ) (n : ℕ) → at_final_size n f ≡ true → f ≡ Some n
+all_read None n is = cc
+all_read (Some s) n is = let e : s ≡ n = grind (arith, nat_tests) in ap Some e
 
-pub size_tested : (f : Option ℕ) (n : ℕ) → f ≡ Some n → option_eq nat_eq f (Some n) ≡ true
-size_tested None n is = cc
-size_tested (Some s) n is = let e : s ≡ n = ap (λ o. unwrap_or o 0) is in grind (arith, nat_tests)
+pub read_all : (f : Option ℕ) (n : ℕ) → f ≡ Some n → at_final_size n f ≡ true
+read_all None n is = cc
+read_all (Some s) n is = let e : s ≡ n = ap (λ o. unwrap_or o 0) is in grind (arith, nat_tests)

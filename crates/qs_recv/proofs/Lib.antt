@@ -21,7 +21,4 @@ pub mod SameRing
 pub mod SkipLaws
 pub mod SoundLaws
 pub mod WrittenLaws
-mod Spots
 pub mod OverLaws
-mod TableLaws
-mod TableSteps

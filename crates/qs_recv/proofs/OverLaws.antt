@@ -1,28 +1,19 @@
 -- Nothing that may still come or be called changes a half that was read to its end.
-use Rattle.std.proofs.Common.{◌≡◌, ℕ, ◌+◌, ◌≤◌, ◌<◌, ◌⊎◌, inl, inr, Bool, true, false, not, cond, ◌&&◌, ◌||◌, eqb, List, [], length, Option, Some, None, is_some, unwrap_or, refl, sym, ap, ◌∙◌, subst, arith, max}
+use Rattle.std.proofs.Common.{◌≡◌, ℕ, ◌+◌, ◌≤◌, ◌⊎◌, inl, inr, Bool, true, false, not, cond, ◌&&◌, ◌||◌, eqb, List, [], length, Some, is_some, unwrap_or, refl, sym, ap, ◌∙◌, subst, arith, max}
 use Rattle.std.specs.FinSet as set_of
-use Rattle.std.specs.List.{slice_get}
 use Rattle.std.specs.Result.{IsOk}
-use Rattle.std.proofs.Math.ListN.{set}
 use Rattle.std.proofs.lemmas.Bool.{cases_eq, eq-eqb, or_right}
 use Rattle.std.proofs.lemmas.Bool.Decides.{nat_tests}
-use Rattle.std.proofs.lemmas.Option.{get_or_from_slice_get}
-use Rattle.std.proofs.lemmas.List.{set-get_or}
 use Rattle.qs_ranges.specs.Numbers.{ContainsRange, numbers, covers, end_of}
 use Rattle.qs_ranges.proofs.Sets.{covers-of}
 use Rattle.qs_recv.specs.Assembled.{Assembled, put, front_of, forget, discard}
 use Rattle.qs_recv.specs.Lane.{RecvLane, highest, highest_after, is_whole, whole_to, is_over, breaks_known, check_stream, check_reset, take_stream, take_reset, read_answer, answer_by, at_final_size, bytes_read, bytes_of, after_read, after_answer, raise, next_limit, stop, stop_and_forget, taken}
 use Rattle.qs_recv.specs.News.{is_readable, tells_something}
 use Rattle.qs_recv.specs.declared.half.Read.TheVariants.{Bytes, End, Wait}
-use Rattle.qs_recv.specs.Halves.{IsOver, IsOverAt}
+use Rattle.qs_recv.specs.Over.{IsOver}
 use Rattle.qs_recv.proofs.LawfulLaws.{unbroken, reset_unbroken}
 use Rattle.qs_recv.proofs.RestLaws.{known_below}
 use Rattle.qs_recv.proofs.RingLaws.{put_known}
-
--- the list with the lane of an index changed by f, where there is one
-abbrev pub edited : List RecvLane → ℕ → (RecvLane → RecvLane) → Option RecvLane → List RecvLane
-edited lanes i f None = lanes
-edited lanes i f (Some l) = set lanes i (f l)
 
 -- the half stores nothing new of what came
 same_put : (a : Assembled) (offset : ℕ) (bytes : List ℕ) (end : ℕ) → a.received ≡ numbers 0 end → (length bytes ≡ 0) ⊎ (offset + length bytes ≤ end) → put a offset bytes ≡ a
@@ -96,11 +87,3 @@ module _ (l : RecvLane) (h : IsOver l) where
 
   pub over_forget : (code : ℕ) → stop_and_forget l code ≡ l
   over_forget code = ap (λ (k : RecvLane). record k { told = true }) (over_stop code) ∙ ap (λ b. record l { told = b }) (sym h.told)
-
--- an edit that leaves a lane that is over as it is leaves all
-pub over_edit : (lanes : List RecvLane) (i : ℕ) (f : RecvLane → RecvLane) → IsOverAt lanes i → ((l : RecvLane) → slice_get lanes i ≡ Some l → IsOver l → f l ≡ l) → lanes ≡ edited lanes i f (slice_get lanes i)
-over_edit lanes i f over same = go (slice_get lanes i) refl
-  where
-    go : (o : Option RecvLane) → slice_get lanes i ≡ o → lanes ≡ edited lanes i f o
-    go None at = refl
-    go (Some l) at = sym (ap (set lanes i) (same l at (over l at) ∙ sym (get_or_from_slice_get lanes i l l at)) ∙ set-get_or lanes i l)

@@ -3,8 +3,8 @@
 --     room_fits      what is stored has room
 --     none_used, pages_fit      how many pages there may be
 --     held_fits, held_idle, held_small, room_held      and bytes of memory
-use Rattle.std.specs.Prelude.{◌≡◌, ℕ, ◌+◌, ◌-◌, ◌*◌, ◌/◌, ◌<◌, ◌≤◌, ◌^◌, ◌==◌, nat_lt, zero, suc, max, min, Bool, true, false, cond, if◌then◌else◌, nat_eq, List, [], ◌∷◌, length, Option, Some, None, is_some, ⊤, refl}
-use Rattle.std.proofs.Common.{sym, ◌∙◌, ap, arith, inl, inr}
+use Rattle.std.specs.Prelude.{◌≡◌, ℕ, ◌+◌, ◌-◌, ◌*◌, ◌/◌, ◌<◌, ◌≤◌, ◌^◌, ◌==◌, nat_lt, zero, suc, max, min, Bool, true, false, cond, if◌then◌else◌, nat_eq, List, [], ◌∷◌, length, Option, Some, None, is_some, refl}
+use Rattle.std.proofs.Common.{◌∙◌, ap, arith, inl, inr}
 use Rattle.std.specs.Ordering.{is_lt, nat_cmp}
 use Rattle.std.specs.declared.cmp.Ordering.TheVariants.{Less, Equal, Greater}
 use Rattle.std.specs.List.{AllByRecursion}
@@ -13,14 +13,13 @@ use Rattle.std.specs.Cmp.{unsigned_tied}
 use Rattle.std.specs.FinMap as map
 use Rattle.std.specs.FinSet as set
 use Rattle.std.specs.Global.{Vec}
-use Rattle.std.specs.BTreeMap as tree
 use Rattle.std.specs.BTreeMap.{IsOrdered, btree_map_len, is_at}
 use Rattle.std.specs.Map.{keys_of, lookup}
-use Rattle.std.proofs.lemmas.Bool.{both_ways, cases_lt, cases_Bool, ltb-true}
+use Rattle.std.proofs.lemmas.Bool.{both_ways, cases_lt, ltb-true}
 use Rattle.std.proofs.lemmas.Bool.Decides.{nat_tests}
 use Rattle.qs_ranges.specs.Numbers.{NumberSet, end_of}
 use Rattle.qs_ranges.proofs.Sets.{end_of-member}
-use Rattle.qs_recv.specs.Pages.{Pages, has_page, is_used}
+use Rattle.qs_recv.specs.Pages.{Pages, has_page}
 use Rattle.qs_recv.specs.Ring.{IsApart, IsRing, IsSized, missing_count, ring_bytes, stored_in_ring}
 use Rattle.qs_recv.proofs.RingCount.{missing_parts}
 use Rattle.qs_recv.proofs.RingLaws.{len-ring}

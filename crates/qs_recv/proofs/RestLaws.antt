@@ -249,34 +249,47 @@ reset_at_rest lane w n e code size no_reset not_whole ok h =
     at_rest_thrown (lane_at_rest (w, (lane.window, lane.share)) n e lane.limit (Some size) (Some code) lane.stop_code lane.told) n e refl
     (subst IsLawful (sym (forgotten_is lane w n e code size h)) (sound_reset lane w n e code size no_reset not_whole ok h).lawful) h.stop_fits
 
--- A half of which the end, or a reset, was told
+-- A half of which the end, or a reset, was told, or that was stopped
 
-pub given_is : (o : Option ℕ) → given (is_some o) (unwrap_or o 0) ≡ o
-given_is None = refl
-given_is (Some n) = refl
+abbrev pub is_done : RecvLane → Bool
+is_done lane = lane.told || is_some lane.stop_code
 
-pub told_at_rest : (lane : RecvLane) (w n e size : ℕ) → lane.told ≡ true → IsSound lane w n e → IsLetGo lane size → IsAtRest lane n e
-told_at_rest lane w n e size told h let_go =
+-- until bytes are thrown away it was told
+done_told : (lane : RecvLane) → is_done lane ≡ true → IsLawful lane → lane.arrived.discarding ≡ false → lane.told ≡ true
+done_told lane done lawful on = go lane.told refl
+  where
+    go : (b : Bool) → lane.told ≡ b → lane.told ≡ true
+    go true is = is
+    go false is =
+        let stopped : is_some lane.stop_code ≡ true = sym (ap (λ b. b || is_some lane.stop_code) is) ∙ done in
+        absurd (both_ways _ on (lawful.discards ∙ or_right (is_some lane.reset_code) (is_some lane.stop_code) stopped))
+
+pub given_some : (b : Bool) (n : ℕ) → is_some (given b n) ≡ b
+given_some true n = refl
+given_some false n = refl
+
+pub done_at_rest : (lane : RecvLane) (w n e size : ℕ) → is_done lane ≡ true → IsSound lane w n e → IsLetGo lane size → IsAtRest lane n e
+done_at_rest lane w n e size done h let_go =
     record {
       lawful = h.lawful;
       stop_fits = h.stop_fits;
       all_read = λ on.
-          let all : highest lane ≡ lane.arrived.read_count = ap (λ f. unwrap_or f (end_of lane.arrived.received)) (let_go.ended told on) in
+          let all : highest lane ≡ lane.arrived.read_count = ap (λ f. unwrap_or f (end_of lane.arrived.received)) (let_go.ended (done_told lane done h.lawful on) on) in
           omega (arith, all, h.lawful.received_within, read_within lane h.lawful, h.count_is, h.end_is);
       ended = λ is on. let_go.ended is on ∙ ap Some h.count_is;
     }
 
-nothing_left : (lane : RecvLane) (size : ℕ) → lane.told ≡ true → IsLawful lane → IsLetGo lane size → lane.arrived.stored ≡ map.empty
-nothing_left lane size told h let_go = go lane.arrived.discarding refl
+nothing_left : (lane : RecvLane) (size : ℕ) → is_done lane ≡ true → IsLawful lane → IsLetGo lane size → lane.arrived.stored ≡ map.empty
+nothing_left lane size done h let_go = go lane.arrived.discarding refl
   where
     go : (b : Bool) → lane.arrived.discarding ≡ b → lane.arrived.stored ≡ map.empty
     go true off = h.thrown_away off
-    go false on = map.empty_of_len lane.arrived.stored (none_left lane h (let_go.ended told on))
+    go false on = map.empty_of_len lane.arrived.stored (none_left lane h (let_go.ended (done_told lane done h on) on))
 
-pub rested_is : (lane : RecvLane) (w n e size : ℕ) → lane.told ≡ true → ContainsRange lane.arrived.received 0 e → IsSound lane w n e → IsLetGo lane size
+pub rested_is : (lane : RecvLane) (w n e size : ℕ) → is_done lane ≡ true → ContainsRange lane.arrived.received 0 e → IsSound lane w n e → IsLetGo lane size
     → lane_at_rest (w, (lane.window, lane.share)) n e lane.limit lane.final_size lane.reset_code lane.stop_code lane.told ≡ lane
-rested_is lane w n e size told all h let_go =
-    let stored = nothing_left lane size told h.lawful let_go in
+rested_is lane w n e size done all h let_go =
+    let stored = nothing_left lane size done h.lawful let_go in
     let received : lane.arrived.received ≡ numbers 0 e =
     same_numbers _ _ (λ q. same_tests _ _ (λ is. contains-below e q ∙ (let below = below-end_of lane.arrived.received q is in let ends = h.end_is in grind (arith, nat_tests)))
     (λ is. let within : is_within 0 e q ≡ true = sym (contains-below e q) ∙ is in all q (omega arith) (grind (arith, nat_tests)))) in

@@ -5,20 +5,18 @@
 --     put_near, apart_near, ..      a put into the ring
 --     put_far, apart_far, ..      a put into pages
 --     drawn_same, apart_drawn      pages that were moved into the ring
-use Rattle.std.specs.Prelude.{◌≡◌, ℕ, ◌+◌, ◌-◌, ◌*◌, ◌/◌, ◌%◌, ◌<◌, ◌≤◌, ◌⊎◌, ◌==◌, max, nat_le, nat_lt, Bool, true, false, not, cond, ◌&&◌, ◌||◌, if◌then◌else◌, List, [], length, slice_index, Some, None, is_some, refl}
+use Rattle.std.specs.Prelude.{◌≡◌, ℕ, ◌+◌, ◌-◌, ◌*◌, ◌/◌, ◌%◌, ◌<◌, ◌≤◌, ◌⊎◌, ◌==◌, max, nat_le, nat_lt, Bool, true, false, not, cond, ◌&&◌, if◌then◌else◌, List, [], length, slice_index, Some, None, is_some, refl}
 use Rattle.std.proofs.Common.{sym, ◌∙◌, ap, arith, inl, inr}
 use Rattle.std.specs.Ordering.{nat_cmp}
 use Rattle.std.specs.FinMap as map
 use Rattle.std.specs.FinSet as set
 use Rattle.std.specs.BTreeMap as tree
 use Rattle.std.specs.BTreeMap.{btree_map_len}
-use Rattle.std.specs.Global.{Vec}
 use Rattle.std.proofs.lemmas.Bool.{both_ways, cases_lt, cases_Bool, and_right, or_cases, and_parts, ltb-true, leb-true}
 use Rattle.std.proofs.lemmas.Bool.Decides.{nat_tests}
 use Rattle.qs_ranges.specs.Numbers.{NumberSet, MAX_VARINT, ContainsRange, IsLeastMissingFrom, end_of, is_within}
 use Rattle.qs_ranges.proofs.Sets.{below-end_of, end_of-member}
-use Rattle.qs_recv.specs.Lane.{MAX_WINDOW}
-use Rattle.qs_recv.specs.Pages.{AreWhole, IsFilledApart, PAGE, Pages, has_page, in_page, is_used, moved_byte, page_byte}
+use Rattle.qs_recv.specs.Pages.{AreWhole, IsFilledApart, Pages, has_page, in_page, is_used, moved_byte, page_byte}
 use Rattle.qs_recv.specs.Ring.{IsApart, IsFilled, IsMoved, IsReach, IsRing, IsSized, byte_of, ring_bytes, stored_in_ring}
 use Rattle.qs_recv.proofs.AssembledLaws.{is_in_run, with_run, contains-with_run}
 use Rattle.qs_recv.proofs.RingLaws.{IsPut, end_more, get-ring, same_bytes, same_ring}

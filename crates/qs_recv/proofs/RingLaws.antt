@@ -4,7 +4,7 @@
 --     front_next, rest_next       what a read copies out and leaves
 --     IsPut, put_stored       what is kept before a put and after it, and what it stores
 --     same_bytes, same_ring       only the bytes at offsets that came show
-use Rattle.std.specs.Prelude.{◌≡◌, ℕ, ◌+◌, ◌-◌, ◌*◌, ◌/◌, ◌%◌, ◌^◌, ◌<◌, ◌≤◌, zero, suc, Bool, true, false, not, cond, if◌then◌else◌, ◌&&◌, ◌||◌, max, min, nat_eq, nat_le, nat_lt, List, [], ◌++◌, length, take, drop, slice_get, slice_index, Option, None, Some, is_some, Result, Ok, Err, OnOk, OnErr, refl}
+use Rattle.std.specs.Prelude.{◌≡◌, ℕ, ◌+◌, ◌-◌, ◌/◌, ◌^◌, ◌<◌, ◌≤◌, zero, suc, Bool, true, false, not, cond, if◌then◌else◌, ◌&&◌, ◌||◌, max, min, nat_eq, nat_le, nat_lt, List, [], ◌++◌, length, take, drop, slice_get, slice_index, Option, None, Some, is_some, Result, Ok, Err, OnOk, OnErr, refl}
 use Rattle.std.proofs.Common.{sym, ◌∙◌, ap, arith, inl, inr}
 use Rattle.std.specs.Int.{IsPowerOfTwo}
 use Rattle.std.specs.Ordering.{nat_cmp}
@@ -18,7 +18,7 @@ use Rattle.std.proofs.lemmas.List.{drop_all, length-take, take_all}
 use Rattle.std.proofs.lemmas.Option.{slice_get-get_or}
 use Rattle.qs_ranges.specs.Numbers.{NumberSet, MAX_VARINT, ContainsRange, IsLeastMissingFrom, contains-numbers, covers, end_of, is_within, numbers}
 use Rattle.qs_ranges.proofs.Algebra.{with_range-covered}
-use Rattle.qs_ranges.proofs.Sets.{covers-is, end_of-union, end_of-with_range}
+use Rattle.qs_ranges.proofs.Sets.{covers-is, end_of-with_range}
 use Rattle.qs_recv.specs.Assembled.{Assembled, front, keep_from, put, store, take_front}
 use Rattle.qs_recv.specs.Bytes.{byte_at}
 use Rattle.qs_recv.specs.Ring.{IsRing, IsSizeFor, missing_count, ring_bytes, stored_in_ring}

@@ -3,12 +3,12 @@ pub mod Bytes
 pub mod Changes
 pub mod Lane
 pub mod Codes
-pub mod Halves
+pub mod Kept
 pub mod Lawful
 pub mod Laws
-pub mod Lending
 pub mod News
 pub mod Pages
+pub mod Over
 pub mod Parts
 pub mod Peek
 pub mod Rest

@@ -6,7 +6,7 @@
 --     AreWhole      each page has its bytes
 --     IsFilledApart      what the pages have after bytes were written
 --     moved_byte      what a ring has once pages were moved into it
-use Rattle.std.specs.Prelude.{◌≡◌, ℕ, ◌+◌, ◌-◌, ◌/◌, ◌%◌, ◌*◌, Bool, not, ◌&&◌, if◌then◌else◌, nat_lt, List, length, slice_index, Option, None, Some, is_some}
+use Rattle.std.specs.Prelude.{◌≡◌, ℕ, ◌-◌, ◌/◌, ◌%◌, Bool, not, ◌&&◌, if◌then◌else◌, nat_lt, List, length, slice_index, Option, None, Some, is_some}
 use Rattle.std.specs.Ordering.{nat_cmp}
 use Rattle.std.specs.Global.{Vec}
 use Rattle.std.specs.BTreeMap as tree

@@ -1,29 +1,16 @@
 -- Of private contracts.
 -- A receiving lane that stores nothing, and of which the offsets that came are those below a number: its numbers tell all of it.
-use Rattle.std.specs.Prelude.{◌≡◌, ℕ, ◌+◌, ◌/◌, ◌%◌, ◌^◌, Bool, true, false, ◌||◌, if◌then◌else◌, List, Option, Some, None, is_some}
+use Rattle.std.specs.Prelude.{◌≡◌, ℕ, Bool, true, false, ◌||◌, if◌then◌else◌, List, Option, Some, None, is_some}
 use Rattle.qs_ranges.specs.Numbers.{numbers}
 use Rattle.qs_recv.specs.Assembled.{at_rest, put}
 use Rattle.qs_recv.specs.Lane.{RecvLane}
 use Rattle.qs_recv.specs.declared.credit.Share.{Share}
-use Rattle.qs_recv.specs.Codes.{share_of}
 use Rattle.qs_recv.specs.Lawful.{IsLawful}
 use Rattle.qs_recv.specs.Sound.{CodeFits}
 
 -- a number, where there is one
 abbrev pub given : Bool → ℕ → Option ℕ
 given is_there n = if is_there then Some n else None
-
--- how many windows there are, less one in each: a window takes so many bits, and its share those above (ours)
-abbrev pub SPAN : ℕ
-SPAN = 2 ^ 30
-
--- the window that stands in such bits
-abbrev pub size_in : ℕ → ℕ
-size_in bits = bits % SPAN + 1
-
--- the share that stands above it
-abbrev pub share_in : ℕ → Share
-share_in bits = share_of (bits / SPAN)
 
 -- the lane of these numbers, of which the first are the greatest window, and the present one with its share: bytes are thrown away after a reset or a stop (RFC 9000, sections 3.2 and 3.5)
 abbrev pub lane_at_rest : ℕ × (ℕ × Share) → ℕ → ℕ → ℕ → Option ℕ → Option ℕ → Option ℕ → Bool → RecvLane

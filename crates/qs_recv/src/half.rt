@@ -8,15 +8,13 @@ ghost use Rattle.qs_recv.specs.News.{is_readable, tells_something};
 ghost use Rattle.qs_recv.specs.Lane.{new_lane, highest, highest_after, noted, taken, state, check_stream, check_bytes, take_stream, check_reset, take_reset, is_whole, breaks_final_size, read_answer, bytes_read, after_read, stop, stop_and_forget, raise, raise_answer, set_window, MAX_WINDOW};
 ghost use Rattle.qs_recv.specs.Changes.{stream_changes};
 ghost use Rattle.qs_recv.specs.Peek.{IsPeek};
-ghost use Rattle.qs_recv.specs.Rest.{IsAtRest};
-ghost use Rattle.qs_recv.specs.Halves.{over_lane, IsSlotOf};
 
 use crate::assembly::{Assembly, Peeking, Skipping};
 use crate::credit::Share;
-use crate::halves::RecvSlot;
+use crate::kept::Kept;
 use crate::live::LiveHalf;
 use crate::rest::Rest;
-use crate::window::Windows;
+use qs_ranges::NoMemory;
 use std::alloc::Global;
 use std::marker::Model;
 
@@ -74,8 +72,8 @@ pub enum RecvState {
 
 /// The receiving half of a stream, over any assembly. Offsets and sizes count bytes from the start of the stream.
 ///
-/// One that never carried a byte, one that was reset, and one of which a reader was told the end or that was forgotten, while no
-/// offset is missing, is a record of 64 bytes; the first byte that is stored takes the box.
+/// It is a record of 24 bytes. One that was read to its end stands in it; one that never carried a byte or was reset, and one that was
+/// forgotten while no offset is missing, takes a box of 64 bytes beside; and one that may store bytes a greater one, with its assembly.
 #[derive(Drop)]
 pub struct RecvHalf<A: Assembly> {
     alloc: Global,
@@ -84,7 +82,7 @@ pub struct RecvHalf<A: Assembly> {
 
 #[derive(Drop)]
 enum Parts<A: Assembly> {
-    Resting(Rest),
+    Resting(Kept),
     Live(Box<LiveHalf<A>>),
 }
 
@@ -101,37 +99,68 @@ impl<A: Assembly> Model for RecvHalf<A> {
 }
 
 impl<A: Assembly> RecvHalf<A> {
-    /// A half that grants `window` bytes beyond what was taken, and moves its limit by such a share of these. It takes no memory.
-    pub fn new(alloc: Global, window: u64, share: Share) -> Self
+    /// A half that grants `window` bytes beyond what was taken, and moves its limit by such a share of these. Its box is taken at once, so
+    /// that a reset can be taken without memory.
+    pub fn new(alloc: Global, window: u64, share: Share) -> Result<Self, NoMemory>
         requires some { 1 ≤ window }
         requires small { window ≤ MAX_WINDOW }
-        ensures { result ≡ new_lane window share }
+        ensures { IfOk result (λ half. half ≡ new_lane window share) }
     {
-        RecvHalf {
+        let Ok(rest) = Box::new(alloc, Rest::new(window, share)) else {
+            return Err(NoMemory);
+        };
+        Ok(RecvHalf {
             alloc,
-            parts: Parts::Resting(Rest::new(window, share)),
-        }
+            parts: Parts::Resting(Kept::boxed(rest)),
+        })
     }
 
-    /// A half that was read to its end, of its length, of how far its limit lies past that, and of its windows. It takes no memory.
-    pub(crate) fn over(alloc: Global, end: u64, past: u32, windows: &Windows) -> Self
-        requires { IsAtRest (over_lane end past windows.now) end end }
-        ensures { result ≡ over_lane end past windows.now }
+    /// Whether a STREAM frame may be taken by a half for which nothing came. It takes no memory.
+    pub fn check_first(
+        alloc: Global,
+        window: u64,
+        offset: u64,
+        len: u64,
+        fin: bool,
+    ) -> Result<Highest, RecvFault>
+        requires some { 1 ≤ window }
+        requires small { window ≤ MAX_WINDOW }
+        requires in_range { offset + len ≤ MAX_VARINT }
+        ensures value { result ≡ check_stream (new_lane window Share.Half) offset len fin }
+        ensures in_range { IfOk result (λ h. h.after ≤ MAX_VARINT) }
     {
-        RecvHalf {
-            alloc,
-            parts: Parts::Resting(Rest::over(end, past, windows)),
-        }
+        let rest = Rest::new(window, Share::Half);
+        let fresh: LiveHalf<A> = LiveHalf::revived(alloc, &rest);
+        fresh.check_stream(offset, len, fin)
     }
 
-    /// The same in few bytes, where it was read to its end.
-    pub(crate) fn kept(&self) -> Option<RecvSlot>
-        ensures { IfSome result (IsSlotOf self.now) }
+    /// Whether a STREAM frame's bytes may be taken by one. It takes no memory.
+    pub fn check_first_bytes(
+        alloc: Global,
+        window: u64,
+        offset: u64,
+        bytes: &[u8],
+    ) -> Result<(), RecvFault>
+        requires some { 1 ≤ window }
+        requires small { window ≤ MAX_WINDOW }
+        requires in_range { offset + length bytes.now ≤ MAX_VARINT }
+        ensures { result ≡ check_bytes (new_lane window Share.Half) offset bytes.now }
     {
-        match &self.parts {
-            Parts::Resting(rest) => rest.kept(),
-            Parts::Live(_live) => None,
-        }
+        let rest = Rest::new(window, Share::Half);
+        let fresh: LiveHalf<A> = LiveHalf::revived(alloc, &rest);
+        fresh.check_bytes(offset, bytes)
+    }
+
+    /// Whether a RESET_STREAM frame may be taken by one. It takes no memory.
+    pub fn check_first_reset(alloc: Global, window: u64, size: u64) -> Result<Highest, RecvFault>
+        requires some { 1 ≤ window }
+        requires small { window ≤ MAX_WINDOW }
+        requires in_range { size ≤ MAX_VARINT }
+        ensures { result ≡ check_reset (new_lane window Share.Half) size }
+    {
+        let rest = Rest::new(window, Share::Half);
+        let fresh: LiveHalf<A> = LiveHalf::revived(alloc, &rest);
+        fresh.check_reset(size)
     }
 
     /// Whether a STREAM frame may be taken, and what it does to the highest offset. The final size is tested before the
@@ -142,7 +171,7 @@ impl<A: Assembly> RecvHalf<A> {
         ensures in_range { IfOk result (λ h. h.after ≤ MAX_VARINT) }
     {
         match &self.parts {
-            Parts::Resting(rest) => self.revived(rest).check_stream(offset, len, fin),
+            Parts::Resting(kept) => self.revived(&kept.rest()).check_stream(offset, len, fin),
             Parts::Live(live) => live.check_stream(offset, len, fin),
         }
     }
@@ -154,8 +183,8 @@ impl<A: Assembly> RecvHalf<A> {
         ensures { result ≡ check_bytes self.now offset bytes.now }
     {
         match &self.parts {
-            Parts::Resting(rest) => {
-                let _none = rest.stored();
+            Parts::Resting(kept) => {
+                let _none = kept.rest().stored();
                 Ok(())
             }
             Parts::Live(live) => live.check_bytes(offset, bytes),
@@ -169,7 +198,7 @@ impl<A: Assembly> RecvHalf<A> {
         ensures { result ≡ stream_changes self.now offset len fin }
     {
         match &self.parts {
-            Parts::Resting(rest) => self.revived(rest).stream_changes(offset, len, fin),
+            Parts::Resting(kept) => self.revived(&kept.rest()).stream_changes(offset, len, fin),
             Parts::Live(live) => live.stream_changes(offset, len, fin),
         }
     }
@@ -192,11 +221,11 @@ impl<A: Assembly> RecvHalf<A> {
             → MissesRange self.old.arrived.received (offset - 1) (offset + length bytes.now + 1)) }
     {
         match &mut self.parts {
-            Parts::Resting(rest) => {
-                if rest.takes(offset, bytes, fin) {
+            Parts::Resting(kept) => {
+                if kept.takes(offset, bytes, fin) {
                     return Ok(());
                 }
-                let mut live: LiveHalf<A> = LiveHalf::revived(self.alloc, rest);
+                let mut live: LiveHalf<A> = LiveHalf::revived(self.alloc, &kept.rest());
                 live.take_stream(offset, bytes, fin)?;
                 let Ok(boxed) = Box::new(self.alloc, live) else {
                     return Err(RecvFault::NoMemory);
@@ -218,7 +247,7 @@ impl<A: Assembly> RecvHalf<A> {
         ensures { result ≡ check_reset self.now size }
     {
         match &self.parts {
-            Parts::Resting(rest) => self.revived(rest).check_reset(size),
+            Parts::Resting(kept) => self.revived(&kept.rest()).check_reset(size),
             Parts::Live(live) => live.check_reset(size),
         }
     }
@@ -232,10 +261,14 @@ impl<A: Assembly> RecvHalf<A> {
         ensures grown { highest self.new ≡ size }
     {
         match &mut self.parts {
-            Parts::Resting(rest) => rest.take_reset(code, size),
+            Parts::Resting(kept) => kept.take_reset(code, size),
             Parts::Live(live) => {
-                if let Some(rest) = live.reset(code, size) {
-                    self.parts = Parts::Resting(rest);
+                let Some(rest) = live.reset(code, size) else {
+                    return;
+                };
+                live.let_go(self.alloc, &rest);
+                if let Ok(boxed) = Box::new(self.alloc, rest) {
+                    self.parts = Parts::Resting(Kept::boxed(boxed));
                 }
             }
         }
@@ -249,11 +282,11 @@ impl<A: Assembly> RecvHalf<A> {
         ensures same_highest { highest self.new ≡ highest self.old }
     {
         let answer = match &mut self.parts {
-            Parts::Resting(rest) => rest.read(),
+            Parts::Resting(kept) => kept.read(),
             Parts::Live(live) => live.read(into),
         };
         if matches!(answer, Read::End) {
-            self.settle();
+            self.end();
         }
         answer
     }
@@ -266,7 +299,7 @@ impl<A: Assembly> RecvHalf<A> {
         ensures same_highest { highest self.new ≡ highest self.old }
     {
         match &mut self.parts {
-            Parts::Resting(rest) => rest.stop(code),
+            Parts::Resting(kept) => kept.stop(code),
             Parts::Live(live) => live.stop(code),
         }
     }
@@ -279,10 +312,9 @@ impl<A: Assembly> RecvHalf<A> {
         ensures same_highest { highest self.new ≡ highest self.old }
     {
         match &mut self.parts {
-            Parts::Resting(rest) => rest.stop_and_forget(code),
+            Parts::Resting(kept) => kept.stop_and_forget(code),
             Parts::Live(live) => live.stop_and_forget(code),
         }
-        self.settle();
     }
 
     /// Raises the limit by what was taken, once that is the half's share of its window or more, and answers the new one where it rose
@@ -292,7 +324,7 @@ impl<A: Assembly> RecvHalf<A> {
         ensures after { self.new ≡ raise self.old }
     {
         match &mut self.parts {
-            Parts::Resting(rest) => rest.raise(),
+            Parts::Resting(kept) => kept.raise(),
             Parts::Live(live) => live.raise(),
         }
     }
@@ -306,7 +338,7 @@ impl<A: Assembly> RecvHalf<A> {
         ensures same_highest { highest self.new ≡ highest self.old }
     {
         match &mut self.parts {
-            Parts::Resting(rest) => rest.set_window(window),
+            Parts::Resting(kept) => kept.set_window(window),
             Parts::Live(live) => live.set_window(window),
         }
     }
@@ -316,7 +348,7 @@ impl<A: Assembly> RecvHalf<A> {
         ensures { IsLawful self.now }
     {
         match &self.parts {
-            Parts::Resting(rest) => rest.is_lawful(),
+            Parts::Resting(kept) => kept.rest().is_lawful(),
             Parts::Live(live) => live.is_lawful(),
         }
     }
@@ -326,7 +358,7 @@ impl<A: Assembly> RecvHalf<A> {
         ensures { result ≡ self.now.limit }
     {
         match &self.parts {
-            Parts::Resting(rest) => rest.limit(),
+            Parts::Resting(kept) => kept.rest().limit(),
             Parts::Live(live) => live.limit(),
         }
     }
@@ -338,7 +370,7 @@ impl<A: Assembly> RecvHalf<A> {
         ensures within { result ≤ highest self.now }
     {
         match &self.parts {
-            Parts::Resting(rest) => rest.taken(),
+            Parts::Resting(kept) => kept.rest().taken(),
             Parts::Live(live) => live.taken(),
         }
     }
@@ -349,7 +381,7 @@ impl<A: Assembly> RecvHalf<A> {
         ensures in_range { result ≤ MAX_VARINT }
     {
         match &self.parts {
-            Parts::Resting(rest) => rest.highest(),
+            Parts::Resting(kept) => kept.rest().highest(),
             Parts::Live(live) => live.highest(),
         }
     }
@@ -362,7 +394,7 @@ impl<A: Assembly> RecvHalf<A> {
         ensures within { result ≤ highest self.now }
     {
         match &self.parts {
-            Parts::Resting(rest) => rest.noted(),
+            Parts::Resting(kept) => kept.rest().noted(),
             Parts::Live(live) => live.noted(),
         }
     }
@@ -372,7 +404,7 @@ impl<A: Assembly> RecvHalf<A> {
         ensures { result ≡ self.now.final_size }
     {
         match &self.parts {
-            Parts::Resting(rest) => rest.final_size(),
+            Parts::Resting(kept) => kept.rest().final_size(),
             Parts::Live(live) => live.final_size(),
         }
     }
@@ -382,7 +414,7 @@ impl<A: Assembly> RecvHalf<A> {
         ensures { result ≡ self.now.told }
     {
         match &self.parts {
-            Parts::Resting(rest) => rest.is_told(),
+            Parts::Resting(kept) => kept.rest().is_told(),
             Parts::Live(live) => live.is_told(),
         }
     }
@@ -392,7 +424,7 @@ impl<A: Assembly> RecvHalf<A> {
         ensures { result ≡ state self.now }
     {
         match &self.parts {
-            Parts::Resting(rest) => self.revived(rest).state(),
+            Parts::Resting(kept) => kept.rest().state(),
             Parts::Live(live) => live.state(),
         }
     }
@@ -403,7 +435,7 @@ impl<A: Assembly> RecvHalf<A> {
         ensures { result ≡ is_readable self.now }
     {
         match &self.parts {
-            Parts::Resting(rest) => self.revived(rest).is_readable(),
+            Parts::Resting(kept) => self.revived(&kept.rest()).is_readable(),
             Parts::Live(live) => live.is_readable(),
         }
     }
@@ -414,7 +446,7 @@ impl<A: Assembly> RecvHalf<A> {
         ensures within { result + taken self.now ≤ highest self.now }
     {
         match &self.parts {
-            Parts::Resting(rest) => rest.stored(),
+            Parts::Resting(kept) => kept.rest().stored(),
             Parts::Live(live) => live.stored(),
         }
     }
@@ -429,7 +461,7 @@ impl<A: Assembly> RecvHalf<A> {
         ensures gone { IsTrue self.now.arrived.discarding → result ≡ 0 }
     {
         match &self.parts {
-            Parts::Resting(rest) => rest.stored(),
+            Parts::Resting(kept) => kept.rest().stored(),
             Parts::Live(live) => live.held(),
         }
     }
@@ -439,7 +471,7 @@ impl<A: Assembly> RecvHalf<A> {
         ensures { result ≡ self.now.arrived.read_count }
     {
         match &self.parts {
-            Parts::Resting(rest) => rest.read_count(),
+            Parts::Resting(kept) => kept.rest().read_count(),
             Parts::Live(live) => live.read_count(),
         }
     }
@@ -450,7 +482,7 @@ impl<A: Assembly> RecvHalf<A> {
         ensures small { CodeFits result }
     {
         match &self.parts {
-            Parts::Resting(rest) => rest.stop_code(),
+            Parts::Resting(kept) => kept.rest().stop_code(),
             Parts::Live(live) => live.stop_code(),
         }
     }
@@ -460,20 +492,52 @@ impl<A: Assembly> RecvHalf<A> {
         ensures { result ≡ self.now.reset_code }
     {
         match &self.parts {
-            Parts::Resting(rest) => rest.reset_code(),
+            Parts::Resting(kept) => kept.rest().reset_code(),
             Parts::Live(live) => live.reset_code(),
         }
     }
 
-    // A half of which nothing more is told is kept by its numbers alone, where no offset is missing.
+    // A half that was read to its end stands in the record itself, and its box is given back.
+    #[inline(never)]
+    fn end(&mut self)
+        ensures { self.new ≡ self.old }
+    {
+        let Parts::Live(live) = &self.parts else {
+            return;
+        };
+        let Some(rest) = live.rested() else {
+            return;
+        };
+        if let Some(over) = rest.over() {
+            self.parts = Parts::Resting(Kept::here(over));
+        }
+    }
+
+    // A half that stores nothing any more is kept by its numbers alone, where no offset is missing and memory for them isn't refused.
     fn settle(&mut self)
         ensures { self.new ≡ self.old }
     {
         let Parts::Live(live) = &self.parts else {
             return;
         };
-        if let Some(rest) = live.rested() {
-            self.parts = Parts::Resting(rest);
+        if live.is_done() {
+            self.settle_apart();
+        }
+    }
+
+    // It is seldom called, and apart so that the other is small.
+    #[inline(never)]
+    fn settle_apart(&mut self)
+        ensures { self.new ≡ self.old }
+    {
+        let Parts::Live(live) = &self.parts else {
+            return;
+        };
+        let Some(rest) = live.rested() else {
+            return;
+        };
+        if let Ok(boxed) = Box::new(self.alloc, rest) {
+            self.parts = Parts::Resting(Kept::boxed(boxed));
         }
     }
 
@@ -492,7 +556,7 @@ impl<A: Peeking> RecvHalf<A> {
         ensures { IsPeek self.now result }
     {
         match &self.parts {
-            Parts::Resting(rest) => rest.peek(),
+            Parts::Resting(kept) => kept.peek(),
             Parts::Live(live) => live.peek(),
         }
     }
@@ -506,11 +570,11 @@ impl<A: Skipping> RecvHalf<A> {
         ensures same_highest { highest self.new ≡ highest self.old }
     {
         let answer = match &mut self.parts {
-            Parts::Resting(rest) => rest.read(),
+            Parts::Resting(kept) => kept.read(),
             Parts::Live(live) => live.skip(most),
         };
         if matches!(answer, Read::End) {
-            self.settle();
+            self.end();
         }
         answer
     }

@@ -4,9 +4,10 @@
 mod assembly;
 mod credit;
 mod half;
-mod halves;
+mod kept;
 pub mod laws;
 mod live;
+mod over;
 mod pages;
 mod rest;
 mod ring;
@@ -16,5 +17,4 @@ mod window;
 pub use assembly::{Assembly, Peeking, Skipping};
 pub use credit::{Share, next_limit, step_of};
 pub use half::{Highest, Peek, Read, RecvFault, RecvHalf, RecvState};
-pub use halves::{RecvHalves, RecvView};
 pub use ring_assembly::RingAssembly;

@@ -5,12 +5,12 @@ ghost use Rattle.qs_ranges.specs.Numbers.{MAX_VARINT, MissesRange, covers};
 ghost use Rattle.qs_recv.specs.Lawful.{IsLawful};
 ghost use Rattle.qs_recv.specs.Sound.{CodeFits};
 ghost use Rattle.qs_recv.specs.News.{is_readable, tells_something};
-ghost use Rattle.qs_recv.specs.Lane.{highest, highest_after, noted, taken, state, check_stream, check_bytes, take_stream, check_reset, take_reset, is_whole, is_over, breaks_final_size, read_answer, bytes_read, after_read, stop, stop_and_forget, raise, raise_answer, set_window, MAX_WINDOW};
+ghost use Rattle.qs_recv.specs.Lane.{highest, highest_after, noted, taken, state, check_stream, check_bytes, take_stream, check_reset, take_reset, is_whole, is_over, at_final_size, breaks_final_size, read_answer, bytes_read, after_read, stop, stop_and_forget, raise, raise_answer, set_window, MAX_WINDOW};
 ghost use Rattle.qs_recv.specs.Changes.{stream_changes};
 ghost use Rattle.qs_recv.specs.Peek.{IsPeek};
 
 use crate::assembly::{Assembly, Peeking, Skipping};
-use crate::credit::{Share, limit_with, next_limit};
+use crate::credit::{limit_with, next_limit};
 use crate::half::{Highest, Peek, Read, RecvFault, RecvState};
 use crate::rest::{Rest, given};
 use crate::window::Windows;
@@ -21,31 +21,32 @@ use std::marker::Model;
 #[derive(Drop)]
 pub(crate) struct LiveHalf<A: Assembly> {
     assembly: A,
-    // The greatest window that was set.
-    widest: u64,
     read_count: u64,
     received_end: u64,
     limit: u64,
-    window: u64,
-    final_size: Option<u64>,
-    reset_code: Option<u64>,
-    stop_code: Option<u64>,
+    size: u64,
+    reset: u64,
+    stop: u64,
+    windows: Windows,
+    is_sized: bool,
+    is_reset: bool,
+    is_stopped: bool,
     told: bool,
-    share: Share,
 }
 
 impl<A: Assembly> Model for LiveHalf<A> {
     ghost use Rattle.qs_recv.specs.Lane.{RecvLane};
     ghost use Rattle.qs_recv.specs.Codes.{lane_code};
+    ghost use Rattle.qs_recv.specs.Rest.{given};
     ghost use Rattle.qs_recv.specs.Sound.{IsLetGo, IsSound};
 
     ghost Value = { RecvLane };
 
     ghost coded = { lane_code };
 
-    ghost view = { λ h. record { arrived = A.holds h.assembly; final_size = h.final_size; reset_code = h.reset_code; stop_code = h.stop_code; told = h.told; limit = h.limit; window = h.window; share = h.share } };
+    ghost view = { λ h. record { arrived = A.holds h.assembly; final_size = given h.is_sized h.size; reset_code = given h.is_reset h.reset; stop_code = given h.is_stopped h.stop; told = h.told; limit = h.limit; window = h.windows.1.0; share = h.windows.1.1 } };
 
-    ghost invariant = { λ h. IsSound (record { arrived = A.holds h.assembly; final_size = h.final_size; reset_code = h.reset_code; stop_code = h.stop_code; told = h.told; limit = h.limit; window = h.window; share = h.share }) h.widest h.read_count h.received_end × IsLetGo (record { arrived = A.holds h.assembly; final_size = h.final_size; reset_code = h.reset_code; stop_code = h.stop_code; told = h.told; limit = h.limit; window = h.window; share = h.share }) (A.size h.assembly) };
+    ghost invariant = { λ h. IsSound (record { arrived = A.holds h.assembly; final_size = given h.is_sized h.size; reset_code = given h.is_reset h.reset; stop_code = given h.is_stopped h.stop; told = h.told; limit = h.limit; window = h.windows.1.0; share = h.windows.1.1 }) h.windows.0 h.read_count h.received_end × IsLetGo (record { arrived = A.holds h.assembly; final_size = given h.is_sized h.size; reset_code = given h.is_reset h.reset; stop_code = given h.is_stopped h.stop; told = h.told; limit = h.limit; window = h.windows.1.0; share = h.windows.1.1 }) (A.size h.assembly) };
 }
 
 impl<A: Assembly> LiveHalf<A> {
@@ -54,42 +55,61 @@ impl<A: Assembly> LiveHalf<A> {
         ensures { result ≡ rest.now }
     {
         let widest = rest.windows.widest();
-        let reset_code = given(rest.is_reset, rest.reset);
-        let stop_code = given(rest.is_stopped, rest.stop);
-        let is_over = is_either(reset_code, stop_code);
+        let discarding = rest.discards();
         LiveHalf {
-            assembly: A::at_rest(alloc, widest, rest.read_count, rest.received_end, is_over),
-            widest,
+            assembly: A::at_rest(
+                alloc,
+                widest,
+                rest.read_count,
+                rest.received_end,
+                discarding,
+            ),
             read_count: rest.read_count,
             received_end: rest.received_end,
             limit: rest.limit,
-            window: rest.windows.size(),
-            final_size: given(rest.is_sized, rest.size),
-            reset_code,
-            stop_code,
+            size: rest.size,
+            reset: rest.reset,
+            stop: rest.stop,
+            windows: rest.windows.copied(),
+            is_sized: rest.is_sized,
+            is_reset: rest.is_reset,
+            is_stopped: rest.is_stopped,
             told: rest.told,
-            share: rest.windows.share(),
         }
     }
 
-    /// The same half at rest, where nothing more is told of it and every offset below the largest that came came.
+    /// Lets the assembly go: it becomes the same half as one at rest.
+    pub(crate) fn let_go(&mut self, alloc: Global, rest: &Rest)
+        ensures { self.new ≡ rest.now }
+    {
+        *self = LiveHalf::revived(alloc, rest);
+    }
+
+    /// Whether the end was told, or nothing is stored any more since it was stopped.
+    pub(crate) fn is_done(&self) -> bool
+        ensures { result ≡ (self.now.told || is_some self.now.stop_code) }
+    {
+        self.told || self.is_stopped
+    }
+
+    /// The same half at rest, where it is done and every offset below the largest that came came.
     pub(crate) fn rested(&self) -> Option<Rest>
         ensures { IfSome result (λ rest. rest ≡ self.now) }
     {
-        if !self.told || !self.assembly.received().covers(0, self.received_end) {
+        if !self.is_done() || !self.assembly.received().covers(0, self.received_end) {
             return None;
         }
         Some(Rest {
             read_count: self.read_count,
             received_end: self.received_end,
             limit: self.limit,
-            size: self.final_size.unwrap_or(0),
-            reset: self.reset_code.unwrap_or(0),
-            stop: self.stop_code.unwrap_or(0),
-            windows: Windows::new(self.widest, self.window, self.share),
-            is_sized: self.final_size.is_some(),
-            is_reset: self.reset_code.is_some(),
-            is_stopped: self.stop_code.is_some(),
+            size: self.size,
+            reset: self.reset,
+            stop: self.stop,
+            windows: self.windows.copied(),
+            is_sized: self.is_sized,
+            is_reset: self.is_reset,
+            is_stopped: self.is_stopped,
             told: self.told,
         })
     }
@@ -114,7 +134,7 @@ impl<A: Assembly> LiveHalf<A> {
         }
         let after = if fin {
             end
-        } else if self.final_size.is_some() || len == 0 {
+        } else if self.is_sized || len == 0 {
             before
         } else {
             before.max(end)
@@ -154,14 +174,15 @@ impl<A: Assembly> LiveHalf<A> {
             → MissesRange self.old.arrived.received (offset - 1) (offset + length bytes.now + 1)) }
     {
         let end = offset + bytes.len() as u64;
-        if self.reset_code.is_none() {
+        if !self.is_reset {
             if self.assembly.put(offset, bytes).is_err() {
                 return Err(RecvFault::NoMemory);
             }
             self.received_end = end_with(self.received_end, offset, bytes.len() as u64);
         }
         if fin {
-            self.final_size = Some(end);
+            self.is_sized = true;
+            self.size = end;
         }
         Ok(())
     }
@@ -170,10 +191,10 @@ impl<A: Assembly> LiveHalf<A> {
         requires { offset + len ≤ MAX_VARINT }
         ensures { result ≡ stream_changes self.now offset len fin }
     {
-        if fin && self.final_size.is_none() {
+        if fin && !self.is_sized {
             return true;
         }
-        if self.reset_code.is_some() {
+        if self.is_reset {
             return false;
         }
         !self.assembly.received().covers(offset, offset + len)
@@ -204,7 +225,7 @@ impl<A: Assembly> LiveHalf<A> {
         ensures same { IfNone result (self.new ≡ take_reset self.old code size) }
         ensures known { IfNone result (highest self.new ≡ size) }
     {
-        if self.reset_code.is_some() || self.is_whole() {
+        if self.is_reset || self.is_whole() {
             return None;
         }
         Some(Rest {
@@ -213,11 +234,11 @@ impl<A: Assembly> LiveHalf<A> {
             limit: self.limit,
             size,
             reset: code,
-            stop: self.stop_code.unwrap_or(0),
-            windows: Windows::new(self.widest, self.window, self.share),
+            stop: self.stop,
+            windows: self.windows.copied(),
             is_sized: true,
             is_reset: true,
-            is_stopped: self.stop_code.is_some(),
+            is_stopped: self.is_stopped,
             told: self.told,
         })
     }
@@ -228,18 +249,18 @@ impl<A: Assembly> LiveHalf<A> {
         ensures after { self.new ≡ after_read self.old (length into.old) }
         ensures same_highest { highest self.new ≡ highest self.old }
     {
-        if let Some(code) = self.reset_code {
+        if self.is_reset {
             self.told = true;
-            return Read::Reset(code);
+            return Read::Reset(self.reset);
         }
-        if self.stop_code.is_some() {
+        if self.is_stopped {
             if self.is_whole() {
                 self.told = true;
                 return Read::End;
             }
             return Read::Wait;
         }
-        if self.final_size == Some(self.read_count) {
+        if self.is_at_end() {
             self.assembly.give_back();
             self.told = true;
             return Read::End;
@@ -260,9 +281,10 @@ impl<A: Assembly> LiveHalf<A> {
         if self.is_over() {
             return;
         }
-        if self.stop_code.is_none() {
+        if !self.is_stopped {
             self.assembly.discard();
-            self.stop_code = Some(code);
+            self.is_stopped = true;
+            self.stop = code;
         }
     }
 
@@ -279,10 +301,11 @@ impl<A: Assembly> LiveHalf<A> {
         ensures answer { result ≡ raise_answer self.old }
         ensures after { self.new ≡ raise self.old }
     {
-        if self.final_size.is_some() {
+        if self.is_sized {
             return None;
         }
-        let next = next_limit(self.limit, self.taken(), self.window, self.share);
+        let windows = &self.windows;
+        let next = next_limit(self.limit, self.taken(), windows.size(), windows.share());
         if next <= self.limit {
             return None;
         }
@@ -296,12 +319,12 @@ impl<A: Assembly> LiveHalf<A> {
         ensures { self.new ≡ set_window self.old window }
     {
         let taken = self.taken();
-        if self.final_size.is_none() {
-            self.limit = limit_with(self.window, self.limit, taken, window);
+        if !self.is_sized {
+            self.limit = limit_with(self.windows.size(), self.limit, taken, window);
         }
         self.assembly.widen(window);
-        self.widest = self.widest.max(window);
-        self.window = window;
+        let widest = self.windows.widest().max(window);
+        self.windows = Windows::new(widest, window, self.windows.share());
     }
 
     pub(crate) fn is_lawful(&self)
@@ -321,7 +344,7 @@ impl<A: Assembly> LiveHalf<A> {
         ensures in_range { result ≤ MAX_VARINT }
         ensures within { result ≤ highest self.now }
     {
-        if self.reset_code.is_some() || self.stop_code.is_some() {
+        if self.is_reset || self.is_stopped {
             self.highest()
         } else {
             self.read_count
@@ -332,7 +355,7 @@ impl<A: Assembly> LiveHalf<A> {
         ensures value { result ≡ highest self.now }
         ensures in_range { result ≤ MAX_VARINT }
     {
-        self.final_size.unwrap_or(self.received_end)
+        self.final_size().unwrap_or(self.received_end)
     }
 
     pub(crate) fn noted(&self) -> u64
@@ -340,7 +363,7 @@ impl<A: Assembly> LiveHalf<A> {
         ensures within { result ≤ highest self.now }
     {
         self.is_lawful();
-        if self.reset_code.is_some() {
+        if self.is_reset {
             return 0;
         }
         if self.told {
@@ -368,7 +391,7 @@ impl<A: Assembly> LiveHalf<A> {
     pub(crate) fn final_size(&self) -> Option<u64>
         ensures { result ≡ self.now.final_size }
     {
-        self.final_size
+        given(self.is_sized, self.size)
     }
 
     pub(crate) fn is_told(&self) -> bool
@@ -380,7 +403,7 @@ impl<A: Assembly> LiveHalf<A> {
     pub(crate) fn state(&self) -> RecvState
         ensures { result ≡ state self.now }
     {
-        if self.reset_code.is_some() {
+        if self.is_reset {
             if self.told {
                 RecvState::ResetRead
             } else {
@@ -392,7 +415,7 @@ impl<A: Assembly> LiveHalf<A> {
             } else {
                 RecvState::DataRecvd
             }
-        } else if self.final_size.is_some() {
+        } else if self.is_sized {
             RecvState::SizeKnown
         } else {
             RecvState::Recv
@@ -432,26 +455,26 @@ impl<A: Assembly> LiveHalf<A> {
         ensures value { result ≡ self.now.stop_code }
         ensures small { CodeFits result }
     {
-        self.stop_code
+        given(self.is_stopped, self.stop)
     }
 
     pub(crate) fn reset_code(&self) -> Option<u64>
         ensures { result ≡ self.now.reset_code }
     {
-        self.reset_code
+        given(self.is_reset, self.reset)
     }
 
     // Whether a read of one byte would tell something, be it new or not.
     fn tells_something(&self) -> bool
         ensures { result ≡ tells_something (read_answer self.now 1) }
     {
-        if let Some(_code) = self.reset_code {
+        if self.is_reset {
             return true;
         }
-        if self.stop_code.is_some() {
+        if self.is_stopped {
             return self.is_whole();
         }
-        if Some(self.read_count) == self.final_size {
+        if self.is_at_end() {
             return true;
         }
         self.assembly.received().has(self.read_count)
@@ -461,14 +484,24 @@ impl<A: Assembly> LiveHalf<A> {
     fn is_over(&self) -> bool
         ensures { result ≡ is_over self.now }
     {
-        self.told && (self.reset_code.is_some() || self.is_whole())
+        self.told && (self.is_reset || self.is_whole())
+    }
+
+    // Whether all of the stream was read.
+    fn is_at_end(&self) -> bool
+        ensures { result ≡ at_final_size self.now.arrived.read_count self.now.final_size }
+    {
+        match self.final_size() {
+            Some(size) => self.read_count == size,
+            None => false,
+        }
     }
 
     // Whether the final size is known and every offset below it came.
     fn is_whole(&self) -> bool
         ensures { result ≡ is_whole self.now }
     {
-        match self.final_size {
+        match self.final_size() {
             Some(size) => self.assembly.received().covers(0, size),
             None => false,
         }
@@ -480,7 +513,7 @@ impl<A: Assembly> LiveHalf<A> {
         ensures { result ≡ breaks_final_size self.now offset len fin }
     {
         let end = offset + len;
-        match self.final_size {
+        match self.final_size() {
             Some(size) => (len > 0 && size < end) || (fin && end != size),
             None => fin && end < self.highest(),
         }
@@ -491,16 +524,16 @@ impl<A: Peeking> LiveHalf<A> {
     pub(crate) fn peek(&self) -> Peek<'_>
         ensures { IsPeek self.now result }
     {
-        if let Some(code) = self.reset_code {
-            return Peek::Reset(code);
+        if self.is_reset {
+            return Peek::Reset(self.reset);
         }
-        if self.stop_code.is_some() {
+        if self.is_stopped {
             if self.is_whole() {
                 return Peek::End;
             }
             return Peek::Wait;
         }
-        if self.final_size == Some(self.read_count) {
+        if self.is_at_end() {
             return Peek::End;
         }
         if !self.assembly.received().has(self.read_count) {
@@ -517,18 +550,18 @@ impl<A: Skipping> LiveHalf<A> {
         ensures after { self.new ≡ after_read self.old most }
         ensures same_highest { highest self.new ≡ highest self.old }
     {
-        if let Some(code) = self.reset_code {
+        if self.is_reset {
             self.told = true;
-            return Read::Reset(code);
+            return Read::Reset(self.reset);
         }
-        if self.stop_code.is_some() {
+        if self.is_stopped {
             if self.is_whole() {
                 self.told = true;
                 return Read::End;
             }
             return Read::Wait;
         }
-        if self.final_size == Some(self.read_count) {
+        if self.is_at_end() {
             self.assembly.give_back();
             self.told = true;
             return Read::End;
@@ -540,13 +573,6 @@ impl<A: Skipping> LiveHalf<A> {
         self.read_count += count as u64;
         Read::Bytes(count)
     }
-}
-
-// Whether there is one of two codes.
-fn is_either(one: Option<u64>, other: Option<u64>) -> bool
-    ensures { result ≡ (is_some one || is_some other) }
-{
-    one.is_some() || other.is_some()
 }
 
 // One more than the largest offset, once the len offsets from another one on came too.

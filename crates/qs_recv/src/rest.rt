@@ -4,14 +4,13 @@ ghost use Rattle.std.specs.FinMap as map;
 ghost use Rattle.qs_ranges.specs.Numbers.{MAX_VARINT, MissesRange, covers};
 ghost use Rattle.qs_recv.specs.Lawful.{IsLawful};
 ghost use Rattle.qs_recv.specs.Rest.{EndsAt, IsAtRest, given};
-ghost use Rattle.qs_recv.specs.Halves.{over_lane, IsSlotOf};
 ghost use Rattle.qs_recv.specs.Peek.{IsPeek};
 ghost use Rattle.qs_recv.specs.Sound.{CodeFits};
-ghost use Rattle.qs_recv.specs.Lane.{new_lane, highest, highest_after, noted, taken, is_whole, is_over, check_stream, check_reset, take_stream, take_reset, read_answer, bytes_read, after_read, stop, stop_and_forget, raise, raise_answer, set_window, MAX_WINDOW};
+ghost use Rattle.qs_recv.specs.Lane.{new_lane, highest, highest_after, noted, taken, state, is_whole, is_over, check_stream, check_reset, take_stream, take_reset, read_answer, bytes_read, after_read, stop, stop_and_forget, raise, raise_answer, set_window, MAX_WINDOW};
 
 use crate::credit::{Share, limit_with, next_limit};
-use crate::half::{Peek, Read};
-use crate::halves::RecvSlot;
+use crate::half::{Peek, Read, RecvState};
+use crate::over::Over;
 use crate::window::Windows;
 use std::marker::Model;
 
@@ -47,6 +46,25 @@ impl Model for Rest {
 }
 
 impl Rest {
+    /// The same.
+    pub(crate) fn copied(&self) -> Self
+        ensures { result ≡ self.now }
+    {
+        Rest {
+            read_count: self.read_count,
+            received_end: self.received_end,
+            limit: self.limit,
+            size: self.size,
+            reset: self.reset,
+            stop: self.stop,
+            windows: self.windows.copied(),
+            is_sized: self.is_sized,
+            is_reset: self.is_reset,
+            is_stopped: self.is_stopped,
+            told: self.told,
+        }
+    }
+
     /// A half for which nothing came.
     pub(crate) fn new(window: u64, share: Share) -> Self
         requires some { 1 ≤ window }
@@ -302,40 +320,41 @@ impl Rest {
         given(self.is_reset, self.reset)
     }
 
+    /// The state by what came and what a reader was told.
+    pub(crate) fn state(&self) -> RecvState
+        ensures { result ≡ state self.now }
+    {
+        if self.is_reset {
+            if self.told {
+                RecvState::ResetRead
+            } else {
+                RecvState::ResetRecvd
+            }
+        } else if self.is_whole() {
+            if self.told {
+                RecvState::DataRead
+            } else {
+                RecvState::DataRecvd
+            }
+        } else if self.is_sized {
+            RecvState::SizeKnown
+        } else {
+            RecvState::Recv
+        }
+    }
+
     /// The same in few bytes, where it was read to its end.
-    pub(crate) fn kept(&self) -> Option<RecvSlot>
-        ensures { IfSome result (IsSlotOf self.now) }
+    pub(crate) fn over(&self) -> Option<Over>
+        ensures { IfSome result (λ over. over ≡ self.now) }
     {
         if !self.told || self.is_reset || self.is_stopped || !self.is_sized {
             return None;
         }
-        let past = (self.limit - self.size) as u32;
-        let windows = Windows::new(
-            self.windows.widest(),
-            self.windows.size(),
-            self.windows.share(),
-        );
-        Some(RecvSlot::Over(self.size, past, windows))
-    }
-
-    /// A half that was read to its end, of its length, of how far its limit lies past that, and of its windows.
-    pub(crate) fn over(end: u64, past: u32, windows: &Windows) -> Self
-        requires { IsAtRest (over_lane end past windows.now) end end }
-        ensures { result ≡ over_lane end past windows.now }
-    {
-        Rest {
-            read_count: end,
-            received_end: end,
-            limit: end + past as u64,
-            size: end,
-            reset: 0,
-            stop: 0,
-            windows: Windows::new(windows.widest(), windows.size(), windows.share()),
-            is_sized: true,
-            is_reset: false,
-            is_stopped: false,
-            told: true,
-        }
+        Some(Over {
+            end: self.size,
+            past: (self.limit - self.size) as u32,
+            windows: self.windows.copied(),
+        })
     }
 
     // The number below which the offsets are that came, once a frame's did. None where one of its bytes would be stored, or
@@ -356,6 +375,13 @@ impl Rest {
             return Some(end);
         }
         None
+    }
+
+    /// Whether bytes that come are thrown away.
+    pub(crate) fn discards(&self) -> bool
+        ensures { result ≡ self.now.arrived.discarding }
+    {
+        self.is_reset || self.is_stopped
     }
 
     // Whether nothing is noted of the offsets that came.

@@ -1,6 +1,6 @@
 -- Which small ends are at rest, and which aren't.
-use Rattle.std.proofs.Common.{◌≡◌, ℕ, ◌≤◌, Bool, true, false, ◌||◌, [], length, Some, None, refl, sym, ◌∙◌, subst, arith, inl, inr, nat_cmp, if◌then◌else◌}
-use Rattle.std.proofs.lemmas.Option.{none-some}
+use Rattle.std.proofs.Common.{◌≡◌, ℕ, ◌≤◌, Bool, true, false, ◌||◌, [], length, Some, None, is_some, refl, sym, ◌∙◌, subst, arith, inl, inr, nat_cmp, if◌then◌else◌}
+use Rattle.std.proofs.lemmas.Option.{none-some, same_Some}
 use Rattle.std.proofs.lemmas.Bool.{false≢true}
 use Rattle.std.proofs.lemmas.Bool.Decides.{nat_tests}
 use Rattle.std.specs.FinSet as set
@@ -21,11 +21,13 @@ use Rattle.qs_machine.specs.Tables.{lookup, total}
 use Rattle.qs_machine.specs.Ends.{End, recv_lane, window, is_uni, is_own, new_end}
 use Rattle.qs_machine.specs.Due.{IsDue, IsEndDue, IsCurrent, Sendable}
 use Rattle.qs_machine.specs.Examples.{standard, client_of}
-use Rattle.qs_machine.specs.SmallEnds.{client_with, wrote, finished, fresh, three_came}
+use Rattle.qs_machine.specs.SmallEnds.{client_with, wrote, reset_half, finished, fresh, three_came}
 use Rattle.qs_machine.proofs.Bounds.{no_lane}
 use Rattle.qs_machine.proofs.SmallEndsLaws.{one_carried, only_open}
 use Rattle.qs_rest.specs.Rest.{TellsNoNews, HasMore, AtRest}
-use Rattle.qs_rest.specs.Exclusions.{reads_by, IsAtRest, IsNotAtRest, Exclusions}
+use Rattle.qs_calls.specs.declared.event.Side.TheVariants.{A}
+use Rattle.qs_rest.specs.Resting.{IsLeftToOwner}
+use Rattle.qs_rest.specs.Exclusions.{reads_by, beside_server, answering, stopped, IsAtRest, IsNotAtRest, IsLeft, IsNotLeft, Exclusions}
 use Rattle.qs_rest.proofs.EveryRun.{no_half}
 
 -- An end without a sending half, of which nothing is to be told, and whose readers neither stopped nor had a limit raised.
@@ -161,5 +163,29 @@ others =
       );
     }
 
+-- What is known of a half that is left to its owner.
+half_left : (l : SendLane) → IsLeftToOwner (beside_server (answering (client_with l))) A 0 → (is_some l.stopped ≡ true) × (l.was_reset ≡ None)
+unfolding lookup
+half_left l (tuned, x, at, told, unreset) =
+    subst (λ (y : SendLane). (is_some y.stopped ≡ true) × (y.was_reset ≡ None)) (same_Some x l (sym at)) (told, unreset)
+
+unopened : IsLeftToOwner (beside_server (answering (client_of standard))) A 0 → ⊥
+unfolding lookup
+unopened (tuned, l, at, told, unreset) = none-some l at
+
+left : IsLeft
+unfolding lookup
+left = record { told = (refl, _, refl, refl, refl) }
+
+not_left : IsNotLeft
+unfolding lookup
+not_left =
+    record {
+      answered = λ l. false≢true l.0;
+      untold = λ l. false≢true (half_left wrote l).0;
+      reset = λ l. none-some (record { code = 7; size = 0 }) (sym (half_left (stopped reset_half) l).1);
+      unopened = unopened;
+    }
+
 pub exclusions : Exclusions
-exclusions = record { rests = rests; others = others }
+exclusions = record { rests = rests; others = others; left = left; not_left = not_left }

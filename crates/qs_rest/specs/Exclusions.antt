@@ -1,16 +1,20 @@
 -- Of laws.
 -- What a rest excludes: beside ends that are at rest, one that isn't for each reason.
 use Rattle.std.specs.Prelude.{true, [], Some}
+use Rattle.qs_calls.specs.declared.event.Side.TheVariants.{A}
 use Rattle.qs_wire.specs.declared.stream_id.Role.{Role}
 use Rattle.qs_recv.specs.Lane.{RecvLane, take_stream}
+use Rattle.qs_send.specs.Lane.{SendLane}
 use Rattle.qs_send.specs.declared.piece.Item.TheVariants.{MaxData}
 use Rattle.qs_send.specs.declared.piece.Piece.TheVariants.{Told}
 use Rattle.qs_calls.specs.Settings.{limits_of, default_tuning}
 use Rattle.qs_machine.specs.Ends.{End, new_end}
 use Rattle.qs_machine.specs.Due.{Sendable}
-use Rattle.qs_machine.specs.Examples.{standard, client_of}
-use Rattle.qs_machine.specs.SmallEnds.{only, client_with, carrying, wrote, finished, fresh, three_came, raised}
+use Rattle.qs_machine.specs.Examples.{standard, server, client_of}
+use Rattle.qs_machine.specs.SmallEnds.{only, client_with, carrying, wrote, reset_half, finished, fresh, three_came, raised}
+use Rattle.qs_runs.specs.Worlds.{World}
 use Rattle.qs_rest.specs.Rest.{AtRest}
+use Rattle.qs_rest.specs.Resting.{IsLeftToOwner}
 
 -- a client that only reads stream 0, by this half
 abbrev pub reads_by : RecvLane → End
@@ -47,6 +51,35 @@ pub record IsNotAtRest : Type 0 where
   pub untold_reset : (Sendable (reads_by (record fresh { final_size = Some 0; reset_code = Some 7 })) → ⊥)
       × (AtRest (reads_by (record fresh { final_size = Some 0; reset_code = Some 7 })) → ⊥)
 
+-- the owner of this end answers each STOP_SENDING (section 3.5)
+abbrev pub answering : End → End
+answering e = record e { tuning = record default_tuning { answers_stops = true } }
+
+-- the peer stopped the half
+abbrev pub stopped : SendLane → SendLane
+stopped l = record l { stopped = Some 7 }
+
+abbrev pub beside_server : End → World
+beside_server e = record { a = e; b = server standard }
+
+-- A stream that its reader stopped is left to its owner
+pub record IsLeft : Type 0 where
+  -- who answers that, was told, and hasn't reset it (section 3.5)
+  pub told : IsLeftToOwner (beside_server (answering (client_with (stopped wrote)))) A 0
+
+-- It isn't left to its owner
+pub record IsNotLeft : Type 0 where
+  -- where the end answers by itself (section 3.5)
+  pub answered : IsLeftToOwner (beside_server (client_with (stopped wrote))) A 0 → ⊥
+  -- or the peer didn't stop it (section 3.5)
+  pub untold : IsLeftToOwner (beside_server (answering (client_with wrote))) A 0 → ⊥
+  -- or it was reset (section 3.1)
+  pub reset : IsLeftToOwner (beside_server (answering (client_with (stopped reset_half)))) A 0 → ⊥
+  -- or it isn't open (section 2.1)
+  pub unopened : IsLeftToOwner (beside_server (answering (client_of standard))) A 0 → ⊥
+
 pub record Exclusions : Type 0 where
   pub rests : IsAtRest
   pub others : IsNotAtRest
+  pub left : IsLeft
+  pub not_left : IsNotLeft

@@ -8,7 +8,7 @@ use Rattle.qs_send.specs.declared.parts.Chunk.{Chunk}
 use Rattle.qs_send.specs.declared.parts.Reset.{Reset}
 use Rattle.qs_send.specs.declared.parts.SendFault.{SendFault}
 use Rattle.qs_send.specs.declared.parts.SendFault.TheVariants.{Finished, WasReset}
-use Rattle.qs_send.specs.Lane.{Sending, SendLane, refusal, reset_refusal, is_whole, size_of, declared_size, finish_lane, broken_off, first_code, lost_due, after_write, after_reset}
+use Rattle.qs_send.specs.Lane.{Sending, SendLane, refusal, reset_refusal, is_whole, size_of, declared_size, finish_lane, broken_off, first_code, lost_due, after_write}
 use Rattle.qs_send.specs.Chunks.{IsDueChunk, WasSent}
 use Rattle.qs_send.specs.Sound.{IsLawful, IsEnded}
 use Rattle.qs_send.specs.Calls.{writes, finishes, resets, stops, tells_stop, acks_reset, blocks, allows, buffers, sends, acks, loses}

@@ -1,5 +1,5 @@
 -- A half that isn't over is lent out of a table: what the table is once it comes back.
-use Rattle.std.proofs.Common.{◌≡◌, ℕ, ◌<◌, ◌≤◌, Bool, true, false, List, length, get_or, Option, None, Some, is_some, refl, sym, ap, ◌∙◌, subst, arith}
+use Rattle.std.proofs.Common.{◌≡◌, ℕ, ◌<◌, true, false, List, length, get_or, Option, None, Some, is_some, refl, ap, ◌∙◌, subst, arith}
 use borrow.Follows.Closed.{read_of}
 use Rattle.std.specs.Borrow.{MutBor}
 use Rattle.std.specs.List.{IsItemAtMut}

@@ -1,14 +1,14 @@
 -- Halves that are over: what holds of each, and which half is one.
-use Rattle.std.proofs.Common.{◌≡◌, ℕ, ◌+◌, ◌-◌, ◌*◌, ◌/◌, ◌%◌, ◌<◌, ◌≤◌, ◌==◌, ◌&&◌, nat_lt, Bool, true, false, List, [], ◌∷◌, length, Option, None, Some, is_some, refl, sym, ap, ◌∙◌, subst, arith, ◌||◌, IsTrue, inl, inr}
+use Rattle.std.proofs.Common.{◌≡◌, ℕ, ◌+◌, ◌*◌, ◌/◌, ◌%◌, ◌<◌, ◌≤◌, ◌==◌, ◌&&◌, nat_lt, Bool, true, false, List, [], Option, None, Some, is_some, refl, sym, ap, ◌∙◌, subst, arith, ◌||◌, IsTrue, inl, inr}
 use Rattle.std.specs.FinSet as set
 use Rattle.std.specs.Ordering.{nat_cmp}
 use Rattle.std.proofs.lemmas.Bool.{true≢false, cases_lt}
 use Rattle.std.proofs.lemmas.Option.{none-some}
 use Rattle.std.proofs.lemmas.Bool.Decides.{nat_tests}
-use Rattle.qs_ranges.specs.Numbers.{MAX_VARINT, NumberSet, AllBelow, ContainsRange, numbers, missing_from, contains-numbers, same_numbers}
+use Rattle.qs_ranges.specs.Numbers.{MAX_VARINT, NumberSet, ContainsRange, numbers, missing_from, contains-numbers, same_numbers}
 use Rattle.qs_send.specs.declared.parts.Reset.{Reset}
 use Rattle.qs_send.specs.declared.parts.Chunk.{Chunk}
-use Rattle.qs_send.specs.Chunks.{IsDueChunk, IsAllowed, HasNoChunk, IsHeldByRoom}
+use Rattle.qs_send.specs.Chunks.{IsDueChunk}
 use Rattle.qs_send.specs.Lane.{Sending, is_whole}
 use Rattle.qs_send.specs.Sound.{IsLawful}
 use Rattle.qs_send.specs.Halves.{over_sending, IsOverSlot}

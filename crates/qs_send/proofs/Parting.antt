@@ -7,7 +7,7 @@ use Rattle.std.proofs.lemmas.Bool.Decides.{nat_tests}
 use Rattle.qs_ranges.specs.Numbers.{AllBelow, AreDisjoint, NumberSet, numbers, contains-numbers, contains-with_range, contains-without_range, same_numbers, ContainsRange}
 use Rattle.qs_send.specs.declared.parts.Chunk.{Chunk}
 use Rattle.qs_send.specs.declared.parts.Reset.{Reset}
-use Rattle.qs_send.specs.Lane.{Sending, after_reset, refusal, reset_refusal, finish_lane, lost_due}
+use Rattle.qs_send.specs.Lane.{Sending, refusal, reset_refusal, finish_lane, lost_due}
 use Rattle.qs_send.specs.Sound.{IsLawful}
 use Rattle.qs_send.specs.Calls.{writes, finishes, resets, stops, tells_stop, acks_reset, blocks, allows, buffers, sends, acks, loses}
 use Rattle.qs_send.specs.Parts.{bit, MovesParts}

@@ -1,11 +1,13 @@
 -- A table of sending halves: what a call reads at a slot, and what its edit makes of the table.
-use Rattle.std.proofs.Common.{◌≡◌, ℕ, zero, suc, ◌+◌, ◌-◌, ◌*◌, ◌/◌, ◌%◌, ◌<◌, ◌≤◌, ◌^◌, ◌==◌, ◌⊎◌, inl, inr, max, Bool, true, false, cond, List, [], ◌∷◌, ◌++◌, length, get_or, take, Option, None, Some, is_some, refl, sym, ap, ◌∙◌, subst, arith}
+use Rattle.std.proofs.Common.{◌≡◌, ℕ, ◌+◌, ◌*◌, ◌/◌, ◌%◌, ◌<◌, ◌≤◌, ◌==◌, ◌⊎◌, inl, inr, max, Bool, true, false, List, [], length, get_or, take, Option, None, Some, is_some, refl, sym, ap, ◌∙◌, subst, arith}
 use Rattle.std.proofs.Math.ListN.{set, length-set}
 use Rattle.std.proofs.lemmas.List.{get_or_read, set-get_or, take_all, take-take, take-set-le}
-use Rattle.qs_ranges.specs.Numbers.{MAX_VARINT, numbers, AllBelow}
-use Rattle.qs_send.specs.Lane.{Sending, new_sending, after_allow, after_buffer, after_blocked}
+use Rattle.qs_ranges.specs.Numbers.{MAX_VARINT}
+use Rattle.qs_send.specs.Lane.{Sending, new_sending, after_allow, after_blocked}
 use Rattle.qs_send.specs.Halves.{half_at, slot_at, slot_half, halves_from, over_sending, IsOver, IsOverSlot, ArePlaced}
 use Rattle.qs_send.specs.declared.halves.slot.SendSlot.{SendSlot}
+use Rattle.qs_send.specs.Sound.{IsLawful}
+use Rattle.qs_send.proofs.Overs.{over_lawful}
 use Rattle.qs_send.proofs.Slots.{len_halves, at_halves, half_set, slot_set, placed_over, halves_take}
 
 pub none_of : (w : Option ℕ) → false ≡ is_some w → w ≡ None
@@ -56,6 +58,12 @@ module _ (kind : ℕ) (full : List Sending) (slots : List SendSlot) (i : ℕ) (s
 
   pub over_slot : (n : ℕ) → s.written ≡ Some n → IsOverSlot s n
   over_slot n some = subst (λ t. IsOverSlot t n) (sym read_slot) (are.over i n there (sym (ap (λ (t : SendSlot). t.written) read_slot) ∙ some))
+
+  pub over_lawful_at : kind < 4 → (n : ℕ) → s.written ≡ Some n → IsLawful (half_at (halves_from kind full 0 slots) i)
+  over_lawful_at four n some =
+      let over = over_slot n some in
+      let few = are.few in
+      subst IsLawful (sym (over_is n some)) (over_lawful (i * 4 + kind) n (s.rest / 2) (s.rest % 2 == 1) s.buffer s.widest (omega (arith, there, few, four)) over.within over.small over.widest)
 
   -- a half that isn't over becomes another
   pub lent : (y : Sending) → s.written ≡ None → halves_from kind (set full s.rest y) 0 slots ≡ set (halves_from kind full 0 slots) i y

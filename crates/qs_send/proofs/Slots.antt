@@ -1,11 +1,11 @@
 -- A table of sending halves by their slots: what one edit of a slot, or of a half that isn't over, makes of all.
-use Rattle.std.proofs.Common.{◌≡◌, ℕ, zero, suc, ◌+◌, ◌-◌, ◌*◌, ◌/◌, ◌%◌, ◌<◌, ◌≤◌, ◌^◌, ◌==◌, ◌⊎◌, inl, inr, Bool, true, false, List, [], ◌∷◌, ◌++◌, length, get_or, take, Option, None, Some, is_some, refl, sym, ap, ◌∙◌, subst, arith}
+use Rattle.std.proofs.Common.{◌≡◌, ℕ, zero, suc, ◌+◌, ◌*◌, ◌/◌, ◌<◌, ◌≤◌, ◌^◌, ◌⊎◌, inl, inr, List, [], ◌∷◌, ◌++◌, length, get_or, take, Option, None, Some, refl, sym, ap, ◌∙◌, subst, arith}
 use Rattle.std.proofs.Math.ListN.{set, length-set}
 use Rattle.std.proofs.lemmas.Bool.{cases_eq, cases_lt}
 use Rattle.std.proofs.lemmas.Option.{none-some, same_Some}
-use Rattle.std.proofs.lemmas.List.{same_lists, get_or_default, get_or-set_same, get_or-set_other, get_or_append_left, get_or_push, get_or-take, length-append, length-take}
+use Rattle.std.proofs.lemmas.List.{same_lists, get_or-set_same, get_or-set_other, get_or_append_left, get_or_push, get_or-take, length-append, length-take}
 use Rattle.qs_send.specs.Lane.{Sending, new_sending}
-use Rattle.qs_send.specs.Halves.{half_at, slot_at, slot_half, halves_from, over_sending, IsOver, IsOverSlot, ArePlaced}
+use Rattle.qs_send.specs.Halves.{slot_at, slot_half, halves_from, IsOverSlot, ArePlaced}
 use Rattle.qs_send.specs.declared.halves.slot.SendSlot.{SendSlot}
 
 -- What a table holds

@@ -5,6 +5,7 @@ ghost use Rattle.qs_ranges.specs.Numbers.{MAX_VARINT};
 ghost use Rattle.qs_send.specs.Lane.{after_allow, after_buffer, after_blocked};
 ghost use Rattle.qs_send.specs.Halves.{half_at, slot_half, halves_from, IsOver, IsOverSlot, ArePlaced};
 ghost use Rattle.qs_send.specs.LendsHalf.{lends_half};
+ghost use Rattle.qs_send.specs.Sound.{IsLawful};
 
 pub(crate) mod slot;
 
@@ -64,6 +65,25 @@ impl SendHalves {
         ensures small { result ≤ 2 ^ 60 }
     {
         self.slots.len()
+    }
+
+    /// What holds of the half at an index. It does nothing, and can't fail, so nothing is read for it: a caller learns the clause.
+    #[inline(always)]
+    pub fn is_lawful(&self, index: usize)
+        requires { index < length self.now }
+        ensures { IsLawful (half_at self.now index) }
+    {
+        if index >= self.slots.len() {
+            return;
+        }
+        let slot = self.slots[index];
+        if slot.is_over() {
+            return;
+        }
+        let place = slot.rest as usize;
+        if place < self.full.len() {
+            self.full[place].is_lawful();
+        }
     }
 
     /// The half at an index, to be read.

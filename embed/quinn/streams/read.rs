@@ -26,7 +26,7 @@ impl Chunks<'_> {
             Ok(Peek::Wait) => return Err(ReadError::Blocked),
             _ => Vec::new(),
         };
-        let offset = end.taken(stream).unwrap_or(0);
+        let offset = if bytes.is_empty() { 0 } else { end.taken(stream).unwrap_or(0) };
         // What was copied is taken, and the last of it read: to take bytes up to the end would tell the end, too.
         let most = bytes.len().saturating_sub(LAST);
         if most > 0 {

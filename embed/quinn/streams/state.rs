@@ -345,7 +345,9 @@ impl StreamsState {
                 // (that another one may be opened is told as the peer says so, asked for or not)
                 _ => None,
             };
-            self.events.extend(told);
+            if let Some(told) = told {
+                self.events.push_back(told);
+            }
         }
     }
 

@@ -98,6 +98,8 @@ exports! {
         = (Global, heard, end, stream, len);
     gvp_wants(heard: &mut ListenerHandle, dir: u32) = (Global, heard, dir);
     gvp_was_read(heard: &mut ListenerHandle, end: &mut Handle, stream: u64) = (Global, heard, end, stream);
+    gvp_was_told(heard: &mut ListenerHandle, end: &mut Handle, frame: &GvFrame, bytes: *const u8, len: usize)
+        = (Global, heard, end, frame, read!(bytes, len));
 
     gvp_closing(end: &mut Handle, closing: &mut GvClosing) = (Global, end, closing);
     gvp_close_payload(end: &mut Handle, out: *mut u8, room: usize, len: &mut usize)

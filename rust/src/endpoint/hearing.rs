@@ -1,8 +1,9 @@
 //! What an end tells of by itself, and what is noted for that.
 
 use super::Endpoint;
+use crate::answers::Received;
 use crate::event::Event;
-use crate::faults::EventFault;
+use crate::faults::{EventFault, ReceiveFault};
 use crate::ids::{Dir, StreamId};
 use crate::proved::{qs_conn as conn, qs_ranges::NoMemory, qs_wire as wire};
 use crate::shim::Box;
@@ -17,6 +18,10 @@ pub(super) struct Hearing {
     // The directions of which an open was blocked. They are handed on as an event is asked for, so that `open` needs no memory
     // to be refused.
     wanted: [bool; 2],
+    // Whether payloads are looked through for what holds the peer back.
+    looks: bool,
+    // The number of a payload of which that found no memory to be noted.
+    half_heard: Option<u64>,
 }
 
 struct Notes {
@@ -43,6 +48,8 @@ impl Hearing {
             notes: None,
             unnoted: None,
             wanted: [false; 2],
+            looks: false,
+            half_heard: None,
         }
     }
 
@@ -113,6 +120,75 @@ impl Hearing {
         }
     }
 
+    /// A frame was taken in. Where it says what holds the peer back that is noted, once an event was asked for.
+    #[inline]
+    pub(super) fn was_told(
+        &mut self,
+        end: &conn::Endpoint,
+        frame: &wire::Frame<'_>,
+    ) -> Result<(), NoMemory> {
+        match frame {
+            wire::Frame::DataBlocked { .. }
+            | wire::Frame::StreamDataBlocked { .. }
+            | wire::Frame::StreamsBlocked { .. } => self.note_blocked(end, frame),
+            _ => Ok(()),
+        }
+    }
+
+    #[cold]
+    fn note_blocked(
+        &mut self,
+        end: &conn::Endpoint,
+        frame: &wire::Frame<'_>,
+    ) -> Result<(), NoMemory> {
+        let asks = self.notes.as_ref().is_some_and(|notes| notes.has_told);
+        if asks || self.looks {
+            self.notes()?.heard.was_told(end, frame)?;
+        }
+        Ok(())
+    }
+
+    /// A payload was taken in, with this answer.
+    #[inline]
+    pub(super) fn received(
+        &mut self,
+        end: &conn::Endpoint,
+        number: u64,
+        payload: &[u8],
+        answer: Result<Received, ReceiveFault>,
+    ) -> Result<Received, ReceiveFault> {
+        if self.looks {
+            return self.look(end, number, payload, answer);
+        }
+        answer
+    }
+
+    // Of a payload that was processed before nothing is noted again, but where there was no memory for it.
+    #[cold]
+    fn look(
+        &mut self,
+        end: &conn::Endpoint,
+        number: u64,
+        payload: &[u8],
+        answer: Result<Received, ReceiveFault>,
+    ) -> Result<Received, ReceiveFault> {
+        let comes_again = answer == Ok(Received::Duplicate) && self.half_heard == Some(number);
+        if answer != Ok(Received::Done) && !comes_again {
+            return answer;
+        }
+        let mut frames = wire::Frames::new(payload);
+        while let Ok(Some(placed)) = frames.next() {
+            if self.was_told(end, &placed.frame).is_err() {
+                self.half_heard = Some(number);
+                return Ok(Received::NoMemory);
+            }
+        }
+        if comes_again {
+            self.half_heard = None;
+        }
+        Ok(Received::Done)
+    }
+
     // They are made as there is something to note first.
     fn notes(&mut self) -> Result<&mut Notes, NoMemory> {
         match &mut self.notes {
@@ -135,13 +211,13 @@ impl Hearing {
 impl Endpoint {
     /// Tells the next piece of news, each once; `None` only where there is none. What an owner waits for comes so, without a
     /// search of its own and without a queue: what is told is a function of how the end stands and of what was told before (RFC
-    /// 9000, sections 2 to 4).
+    /// 9000, sections 2 to 4), and of what the peer said to hold it back.
     ///
     /// News come by kind, in the order in which [`Event`] has the kinds (`Finished` and `ResetAcked` are one), and of a kind
     /// those of lower streams first, or of bidirectional ones. What isn't so any more as it would be told isn't told: bytes that
     /// were read meanwhile, or a stream that was reset before it could be written to again. Of a closed end come no
-    /// [`Writable`](Event::Writable) and no [`Available`](Event::Available), and [`Readable`](Event::Readable) only where
-    /// [`reads_when_closed`](crate::Tuning::reads_when_closed) was chosen.
+    /// [`Writable`](Event::Writable), no [`Available`](Event::Available) and nothing that holds the peer back, and
+    /// [`Readable`](Event::Readable) only where [`reads_when_closed`](crate::Tuning::reads_when_closed) was chosen.
     ///
     /// An owner calls it after each call that takes in what came from the peer, and after its own reads, writes, resets and
     /// settings, until it answers `None`. It needn't call it at all, or may begin late: then it is told all that still is so.
@@ -196,5 +272,44 @@ impl Endpoint {
             Ok(news) => Ok(news.map(Event::of)),
             Err(NoMemory) => Err(EventFault::NoMemory),
         }
+    }
+
+    /// Chooses whether [`receive`](Endpoint::receive) and [`receive_telling`](Endpoint::receive_telling) look each payload
+    /// through, once it was taken in, for what the peer says to hold it back (RFC 9000, sections 19.12 to 19.14): the events
+    /// [`DataBlocked`](Event::DataBlocked), [`StreamDataBlocked`](Event::StreamDataBlocked) and
+    /// [`StreamsBlocked`](Event::StreamsBlocked). Not by default, as the payload is read a second time for it;
+    /// [`take_frame`](Endpoint::take_frame) and [`take_frames`](Endpoint::take_frames) note it without that.
+    ///
+    /// A limit that rose since the peer met it is passed over. What is noted is told once, and again only where the peer says
+    /// it in a later packet. Where there is no memory to note it `receive` answers `NoMemory`, and the same payload may come
+    /// again.
+    ///
+    /// ```
+    /// use gotsavena::{Dir, Endpoint, Event, Role, Settings};
+    ///
+    /// let settings = Settings::default().conn_window(4);
+    /// let mut client = Endpoint::new(Role::Client, settings, settings.limits())?;
+    /// let mut server = Endpoint::new(Role::Server, settings, settings.limits())?;
+    /// server.hear_blocked(true);
+    /// let stream = client.open(Dir::Uni)?;
+    /// client.write(stream, b"hello, world")?;
+    ///
+    /// let mut payload = [0; 1200];
+    /// while let Some(made) = client.make_packet(&mut payload)? {
+    ///     server.receive(made.number, &payload[..made.len])?;
+    ///     while let Some(event) = server.next_event()? {
+    ///         if event == Event::DataBlocked {
+    ///             server.set_conn_window(2 * server.granted())?;
+    ///         }
+    ///     }
+    ///     if let Some(made) = server.make_packet(&mut payload)? {
+    ///         client.receive(made.number, &payload[..made.len])?;
+    ///     }
+    /// }
+    /// assert_eq!((server.granted(), server.stored()), (16, 12));
+    /// # Ok::<(), Box<dyn std::error::Error>>(())
+    /// ```
+    pub fn hear_blocked(&mut self, is_chosen: bool) {
+        self.hearing.looks = is_chosen;
     }
 }

@@ -5,6 +5,7 @@ use crate::ids::{Dir, StreamId};
 use crate::proved::qs_wire as wire;
 
 impl<'a> Frame<'a> {
+    #[inline]
     pub(super) fn of(frame: wire::Frame<'a>) -> Frame<'a> {
         match frame {
             wire::Frame::Padding => Frame::Padding,

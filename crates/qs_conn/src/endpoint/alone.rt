@@ -1,6 +1,7 @@
 //! Frames are taken in without their packet.
 ghost use Rattle.std.specs.Prelude.{◌≡◌, ◌<◌, ◌^◌, None, true, map, option_map};
 ghost use Rattle.qs_wire.specs.Layout.{view};
+ghost use Rattle.qs_wire.specs.Layout as layout;
 ghost use Rattle.qs_machine.specs.Ends.{closes};
 ghost use Rattle.qs_machine.specs.Seen.{seen};
 ghost use Rattle.qs_machine.specs.Receiving.{closing_at};
@@ -51,6 +52,35 @@ impl Endpoint {
         taken
     }
 
+    /// Takes in a STREAM frame that comes without its packet, as `take_frame` does, for a caller that knows its kind.
+    ///
+    /// ```text
+    /// end.take_stream_frame(stream, offset, bytes, fin)?;
+    /// ```
+    #[tactic(auto, using(crate::proofs::Alones::said_again, crate::proofs::Alones::is_taken))]
+    pub fn take_stream_frame(
+        &mut self,
+        stream: StreamId,
+        offset: u64,
+        bytes: &[u8],
+        fin: bool,
+    ) -> Result<Taken, TakeFault>
+        ensures { TakeFrameStep self.old (layout.stream stream offset fin bytes.now) result self.new }
+    {
+        if let Some(fault) = self.closed_fault() {
+            return Err(fault);
+        }
+        let frame = Frame::Stream {
+            stream,
+            offset,
+            fin,
+            bytes,
+        };
+        let taken = self.take_one(&frame);
+        self.settle();
+        taken
+    }
+
     /// Takes in the frames of one packet, as `take_frame` each of them, one after the other, but that the limits move once, as this call
     /// ends (RFC 9000, sections 4.1 and 12.4).
     ///
@@ -88,6 +118,7 @@ impl Endpoint {
 
     // A frame takes effect, or finds no memory, or this end closes for it.
     #[tactic(auto, using(crate::proofs::Refusals::code_fits, crate::proofs::Alones::took_some, crate::proofs::Alones::took_none))]
+    #[inline(always)]
     fn take_one(&mut self, frame: &Frame<'_>) -> Result<Taken, TakeFault>
         requires { is_ours (seen (view frame.now)) ≡ true }
         ensures { TakesOne self.old (view frame.now) result self.new }
@@ -96,10 +127,11 @@ impl Endpoint {
             return Err(TakeFault::Closing(self.close_alone(frame, FRAME_ENCODING_ERROR)));
         }
         let seen = seen(frame);
-        if let Some(code) = self.verdict(&seen) {
-            return Err(TakeFault::Closing(self.close_alone(frame, code)));
-        }
-        if !self.changes(&seen) {
+        let is_sure = match self.judge(&seen) {
+            Ok(is_sure) => is_sure,
+            Err(code) => return Err(TakeFault::Closing(self.close_alone(frame, code))),
+        };
+        if !self.changes(is_sure, &seen) {
             return Ok(Taken::Unchanged);
         }
         if let Err(_refused) = self.on_frame(&seen, &mut Silent) {
@@ -108,8 +140,21 @@ impl Endpoint {
         Ok(Taken::Took)
     }
 
-    // Whether a frame without a fault changes this end.
-    fn changes(&self, seen: &SeenFrame<'_>) -> bool
+    // Whether a frame without a fault changes this end. Of a STREAM frame it is mostly sure, with no look.
+    #[inline(always)]
+    fn changes(&self, is_sure: bool, seen: &SeenFrame<'_>) -> bool
+        requires fits { SeenFits seen.now }
+        requires sure { is_sure ≡ true → changes self.now (view_seen seen.now) ≡ true }
+        ensures { result ≡ changes self.now (view_seen seen.now) }
+    {
+        if is_sure {
+            return true;
+        }
+        self.would_change(seen)
+    }
+
+    #[inline(never)]
+    fn would_change(&self, seen: &SeenFrame<'_>) -> bool
         requires { SeenFits seen.now }
         ensures { result ≡ changes self.now (view_seen seen.now) }
     {

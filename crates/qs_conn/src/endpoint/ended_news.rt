@@ -13,6 +13,7 @@ use qs_wire::StreamId;
 
 impl Endpoint {
     /// The least stream whose every half here came to its end and that wasn't told (RFC 9000, section 3).
+    #[inline(always)]
     pub(crate) fn next_ended_untold(&self, told: &ToldStreams) -> Option<StreamId>
         ensures { IsLeast (IsUntold (IsEnded self.now) told.now) 0 result }
     {
@@ -30,12 +31,17 @@ impl Endpoint {
         }
     }
 
-    // The least such number among the streams of a type.
+    // The least such number among the streams of a type. Where none is over a caller pays for the look at that alone.
+    #[inline(always)]
     fn next_ended_untold_of(&self, stream_type: usize, told: &ToldStreams) -> Option<u64>
         requires { stream_type < 4 }
         ensures least { IsLeast (IsUntoldOf (IsEnded self.now) told.now stream_type) 0 result }
         ensures small { IfSome result (λ n. n < 2 ^ 62) }
     {
+        let (marks, _others) = self.ended_marks(stream_type);
+        if !marks.may_have() {
+            return None;
+        }
         let mut next = 0;
         while let Some(stream) = self.next_ended_marked(stream_type, told, next) {
             if self.has_ended(stream) {
@@ -47,6 +53,7 @@ impl Endpoint {
     }
 
     // The least number from one on of a stream that may be over and wasn't told. None of those between is.
+    #[inline(never)]
     fn next_ended_marked(
         &self,
         stream_type: usize,
@@ -65,6 +72,7 @@ impl Endpoint {
     }
 
     // The marks of both halves of the streams of a type, by index, or twice those of the only half. One that is over has both.
+    #[inline(always)]
     fn ended_marks(&self, stream_type: usize) -> (&Marks, &Marks)
         requires { stream_type < 4 }
         ensures none { (n : ℕ) → type_of n ≡ stream_type → is_marked (both result.0.now result.1.now) (n / 4) ≡ false → IsEnded self.now n → ⊥ }

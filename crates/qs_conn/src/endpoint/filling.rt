@@ -49,8 +49,7 @@ impl Endpoint {
         let last_stream = self.core.outbox.last_stream();
         self.core.outbox.commit();
         self.settle();
-        let rest = still_asked(want, packet.quota);
-        let more = self.has_more(&rest, near);
+        let more = self.has_more(want, packet.quota, near);
         Ok(Some(Filled {
             token,
             len,
@@ -65,32 +64,18 @@ impl Endpoint {
         ensures order { (old new : End) → NoItemStarves want.now old result new }
         ensures text { (out : List ℕ) → filled_text result out ≡ [] }
     {
-        if self.has_more(want, None) {
+        // (the cap of bytes holds nothing back that memory does)
+        if self.has_more(want, 1, None) {
             return Err(MakeFault::NoMemory);
         }
         Ok(None)
     }
 
-    // Whether something that is asked for is due that no limit holds back. The stream that sent last is asked first.
-    fn has_more(&self, want: &Fill, last: Option<StreamId>) -> bool
-        ensures { IsTrue result ↔ WantedGoes want.now self.now }
+    // Whether something that is asked for is due that no limit holds back, where so many bytes are left of the cap. The stream that sent
+    // last is asked first.
+    fn has_more(&self, want: &Fill, left: usize, last: Option<StreamId>) -> bool
+        ensures { IsTrue result ↔ WantedGoes (still_asked want.now left) self.now }
     {
-        self.core.has_wanted(want, last)
-    }
-}
-
-// What is asked for still, where so many bytes of streams may go.
-fn still_asked(want: &Fill, quota: usize) -> Fill
-    ensures { result ≡ still_asked want.now quota }
-{
-    if quota > 0 {
-        return *want;
-    }
-    Fill {
-        items: want.items,
-        streams: false,
-        first: want.first,
-        alone: want.alone,
-        most_bytes: want.most_bytes,
+        self.core.has_wanted(want, left, last)
     }
 }

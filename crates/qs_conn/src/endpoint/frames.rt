@@ -1,10 +1,12 @@
 //! What the frames of a payload do.
-ghost use Rattle.std.specs.Prelude.{◌≡◌, ◌+◌, ◌≤◌, ◌<◌, ◌^◌, length, IfOk};
+ghost use Rattle.std.specs.Prelude.{◌≡◌, ◌+◌, ◌≤◌, ◌<◌, ◌^◌, true, length, Ok, IfOk};
 ghost use Rattle.qs_ranges.specs.Numbers.{MAX_VARINT};
 ghost use Rattle.qs_recv.specs.Lane.{check_stream, check_reset};
+ghost use Rattle.qs_recv.specs.declared.half.Highest.{Highest};
 ghost use Rattle.qs_machine.specs.Credit.{grant};
+ghost use Rattle.qs_machine.specs.Seen.{Stream};
 ghost use Rattle.qs_machine.specs.Verdicts.{or_else, ack_fault, state_fault_in, state_fault_out, credit_fault, bytes_fault, fault_code, lane_of, verdict};
-ghost use Rattle.qs_conn.specs.Seen.{view_seen, SeenFits};
+ghost use Rattle.qs_conn.specs.Seen.{view_seen, SeenFits, Judges};
 
 use super::{Endpoint, is_uni};
 use crate::seen::SeenFrame;
@@ -66,13 +68,54 @@ impl Endpoint {
         }
     }
 
-    // The bytes come last, and only those that are still stored are compared (RFC 9000, section 2.2).
+    // The code with which a frame closes the connection. Of another frame it may be sure already that it changes this end.
+    #[inline(always)]
+    pub(super) fn judge(&self, seen: &SeenFrame<'_>) -> Result<bool, u64>
+        requires { SeenFits seen.now }
+        ensures { Judges self.now (view_seen seen.now) result }
+    {
+        if let SeenFrame::Stream {
+            stream,
+            offset,
+            bytes,
+            fin,
+        } = *seen
+        {
+            return self.judge_stream(stream, offset, bytes, fin);
+        }
+        match self.verdict(seen) {
+            Some(code) => Err(code),
+            None => Ok(false),
+        }
+    }
+
+    #[tactic(auto, unfolding(qs_machine::specs::Verdicts::verdict))]
+    #[inline(always)]
     fn stream_fault(&self, stream: StreamId, offset: u64, bytes: &[u8], fin: bool) -> Option<u64>
         requires { offset + length bytes.now ≤ MAX_VARINT }
         ensures { result ≡ or_else (state_fault_in self.now stream) (or_else (credit_fault self.now (check_stream (lane_of self.now stream) offset (length bytes.now) fin)) (bytes_fault self.now stream offset bytes.now)) }
     {
+        match self.judge_stream(stream, offset, bytes, fin) {
+            Ok(_sure) => None,
+            Err(code) => Some(code),
+        }
+    }
+
+    // The bytes come last, and only those that are still stored are compared (RFC 9000, section 2.2). A frame that raises the highest offset
+    // changes this end.
+    #[tactic(auto, unfolding(qs_machine::specs::Verdicts::verdict))]
+    fn judge_stream(
+        &self,
+        stream: StreamId,
+        offset: u64,
+        bytes: &[u8],
+        fin: bool,
+    ) -> Result<bool, u64>
+        requires { offset + length bytes.now ≤ MAX_VARINT }
+        ensures { Judges self.now (Stream stream offset bytes.now fin) result }
+    {
         if let Some(code) = self.state_fault_in(stream) {
-            return Some(code);
+            return Err(code);
         }
         let window = self.window(stream);
         let len = bytes.len() as u64;
@@ -81,11 +124,12 @@ impl Endpoint {
             .recvs
             .check_stream(window, stream, offset, len, fin);
         if let Some(code) = self.credit_fault(check) {
-            return Some(code);
+            return Err(code);
         }
+        self.core.recvs.is_lawful(stream);
         match self.core.recvs.check_bytes(window, stream, offset, bytes) {
-            Ok(()) => None,
-            Err(fault) => Some(code_of(fault)),
+            Ok(()) => Ok(is_rise(check)),
+            Err(fault) => Err(code_of(fault)),
         }
     }
 
@@ -164,6 +208,16 @@ impl Endpoint {
         } else {
             self.core.limits.granted_streams.bidi
         }
+    }
+}
+
+// Whether the highest offset rises.
+fn is_rise(check: Result<Highest, RecvFault>) -> bool
+    ensures { result ≡ true → (h : Highest) × (check ≡ Ok h) × (h.before < h.after) }
+{
+    match check {
+        Ok(highest) => highest.before < highest.after,
+        Err(_fault) => false,
     }
 }
 

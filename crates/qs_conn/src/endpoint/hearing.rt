@@ -4,7 +4,8 @@ ghost use Rattle.qs_send.specs.Lane.{SendLane};
 ghost use Rattle.qs_machine.specs.Tables.{lookup};
 ghost use Rattle.qs_machine.specs.Asking.{room, stopped_with};
 ghost use Rattle.qs_machine.specs.Credit.{send_ended};
-ghost use Rattle.qs_machine.specs.Heard.{Hearing, IsNextOpened, MayOpen, is_cut_short, WasResetAcked, is_told, wants};
+ghost use Rattle.qs_machine.specs.Ends.{recv_lane};
+ghost use Rattle.qs_machine.specs.Heard.{Hearing, IsNextOpened, MayOpen, is_cut_short, is_met, limit_to_tell, WasResetAcked, is_told, wants};
 ghost use Rattle.qs_machine.specs.News.{IsLeast, IsReadable, IsEnded, IsHeld};
 ghost use Rattle.qs_conn.specs.ByDir.{IsFirstDir};
 ghost use Rattle.qs_conn.specs.Hearing.{next_of_peer};
@@ -14,7 +15,7 @@ use crate::by_dir::ByDir;
 use crate::marks::least;
 use crate::recv_marks::RecvTask;
 use crate::told_streams::ToldStreams;
-use qs_calls::News;
+use qs_calls::{MAX_VARINT, News};
 use qs_wire::{Dir, StreamId};
 
 impl Endpoint {
@@ -53,9 +54,14 @@ impl Endpoint {
     }
 
     /// The least stream that takes a byte, of those with a mark.
+    #[inline(always)]
     pub(crate) fn next_writable_of(&self, short: &ToldStreams) -> Option<StreamId>
         ensures { IsLeast (λ n. (0 < room self.now n) × (is_told short.now n ≡ true)) 0 result }
     {
+        // Mostly no write was cut short.
+        if !short.may_have() {
+            return None;
+        }
         if self.is_window_full() {
             return None;
         }
@@ -110,6 +116,23 @@ impl Endpoint {
         None
     }
 
+    /// Whether this end closed, or saw its peer close.
+    pub(crate) fn is_closed(&self) -> bool
+        ensures { result ≡ is_some self.now.closed }
+    {
+        self.closed.is_some()
+    }
+
+    /// Whether a stream may still get bytes, and its limit is at most that one.
+    pub(crate) fn is_met(&self, stream: StreamId, named: u64) -> bool
+        ensures { result ≡ is_met (limit_to_tell (recv_lane self.now stream)) named }
+    {
+        match self.core.recvs.limit_to_tell(stream) {
+            Some(limit) => limit <= named,
+            None => false,
+        }
+    }
+
     /// Whether a read of one byte tells something new.
     pub(crate) fn is_readable(&self, stream: StreamId) -> bool
         ensures { IsTrue result ↔ IsReadable self.now stream }
@@ -129,9 +152,12 @@ impl Endpoint {
     }
 
     /// Whether a write of so many bytes to a stream takes fewer.
+    #[tactic(auto, using(crate::proofs::Hearing::cut_past))]
     pub(crate) fn is_cut_short(&self, stream: StreamId, len: usize) -> bool
         ensures { result ≡ is_cut_short self.now stream len }
     {
-        self.core.outbox.is_open(stream) && self.room(stream) < len as u64
+        // No stream has room for more bytes than it has offsets: of such a write the half isn't looked at.
+        self.core.outbox.is_open(stream)
+            && (len as u64 > MAX_VARINT || self.room(stream) < len as u64)
     }
 }

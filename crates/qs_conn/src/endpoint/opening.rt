@@ -123,7 +123,8 @@ impl Endpoint {
         is_uni(stream) || self.core.outbox.is_open(stream)
     }
 
-    // Opens a stream and all lower ones of its type, or changes nothing. Memory is taken first.
+    // Opens a stream and all lower ones of its type, or changes nothing. The memory of halves is taken first: their marks are a few bits
+    // more.
     fn open_stream(&mut self, stream: StreamId) -> Result<(), NoMemory>
         ensures ok { OnOk result (self.new ≡ opens stream self.old) }
         ensures err { OnErr result (self.new ≡ self.old) }
@@ -170,7 +171,7 @@ impl Endpoint {
         Ok(())
     }
 
-    // Takes the memory that the opening wants, so that a refusal comes before anything changes.
+    // Takes the memory that the halves want, so that a refusal of theirs comes before anything changes.
     fn reserve(&mut self, stream: StreamId) -> Result<(), NoMemory>
         ensures { self.new ≡ self.old }
     {
@@ -182,9 +183,7 @@ impl Endpoint {
             stream,
             sends,
             receives,
-        )?;
-        self.core.untold_recvs.reserve(stream)?;
-        self.core.untold_sends.reserve(stream)
+        )
     }
 
     // That another stream was wanted is noted.

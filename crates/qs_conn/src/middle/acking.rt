@@ -62,6 +62,9 @@ impl Core {
         ensures step { AcksBoth (from_below first end) self.old.outbox result self.new.outbox }
     {
         self.ack_numbers(false, first, end)?;
+        if !self.outbox.keeps_lost() {
+            return Ok(());
+        }
         self.ack_numbers(true, first, end)
     }
 

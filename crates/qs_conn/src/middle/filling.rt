@@ -98,9 +98,28 @@ impl Core {
         self.put_own_slot(Slot::StreamsBlocked(Dir::Uni), out, packet)
     }
 
-    // Puts the items of a kind into the packet that are due, lower stream numbers first.
+    // Puts the items of a kind into the packet that are due. Mostly a look at how many marks there are tells that none is.
     #[tactic(auto, using(crate::proofs::Cores::fills_same))]
+    #[inline(always)]
     fn put_kind(&mut self, kind: Kind, out: &mut [u8], packet: Packet) -> Packet
+        requires filling { IsFilling self.old out.old packet.len }
+        requires memory { HasMemory self.old (length out.old) packet.len 0 }
+        ensures stage { (wish : Wish) (room : ℕ) (old e : End) (passed : Passed) → room ≡ length out.old → HasPassedKinds passed (kind_place kind)
+            → Stage wish room old (take packet.len out.old) (end_of self.old e) packet.is_full passed
+            → Stage wish room old (take result.len out.new) (end_of self.new e) result.is_full (and_kind passed kind) }
+        ensures filled { FillsOn self.old out.old packet.len self.new out.new result.len 0 }
+    {
+        if self.may_tell(kind) {
+            return self.put_marked(kind, out, packet);
+        }
+        packet
+    }
+
+    // The same by a search, lower stream numbers first. It stands apart, so that where no stream has a mark a caller pays for the look above
+    // alone.
+    #[tactic(auto, using(crate::proofs::Cores::fills_same))]
+    #[inline(never)]
+    fn put_marked(&mut self, kind: Kind, out: &mut [u8], packet: Packet) -> Packet
         requires filling { IsFilling self.old out.old packet.len }
         requires memory { HasMemory self.old (length out.old) packet.len 0 }
         ensures stage { (wish : Wish) (room : ℕ) (old e : End) (passed : Passed) → room ≡ length out.old → HasPassedKinds passed (kind_place kind)
@@ -122,6 +141,17 @@ impl Core {
             from = stream.value() + 1;
         }
         packet
+    }
+
+    /// Whether a stream may have an item of a kind. It looks at how many marks there are.
+    pub(super) fn may_tell(&self, kind: Kind) -> bool
+        requires { IsCore self.now }
+        ensures { result ≡ false → (n : ℕ) (e : End) → IsIdle (end_of self.now e) (slot_at kind n) }
+    {
+        match kind {
+            Kind::ResetStream | Kind::StreamDataBlocked => self.untold_sends.may_have(),
+            Kind::StopSending | Kind::MaxStreamData => self.untold_recvs.may_have(),
+        }
     }
 
     /// The least number from one on of a stream that may have an item of a kind. Of the streams between none is due.

@@ -1,5 +1,6 @@
 //! Whether anything is due that may go.
 ghost use Rattle.qs_machine.specs.Ends.{End};
+ghost use Rattle.qs_machine.specs.Filling.{still_asked};
 ghost use Rattle.qs_conn.specs.Middle.{IsCore, end_of};
 ghost use Rattle.qs_conn.specs.Filling.{Passed, and_slot, and_kind, all_items};
 ghost use Rattle.qs_conn.specs.Sending.{TellsDue, TellsGoing, TellsAnyGoing, TellsFrame, TellsItem, TellsStream, TellsWanted};
@@ -16,18 +17,21 @@ impl Core {
         requires { IsCore self.now }
         ensures { (e : End) → TellsFrame result (end_of self.now e) }
     {
-        if self.has_item() {
+        if self.has_stream() {
             return true;
         }
-        self.has_stream()
+        self.has_item()
     }
 
-    /// Whether of what is asked for a control item is due, or bytes of a stream or its end may go (RFC 9000, sections 3.1, 3.3 and 4.1).
-    /// The stream that sent last is asked before others are looked for.
-    pub(crate) fn has_wanted(&self, want: &Fill, last: Option<StreamId>) -> bool
+    /// Whether of what is asked for a control item is due, or bytes of a stream or its end may go (RFC 9000, sections 3.1, 3.3 and 4.1). With
+    /// no byte left of the cap no stream is asked for. The stream that sent last is asked before others are looked for.
+    pub(crate) fn has_wanted(&self, want: &Fill, left: usize, last: Option<StreamId>) -> bool
         requires { IsCore self.now }
-        ensures { (e : End) → TellsWanted want.now result (end_of self.now e) }
+        ensures { (e : End) → TellsWanted (still_asked want.now left) result (end_of self.now e) }
     {
+        if left == 0 {
+            return self.has_wanted_item(want);
+        }
         // Where there is more, it is mostly bytes.
         if self.has_wanted_stream(want, last) {
             return true;
@@ -82,8 +86,21 @@ impl Core {
         self.has_own_slot(Slot::StreamsBlocked(Dir::Uni), found)
     }
 
-    // An item of a kind is due, or one was found before.
+    // An item of a kind is due, or one was found before. Mostly a look at how many marks there are tells that none is.
+    #[inline(always)]
     fn has_kind(&self, kind: Kind, is_found: bool) -> bool
+        requires { IsCore self.now }
+        ensures { (e : End) (passed : Passed) → TellsDue is_found (end_of self.now e) passed → TellsDue result (end_of self.now e) (and_kind passed kind) }
+    {
+        if self.may_tell(kind) {
+            return self.has_marked(kind, is_found);
+        }
+        is_found
+    }
+
+    // The same by a search.
+    #[inline(never)]
+    fn has_marked(&self, kind: Kind, is_found: bool) -> bool
         requires { IsCore self.now }
         ensures { (e : End) (passed : Passed) → TellsDue is_found (end_of self.now e) passed → TellsDue result (end_of self.now e) (and_kind passed kind) }
     {

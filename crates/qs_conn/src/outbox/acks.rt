@@ -1,5 +1,5 @@
 //! Packets are acknowledged and lost.
-ghost use Rattle.std.specs.Prelude.{◌≡◌, ◌<◌, ◌≤◌, ◌↔◌, ℕ, length, is_some, true, Some, false, IfSome, IfNone, OnOk, OnErr};
+ghost use Rattle.std.specs.Prelude.{◌≡◌, ◌<◌, ◌≤◌, ◌↔◌, ℕ, length, is_some, true, None, Some, false, IfSome, IfNone, OnOk, OnErr};
 ghost use Rattle.std.specs.FinMap as fmap;
 ghost use Rattle.qs_send.specs.declared.piece.Item.{Item};
 ghost use Rattle.qs_send.specs.declared.piece.Piece.TheVariants as pieces;
@@ -67,6 +67,15 @@ impl Outbox {
             return None;
         }
         pass.next(&self.records)
+    }
+
+    /// Whether a packet is kept that was declared lost.
+    pub(crate) fn keeps_lost(&self) -> bool
+        ensures { result ≡ false → (n : ℕ) → fmap.get self.now.lost.pieces n ≡ None }
+    {
+        let _next = self.next;
+        self.lost.is_in_order();
+        self.lost.len() > 0
     }
 
     /// Lets go what is kept of the packets below the lowest outstanding one. No clause sees it.

@@ -1,8 +1,9 @@
 //! The sending halves of an end, by the type of the stream and by its index: one that is named, and searches.
 ghost use Rattle.std.specs.Prelude.{◌≡◌, ◌≤◌, ◌<◌, ◌^◌, ℕ, length, is_some, true, false, Some, IfSome};
 ghost use Rattle.qs_send.specs.Lane.{Sending};
+ghost use Rattle.qs_send.specs.Sound.{IsLawful};
 ghost use Rattle.qs_machine.specs.Tables.{lookup};
-ghost use Rattle.qs_machine.specs.Sums.{tables_of};
+ghost use Rattle.qs_machine.specs.Sums.{or_no_sending, tables_of};
 ghost use Rattle.qs_machine.specs.News.{IsLeast, IsHeld};
 ghost use Rattle.qs_conn.specs.Marks.{IsBefore, HaveTo, IsHeldOf};
 ghost use Rattle.qs_conn.specs.Tasks.{IsQuiet, HasTask, IsSought, IsSoughtOf};
@@ -22,6 +23,16 @@ pub(super) fn is_open(types: &[SendLanes; 4], stream: StreamId) -> bool
 {
     let lanes = &types[type_of(stream)];
     index_of(stream) < lanes.len()
+}
+
+/// What holds of an open stream's half. It does nothing: a caller learns the clause.
+pub(super) fn is_lawful(types: &[SendLanes; 4], stream: StreamId)
+    requires len { length types.now ≡ 4 }
+    requires open { is_some (lookup (tables_of types.now) stream) ≡ true }
+    ensures { IsLawful (or_no_sending (lookup (tables_of types.now) stream)) }
+{
+    let lanes = &types[type_of(stream)];
+    lanes.is_lawful(index_of(stream));
 }
 
 /// The half of an open stream.
@@ -118,7 +129,9 @@ pub(super) fn next_with_of(
     }
 }
 
-/// The least number from one on of a stream whose half is sought.
+/// The least number from one on of a stream whose half is sought. Of a type of which no half has the task a caller pays for the look at
+/// that alone.
+#[inline(always)]
 pub(super) fn next_sought(
     types: &[SendLanes; 4],
     search: Search,
@@ -144,6 +157,7 @@ pub(super) fn next_sought(
 }
 
 // The least such number among the streams of a type.
+#[inline(always)]
 fn next_sought_of(
     types: &[SendLanes; 4],
     search: Search,
@@ -158,6 +172,9 @@ fn next_sought_of(
     ensures small { IfSome result (λ n. n < 2 ^ 62) }
 {
     let lanes = &types[stream_type];
+    if !lanes.may_have(search.task) {
+        return None;
+    }
     let marks = told.of_type(stream_type);
     match lanes.next_sought(search, marks, index_from(stream_type, from)) {
         Some(index) => Some((index * 4 + stream_type) as u64),

@@ -11,7 +11,7 @@ ghost use Rattle.qs_machine.specs.Sums.{or_none, tables_of};
 ghost use Rattle.qs_machine.specs.Outgoing.{on_lane, sent_sum, chunk_put, item_put_out, HasSending, ChunkFound, MayTell, IsCarried, IsIdle, AreBelow, halves_told, with_pending};
 
 use super::Outbox;
-use super::halves::{half_of, is_open};
+use super::halves::{half_of, is_lawful, is_open};
 use crate::piece_room::PieceRoom;
 use crate::places::{index_of, type_of};
 use crate::send_lanes::SendLanes;
@@ -84,13 +84,9 @@ impl Outbox {
         requires small { sent_sum (on_lane stream (λ l. sent_lane l chunk) self.old).sends ≤ MAX_VARINT }
         ensures { self.new ≡ chunk_put stream chunk self.old }
     {
-        let half = half_of(&self.types, stream);
-        half.is_lawful();
-        let before = half.sent_end();
+        is_lawful(&self.types, stream);
         let lanes = &mut self.types[type_of(stream)];
-        lanes.sent(index_of(stream), chunk);
-        let after = half_of(&self.types, stream).sent_end();
-        self.sent = self.sent - before + after;
+        self.sent += lanes.sent(index_of(stream), chunk);
         hold(&mut self.pending, Piece::Data { stream, chunk });
         self.spare -= 1;
     }
@@ -176,8 +172,19 @@ fn put_pieces(records: &mut Records, number: u64, pending: &mut Vec<Piece>, room
     }
 }
 
-// The stream of the last chunk among the pieces.
+// The stream of the last chunk among the pieces: mostly the last piece, as the items go in first.
 fn last_data(pieces: &[Piece]) -> Option<StreamId>
+    ensures { result ≡ last_data None pieces.now }
+{
+    if let Some(Piece::Data { stream, .. }) = pieces.last() {
+        return Some(*stream);
+    }
+    last_looked_for(pieces)
+}
+
+// The same by a look at each piece.
+#[inline(never)]
+fn last_looked_for(pieces: &[Piece]) -> Option<StreamId>
     ensures { result ≡ last_data None pieces.now }
 {
     let mut last = None;

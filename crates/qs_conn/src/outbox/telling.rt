@@ -232,6 +232,7 @@ impl Outbox {
     }
 
     /// The least number of a stream whose sending half came to its end and wasn't told.
+    #[inline(always)]
     pub(crate) fn next_ended_untold(&self, told: &ToldStreams) -> Option<StreamId>
         ensures { IsLeast (λ n. IsHeld HasSent self.now.sends n × (is_told told.now n ≡ false)) 0 result }
     {
@@ -244,6 +245,7 @@ impl Outbox {
     }
 
     /// The least number of a stream of which a STOP_SENDING came that wasn't told.
+    #[inline(always)]
     pub(crate) fn next_stopped_untold(&self, told: &ToldStreams) -> Option<StreamId>
         ensures { IsLeast (λ n. IsHeld WasStopped self.now.sends n × (is_told told.now n ≡ false)) 0 result }
     {

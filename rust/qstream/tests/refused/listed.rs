@@ -141,8 +141,8 @@ fn a_sending_half_asks_as_it_keeps_more() {
 }
 
 fn recv_calls(random: &mut Random) -> u64 {
-    let mut half: RecvHalf<RingAssembly> = takes_none(|| RecvHalf::new(Global, 600, Share::Half));
-    let mut taken = 0;
+    let (new, mut taken) = asks(|| RecvHalf::new(Global, 600, Share::Half));
+    let mut half: RecvHalf<RingAssembly> = new.expect("none is refused");
     for _ in 0..CALLS {
         let offset = half.read_count() + random.below(80);
         let bytes = vec![1; random.below(20) as usize];
@@ -165,7 +165,7 @@ fn recv_calls(random: &mut Random) -> u64 {
             17 if random.below(40) == 0 => {
                 let size = half.highest();
                 if takes_none(|| half.check_reset(size)).is_ok() {
-                    takes_none(|| half.take_reset(6, size));
+                    taken += asks(|| half.take_reset(6, size)).1;
                 }
             }
             _ => takes_none(|| {

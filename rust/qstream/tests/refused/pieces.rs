@@ -2,10 +2,10 @@
 
 use super::proved::qs_chunks::ChunkAssembly;
 use super::proved::qs_ranges::RangeSet;
-use super::proved::qs_recv::{Assembly, RecvHalf, RecvHalves, RingAssembly, Share};
+use super::proved::qs_recv::{Assembly, Read, RecvHalf, RecvState, RingAssembly, Share};
 use super::proved::qs_send::{Chunk, SendHalf};
 use super::proved::qs_wire::StreamId;
-use super::refusing::{asked, largest, refuse, watched};
+use super::refusing::{asked, refuse, watched};
 use super::shim::alloc::Global;
 use std::fmt::Debug;
 
@@ -124,9 +124,18 @@ fn look_at_recv<A: Assembly>(half: &RecvHalf<A>) -> impl Debug + PartialEq + use
     (counts, half.final_size(), half.state())
 }
 
+/// A half, and how often it was refused its box.
+fn new_half<A: Assembly>() -> (RecvHalf<A>, usize) {
+    let new = || watched(|| RecvHalf::new(Global, 64, Share::Half));
+    match new() {
+        Ok(half) => (half, 0),
+        Err(_refused) => (new().expect("it was refused once"), 1),
+    }
+}
+
 /// Bytes come alone, before others, over them and behind them.
 fn receiving_half_goes_on<A: Assembly>() -> usize {
-    let mut half: RecvHalf<A> = RecvHalf::new(Global, 64, Share::Half);
+    let (mut half, mut refusals) = new_half::<A>();
     let frames: [(u64, &[u8], bool); 5] = [
         (8, b"ij", false),
         (4, b"ef", false),
@@ -134,7 +143,6 @@ fn receiving_half_goes_on<A: Assembly>() -> usize {
         (0, b"abcdefghijklmno", false),
         (15, b"0123456789", true),
     ];
-    let mut refusals = 0;
     for (offset, bytes, fin) in frames {
         refusals += tries(&mut half, look_at_recv, |half| {
             half.take_stream(offset, bytes, fin)
@@ -187,29 +195,25 @@ fn a_ring_survives_refusals() {
     assert!(each_refused(ring_grows) >= 4);
 }
 
-/// What an end keeps of each stream that was reset or stopped, or never carried a byte.
+/// A reset is taken where memory is refused, and lets the bytes go.
 #[test]
-fn a_receiving_half_takes_64_bytes() {
-    assert!(size_of::<RecvHalf<RingAssembly>>() <= 64);
+fn a_reset_needs_no_memory() {
+    for refused in [0, u64::MAX] {
+        let mut half: RecvHalf<RingAssembly> =
+            RecvHalf::new(Global, 64, Share::Half).expect("none is refused yet");
+        half.take_stream(3, b"abc", false)
+            .expect("it is within the window");
+        refuse(refused);
+        watched(|| half.take_reset(7, 9));
+        assert_eq!((half.reset_code(), half.final_size()), (Some(7), Some(9)));
+        assert_eq!((half.held(), half.stored(), half.taken()), (0, 0, 9));
+        assert_eq!(watched(|| half.read(&mut [0; 4])), Read::Reset(7));
+        assert_eq!(half.state(), RecvState::ResetRead);
+    }
 }
 
-/// What an end keeps of each stream that was read to its end: their table is the largest that is asked for.
+/// What an end keeps of each stream that was read to its end; of any other a box beside.
 #[test]
-fn a_receiving_half_that_was_read_to_its_end_takes_24_bytes() {
-    let mut halves = RecvHalves::new(Global);
-    refuse(u64::MAX);
-    watched(|| {
-        for index in 0..4096 {
-            let half = RecvHalf::new(Global, 1024, Share::Half);
-            halves.push(half).expect("none is refused here");
-            let half = halves.full_mut(index).expect("nothing came");
-            half.take_stream(0, b"abc", true)
-                .expect("it is within the window");
-            half.read(&mut [0; 8]);
-            let answer = half.read(&mut []);
-            halves.settle_after(answer, index);
-        }
-    });
-    assert!((0..4096).all(|index| halves.full(index).is_none()));
-    assert!(largest() <= 4096 * 24);
+fn a_receiving_half_takes_24_bytes() {
+    assert!(size_of::<RecvHalf<RingAssembly>>() <= 24);
 }

@@ -9,14 +9,12 @@ thread_local! {
     static IS_ON: Cell<bool> = const { Cell::new(false) };
     static ASKED: Cell<u64> = const { Cell::new(0) };
     static REFUSED: Cell<u64> = const { Cell::new(u64::MAX) };
-    static LARGEST: Cell<usize> = const { Cell::new(0) };
 }
 
-fn is_refused(size: usize) -> bool {
+fn is_refused() -> bool {
     if !IS_ON.get() {
         return false;
     }
-    LARGEST.set(LARGEST.get().max(size));
     ASKED.set(ASKED.get() + 1);
     ASKED.get() - 1 == REFUSED.get()
 }
@@ -24,7 +22,7 @@ fn is_refused(size: usize) -> bool {
 // Safety: each call is handed on to the system's allocator, or refused.
 unsafe impl GlobalAlloc for Refusing {
     unsafe fn alloc(&self, layout: Layout) -> *mut u8 {
-        if is_refused(layout.size()) {
+        if is_refused() {
             return std::ptr::null_mut();
         }
         unsafe { System.alloc(layout) }
@@ -35,7 +33,7 @@ unsafe impl GlobalAlloc for Refusing {
     }
 
     unsafe fn realloc(&self, place: *mut u8, layout: Layout, size: usize) -> *mut u8 {
-        if is_refused(size) {
+        if is_refused() {
             return std::ptr::null_mut();
         }
         unsafe { System.realloc(place, layout, size) }
@@ -49,12 +47,6 @@ static ALLOCATOR: Refusing = Refusing;
 pub fn refuse(number: u64) {
     ASKED.set(0);
     REFUSED.set(number);
-    LARGEST.set(0);
-}
-
-/// The bytes of the largest one that was asked for since.
-pub fn largest() -> usize {
-    LARGEST.get()
 }
 
 /// How many allocations were asked for since.

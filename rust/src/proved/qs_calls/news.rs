@@ -22,4 +22,10 @@ pub enum News {
     Ended(StreamId),
     /// A stream of that direction may be opened, where one couldn't for the peer's count (section 4.6).
     Available(Dir),
+    /// The peer said that the connection's limit holds its bytes back (sections 4.1 and 19.12).
+    DataBlocked,
+    /// The peer said that the stream's limit holds its bytes back (sections 4.1 and 19.13).
+    StreamDataBlocked(StreamId),
+    /// The peer said that the count of that direction holds its streams back (sections 4.6 and 19.14).
+    StreamsBlocked(Dir),
 }

@@ -1,20 +1,22 @@
 // Made from crates/qs_conn/src/heard.rt by rust/erase; not edited by hand.
 //! What an owner heard of at its end, and what it hears next.
 
+use crate::proved::qs_conn::blocked::BlockedMarks;
 use crate::proved::qs_conn::by_dir::ByDir;
 use crate::proved::qs_conn::endpoint::Endpoint;
 use crate::proved::qs_conn::places::index_of;
 use crate::proved::qs_conn::told_streams::ToldStreams;
 use crate::proved::qs_calls::News;
 use crate::proved::qs_ranges::NoMemory;
-use crate::proved::qs_wire::{Dir, StreamId};
+use crate::proved::qs_wire::{Dir, Frame, StreamId};
 use crate::shim::alloc::Global;
 
 /// What an owner heard of at its end, so that it hears of each piece of news once (RFC 9000, sections 2 to 4).
 ///
-/// It stands beside the end and is kept as marks of streams: an end whose owner asks for no news pays nothing for it. Three things the
+/// It stands beside the end and is kept as marks of streams: an end whose owner asks for no news pays nothing for it. Four things the
 /// end doesn't know, so its owner tells them: that it is about to write ([`will_write`](Heard::will_write)), that it waits for a stream
-/// to open ([`wants`](Heard::wants)), and that it read a stream ([`was_read`](Heard::was_read)).
+/// to open ([`wants`](Heard::wants)), that it read a stream ([`was_read`](Heard::was_read)), and that the peer says what holds it back
+/// ([`was_told`](Heard::was_told)).
 pub struct Heard {
     opened: ByDir<u64>,
     readable: ToldStreams,
@@ -23,6 +25,7 @@ pub struct Heard {
     sent: ToldStreams,
     ended: ToldStreams,
     wanted: ByDir<bool>,
+    blocked: BlockedMarks,
 }
 
 impl Heard {
@@ -36,6 +39,7 @@ impl Heard {
             sent: ToldStreams::new(alloc),
             ended: ToldStreams::new(alloc),
             wanted: ByDir::new(false, false),
+            blocked: BlockedMarks::new(alloc),
         }
     }
 
@@ -43,7 +47,8 @@ impl Heard {
     /// those of the next, in the order of [`News`], and those of a lower stream first.
     ///
     /// `NoMemory` where there was no memory to note it; then nothing changed, and it comes again. It takes memory where no mark was made
-    /// yet for its stream, or a higher one of its type, among those of its kind: never for `Opened`, `Writable` and `Available`.
+    /// yet for its stream, or a higher one of its type, among those of its kind: never for `Opened`, `Writable`, `Available` and the kinds
+    /// behind it.
     pub fn next_news(&mut self, end: &Endpoint) -> Result<Option<News>, NoMemory> {
         let answer = self.first(end);
         self.hear(&answer)?;
@@ -78,6 +83,36 @@ impl Heard {
         }
     }
 
+    /// A frame of the peer's was taken in. Where it says that a limit of the present holds the peer back, that of the connection, of a
+    /// stream whose final size isn't known, or a count of streams, that is news from now on until it is told, be it that the limit rises
+    /// meanwhile. A limit that rose before isn't, and any other frame changes nothing (RFC 9000, sections 4.1, 4.6 and 19.12 to 19.14).
+    ///
+    /// `NoMemory` where there was no memory to note it; then nothing changed. It takes memory where it names a stream, and no limit of this
+    /// stream or of a higher one of its type was noted before.
+    pub fn was_told(&mut self, end: &Endpoint, frame: &Frame<'_>) -> Result<(), NoMemory> {
+        match *frame {
+            Frame::DataBlocked { limit } => {
+                if end.granted() <= limit {
+                    self.blocked.set_conn(true);
+                }
+                Ok(())
+            }
+            Frame::StreamDataBlocked { stream, limit } => {
+                if end.is_met(stream, limit) {
+                    return self.blocked.tell(stream);
+                }
+                Ok(())
+            }
+            Frame::StreamsBlocked { dir, count } => {
+                if end.granted_streams(dir) <= count {
+                    self.blocked.set_dir(dir, true);
+                }
+                Ok(())
+            }
+            _ => Ok(()),
+        }
+    }
+
     // The first piece of news.
     fn first(&self, end: &Endpoint) -> Option<News> {
         if let Some(stream) = end.next_opened(self.opened) {
@@ -100,6 +135,23 @@ impl Heard {
         }
         match end.next_available(self.wanted) {
             Some(dir) => Some(News::Available(dir)),
+            None => self.first_blocked(end),
+        }
+    }
+
+    // The first of what the peer said.
+    fn first_blocked(&self, end: &Endpoint) -> Option<News> {
+        if end.is_closed() {
+            return None;
+        }
+        if self.blocked.has_conn() {
+            return Some(News::DataBlocked);
+        }
+        if let Some(stream) = self.blocked.next_stream() {
+            return Some(News::StreamDataBlocked(stream));
+        }
+        match self.blocked.next_dir() {
+            Some(dir) => Some(News::StreamsBlocked(dir)),
             None => None,
         }
     }
@@ -107,25 +159,20 @@ impl Heard {
     // What is told, if anything, is noted.
     fn hear(&mut self, answer: &Option<News>) -> Result<(), NoMemory> {
         match *answer {
-            None => Ok(()),
-            Some(News::Opened(stream)) => {
-                self.hear_opened(stream);
-                Ok(())
-            }
-            Some(News::Readable(stream)) => self.readable.tell(stream),
-            Some(News::Writable(stream)) => {
-                self.short.forget(stream);
-                Ok(())
-            }
-            Some(News::Stopped(stream, _code)) => self.stopped.tell(stream),
-            Some(News::Finished(stream)) => self.sent.tell(stream),
-            Some(News::ResetAcked(stream)) => self.sent.tell(stream),
-            Some(News::Ended(stream)) => self.ended.tell(stream),
-            Some(News::Available(dir)) => {
-                self.wanted.set(dir, false);
-                Ok(())
-            }
+            None => {}
+            Some(News::Opened(stream)) => self.hear_opened(stream),
+            Some(News::Readable(stream)) => return self.readable.tell(stream),
+            Some(News::Writable(stream)) => self.short.forget(stream),
+            Some(News::Stopped(stream, _code)) => return self.stopped.tell(stream),
+            Some(News::Finished(stream)) => return self.sent.tell(stream),
+            Some(News::ResetAcked(stream)) => return self.sent.tell(stream),
+            Some(News::Ended(stream)) => return self.ended.tell(stream),
+            Some(News::Available(dir)) => self.wanted.set(dir, false),
+            Some(News::DataBlocked) => self.blocked.set_conn(false),
+            Some(News::StreamDataBlocked(stream)) => self.blocked.forget(stream),
+            Some(News::StreamsBlocked(dir)) => self.blocked.set_dir(dir, false),
         }
+        Ok(())
     }
 
     // The next stream of its direction opened.

@@ -30,6 +30,7 @@ impl Marks {
     }
 
     /// Whether some index may have a mark.
+    #[inline(always)]
     pub(crate) fn may_have(&self) -> bool {
         self.most > 0
     }
@@ -52,12 +53,6 @@ impl Marks {
     /// The bits of the marks.
     pub(crate) fn bits(&self) -> &Bits {
         &self.marks
-    }
-
-    /// Takes the memory for the indexes below a count.
-    pub(crate) fn reserve(&mut self, count: usize) -> Result<(), NoMemory> {
-        self.marks.reserve(count)?;
-        self.words.reserve(count.div_ceil(FLAGS_PER_WORD))
     }
 
     /// Makes room for all indexes below a count: the new ones aren't marked.
@@ -87,16 +82,23 @@ impl Marks {
     }
 
     /// Marks an index, or takes its mark away.
+    #[inline(always)]
     pub(crate) fn set(&mut self, index: usize, is_marked: bool) {
         // Most marks stay as they are.
-        if self.marks.has(index) == is_marked {
+        if self.has(index) == is_marked {
             return;
         }
-        self.marks.set(index, is_marked);
-        self.least = least_after(self.least, index, is_marked);
+        self.turn(index, is_marked);
+    }
+
+    // The same, where that changes it. It stands apart, so that where it doesn't a caller pays for the look at the mark alone.
+    #[inline(never)]
+    fn turn(&mut self, index: usize, mark: bool) {
+        self.marks.set(index, mark);
+        self.least = least_after(self.least, index, mark);
         let word = index / FLAGS_PER_WORD;
-        self.words.set(word, has_mark(&self.marks, word));
-        if !is_marked {
+        self.words.set(word, has_mark(&self.marks, word, mark));
+        if !mark {
             self.most -= 1;
         } else if self.most < self.marks.len() {
             self.most += 1;
@@ -151,6 +153,12 @@ impl Marks {
         if self.most == 0 {
             return None;
         }
+        let below = self.least.max(told.first());
+        self.search_untold(others, told, from.max(below))
+    }
+
+    // The same, by a look at each index from that one on.
+    fn search_untold(&self, others: &Marks, told: &ToldMarks, from: usize) -> Option<usize> {
         let marks = told.bits();
         if let Some(index) = self.marks.next_untold_in_word(&others.marks, marks, from) {
             return Some(index);
@@ -179,8 +187,11 @@ fn least_after(least: usize, index: usize, is_marked: bool) -> usize {
     }
 }
 
-// Whether a word of marks has one.
-fn has_mark(marks: &Bits, word: usize) -> bool {
+// Whether a word of marks may have one: it has where one was set.
+fn has_mark(marks: &Bits, word: usize, was_set: bool) -> bool {
+    if was_set {
+        return true;
+    }
     marks.next_in_word(word * FLAGS_PER_WORD).is_some()
 }
 

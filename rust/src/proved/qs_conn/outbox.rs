@@ -7,7 +7,7 @@ use crate::proved::qs_conn::places::{index_of, type_of};
 use crate::proved::qs_conn::send_lanes::SendLanes;
 use crate::proved::qs_conn::told::ToldItems;
 use crate::proved::qs_conn::told_index::ToldIndex;
-use halves::{half_of, is_open};
+use halves::{half_of, is_lawful, is_open};
 use crate::proved::qs_calls::SendReport;
 use crate::proved::qs_ranges::NoMemory;
 use crate::proved::qs_send::{LostRecords, Piece, Records, SendFault, SendState};
@@ -71,7 +71,7 @@ impl Outbox {
     /// What holds of an open stream's half. It does nothing: a caller learns the clause.
     pub(crate) fn has_sending(&self, stream: StreamId) {
         let _next = self.next;
-        half_of(&self.types, stream).is_lawful();
+        is_lawful(&self.types, stream);
     }
 
     /// Whether the stream has a sending half.
@@ -186,14 +186,14 @@ impl Outbox {
 
     /// Accepts bytes at an open stream, as many as there is room for; or changes nothing.
     pub(crate) fn write(&mut self, stream: StreamId, bytes: &[u8]) -> Result<usize, SendFault> {
-        half_of(&self.types, stream).is_lawful();
+        is_lawful(&self.types, stream);
         let lanes = &mut self.types[type_of(stream)];
         lanes.write(index_of(stream), bytes)
     }
 
     /// Asks for the end of an open stream.
     pub(crate) fn finish(&mut self, stream: StreamId) -> Result<(), SendFault> {
-        half_of(&self.types, stream).is_lawful();
+        is_lawful(&self.types, stream);
         let lanes = &mut self.types[type_of(stream)];
         lanes.finish(index_of(stream))
     }

@@ -1,5 +1,6 @@
 // Made from crates/qs_conn/src/recv_lanes.rt by rust/erase; not edited by hand.
 //! The receiving halves of the streams of one type.
+use crate::shim::Vec;
 
 use crate::proved::qs_conn::marks::Marks;
 use crate::proved::qs_conn::recv_marks::{RecvMarks, RecvTask, has};
@@ -9,9 +10,7 @@ use crate::proved::qs_conn::untold::Untold;
 use crate::proved::qs_calls::RecvReport;
 use crate::proved::qs_machine::Tally;
 use crate::proved::qs_ranges::NoMemory;
-use crate::proved::qs_recv::{
-    Highest, Peek, Read, RecvFault, RecvHalf, RecvHalves, RecvState, RingAssembly, Share,
-};
+use crate::proved::qs_recv::{Highest, Peek, Read, RecvFault, RecvHalf, RecvState, RingAssembly, Share};
 use crate::proved::qs_wire::StreamId;
 use crate::shim::alloc::Global;
 
@@ -20,7 +19,7 @@ type Half = RecvHalf<RingAssembly>;
 /// The receiving halves of the streams of one type, by index.
 pub(crate) struct RecvLanes {
     alloc: Global,
-    halves: RecvHalves,
+    halves: Vec<Half>,
     tally: Tally,
     // A lane that wasn't touched has no limit that is to be raised.
     touched: Touches,
@@ -32,7 +31,7 @@ impl RecvLanes {
     pub(crate) fn new(alloc: Global) -> Self {
         RecvLanes {
             alloc,
-            halves: RecvHalves::new(alloc),
+            halves: Vec::new(alloc),
             tally: Tally {
                 spent: 0,
                 taken: 0,
@@ -71,10 +70,10 @@ impl RecvLanes {
     ) -> Result<Highest, RecvFault> {
         debug_assert!(1 <= window);
         debug_assert!(window <= 1 << 30);
-        if let Some(half) = self.halves.full(index) {
-            return half.check_stream(offset, len, fin);
+        match self.halves.get(index) {
+            Some(half) => half.check_stream(offset, len, fin),
+            None => Half::check_first(self.alloc, window, offset, len, fin),
         }
-        self.check_apart(window, index, offset, len, fin)
     }
 
     /// Whether a frame's bytes are those that are stored at an index, whose lane may have yet to be opened.
@@ -87,12 +86,9 @@ impl RecvLanes {
     ) -> Result<(), RecvFault> {
         debug_assert!(1 <= window);
         debug_assert!(window <= 1 << 30);
-        // One that is over stores nothing, as a new one.
-        if let Some(half) = self.halves.full(index) {
-            half.check_bytes(offset, bytes)
-        } else {
-            let fresh: Half = RecvHalf::new(self.alloc, window, Share::Half);
-            fresh.check_bytes(offset, bytes)
+        match self.halves.get(index) {
+            Some(half) => half.check_bytes(offset, bytes),
+            None => Half::check_first_bytes(self.alloc, window, offset, bytes),
         }
     }
 
@@ -106,54 +102,23 @@ impl RecvLanes {
         debug_assert!(size <= 0x3fff_ffff_ffff_ffff);
         debug_assert!(1 <= window);
         debug_assert!(window <= 1 << 30);
-        if let Some(view) = self.halves.get(index) {
-            view.half().check_reset(size)
-        } else {
-            let fresh: Half = RecvHalf::new(self.alloc, window, Share::Half);
-            fresh.check_reset(size)
+        match self.halves.get(index) {
+            Some(half) => half.check_reset(size),
+            None => Half::check_first_reset(self.alloc, window, size),
         }
     }
 
     /// Whether a frame that passed both checks would change an open lane.
     pub(crate) fn stream_changes(&self, index: usize, offset: u64, len: u64, fin: bool) -> bool {
-        if let Some(half) = self.halves.full(index) {
-            return half.stream_changes(offset, len, fin);
-        }
-        self.changes_apart(index, offset, len, fin)
-    }
-
-    // The first check at a lane that is over or has yet to be opened. It is seldom called, and apart so that the other is small.
-    #[inline(never)]
-    fn check_apart(
-        &self,
-        window: u64,
-        index: usize,
-        offset: u64,
-        len: u64,
-        fin: bool,
-    ) -> Result<Highest, RecvFault> {
-        debug_assert!(1 <= window);
-        debug_assert!(window <= 1 << 30);
-        if let Some(view) = self.halves.get(index) {
-            view.half().check_stream(offset, len, fin)
-        } else {
-            let fresh: Half = RecvHalf::new(self.alloc, window, Share::Half);
-            fresh.check_stream(offset, len, fin)
-        }
-    }
-
-    // The same for whether a frame would change such a lane.
-    #[inline(never)]
-    fn changes_apart(&self, index: usize, offset: u64, len: u64, fin: bool) -> bool {
-        let Some(view) = self.halves.get(index) else {
+        let Some(half) = self.halves.get(index) else {
             return false;
         };
-        view.half().stream_changes(offset, len, fin)
+        half.stream_changes(offset, len, fin)
     }
 
     /// Whether a reset that passed the check would change an open lane.
     pub(crate) fn reset_changes(&self, index: usize) -> bool {
-        let Some(half) = self.halves.full(index) else {
+        let Some(half) = self.halves.get(index) else {
             return false;
         };
         matches!(half.state(), RecvState::Recv | RecvState::SizeKnown)
@@ -172,8 +137,7 @@ impl RecvLanes {
         let before = self.halves.len();
         let missing = count.saturating_sub(before);
         for _opened in 0..missing {
-            let fresh: Half = RecvHalf::new(self.alloc, window, share);
-            if let Err(_refused) = self.halves.push(fresh) {
+            if let Err(_refused) = open_one(&mut self.halves, self.alloc, window, share) {
                 self.halves.truncate(before);
                 return Err(NoMemory);
             }
@@ -194,8 +158,7 @@ impl RecvLanes {
     pub(crate) fn reserve_to(&mut self, count: usize) -> Result<(), NoMemory> {
         let missing = count.saturating_sub(self.halves.len());
         self.halves.reserve(missing)?;
-        self.touched.reserve(count)?;
-        self.news.reserve(count)
+        Ok(())
     }
 
     /// Takes the lanes from a count on away, which nothing came for.
@@ -213,9 +176,7 @@ impl RecvLanes {
         bytes: &[u8],
         fin: bool,
     ) -> Result<(), NoMemory> {
-        let Some(half) = self.halves.full_mut(index) else {
-            return Ok(());
-        };
+        let half = &mut self.halves[index];
         let was = measure(half);
         let stopped = half.stop_code().is_some();
         if let Err(_refused) = half.take_stream(offset, bytes, fin) {
@@ -233,9 +194,7 @@ impl RecvLanes {
     /// Takes a reset that passed the check, at an open lane.
     pub(crate) fn take_reset(&mut self, index: usize, code: u64, size: u64) {
         debug_assert!(size <= 0x3fff_ffff_ffff_ffff);
-        let Some(half) = self.halves.full_mut(index) else {
-            return;
-        };
+        let half = &mut self.halves[index];
         let was = measure(half);
         half.take_reset(code, size);
         let is = measure(half);
@@ -250,7 +209,7 @@ impl RecvLanes {
 
     /// Whether a read of one byte of a lane tells something new.
     pub(crate) fn is_readable(&self, index: usize) -> bool {
-        match self.halves.full(index) {
+        match self.halves.get(index) {
             Some(half) => half.is_readable(),
             None => false,
         }
@@ -258,48 +217,38 @@ impl RecvLanes {
 
     /// Reads at an open lane.
     pub(crate) fn read(&mut self, index: usize, into: &mut [u8]) -> Read {
-        let Some(half) = self.halves.full_mut(index) else {
-            return Read::End;
-        };
+        let half = &mut self.halves[index];
         let was = measure(half);
         let answer = half.read(into);
         let is = measure(half);
         self.news.look(index, half);
         self.tally = moved(self.tally, was, is);
         self.touched.touch(index);
-        self.halves.settle_after(answer, index);
         answer
     }
 
     /// Takes the bytes that are next at an open lane, as a read of so many does, and copies none.
     pub(crate) fn skip(&mut self, index: usize, most: usize) -> Read {
-        let Some(half) = self.halves.full_mut(index) else {
-            return Read::End;
-        };
+        let half = &mut self.halves[index];
         let was = measure(half);
         let answer = half.skip(most);
         let is = measure(half);
         self.news.look(index, half);
         self.tally = moved(self.tally, was, is);
         self.touched.touch(index);
-        self.halves.settle_after(answer, index);
         answer
     }
 
     /// Tells what a read at an open lane would, and changes nothing.
     pub(crate) fn peek(&self, index: usize) -> Peek<'_> {
-        match self.halves.full(index) {
-            Some(half) => half.peek(),
-            None => Peek::End,
-        }
+        let half = &self.halves[index];
+        half.peek()
     }
 
     /// Stops an open lane.
     pub(crate) fn stop(&mut self, index: usize, code: u64) {
         debug_assert!(code <= 0x3fff_ffff_ffff_ffff);
-        let Some(half) = self.halves.full_mut(index) else {
-            return;
-        };
+        let half = &mut self.halves[index];
         let was = measure(half);
         half.stop(code);
         let is = measure(half);
@@ -311,9 +260,7 @@ impl RecvLanes {
     /// Stops an open lane, and tells nothing more of it.
     pub(crate) fn stop_and_forget(&mut self, index: usize, code: u64) {
         debug_assert!(code <= 0x3fff_ffff_ffff_ffff);
-        let Some(half) = self.halves.full_mut(index) else {
-            return;
-        };
+        let half = &mut self.halves[index];
         let was = measure(half);
         half.stop_and_forget(code);
         let is = measure(half);
@@ -326,18 +273,19 @@ impl RecvLanes {
     pub(crate) fn set_window(&mut self, index: usize, window: u64) {
         debug_assert!(1 <= window);
         debug_assert!(window <= 1 << 30);
-        let was = measure_at(&self.halves, index);
-        self.halves.set_window(index, window);
-        let is = measure_at(&self.halves, index);
-        look_at(&mut self.news, &self.halves, index);
+        let half = &mut self.halves[index];
+        let was = measure(half);
+        half.set_window(window);
+        let is = measure(half);
+        self.news.look(index, half);
         self.tally = moved(self.tally, was, is);
         self.touched.touch(index);
     }
 
     /// Whether a lane is in Data Read or Reset Read (RFC 9000, section 3.2).
     pub(crate) fn has_ended(&self, index: usize) -> bool {
-        let Some(half) = self.halves.full(index) else {
-            return index < self.halves.len();
+        let Some(half) = self.halves.get(index) else {
+            return false;
         };
         if !half.is_told() {
             return false;
@@ -347,8 +295,7 @@ impl RecvLanes {
 
     /// How a lane stands, where it is open.
     pub(crate) fn report(&self, index: usize) -> Option<RecvReport> {
-        let view = self.halves.get(index)?;
-        let half = view.half();
+        let half = self.halves.get(index)?;
         Some(RecvReport {
             state: half.state(),
             read_count: half.read_count(),
@@ -362,16 +309,13 @@ impl RecvLanes {
 
     /// How many bytes of a lane count as taken, where it is open.
     pub(crate) fn taken(&self, index: usize) -> Option<u64> {
-        let view = self.halves.get(index)?;
-        let half = view.half();
+        let half = self.halves.get(index)?;
         Some(half.taken())
     }
 
     /// The limit of an open lane of which no final size is known.
     pub(crate) fn limit_to_tell(&self, index: usize) -> Option<u64> {
-        let Some(half) = self.halves.full(index) else {
-            return None;
-        };
+        let half = self.halves.get(index)?;
         half.is_lawful();
         match half.final_size() {
             Some(_known) => None,
@@ -381,9 +325,7 @@ impl RecvLanes {
 
     /// The code of a stop that the peer is to be told of.
     pub(crate) fn stop_to_tell(&self, index: usize) -> Option<u64> {
-        let Some(half) = self.halves.full(index) else {
-            return None;
-        };
+        let half = self.halves.get(index)?;
         match half.state() {
             RecvState::Recv | RecvState::SizeKnown => half.stop_code(),
             _ => None,
@@ -409,7 +351,7 @@ impl RecvLanes {
     pub(crate) fn next_with(&self, task: RecvTask, from: usize) -> Option<usize> {
         let mut next = from;
         while let Some(index) = self.news.next(task, next) {
-            if has_at(task, &self.halves, index) {
+            if has(task, &self.halves[index]) {
                 return Some(index);
             }
             next = index + 1;
@@ -419,17 +361,38 @@ impl RecvLanes {
 }
 
 impl RecvLanes {
+    /// Whether any lane may have an answer for its owner.
+    #[inline(always)]
+    pub(crate) fn may_have(&self, task: RecvTask) -> bool {
+        self.news.may_have(task)
+    }
+
     /// The least index whose lane has an answer for its owner that wasn't told.
+    #[inline(never)]
     pub(crate) fn next_untold(&self, task: RecvTask, told: &ToldMarks) -> Option<usize> {
         let mut next = 0;
         while let Some(index) = self.news.next_untold(task, told, next) {
-            if has_at(task, &self.halves, index) {
+            if has(task, &self.halves[index]) {
                 return Some(index);
             }
             next = index + 1;
         }
         None
     }
+}
+
+// One lane more.
+fn open_one(
+    halves: &mut Vec<Half>,
+    alloc: Global,
+    window: u64,
+    share: Share,
+) -> Result<(), NoMemory> {
+    debug_assert!(1 <= window);
+    debug_assert!(window <= 1 << 30);
+    let fresh: Half = RecvHalf::new(alloc, window, share)?;
+    halves.push(fresh)?;
+    Ok(())
 }
 
 // What a half adds to the sums.
@@ -443,35 +406,12 @@ fn measure(half: &Half) -> Tally {
     }
 }
 
-// What the half of an index adds.
-fn measure_at(halves: &RecvHalves, index: usize) -> Tally {
-    let view = halves.at(index);
-    measure(view.half())
-}
-
-// Looks again at the half of an index, which changed.
-fn look_at(news: &mut RecvMarks, halves: &RecvHalves, index: usize) {
-    let view = halves.at(index);
-    news.look(index, view.half());
-}
-
-// Whether the half of an index has an answer of that kind.
-fn has_at(task: RecvTask, halves: &RecvHalves, index: usize) -> bool {
-    let view = halves.at(index);
-    has(task, view.half())
-}
-
-// What the ring of the half of an index takes.
-fn held_at(halves: &RecvHalves, index: usize) -> u64 {
-    let view = halves.at(index);
-    view.half().held()
-}
-
 // What the rings of some halves take. A sum that is no u64 is the greatest one.
-fn held_of(halves: &RecvHalves) -> u64 {
+fn held_of(halves: &[Half]) -> u64 {
     let mut held: u64 = 0;
     for index in 0..halves.len() {
-        held = held.saturating_add(held_at(halves, index));
+        let half = &halves[index];
+        held = held.saturating_add(half.held());
     }
     held
 }
@@ -490,7 +430,7 @@ fn moved(total: Tally, was: Tally, is: Tally) -> Tally {
 // the look at that alone.
 #[inline(never)]
 fn raise_touched(
-    halves: &mut RecvHalves,
+    halves: &mut Vec<Half>,
     touched: &mut Touches,
     stream_type: usize,
     untold: &mut Untold,
@@ -503,11 +443,9 @@ fn raise_touched(
     }
 }
 
-fn raise_at(halves: &mut RecvHalves, index: usize, stream_type: usize, untold: &mut Untold) {
+fn raise_at(halves: &mut Vec<Half>, index: usize, stream_type: usize, untold: &mut Untold) {
     debug_assert!(stream_type < 4);
-    let Some(half) = halves.full_mut(index) else {
-        return;
-    };
+    let half = &mut halves[index];
     if let Some(_limit) = half.raise() {
         let stream = StreamId::new((index * 4 + stream_type) as u64).unwrap();
         untold.set(stream, true);

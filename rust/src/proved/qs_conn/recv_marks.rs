@@ -30,12 +30,6 @@ impl RecvMarks {
         }
     }
 
-    /// Takes the memory for the indexes below a count.
-    pub(crate) fn reserve(&mut self, count: usize) -> Result<(), NoMemory> {
-        self.readable.reserve(count)?;
-        self.ended.reserve(count)
-    }
-
     /// Makes room for all indexes below a count: the new ones have no mark.
     pub(crate) fn open_to(&mut self, count: usize) -> Result<(), NoMemory> {
         let readable = self.readable.len();
@@ -69,6 +63,15 @@ impl RecvMarks {
         &self.ended
     }
 
+    /// Whether any index may be marked.
+    #[inline(always)]
+    pub(crate) fn may_have(&self, task: RecvTask) -> bool {
+        match task {
+            RecvTask::Readable => self.readable.may_have(),
+            RecvTask::Ended => self.ended.may_have(),
+        }
+    }
+
     /// The least marked index from one on.
     pub(crate) fn next(&self, task: RecvTask, from: usize) -> Option<usize> {
         match task {
@@ -96,5 +99,8 @@ pub(crate) fn has(task: RecvTask, half: &RecvHalf<RingAssembly>) -> bool {
 
 // Whether the end or a reset was told to a reader (RFC 9000, section 3.2).
 fn has_ended(half: &RecvHalf<RingAssembly>) -> bool {
+    if !half.is_told() {
+        return false;
+    }
     matches!(half.state(), RecvState::DataRead | RecvState::ResetRead)
 }

@@ -87,6 +87,13 @@ impl RecvTables {
         lanes.stream_changes(index_of(stream), offset, len, fin)
     }
 
+    /// The half of an open stream is lawful. It does nothing: a caller learns the clause.
+    pub(crate) fn is_lawful(&self, stream: StreamId) {
+        let lanes = &self.types[type_of(stream)];
+        let _index = index_of(stream);
+        let _tally = lanes.tally();
+    }
+
     /// Whether a reset that passed the check would change an open stream.
     pub(crate) fn reset_changes(&self, stream: StreamId) -> bool {
         let lanes = &self.types[type_of(stream)];
@@ -268,6 +275,7 @@ impl RecvTables {
     }
 
     /// The least number of a stream whose receiving half has an answer for its owner that wasn't told.
+    #[inline(always)]
     pub(crate) fn next_untold(&self, task: RecvTask, told: &ToldStreams) -> Option<StreamId> {
         let bidi = least(
             self.next_untold_of(task, 0, told),
@@ -284,9 +292,13 @@ impl RecvTables {
     }
 
     // The least such number among the streams of a type.
+    #[inline(always)]
     fn next_untold_of(&self, task: RecvTask, stream_type: usize, told: &ToldStreams) -> Option<u64> {
         debug_assert!(stream_type < 4);
         let lanes = &self.types[stream_type];
+        if !lanes.may_have(task) {
+            return None;
+        }
         match lanes.next_untold(task, told.of_type(stream_type)) {
             Some(index) => Some((index * 4 + stream_type) as u64),
             None => None,

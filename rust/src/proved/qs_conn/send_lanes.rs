@@ -59,6 +59,12 @@ impl SendLanes {
         self.kept
     }
 
+    /// What holds of an open half. It does nothing: a caller learns the clause.
+    #[inline(always)]
+    pub(crate) fn is_lawful(&self, index: usize) {
+        self.halves.is_lawful(index);
+    }
+
     /// An open half.
     #[inline(always)]
     pub(crate) fn get(&self, index: usize) -> SendView<'_> {
@@ -97,8 +103,7 @@ impl SendLanes {
     /// Takes the memory for the lanes of all indexes below a count, and opens none.
     pub(crate) fn reserve_to(&mut self, count: usize) -> Result<(), NoMemory> {
         let missing = count.saturating_sub(self.halves.len());
-        self.halves.reserve(missing)?;
-        self.marks.reserve(count)
+        self.halves.reserve(missing)
     }
 
     /// Takes the halves from a count on away. Nothing of them was sent or is to be sent, and they keep nothing.
@@ -201,14 +206,17 @@ impl SendLanes {
         self.marks.look(index, half);
     }
 
-    /// Takes in that a chunk was sent.
-    pub(crate) fn sent(&mut self, index: usize, chunk: Chunk) {
+    /// Takes in that a chunk was sent, and answers how far that moves the sent end.
+    pub(crate) fn sent(&mut self, index: usize, chunk: Chunk) -> u64 {
         let Some(half) = self.halves.full_mut(index) else {
-            return;
+            return 0;
         };
         half.is_lawful();
+        let before = half.sent_end();
         half.sent(chunk);
+        let moved = half.sent_end() - before;
         self.marks.look_sent(index, half);
+        moved
     }
 
     /// Takes in that a chunk is acknowledged, or changes nothing.
@@ -240,6 +248,7 @@ impl SendLanes {
     }
 
     /// Whether any half may have a task.
+    #[inline(always)]
     pub(crate) fn may_have(&self, task: Task) -> bool {
         self.marks.may_have(task)
     }
@@ -270,6 +279,7 @@ impl SendLanes {
     }
 
     /// The least index from one on whose half is sought.
+    #[inline(never)]
     pub(crate) fn next_sought(&self, search: Search, told: &ToldMarks, from: usize) -> Option<usize> {
         let mut next = from;
         while let Some(index) = self.marks.next_sought(search, told, next) {

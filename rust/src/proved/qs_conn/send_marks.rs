@@ -49,15 +49,6 @@ impl SendMarks {
         }
     }
 
-    /// Takes the memory for the indexes below a count.
-    pub(crate) fn reserve(&mut self, count: usize) -> Result<(), NoMemory> {
-        self.bytes.reserve(count)?;
-        self.again.reserve(count)?;
-        self.writable.reserve(count)?;
-        self.ended.reserve(count)?;
-        self.stopped.reserve(count)
-    }
-
     /// Makes room for all indexes below a count: the new ones have no mark but that they may be written to.
     pub(crate) fn open_to(&mut self, count: usize) -> Result<(), NoMemory> {
         let (bytes, again) = (self.bytes.len(), self.again.len());
@@ -137,6 +128,7 @@ impl SendMarks {
     }
 
     /// Whether any index may be marked.
+    #[inline(always)]
     pub(crate) fn may_have(&self, task: Task) -> bool {
         self.of(task).may_have()
     }

@@ -12,6 +12,8 @@ pub(crate) struct ToldMarks {
     marks: Marks,
     // Each index of a word with a flag is marked.
     full: Bits,
+    // Each index below it is marked: a search passes what was told long ago at once.
+    first: usize,
 }
 
 impl ToldMarks {
@@ -20,6 +22,7 @@ impl ToldMarks {
         ToldMarks {
             marks: Marks::new(alloc),
             full: Bits::new(alloc),
+            first: 0,
         }
     }
 
@@ -54,7 +57,15 @@ impl ToldMarks {
         }
         self.marks.set(index, is_marked);
         let word = index / FLAGS_PER_WORD;
-        self.full.set(word, self.marks.is_full(word));
+        let is_full = self.marks.is_full(word);
+        self.full.set(word, is_full);
+        self.first = first_after(self.first, index, is_full);
+    }
+
+    /// Whether some index may have been told.
+    #[inline(always)]
+    pub(crate) fn may_have(&self) -> bool {
+        self.marks.may_have()
     }
 
     /// An index was told: all up to it get room. It takes memory where it is past the last.
@@ -85,5 +96,23 @@ impl ToldMarks {
     /// The words that were told whole.
     pub(crate) fn full(&self) -> &Bits {
         &self.full
+    }
+
+    /// Each index below it was told.
+    pub(crate) fn first(&self) -> usize {
+        self.first
+    }
+}
+
+// Below which index all were told, once an index was told or may be told again. Words become full in their order, mostly.
+fn first_after(first: usize, index: usize, is_full: bool) -> usize {
+    if !is_full {
+        return first.min(index);
+    }
+    let word = index / FLAGS_PER_WORD;
+    if first / FLAGS_PER_WORD == word {
+        (word * FLAGS_PER_WORD).saturating_add(FLAGS_PER_WORD)
+    } else {
+        first
     }
 }

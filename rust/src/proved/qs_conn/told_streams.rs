@@ -44,6 +44,21 @@ impl ToldStreams {
         marks.forget(index_of(stream));
     }
 
+    /// Whether some stream may have been told.
+    #[inline(always)]
+    pub(crate) fn may_have(&self) -> bool {
+        if self.types[0].may_have() {
+            return true;
+        }
+        if self.types[1].may_have() {
+            return true;
+        }
+        if self.types[2].may_have() {
+            return true;
+        }
+        self.types[3].may_have()
+    }
+
     /// The marks of the streams of a type, by index.
     pub(crate) fn of_type(&self, stream_type: usize) -> &ToldMarks {
         debug_assert!(stream_type < 4);

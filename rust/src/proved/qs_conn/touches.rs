@@ -29,11 +29,6 @@ impl Touches {
         }
     }
 
-    /// Takes the memory for the indexes below a count.
-    pub(crate) fn reserve(&mut self, count: usize) -> Result<(), NoMemory> {
-        self.marks.reserve(count)
-    }
-
     /// Makes room for all indexes below a count: the new ones weren't touched.
     pub(crate) fn open_to(&mut self, count: usize) -> Result<(), NoMemory> {
         self.marks.open_to(count)

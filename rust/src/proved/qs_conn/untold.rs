@@ -21,10 +21,6 @@ impl UntoldLanes {
         }
     }
 
-    fn reserve(&mut self, count: usize) -> Result<(), NoMemory> {
-        self.marks.reserve(count)
-    }
-
     fn open_to(&mut self, count: usize) -> Result<(), NoMemory> {
         debug_assert!(count <= 1 << 60);
         self.marks.open_to(count)
@@ -62,12 +58,6 @@ impl Untold {
                 UntoldLanes::new(alloc),
             ],
         }
-    }
-
-    /// Takes the memory for a stream and all lower ones of its type, and opens none.
-    pub(crate) fn reserve(&mut self, stream: StreamId) -> Result<(), NoMemory> {
-        let lanes = &mut self.types[type_of(stream)];
-        lanes.reserve(index_of(stream) + 1)
     }
 
     /// Makes room for a stream and all lower ones of its type: the new ones aren't marked.

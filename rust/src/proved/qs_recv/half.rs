@@ -4,10 +4,10 @@ use crate::shim::Box;
 
 use crate::proved::qs_recv::assembly::{Assembly, Peeking, Skipping};
 use crate::proved::qs_recv::credit::Share;
-use crate::proved::qs_recv::halves::RecvSlot;
+use crate::proved::qs_recv::kept::Kept;
 use crate::proved::qs_recv::live::LiveHalf;
 use crate::proved::qs_recv::rest::Rest;
-use crate::proved::qs_recv::window::Windows;
+use crate::proved::qs_ranges::NoMemory;
 use crate::shim::alloc::Global;
 
 /// Why data or a reset is refused. The half is left as it was. Each but NoMemory is an error of the peer, and the last is
@@ -64,50 +64,77 @@ pub enum RecvState {
 
 /// The receiving half of a stream, over any assembly. Offsets and sizes count bytes from the start of the stream.
 ///
-/// One that never carried a byte, one that was reset, and one of which a reader was told the end or that was forgotten, while no
-/// offset is missing, is a record of 64 bytes; the first byte that is stored takes the box.
+/// It is a record of 24 bytes. One that was read to its end stands in it; one that never carried a byte or was reset, and one that was
+/// forgotten while no offset is missing, takes a box of 64 bytes beside; and one that may store bytes a greater one, with its assembly.
 pub struct RecvHalf<A: Assembly> {
     alloc: Global,
     parts: Parts<A>,
 }
 
 enum Parts<A: Assembly> {
-    Resting(Rest),
+    Resting(Kept),
     Live(Box<LiveHalf<A>>),
 }
 
 impl<A: Assembly> RecvHalf<A> {
-    /// A half that grants `window` bytes beyond what was taken, and moves its limit by such a share of these. It takes no memory.
-    pub fn new(alloc: Global, window: u64, share: Share) -> Self {
+    /// A half that grants `window` bytes beyond what was taken, and moves its limit by such a share of these. Its box is taken at once, so
+    /// that a reset can be taken without memory.
+    pub fn new(alloc: Global, window: u64, share: Share) -> Result<Self, NoMemory> {
         debug_assert!(1 <= window);
         debug_assert!(window <= 1 << 30);
-        RecvHalf {
+        let Ok(rest) = Box::new(alloc, Rest::new(window, share)) else {
+            return Err(NoMemory);
+        };
+        Ok(RecvHalf {
             alloc,
-            parts: Parts::Resting(Rest::new(window, share)),
-        }
+            parts: Parts::Resting(Kept::boxed(rest)),
+        })
     }
 
-    /// A half that was read to its end, of its length, of how far its limit lies past that, and of its windows. It takes no memory.
-    pub(crate) fn over(alloc: Global, end: u64, past: u32, windows: &Windows) -> Self {
-        RecvHalf {
-            alloc,
-            parts: Parts::Resting(Rest::over(end, past, windows)),
-        }
+    /// Whether a STREAM frame may be taken by a half for which nothing came. It takes no memory.
+    pub fn check_first(
+        alloc: Global,
+        window: u64,
+        offset: u64,
+        len: u64,
+        fin: bool,
+    ) -> Result<Highest, RecvFault> {
+        debug_assert!(1 <= window);
+        debug_assert!(window <= 1 << 30);
+        let rest = Rest::new(window, Share::Half);
+        let fresh: LiveHalf<A> = LiveHalf::revived(alloc, &rest);
+        fresh.check_stream(offset, len, fin)
     }
 
-    /// The same in few bytes, where it was read to its end.
-    pub(crate) fn kept(&self) -> Option<RecvSlot> {
-        match &self.parts {
-            Parts::Resting(rest) => rest.kept(),
-            Parts::Live(_live) => None,
-        }
+    /// Whether a STREAM frame's bytes may be taken by one. It takes no memory.
+    pub fn check_first_bytes(
+        alloc: Global,
+        window: u64,
+        offset: u64,
+        bytes: &[u8],
+    ) -> Result<(), RecvFault> {
+        debug_assert!(1 <= window);
+        debug_assert!(window <= 1 << 30);
+        let rest = Rest::new(window, Share::Half);
+        let fresh: LiveHalf<A> = LiveHalf::revived(alloc, &rest);
+        fresh.check_bytes(offset, bytes)
+    }
+
+    /// Whether a RESET_STREAM frame may be taken by one. It takes no memory.
+    pub fn check_first_reset(alloc: Global, window: u64, size: u64) -> Result<Highest, RecvFault> {
+        debug_assert!(1 <= window);
+        debug_assert!(window <= 1 << 30);
+        debug_assert!(size <= 0x3fff_ffff_ffff_ffff);
+        let rest = Rest::new(window, Share::Half);
+        let fresh: LiveHalf<A> = LiveHalf::revived(alloc, &rest);
+        fresh.check_reset(size)
     }
 
     /// Whether a STREAM frame may be taken, and what it does to the highest offset. The final size is tested before the
     /// credit.
     pub fn check_stream(&self, offset: u64, len: u64, fin: bool) -> Result<Highest, RecvFault> {
         match &self.parts {
-            Parts::Resting(rest) => self.revived(rest).check_stream(offset, len, fin),
+            Parts::Resting(kept) => self.revived(&kept.rest()).check_stream(offset, len, fin),
             Parts::Live(live) => live.check_stream(offset, len, fin),
         }
     }
@@ -116,8 +143,8 @@ impl<A: Assembly> RecvHalf<A> {
     /// memory.
     pub fn check_bytes(&self, offset: u64, bytes: &[u8]) -> Result<(), RecvFault> {
         match &self.parts {
-            Parts::Resting(rest) => {
-                let _none = rest.stored();
+            Parts::Resting(kept) => {
+                let _none = kept.rest().stored();
                 Ok(())
             }
             Parts::Live(live) => live.check_bytes(offset, bytes),
@@ -128,7 +155,7 @@ impl<A: Assembly> RecvHalf<A> {
     /// come before, and no reset did.
     pub fn stream_changes(&self, offset: u64, len: u64, fin: bool) -> bool {
         match &self.parts {
-            Parts::Resting(rest) => self.revived(rest).stream_changes(offset, len, fin),
+            Parts::Resting(kept) => self.revived(&kept.rest()).stream_changes(offset, len, fin),
             Parts::Live(live) => live.stream_changes(offset, len, fin),
         }
     }
@@ -137,11 +164,11 @@ impl<A: Assembly> RecvHalf<A> {
     /// or a stop its bytes are counted and thrown away.
     pub fn take_stream(&mut self, offset: u64, bytes: &[u8], fin: bool) -> Result<(), RecvFault> {
         match &mut self.parts {
-            Parts::Resting(rest) => {
-                if rest.takes(offset, bytes, fin) {
+            Parts::Resting(kept) => {
+                if kept.takes(offset, bytes, fin) {
                     return Ok(());
                 }
-                let mut live: LiveHalf<A> = LiveHalf::revived(self.alloc, rest);
+                let mut live: LiveHalf<A> = LiveHalf::revived(self.alloc, &kept.rest());
                 live.take_stream(offset, bytes, fin)?;
                 let Ok(boxed) = Box::new(self.alloc, live) else {
                     return Err(RecvFault::NoMemory);
@@ -161,7 +188,7 @@ impl<A: Assembly> RecvHalf<A> {
     pub fn check_reset(&self, size: u64) -> Result<Highest, RecvFault> {
         debug_assert!(size <= 0x3fff_ffff_ffff_ffff);
         match &self.parts {
-            Parts::Resting(rest) => self.revived(rest).check_reset(size),
+            Parts::Resting(kept) => self.revived(&kept.rest()).check_reset(size),
             Parts::Live(live) => live.check_reset(size),
         }
     }
@@ -171,10 +198,14 @@ impl<A: Assembly> RecvHalf<A> {
     pub fn take_reset(&mut self, code: u64, size: u64) {
         debug_assert!(size <= 0x3fff_ffff_ffff_ffff);
         match &mut self.parts {
-            Parts::Resting(rest) => rest.take_reset(code, size),
+            Parts::Resting(kept) => kept.take_reset(code, size),
             Parts::Live(live) => {
-                if let Some(rest) = live.reset(code, size) {
-                    self.parts = Parts::Resting(rest);
+                let Some(rest) = live.reset(code, size) else {
+                    return;
+                };
+                live.let_go(self.alloc, &rest);
+                if let Ok(boxed) = Box::new(self.alloc, rest) {
+                    self.parts = Parts::Resting(Kept::boxed(boxed));
                 }
             }
         }
@@ -183,11 +214,11 @@ impl<A: Assembly> RecvHalf<A> {
     /// Reads the bytes that are next into the slice's front, or tells how the stream stands. The rest of the slice stays.
     pub fn read(&mut self, into: &mut [u8]) -> Read {
         let answer = match &mut self.parts {
-            Parts::Resting(rest) => rest.read(),
+            Parts::Resting(kept) => kept.read(),
             Parts::Live(live) => live.read(into),
         };
         if matches!(answer, Read::End) {
-            self.settle();
+            self.end();
         }
         answer
     }
@@ -197,7 +228,7 @@ impl<A: Assembly> RecvHalf<A> {
     pub fn stop(&mut self, code: u64) {
         debug_assert!(code <= 0x3fff_ffff_ffff_ffff);
         match &mut self.parts {
-            Parts::Resting(rest) => rest.stop(code),
+            Parts::Resting(kept) => kept.stop(code),
             Parts::Live(live) => live.stop(code),
         }
     }
@@ -207,17 +238,16 @@ impl<A: Assembly> RecvHalf<A> {
     pub fn stop_and_forget(&mut self, code: u64) {
         debug_assert!(code <= 0x3fff_ffff_ffff_ffff);
         match &mut self.parts {
-            Parts::Resting(rest) => rest.stop_and_forget(code),
+            Parts::Resting(kept) => kept.stop_and_forget(code),
             Parts::Live(live) => live.stop_and_forget(code),
         }
-        self.settle();
     }
 
     /// Raises the limit by what was taken, once that is the half's share of its window or more, and answers the new one where it rose
     /// (section 4.2). Once the final size is known it stays.
     pub fn raise(&mut self) -> Option<u64> {
         match &mut self.parts {
-            Parts::Resting(rest) => rest.raise(),
+            Parts::Resting(kept) => kept.raise(),
             Parts::Live(live) => live.raise(),
         }
     }
@@ -228,7 +258,7 @@ impl<A: Assembly> RecvHalf<A> {
         debug_assert!(1 <= window);
         debug_assert!(window <= 1 << 30);
         match &mut self.parts {
-            Parts::Resting(rest) => rest.set_window(window),
+            Parts::Resting(kept) => kept.set_window(window),
             Parts::Live(live) => live.set_window(window),
         }
     }
@@ -236,7 +266,7 @@ impl<A: Assembly> RecvHalf<A> {
     /// What holds of the half at all times.
     pub fn is_lawful(&self) {
         match &self.parts {
-            Parts::Resting(rest) => rest.is_lawful(),
+            Parts::Resting(kept) => kept.rest().is_lawful(),
             Parts::Live(live) => live.is_lawful(),
         }
     }
@@ -244,7 +274,7 @@ impl<A: Assembly> RecvHalf<A> {
     /// The limit on the highest offset that was granted (section 4.1).
     pub fn limit(&self) -> u64 {
         match &self.parts {
-            Parts::Resting(rest) => rest.limit(),
+            Parts::Resting(kept) => kept.rest().limit(),
             Parts::Live(live) => live.limit(),
         }
     }
@@ -252,7 +282,7 @@ impl<A: Assembly> RecvHalf<A> {
     /// What credit is paid back for: the final size after a reset, the highest offset after a stop, else the bytes read.
     pub fn taken(&self) -> u64 {
         match &self.parts {
-            Parts::Resting(rest) => rest.taken(),
+            Parts::Resting(kept) => kept.rest().taken(),
             Parts::Live(live) => live.taken(),
         }
     }
@@ -260,7 +290,7 @@ impl<A: Assembly> RecvHalf<A> {
     /// The final size if known, else one more than the largest offset that came, or 0.
     pub fn highest(&self) -> u64 {
         match &self.parts {
-            Parts::Resting(rest) => rest.highest(),
+            Parts::Resting(kept) => kept.rest().highest(),
             Parts::Live(live) => live.highest(),
         }
     }
@@ -270,7 +300,7 @@ impl<A: Assembly> RecvHalf<A> {
     /// keeps no offset then. It looks at no more than the first run.
     pub fn noted(&self) -> u64 {
         match &self.parts {
-            Parts::Resting(rest) => rest.noted(),
+            Parts::Resting(kept) => kept.rest().noted(),
             Parts::Live(live) => live.noted(),
         }
     }
@@ -278,7 +308,7 @@ impl<A: Assembly> RecvHalf<A> {
     /// How long the stream is, where that is known (section 4.5).
     pub fn final_size(&self) -> Option<u64> {
         match &self.parts {
-            Parts::Resting(rest) => rest.final_size(),
+            Parts::Resting(kept) => kept.rest().final_size(),
             Parts::Live(live) => live.final_size(),
         }
     }
@@ -286,7 +316,7 @@ impl<A: Assembly> RecvHalf<A> {
     /// Whether all is told that is to be: the end or a reset was, or it was stopped and forgotten.
     pub fn is_told(&self) -> bool {
         match &self.parts {
-            Parts::Resting(rest) => rest.is_told(),
+            Parts::Resting(kept) => kept.rest().is_told(),
             Parts::Live(live) => live.is_told(),
         }
     }
@@ -294,7 +324,7 @@ impl<A: Assembly> RecvHalf<A> {
     /// The state by what came and what a reader was told (section 3.2).
     pub fn state(&self) -> RecvState {
         match &self.parts {
-            Parts::Resting(rest) => self.revived(rest).state(),
+            Parts::Resting(kept) => kept.rest().state(),
             Parts::Live(live) => live.state(),
         }
     }
@@ -303,7 +333,7 @@ impl<A: Assembly> RecvHalf<A> {
     /// end and a reset are told (sections 2.2, 3.2 and 3.5).
     pub fn is_readable(&self) -> bool {
         match &self.parts {
-            Parts::Resting(rest) => self.revived(rest).is_readable(),
+            Parts::Resting(kept) => self.revived(&kept.rest()).is_readable(),
             Parts::Live(live) => live.is_readable(),
         }
     }
@@ -311,7 +341,7 @@ impl<A: Assembly> RecvHalf<A> {
     /// How many bytes are stored and not read.
     pub fn stored(&self) -> u64 {
         match &self.parts {
-            Parts::Resting(rest) => rest.stored(),
+            Parts::Resting(kept) => kept.rest().stored(),
             Parts::Live(live) => live.stored(),
         }
     }
@@ -320,7 +350,7 @@ impl<A: Assembly> RecvHalf<A> {
     /// four times the highest offset less what was taken; none once the end was told, or where bytes are thrown away.
     pub fn held(&self) -> u64 {
         match &self.parts {
-            Parts::Resting(rest) => rest.stored(),
+            Parts::Resting(kept) => kept.rest().stored(),
             Parts::Live(live) => live.held(),
         }
     }
@@ -328,7 +358,7 @@ impl<A: Assembly> RecvHalf<A> {
     /// How many bytes were read.
     pub fn read_count(&self) -> u64 {
         match &self.parts {
-            Parts::Resting(rest) => rest.read_count(),
+            Parts::Resting(kept) => kept.rest().read_count(),
             Parts::Live(live) => live.read_count(),
         }
     }
@@ -336,7 +366,7 @@ impl<A: Assembly> RecvHalf<A> {
     /// The code of the first stop, if there was one: at most 2^62 - 1.
     pub fn stop_code(&self) -> Option<u64> {
         match &self.parts {
-            Parts::Resting(rest) => rest.stop_code(),
+            Parts::Resting(kept) => kept.rest().stop_code(),
             Parts::Live(live) => live.stop_code(),
         }
     }
@@ -344,18 +374,46 @@ impl<A: Assembly> RecvHalf<A> {
     /// The code of the reset that was taken, if there was one.
     pub fn reset_code(&self) -> Option<u64> {
         match &self.parts {
-            Parts::Resting(rest) => rest.reset_code(),
+            Parts::Resting(kept) => kept.rest().reset_code(),
             Parts::Live(live) => live.reset_code(),
         }
     }
 
-    // A half of which nothing more is told is kept by its numbers alone, where no offset is missing.
+    // A half that was read to its end stands in the record itself, and its box is given back.
+    #[inline(never)]
+    fn end(&mut self) {
+        let Parts::Live(live) = &self.parts else {
+            return;
+        };
+        let Some(rest) = live.rested() else {
+            return;
+        };
+        if let Some(over) = rest.over() {
+            self.parts = Parts::Resting(Kept::here(over));
+        }
+    }
+
+    // A half that stores nothing any more is kept by its numbers alone, where no offset is missing and memory for them isn't refused.
     fn settle(&mut self) {
         let Parts::Live(live) = &self.parts else {
             return;
         };
-        if let Some(rest) = live.rested() {
-            self.parts = Parts::Resting(rest);
+        if live.is_done() {
+            self.settle_apart();
+        }
+    }
+
+    // It is seldom called, and apart so that the other is small.
+    #[inline(never)]
+    fn settle_apart(&mut self) {
+        let Parts::Live(live) = &self.parts else {
+            return;
+        };
+        let Some(rest) = live.rested() else {
+            return;
+        };
+        if let Ok(boxed) = Box::new(self.alloc, rest) {
+            self.parts = Parts::Resting(Kept::boxed(boxed));
         }
     }
 
@@ -370,7 +428,7 @@ impl<A: Peeking> RecvHalf<A> {
     /// shown, up to the first that didn't come.
     pub fn peek(&self) -> Peek<'_> {
         match &self.parts {
-            Parts::Resting(rest) => rest.peek(),
+            Parts::Resting(kept) => kept.peek(),
             Parts::Live(live) => live.peek(),
         }
     }
@@ -380,11 +438,11 @@ impl<A: Skipping> RecvHalf<A> {
     /// Takes the bytes that are next, as a read into a slice of so many bytes does, and copies none; or tells how the stream stands.
     pub fn skip(&mut self, most: usize) -> Read {
         let answer = match &mut self.parts {
-            Parts::Resting(rest) => rest.read(),
+            Parts::Resting(kept) => kept.read(),
             Parts::Live(live) => live.skip(most),
         };
         if matches!(answer, Read::End) {
-            self.settle();
+            self.end();
         }
         answer
     }

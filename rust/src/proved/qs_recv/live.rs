@@ -2,7 +2,7 @@
 //! A receiving half that may store bytes.
 
 use crate::proved::qs_recv::assembly::{Assembly, Peeking, Skipping};
-use crate::proved::qs_recv::credit::{Share, limit_with, next_limit};
+use crate::proved::qs_recv::credit::{limit_with, next_limit};
 use crate::proved::qs_recv::half::{Highest, Peek, Read, RecvFault, RecvState};
 use crate::proved::qs_recv::rest::{Rest, given};
 use crate::proved::qs_recv::window::Windows;
@@ -11,57 +11,72 @@ use crate::shim::alloc::Global;
 /// A receiving half with its assembly. `RecvHalf` tells what the calls do.
 pub(crate) struct LiveHalf<A: Assembly> {
     assembly: A,
-    // The greatest window that was set.
-    widest: u64,
     read_count: u64,
     received_end: u64,
     limit: u64,
-    window: u64,
-    final_size: Option<u64>,
-    reset_code: Option<u64>,
-    stop_code: Option<u64>,
+    size: u64,
+    reset: u64,
+    stop: u64,
+    windows: Windows,
+    is_sized: bool,
+    is_reset: bool,
+    is_stopped: bool,
     told: bool,
-    share: Share,
 }
 
 impl<A: Assembly> LiveHalf<A> {
     /// The same half as one at rest. It takes no memory.
     pub(crate) fn revived(alloc: Global, rest: &Rest) -> Self {
         let widest = rest.windows.widest();
-        let reset_code = given(rest.is_reset, rest.reset);
-        let stop_code = given(rest.is_stopped, rest.stop);
-        let is_over = is_either(reset_code, stop_code);
+        let discarding = rest.discards();
         LiveHalf {
-            assembly: A::at_rest(alloc, widest, rest.read_count, rest.received_end, is_over),
-            widest,
+            assembly: A::at_rest(
+                alloc,
+                widest,
+                rest.read_count,
+                rest.received_end,
+                discarding,
+            ),
             read_count: rest.read_count,
             received_end: rest.received_end,
             limit: rest.limit,
-            window: rest.windows.size(),
-            final_size: given(rest.is_sized, rest.size),
-            reset_code,
-            stop_code,
+            size: rest.size,
+            reset: rest.reset,
+            stop: rest.stop,
+            windows: rest.windows.copied(),
+            is_sized: rest.is_sized,
+            is_reset: rest.is_reset,
+            is_stopped: rest.is_stopped,
             told: rest.told,
-            share: rest.windows.share(),
         }
     }
 
-    /// The same half at rest, where nothing more is told of it and every offset below the largest that came came.
+    /// Lets the assembly go: it becomes the same half as one at rest.
+    pub(crate) fn let_go(&mut self, alloc: Global, rest: &Rest) {
+        *self = LiveHalf::revived(alloc, rest);
+    }
+
+    /// Whether the end was told, or nothing is stored any more since it was stopped.
+    pub(crate) fn is_done(&self) -> bool {
+        self.told || self.is_stopped
+    }
+
+    /// The same half at rest, where it is done and every offset below the largest that came came.
     pub(crate) fn rested(&self) -> Option<Rest> {
-        if !self.told || !self.assembly.received().covers(0, self.received_end) {
+        if !self.is_done() || !self.assembly.received().covers(0, self.received_end) {
             return None;
         }
         Some(Rest {
             read_count: self.read_count,
             received_end: self.received_end,
             limit: self.limit,
-            size: self.final_size.unwrap_or(0),
-            reset: self.reset_code.unwrap_or(0),
-            stop: self.stop_code.unwrap_or(0),
-            windows: Windows::new(self.widest, self.window, self.share),
-            is_sized: self.final_size.is_some(),
-            is_reset: self.reset_code.is_some(),
-            is_stopped: self.stop_code.is_some(),
+            size: self.size,
+            reset: self.reset,
+            stop: self.stop,
+            windows: self.windows.copied(),
+            is_sized: self.is_sized,
+            is_reset: self.is_reset,
+            is_stopped: self.is_stopped,
             told: self.told,
         })
     }
@@ -82,7 +97,7 @@ impl<A: Assembly> LiveHalf<A> {
         }
         let after = if fin {
             end
-        } else if self.final_size.is_some() || len == 0 {
+        } else if self.is_sized || len == 0 {
             before
         } else {
             before.max(end)
@@ -105,23 +120,24 @@ impl<A: Assembly> LiveHalf<A> {
         fin: bool,
     ) -> Result<(), RecvFault> {
         let end = offset + bytes.len() as u64;
-        if self.reset_code.is_none() {
+        if !self.is_reset {
             if self.assembly.put(offset, bytes).is_err() {
                 return Err(RecvFault::NoMemory);
             }
             self.received_end = end_with(self.received_end, offset, bytes.len() as u64);
         }
         if fin {
-            self.final_size = Some(end);
+            self.is_sized = true;
+            self.size = end;
         }
         Ok(())
     }
 
     pub(crate) fn stream_changes(&self, offset: u64, len: u64, fin: bool) -> bool {
-        if fin && self.final_size.is_none() {
+        if fin && !self.is_sized {
             return true;
         }
-        if self.reset_code.is_some() {
+        if self.is_reset {
             return false;
         }
         !self.assembly.received().covers(offset, offset + len)
@@ -144,7 +160,7 @@ impl<A: Assembly> LiveHalf<A> {
     /// What a reset that passed its check makes of it: a half at rest, which takes its place. None where nothing changes.
     pub(crate) fn reset(&mut self, code: u64, size: u64) -> Option<Rest> {
         debug_assert!(size <= 0x3fff_ffff_ffff_ffff);
-        if self.reset_code.is_some() || self.is_whole() {
+        if self.is_reset || self.is_whole() {
             return None;
         }
         Some(Rest {
@@ -153,28 +169,28 @@ impl<A: Assembly> LiveHalf<A> {
             limit: self.limit,
             size,
             reset: code,
-            stop: self.stop_code.unwrap_or(0),
-            windows: Windows::new(self.widest, self.window, self.share),
+            stop: self.stop,
+            windows: self.windows.copied(),
             is_sized: true,
             is_reset: true,
-            is_stopped: self.stop_code.is_some(),
+            is_stopped: self.is_stopped,
             told: self.told,
         })
     }
 
     pub(crate) fn read(&mut self, into: &mut [u8]) -> Read {
-        if let Some(code) = self.reset_code {
+        if self.is_reset {
             self.told = true;
-            return Read::Reset(code);
+            return Read::Reset(self.reset);
         }
-        if self.stop_code.is_some() {
+        if self.is_stopped {
             if self.is_whole() {
                 self.told = true;
                 return Read::End;
             }
             return Read::Wait;
         }
-        if self.final_size == Some(self.read_count) {
+        if self.is_at_end() {
             self.assembly.give_back();
             self.told = true;
             return Read::End;
@@ -192,9 +208,10 @@ impl<A: Assembly> LiveHalf<A> {
         if self.is_over() {
             return;
         }
-        if self.stop_code.is_none() {
+        if !self.is_stopped {
             self.assembly.discard();
-            self.stop_code = Some(code);
+            self.is_stopped = true;
+            self.stop = code;
         }
     }
 
@@ -205,10 +222,11 @@ impl<A: Assembly> LiveHalf<A> {
     }
 
     pub(crate) fn raise(&mut self) -> Option<u64> {
-        if self.final_size.is_some() {
+        if self.is_sized {
             return None;
         }
-        let next = next_limit(self.limit, self.taken(), self.window, self.share);
+        let windows = &self.windows;
+        let next = next_limit(self.limit, self.taken(), windows.size(), windows.share());
         if next <= self.limit {
             return None;
         }
@@ -220,12 +238,12 @@ impl<A: Assembly> LiveHalf<A> {
         debug_assert!(1 <= window);
         debug_assert!(window <= 1 << 30);
         let taken = self.taken();
-        if self.final_size.is_none() {
-            self.limit = limit_with(self.window, self.limit, taken, window);
+        if !self.is_sized {
+            self.limit = limit_with(self.windows.size(), self.limit, taken, window);
         }
         self.assembly.widen(window);
-        self.widest = self.widest.max(window);
-        self.window = window;
+        let widest = self.windows.widest().max(window);
+        self.windows = Windows::new(widest, window, self.windows.share());
     }
 
     pub(crate) fn is_lawful(&self) {
@@ -237,7 +255,7 @@ impl<A: Assembly> LiveHalf<A> {
     }
 
     pub(crate) fn taken(&self) -> u64 {
-        if self.reset_code.is_some() || self.stop_code.is_some() {
+        if self.is_reset || self.is_stopped {
             self.highest()
         } else {
             self.read_count
@@ -245,12 +263,12 @@ impl<A: Assembly> LiveHalf<A> {
     }
 
     pub(crate) fn highest(&self) -> u64 {
-        self.final_size.unwrap_or(self.received_end)
+        self.final_size().unwrap_or(self.received_end)
     }
 
     pub(crate) fn noted(&self) -> u64 {
         self.is_lawful();
-        if self.reset_code.is_some() {
+        if self.is_reset {
             return 0;
         }
         if self.told {
@@ -271,7 +289,7 @@ impl<A: Assembly> LiveHalf<A> {
     }
 
     pub(crate) fn final_size(&self) -> Option<u64> {
-        self.final_size
+        given(self.is_sized, self.size)
     }
 
     pub(crate) fn is_told(&self) -> bool {
@@ -279,7 +297,7 @@ impl<A: Assembly> LiveHalf<A> {
     }
 
     pub(crate) fn state(&self) -> RecvState {
-        if self.reset_code.is_some() {
+        if self.is_reset {
             if self.told {
                 RecvState::ResetRead
             } else {
@@ -291,7 +309,7 @@ impl<A: Assembly> LiveHalf<A> {
             } else {
                 RecvState::DataRecvd
             }
-        } else if self.final_size.is_some() {
+        } else if self.is_sized {
             RecvState::SizeKnown
         } else {
             RecvState::Recv
@@ -315,22 +333,22 @@ impl<A: Assembly> LiveHalf<A> {
     }
 
     pub(crate) fn stop_code(&self) -> Option<u64> {
-        self.stop_code
+        given(self.is_stopped, self.stop)
     }
 
     pub(crate) fn reset_code(&self) -> Option<u64> {
-        self.reset_code
+        given(self.is_reset, self.reset)
     }
 
     // Whether a read of one byte would tell something, be it new or not.
     fn tells_something(&self) -> bool {
-        if let Some(_code) = self.reset_code {
+        if self.is_reset {
             return true;
         }
-        if self.stop_code.is_some() {
+        if self.is_stopped {
             return self.is_whole();
         }
-        if Some(self.read_count) == self.final_size {
+        if self.is_at_end() {
             return true;
         }
         self.assembly.received().has(self.read_count)
@@ -338,12 +356,20 @@ impl<A: Assembly> LiveHalf<A> {
 
     // Whether the end was told, or a reset.
     fn is_over(&self) -> bool {
-        self.told && (self.reset_code.is_some() || self.is_whole())
+        self.told && (self.is_reset || self.is_whole())
+    }
+
+    // Whether all of the stream was read.
+    fn is_at_end(&self) -> bool {
+        match self.final_size() {
+            Some(size) => self.read_count == size,
+            None => false,
+        }
     }
 
     // Whether the final size is known and every offset below it came.
     fn is_whole(&self) -> bool {
-        match self.final_size {
+        match self.final_size() {
             Some(size) => self.assembly.received().covers(0, size),
             None => false,
         }
@@ -352,7 +378,7 @@ impl<A: Assembly> LiveHalf<A> {
     // Whether a frame with len bytes at offset names another final size, or lies outside the known one.
     fn breaks_final_size(&self, offset: u64, len: u64, fin: bool) -> bool {
         let end = offset + len;
-        match self.final_size {
+        match self.final_size() {
             Some(size) => (len > 0 && size < end) || (fin && end != size),
             None => fin && end < self.highest(),
         }
@@ -361,16 +387,16 @@ impl<A: Assembly> LiveHalf<A> {
 
 impl<A: Peeking> LiveHalf<A> {
     pub(crate) fn peek(&self) -> Peek<'_> {
-        if let Some(code) = self.reset_code {
-            return Peek::Reset(code);
+        if self.is_reset {
+            return Peek::Reset(self.reset);
         }
-        if self.stop_code.is_some() {
+        if self.is_stopped {
             if self.is_whole() {
                 return Peek::End;
             }
             return Peek::Wait;
         }
-        if self.final_size == Some(self.read_count) {
+        if self.is_at_end() {
             return Peek::End;
         }
         if !self.assembly.received().has(self.read_count) {
@@ -383,18 +409,18 @@ impl<A: Peeking> LiveHalf<A> {
 
 impl<A: Skipping> LiveHalf<A> {
     pub(crate) fn skip(&mut self, most: usize) -> Read {
-        if let Some(code) = self.reset_code {
+        if self.is_reset {
             self.told = true;
-            return Read::Reset(code);
+            return Read::Reset(self.reset);
         }
-        if self.stop_code.is_some() {
+        if self.is_stopped {
             if self.is_whole() {
                 self.told = true;
                 return Read::End;
             }
             return Read::Wait;
         }
-        if self.final_size == Some(self.read_count) {
+        if self.is_at_end() {
             self.assembly.give_back();
             self.told = true;
             return Read::End;
@@ -406,11 +432,6 @@ impl<A: Skipping> LiveHalf<A> {
         self.read_count += count as u64;
         Read::Bytes(count)
     }
-}
-
-// Whether there is one of two codes.
-fn is_either(one: Option<u64>, other: Option<u64>) -> bool {
-    one.is_some() || other.is_some()
 }
 
 // One more than the largest offset, once the len offsets from another one on came too.

@@ -2,8 +2,8 @@
 //! A receiving half that stores nothing, in few bytes.
 
 use crate::proved::qs_recv::credit::{Share, limit_with, next_limit};
-use crate::proved::qs_recv::half::{Peek, Read};
-use crate::proved::qs_recv::halves::RecvSlot;
+use crate::proved::qs_recv::half::{Peek, Read, RecvState};
+use crate::proved::qs_recv::over::Over;
 use crate::proved::qs_recv::window::Windows;
 
 /// A receiving half that stores nothing, and of which the offsets that came are those below `received_end`: one that never
@@ -23,6 +23,23 @@ pub(crate) struct Rest {
 }
 
 impl Rest {
+    /// The same.
+    pub(crate) fn copied(&self) -> Self {
+        Rest {
+            read_count: self.read_count,
+            received_end: self.received_end,
+            limit: self.limit,
+            size: self.size,
+            reset: self.reset,
+            stop: self.stop,
+            windows: self.windows.copied(),
+            is_sized: self.is_sized,
+            is_reset: self.is_reset,
+            is_stopped: self.is_stopped,
+            told: self.told,
+        }
+    }
+
     /// A half for which nothing came.
     pub(crate) fn new(window: u64, share: Share) -> Self {
         debug_assert!(1 <= window);
@@ -214,35 +231,37 @@ impl Rest {
         given(self.is_reset, self.reset)
     }
 
+    /// The state by what came and what a reader was told.
+    pub(crate) fn state(&self) -> RecvState {
+        if self.is_reset {
+            if self.told {
+                RecvState::ResetRead
+            } else {
+                RecvState::ResetRecvd
+            }
+        } else if self.is_whole() {
+            if self.told {
+                RecvState::DataRead
+            } else {
+                RecvState::DataRecvd
+            }
+        } else if self.is_sized {
+            RecvState::SizeKnown
+        } else {
+            RecvState::Recv
+        }
+    }
+
     /// The same in few bytes, where it was read to its end.
-    pub(crate) fn kept(&self) -> Option<RecvSlot> {
+    pub(crate) fn over(&self) -> Option<Over> {
         if !self.told || self.is_reset || self.is_stopped || !self.is_sized {
             return None;
         }
-        let past = (self.limit - self.size) as u32;
-        let windows = Windows::new(
-            self.windows.widest(),
-            self.windows.size(),
-            self.windows.share(),
-        );
-        Some(RecvSlot::Over(self.size, past, windows))
-    }
-
-    /// A half that was read to its end, of its length, of how far its limit lies past that, and of its windows.
-    pub(crate) fn over(end: u64, past: u32, windows: &Windows) -> Self {
-        Rest {
-            read_count: end,
-            received_end: end,
-            limit: end + past as u64,
-            size: end,
-            reset: 0,
-            stop: 0,
-            windows: Windows::new(windows.widest(), windows.size(), windows.share()),
-            is_sized: true,
-            is_reset: false,
-            is_stopped: false,
-            told: true,
-        }
+        Some(Over {
+            end: self.size,
+            past: (self.limit - self.size) as u32,
+            windows: self.windows.copied(),
+        })
     }
 
     // The number below which the offsets are that came, once a frame's did. None where one of its bytes would be stored, or
@@ -256,6 +275,11 @@ impl Rest {
             return Some(end);
         }
         None
+    }
+
+    /// Whether bytes that come are thrown away.
+    pub(crate) fn discards(&self) -> bool {
+        self.is_reset || self.is_stopped
     }
 
     // Whether nothing is noted of the offsets that came.

@@ -4,13 +4,13 @@ use Rattle.qs_conn.proofs.Untolds.{has_same, has_twice}
 use Rattle.qs_conn.proofs.recv_lanes.raise_touched.Goals as goal
 
 pub loop-index-init : goal.loop-index-init
-loop-index-init c = record { far = none_yet c.args.stream_type c.args.halves.now c.args.touched.now c.args.untold.now c.requires.settled; room = refl; more = has_same c.args.untold.now }
+loop-index-init c = record { far = none_yet c.args.stream_type c.args.halves.now.items c.args.touched.now c.args.untold.now c.requires.settled; room = refl; more = has_same c.args.untold.now }
 
 pub loop-index-preserved-then-index-len : goal.loop-index-preserved-then-index-len
 loop-index-preserved-then-index-len c =
-    let there : c.in-Some.index < length c.loop-index.halves = omega (arith, c.if-index-len.true, c.len.ensures) in
+    let there : c.in-Some.index < length c.loop-index.halves.items = omega (arith, c.if-index-len.true, c.len.ensures) in
     record {
-      far = one_more c.args.stream_type c.args.halves.now c.loop-index.halves c.raise_at.new.halves c.loop-index.touched c.pop.new.self c.loop-index.untold c.raise_at.new.untold c.in-Some.index c.loop-index.invariant.far there c.in-Some.ensures.taken c.raise_at.ensures.after
+      far = one_more c.args.stream_type c.args.halves.now.items c.loop-index.halves.items c.raise_at.new.halves.items c.loop-index.touched c.pop.new.self c.loop-index.untold c.raise_at.new.untold c.in-Some.index c.loop-index.invariant.far there c.in-Some.ensures.taken c.raise_at.ensures.after
           c.raise_at.ensures.marks c.raise_at.ensures.marked;
       room = c.in-Some.ensures.len ∙ c.loop-index.invariant.room;
       more = has_twice c.args.untold.now c.loop-index.untold c.raise_at.new.untold c.loop-index.invariant.more c.raise_at.ensures.marks;
@@ -19,16 +19,16 @@ loop-index-preserved-then-index-len c =
 pub loop-index-preserved : goal.loop-index-preserved
 loop-index-preserved c =
     record {
-      far = past_more c.args.stream_type c.args.halves.now c.loop-index.halves c.loop-index.touched c.pop.new.self c.loop-index.untold c.in-Some.index c.loop-index.invariant.far (omega (arith, c.if-index-len.false, c.len.ensures)) c.in-Some.ensures.taken;
+      far = past_more c.args.stream_type c.args.halves.now.items c.loop-index.halves.items c.loop-index.touched c.pop.new.self c.loop-index.untold c.in-Some.index c.loop-index.invariant.far (omega (arith, c.if-index-len.false, c.len.ensures)) c.in-Some.ensures.taken;
       room = c.in-Some.ensures.len ∙ c.loop-index.invariant.room;
       more = c.loop-index.invariant.more;
     }
 
 pub returns-clause-after : goal.returns-clause-after
-returns-clause-after c = all_raised c.args.stream_type c.args.halves.now c.loop-index.halves c.loop-index.touched c.loop-index.untold c.loop-index.invariant.far c.in_default.ensures.taken
+returns-clause-after c = all_raised c.args.stream_type c.args.halves.now.items c.loop-index.halves.items c.loop-index.touched c.loop-index.untold c.loop-index.invariant.far c.in_default.ensures.taken
 
 pub returns-clause-settled : goal.returns-clause-settled
-returns-clause-settled c = rw (all_raised c.args.stream_type c.args.halves.now c.loop-index.halves c.loop-index.touched c.loop-index.untold c.loop-index.invariant.far c.in_default.ensures.taken) (still_settled c.args.halves.now c.pop.new.self)
+returns-clause-settled c = rw (all_raised c.args.stream_type c.args.halves.now.items c.loop-index.halves.items c.loop-index.touched c.loop-index.untold c.loop-index.invariant.far c.in_default.ensures.taken) (still_settled c.args.halves.now.items c.pop.new.self)
 
 pub returns-clause-marked : goal.returns-clause-marked
-returns-clause-marked c = all_marked c.args.stream_type c.args.halves.now c.loop-index.halves c.loop-index.touched c.loop-index.untold c.loop-index.invariant.far c.in_default.ensures.taken
+returns-clause-marked c = all_marked c.args.stream_type c.args.halves.now.items c.loop-index.halves.items c.loop-index.touched c.loop-index.untold c.loop-index.invariant.far c.in_default.ensures.taken

@@ -7,7 +7,7 @@ use Rattle.qs_conn.proofs.recv_lanes.raise_touched.Given as goal
 abbrev pub invariant-loop-index : goal.invariant-loop-index
 invariant-loop-index l =
     record {
-      far : AreRaisedSoFar l.stream_type l.fn.halves l.halves l.touched l.untold;
+      far : AreRaisedSoFar l.stream_type l.fn.halves.items l.halves.items l.touched l.untold;
       room : length l.touched.marks ≡ length l.fn.touched.marks;
       more : HasMore l.fn.untold l.untold;
     }

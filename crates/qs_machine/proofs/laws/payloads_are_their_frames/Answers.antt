@@ -1,3 +1,5 @@
+use Rattle.qs_machine.proofs.AckOrders.{order_stays}
+use Rattle.qs_machine.proofs.AckPayloads.{payload_tokens}
 use Rattle.qs_machine.proofs.Ways.{payload_frames, payload_take_frames, frame_take}
 use Rattle.qs_machine.proofs.laws.payloads_are_their_frames.Goals as goal
 
@@ -9,3 +11,9 @@ returns-clause-several c = payload_take_frames
 
 pub returns-clause-one : goal.returns-clause-one
 returns-clause-one c = frame_take
+
+pub returns-clause-tokens : goal.returns-clause-tokens
+returns-clause-tokens c = payload_tokens
+
+pub returns-clause-order : goal.returns-clause-order
+returns-clause-order c = order_stays

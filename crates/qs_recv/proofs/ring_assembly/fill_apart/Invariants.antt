@@ -1,4 +1,4 @@
-use Rattle.std.proofs.Common.{◌≡◌, ℕ, ◌≤◌, ◌<◌, ◌-◌, true}
+use Rattle.std.proofs.Common.{◌≡◌, ℕ, ◌≤◌, ◌<◌, ◌-◌}
 use Rattle.qs_ranges.specs.Numbers.{MissesRange}
 use Rattle.qs_recv.specs.Pages.{AreWhole, IsFilledApart, is_used}
 use Rattle.qs_recv.specs.Ring.{missing_count}

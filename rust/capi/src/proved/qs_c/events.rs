@@ -4,10 +4,12 @@ use crate::shim::Box;
 
 use crate::proved::qs_c::answers::{INVALID, NO_MEMORY, OK};
 use crate::proved::qs_c::calls::dir_of;
+use crate::proved::qs_c::frame::GvFrame;
 use crate::proved::qs_c::handle::Handle;
 use crate::proved::qs_c::listener::Listener;
 use crate::proved::qs_c::listener_handle::ListenerHandle;
 use crate::proved::qs_c::news::{GvNews, of_news, of_note};
+use crate::proved::qs_c::puts::{frame_of, is_known};
 use crate::proved::qs_c::thing::Thing;
 use crate::proved::qs_conn::{Endpoint, Heard};
 use crate::proved::qs_wire::StreamId;
@@ -84,6 +86,22 @@ pub fn gvp_was_read(
     status
 }
 
+/// A frame of these bytes was handed in, which may say what holds the peer back.
+pub fn gvp_was_told(
+    alloc: Global,
+    heard: &mut ListenerHandle,
+    end: &mut Handle,
+    frame: &GvFrame,
+    bytes: &[u8],
+) -> u32 {
+    let Some(thing) = end.take(alloc) else {
+        return INVALID;
+    };
+    let status = thing.was_told(alloc, heard, frame, bytes);
+    end.put(thing);
+    status
+}
+
 impl Thing {
     pub(crate) fn next_news(
         &self,
@@ -122,6 +140,21 @@ impl Thing {
         heard.put(listener);
         status
     }
+
+    pub(crate) fn was_told(
+        &self,
+        alloc: Global,
+        heard: &mut ListenerHandle,
+        frame: &GvFrame,
+        bytes: &[u8],
+    ) -> u32 {
+        let Some(mut listener) = heard.take(alloc) else {
+            return INVALID;
+        };
+        let status = listener.was_told(&self.end, frame, bytes);
+        heard.put(listener);
+        status
+    }
 }
 
 impl Listener {
@@ -150,5 +183,15 @@ impl Listener {
         };
         self.heard.was_read(end, id);
         OK
+    }
+
+    pub(crate) fn was_told(&mut self, end: &Endpoint, frame: &GvFrame, bytes: &[u8]) -> u32 {
+        if !is_known(frame) || StreamId::new(frame.stream).is_none() {
+            return INVALID;
+        }
+        let Some(given) = frame_of(frame, bytes, &[]) else {
+            return INVALID;
+        };
+        of_note(self.heard.was_told(end, &given))
     }
 }

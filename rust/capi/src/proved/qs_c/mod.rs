@@ -43,7 +43,8 @@ use crate::proved::qs_c::structs::{GvClosing, GvLimits, GvMade, GvSettings, GvTu
 pub use closes::{gvp_tell_closed, gvp_told_close};
 pub use consuming::gvp_consume;
 pub use events::{
-    gvp_heard_drop, gvp_heard_new, gvp_next_news, gvp_wants, gvp_was_read, gvp_will_write,
+    gvp_heard_drop, gvp_heard_new, gvp_next_news, gvp_wants, gvp_was_read, gvp_was_told,
+    gvp_will_write,
 };
 pub use giving::gvp_take_frames;
 pub use peeking::gvp_peek;

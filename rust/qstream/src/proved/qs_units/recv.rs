@@ -156,13 +156,23 @@ fn played_on<A: Assembly>(mut half: RecvHalf<A>, steps: &[Step]) -> usize {
     steps.len()
 }
 
+// The same of one that is made: none where there is no memory for it.
+fn played_over<A: Assembly>(alloc: Global, window: u64, steps: &[Step]) -> usize {
+    debug_assert!(1 <= window);
+    debug_assert!(window <= 1 << 20);
+    match RecvHalf::<A>::new(alloc, window, Share::Half) {
+        Ok(half) => played_on(half, steps),
+        Err(_refused) => 0,
+    }
+}
+
 // The same over each kind of assembly: the fewest of them.
 fn played(alloc: Global, window: u64, steps: &[Step]) -> usize {
     debug_assert!(1 <= window);
     debug_assert!(window <= 1 << 20);
-    let chunks: RecvHalf<ChunkAssembly> = RecvHalf::new(alloc, window, Share::Half);
-    let ring: RecvHalf<RingAssembly> = RecvHalf::new(alloc, window, Share::Half);
-    played_on(chunks, steps).min(played_on(ring, steps))
+    played_over::<ChunkAssembly>(alloc, window, steps).min(played_over::<RingAssembly>(
+        alloc, window, steps,
+    ))
 }
 
 fn highest(before: u64, after: u64) -> Highest {

@@ -40,6 +40,32 @@ impl Endpoint {
         taken
     }
 
+    /// Takes in a STREAM frame that comes without its packet, as `take_frame` does, for a caller that knows its kind.
+    ///
+    /// ```text
+    /// end.take_stream_frame(stream, offset, bytes, fin)?;
+    /// ```
+    pub fn take_stream_frame(
+        &mut self,
+        stream: StreamId,
+        offset: u64,
+        bytes: &[u8],
+        fin: bool,
+    ) -> Result<Taken, TakeFault> {
+        if let Some(fault) = self.closed_fault() {
+            return Err(fault);
+        }
+        let frame = Frame::Stream {
+            stream,
+            offset,
+            fin,
+            bytes,
+        };
+        let taken = self.take_one(&frame);
+        self.settle();
+        taken
+    }
+
     /// Takes in the frames of one packet, as `take_frame` each of them, one after the other, but that the limits move once, as this call
     /// ends (RFC 9000, sections 4.1 and 12.4).
     ///
@@ -71,15 +97,17 @@ impl Endpoint {
     }
 
     // A frame takes effect, or finds no memory, or this end closes for it.
+    #[inline(always)]
     fn take_one(&mut self, frame: &Frame<'_>) -> Result<Taken, TakeFault> {
         if !has_text(frame) {
             return Err(TakeFault::Closing(self.close_alone(frame, FRAME_ENCODING_ERROR)));
         }
         let seen = seen(frame);
-        if let Some(code) = self.verdict(&seen) {
-            return Err(TakeFault::Closing(self.close_alone(frame, code)));
-        }
-        if !self.changes(&seen) {
+        let is_sure = match self.judge(&seen) {
+            Ok(is_sure) => is_sure,
+            Err(code) => return Err(TakeFault::Closing(self.close_alone(frame, code))),
+        };
+        if !self.changes(is_sure, &seen) {
             return Ok(Taken::Unchanged);
         }
         if let Err(_refused) = self.on_frame(&seen, &mut Silent) {
@@ -88,8 +116,17 @@ impl Endpoint {
         Ok(Taken::Took)
     }
 
-    // Whether a frame without a fault changes this end.
-    fn changes(&self, seen: &SeenFrame<'_>) -> bool {
+    // Whether a frame without a fault changes this end. Of a STREAM frame it is mostly sure, with no look.
+    #[inline(always)]
+    fn changes(&self, is_sure: bool, seen: &SeenFrame<'_>) -> bool {
+        if is_sure {
+            return true;
+        }
+        self.would_change(seen)
+    }
+
+    #[inline(never)]
+    fn would_change(&self, seen: &SeenFrame<'_>) -> bool {
         match *seen {
             SeenFrame::Stream {
                 stream,

@@ -9,6 +9,7 @@ use crate::proved::qs_wire::StreamId;
 
 impl Endpoint {
     /// The least stream whose every half here came to its end and that wasn't told (RFC 9000, section 3).
+    #[inline(always)]
     pub(crate) fn next_ended_untold(&self, told: &ToldStreams) -> Option<StreamId> {
         let bidi = least(
             self.next_ended_untold_of(0, told),
@@ -24,9 +25,14 @@ impl Endpoint {
         }
     }
 
-    // The least such number among the streams of a type.
+    // The least such number among the streams of a type. Where none is over a caller pays for the look at that alone.
+    #[inline(always)]
     fn next_ended_untold_of(&self, stream_type: usize, told: &ToldStreams) -> Option<u64> {
         debug_assert!(stream_type < 4);
+        let (marks, _others) = self.ended_marks(stream_type);
+        if !marks.may_have() {
+            return None;
+        }
         let mut next = 0;
         while let Some(stream) = self.next_ended_marked(stream_type, told, next) {
             if self.has_ended(stream) {
@@ -38,6 +44,7 @@ impl Endpoint {
     }
 
     // The least number from one on of a stream that may be over and wasn't told. None of those between is.
+    #[inline(never)]
     fn next_ended_marked(
         &self,
         stream_type: usize,
@@ -53,6 +60,7 @@ impl Endpoint {
     }
 
     // The marks of both halves of the streams of a type, by index, or twice those of the only half. One that is over has both.
+    #[inline(always)]
     fn ended_marks(&self, stream_type: usize) -> (&Marks, &Marks) {
         debug_assert!(stream_type < 4);
         let receiving = self.core.recvs.ended_marks(stream_type);

@@ -41,8 +41,7 @@ impl Endpoint {
         let last_stream = self.core.outbox.last_stream();
         self.core.outbox.commit();
         self.settle();
-        let rest = still_asked(want, packet.quota);
-        let more = self.has_more(&rest, near);
+        let more = self.has_more(want, packet.quota, near);
         Ok(Some(Filled {
             token,
             len,
@@ -53,28 +52,16 @@ impl Endpoint {
 
     // What a call answers that found no memory: where nothing that is asked for may go, it needs none.
     fn unfilled(&self, want: &Fill) -> Result<Option<Filled>, MakeFault> {
-        if self.has_more(want, None) {
+        // (the cap of bytes holds nothing back that memory does)
+        if self.has_more(want, 1, None) {
             return Err(MakeFault::NoMemory);
         }
         Ok(None)
     }
 
-    // Whether something that is asked for is due that no limit holds back. The stream that sent last is asked first.
-    fn has_more(&self, want: &Fill, last: Option<StreamId>) -> bool {
-        self.core.has_wanted(want, last)
-    }
-}
-
-// What is asked for still, where so many bytes of streams may go.
-fn still_asked(want: &Fill, quota: usize) -> Fill {
-    if quota > 0 {
-        return *want;
-    }
-    Fill {
-        items: want.items,
-        streams: false,
-        first: want.first,
-        alone: want.alone,
-        most_bytes: want.most_bytes,
+    // Whether something that is asked for is due that no limit holds back, where so many bytes are left of the cap. The stream that sent
+    // last is asked first.
+    fn has_more(&self, want: &Fill, left: usize, last: Option<StreamId>) -> bool {
+        self.core.has_wanted(want, left, last)
     }
 }

@@ -55,10 +55,43 @@ impl Endpoint {
         }
     }
 
-    // The bytes come last, and only those that are still stored are compared (RFC 9000, section 2.2).
+    // The code with which a frame closes the connection. Of another frame it may be sure already that it changes this end.
+    #[inline(always)]
+    pub(super) fn judge(&self, seen: &SeenFrame<'_>) -> Result<bool, u64> {
+        if let SeenFrame::Stream {
+            stream,
+            offset,
+            bytes,
+            fin,
+        } = *seen
+        {
+            return self.judge_stream(stream, offset, bytes, fin);
+        }
+        match self.verdict(seen) {
+            Some(code) => Err(code),
+            None => Ok(false),
+        }
+    }
+
+    #[inline(always)]
     fn stream_fault(&self, stream: StreamId, offset: u64, bytes: &[u8], fin: bool) -> Option<u64> {
+        match self.judge_stream(stream, offset, bytes, fin) {
+            Ok(_sure) => None,
+            Err(code) => Some(code),
+        }
+    }
+
+    // The bytes come last, and only those that are still stored are compared (RFC 9000, section 2.2). A frame that raises the highest offset
+    // changes this end.
+    fn judge_stream(
+        &self,
+        stream: StreamId,
+        offset: u64,
+        bytes: &[u8],
+        fin: bool,
+    ) -> Result<bool, u64> {
         if let Some(code) = self.state_fault_in(stream) {
-            return Some(code);
+            return Err(code);
         }
         let window = self.window(stream);
         let len = bytes.len() as u64;
@@ -67,11 +100,12 @@ impl Endpoint {
             .recvs
             .check_stream(window, stream, offset, len, fin);
         if let Some(code) = self.credit_fault(check) {
-            return Some(code);
+            return Err(code);
         }
+        self.core.recvs.is_lawful(stream);
         match self.core.recvs.check_bytes(window, stream, offset, bytes) {
-            Ok(()) => None,
-            Err(fault) => Some(code_of(fault)),
+            Ok(()) => Ok(is_rise(check)),
+            Err(fault) => Err(code_of(fault)),
         }
     }
 
@@ -139,6 +173,14 @@ impl Endpoint {
         } else {
             self.core.limits.granted_streams.bidi
         }
+    }
+}
+
+// Whether the highest offset rises.
+fn is_rise(check: Result<Highest, RecvFault>) -> bool {
+    match check {
+        Ok(highest) => highest.before < highest.after,
+        Err(_fault) => false,
     }
 }
 

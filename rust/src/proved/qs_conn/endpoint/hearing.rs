@@ -6,7 +6,7 @@ use crate::proved::qs_conn::by_dir::ByDir;
 use crate::proved::qs_conn::marks::least;
 use crate::proved::qs_conn::recv_marks::RecvTask;
 use crate::proved::qs_conn::told_streams::ToldStreams;
-use crate::proved::qs_calls::News;
+use crate::proved::qs_calls::{MAX_VARINT, News};
 use crate::proved::qs_wire::{Dir, StreamId};
 
 impl Endpoint {
@@ -38,7 +38,12 @@ impl Endpoint {
     }
 
     /// The least stream that takes a byte, of those with a mark.
+    #[inline(always)]
     pub(crate) fn next_writable_of(&self, short: &ToldStreams) -> Option<StreamId> {
+        // Mostly no write was cut short.
+        if !short.may_have() {
+            return None;
+        }
         if self.is_window_full() {
             return None;
         }
@@ -84,6 +89,19 @@ impl Endpoint {
         None
     }
 
+    /// Whether this end closed, or saw its peer close.
+    pub(crate) fn is_closed(&self) -> bool {
+        self.closed.is_some()
+    }
+
+    /// Whether a stream may still get bytes, and its limit is at most that one.
+    pub(crate) fn is_met(&self, stream: StreamId, named: u64) -> bool {
+        match self.core.recvs.limit_to_tell(stream) {
+            Some(limit) => limit <= named,
+            None => false,
+        }
+    }
+
     /// Whether a read of one byte tells something new.
     pub(crate) fn is_readable(&self, stream: StreamId) -> bool {
         if self.is_read_no_more() {
@@ -99,6 +117,8 @@ impl Endpoint {
 
     /// Whether a write of so many bytes to a stream takes fewer.
     pub(crate) fn is_cut_short(&self, stream: StreamId, len: usize) -> bool {
-        self.core.outbox.is_open(stream) && self.room(stream) < len as u64
+        // No stream has room for more bytes than it has offsets: of such a write the half isn't looked at.
+        self.core.outbox.is_open(stream)
+            && (len as u64 > MAX_VARINT || self.room(stream) < len as u64)
     }
 }

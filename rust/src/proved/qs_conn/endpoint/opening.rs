@@ -94,7 +94,8 @@ impl Endpoint {
         is_uni(stream) || self.core.outbox.is_open(stream)
     }
 
-    // Opens a stream and all lower ones of its type, or changes nothing. Memory is taken first.
+    // Opens a stream and all lower ones of its type, or changes nothing. The memory of halves is taken first: their marks are a few bits
+    // more.
     fn open_stream(&mut self, stream: StreamId) -> Result<(), NoMemory> {
         self.reserve(stream)?;
         self.open_reserved(stream)
@@ -134,7 +135,7 @@ impl Endpoint {
         Ok(())
     }
 
-    // Takes the memory that the opening wants, so that a refusal comes before anything changes.
+    // Takes the memory that the halves want, so that a refusal of theirs comes before anything changes.
     fn reserve(&mut self, stream: StreamId) -> Result<(), NoMemory> {
         let (uni, own) = (is_uni(stream), self.is_own(stream));
         let (sends, receives) = (!both(uni, !own), !both(uni, own));
@@ -144,9 +145,7 @@ impl Endpoint {
             stream,
             sends,
             receives,
-        )?;
-        self.core.untold_recvs.reserve(stream)?;
-        self.core.untold_sends.reserve(stream)
+        )
     }
 
     // That another stream was wanted is noted.

@@ -24,9 +24,12 @@ impl Endpoint {
         let bytes = self.offered(stream, bytes);
         match self.core.outbox.write(stream, bytes) {
             Ok(count) => {
-                self.core
-                    .untold_sends
-                    .look_blocked(&self.core.outbox, stream);
+                // A write of nothing leaves the half as it was.
+                if count > 0 {
+                    self.core
+                        .untold_sends
+                        .look_blocked(&self.core.outbox, stream);
+                }
                 self.settle();
                 Ok(count)
             }

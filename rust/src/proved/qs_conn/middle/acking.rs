@@ -35,6 +35,9 @@ impl Core {
     // The packets of these numbers are acknowledged, those that are outstanding and those that were declared lost.
     fn ack_both(&mut self, first: u64, end: u64) -> Result<(), NoMemory> {
         self.ack_numbers(false, first, end)?;
+        if !self.outbox.keeps_lost() {
+            return Ok(());
+        }
         self.ack_numbers(true, first, end)
     }
 

@@ -61,8 +61,19 @@ impl Core {
         self.put_own_slot(Slot::StreamsBlocked(Dir::Uni), out, packet)
     }
 
-    // Puts the items of a kind into the packet that are due, lower stream numbers first.
+    // Puts the items of a kind into the packet that are due. Mostly a look at how many marks there are tells that none is.
+    #[inline(always)]
     fn put_kind(&mut self, kind: Kind, out: &mut [u8], packet: Packet) -> Packet {
+        if self.may_tell(kind) {
+            return self.put_marked(kind, out, packet);
+        }
+        packet
+    }
+
+    // The same by a search, lower stream numbers first. It stands apart, so that where no stream has a mark a caller pays for the look above
+    // alone.
+    #[inline(never)]
+    fn put_marked(&mut self, kind: Kind, out: &mut [u8], packet: Packet) -> Packet {
         if packet.is_full {
             return packet;
         }
@@ -77,6 +88,14 @@ impl Core {
             from = stream.value() + 1;
         }
         packet
+    }
+
+    /// Whether a stream may have an item of a kind. It looks at how many marks there are.
+    pub(super) fn may_tell(&self, kind: Kind) -> bool {
+        match kind {
+            Kind::ResetStream | Kind::StreamDataBlocked => self.untold_sends.may_have(),
+            Kind::StopSending | Kind::MaxStreamData => self.untold_recvs.may_have(),
+        }
     }
 
     /// The least number from one on of a stream that may have an item of a kind. Of the streams between none is due.

@@ -10,15 +10,18 @@ use crate::proved::qs_wire::{Dir, StreamId};
 impl Core {
     /// Whether a control item is due, or bytes of a stream or its end may go (RFC 9000, sections 3.1, 3.3 and 4.1).
     pub(crate) fn has_frame(&self) -> bool {
-        if self.has_item() {
+        if self.has_stream() {
             return true;
         }
-        self.has_stream()
+        self.has_item()
     }
 
-    /// Whether of what is asked for a control item is due, or bytes of a stream or its end may go (RFC 9000, sections 3.1, 3.3 and 4.1).
-    /// The stream that sent last is asked before others are looked for.
-    pub(crate) fn has_wanted(&self, want: &Fill, last: Option<StreamId>) -> bool {
+    /// Whether of what is asked for a control item is due, or bytes of a stream or its end may go (RFC 9000, sections 3.1, 3.3 and 4.1). With
+    /// no byte left of the cap no stream is asked for. The stream that sent last is asked before others are looked for.
+    pub(crate) fn has_wanted(&self, want: &Fill, left: usize, last: Option<StreamId>) -> bool {
+        if left == 0 {
+            return self.has_wanted_item(want);
+        }
         // Where there is more, it is mostly bytes.
         if self.has_wanted_stream(want, last) {
             return true;
@@ -64,8 +67,18 @@ impl Core {
         self.has_own_slot(Slot::StreamsBlocked(Dir::Uni), found)
     }
 
-    // An item of a kind is due, or one was found before.
+    // An item of a kind is due, or one was found before. Mostly a look at how many marks there are tells that none is.
+    #[inline(always)]
     fn has_kind(&self, kind: Kind, is_found: bool) -> bool {
+        if self.may_tell(kind) {
+            return self.has_marked(kind, is_found);
+        }
+        is_found
+    }
+
+    // The same by a search.
+    #[inline(never)]
+    fn has_marked(&self, kind: Kind, is_found: bool) -> bool {
         let mut is_found = is_found;
         let mut from = 0;
         while let Some(stream) = self.next_untold(kind, from) {

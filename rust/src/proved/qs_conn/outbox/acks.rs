@@ -45,6 +45,13 @@ impl Outbox {
         pass.next(&self.records)
     }
 
+    /// Whether a packet is kept that was declared lost.
+    pub(crate) fn keeps_lost(&self) -> bool {
+        let _next = self.next;
+        self.lost.is_in_order();
+        self.lost.len() > 0
+    }
+
     /// Lets go what is kept of the packets below the lowest outstanding one. No clause sees it.
     pub(crate) fn trim(&mut self) {
         self.records.trim();

@@ -15,6 +15,12 @@ pub(super) fn is_open(types: &[SendLanes; 4], stream: StreamId) -> bool {
     index_of(stream) < lanes.len()
 }
 
+/// What holds of an open stream's half. It does nothing: a caller learns the clause.
+pub(super) fn is_lawful(types: &[SendLanes; 4], stream: StreamId) {
+    let lanes = &types[type_of(stream)];
+    lanes.is_lawful(index_of(stream));
+}
+
 /// The half of an open stream.
 pub(super) fn half_of(types: &[SendLanes; 4], stream: StreamId) -> SendView<'_> {
     let lanes = &types[type_of(stream)];
@@ -87,7 +93,9 @@ pub(super) fn next_with_of(
     }
 }
 
-/// The least number from one on of a stream whose half is sought.
+/// The least number from one on of a stream whose half is sought. Of a type of which no half has the task a caller pays for the look at
+/// that alone.
+#[inline(always)]
 pub(super) fn next_sought(
     types: &[SendLanes; 4],
     search: Search,
@@ -110,6 +118,7 @@ pub(super) fn next_sought(
 }
 
 // The least such number among the streams of a type.
+#[inline(always)]
 fn next_sought_of(
     types: &[SendLanes; 4],
     search: Search,
@@ -120,6 +129,9 @@ fn next_sought_of(
     debug_assert!(stream_type < 4);
     debug_assert!(from <= 1 << 62);
     let lanes = &types[stream_type];
+    if !lanes.may_have(search.task) {
+        return None;
+    }
     let marks = told.of_type(stream_type);
     match lanes.next_sought(search, marks, index_from(stream_type, from)) {
         Some(index) => Some((index * 4 + stream_type) as u64),

@@ -3,7 +3,7 @@
 use crate::shim::Vec;
 
 use super::Outbox;
-use super::halves::{half_of, is_open};
+use super::halves::{half_of, is_lawful, is_open};
 use crate::proved::qs_conn::piece_room::PieceRoom;
 use crate::proved::qs_conn::places::{index_of, type_of};
 use crate::proved::qs_conn::send_lanes::SendLanes;
@@ -54,13 +54,9 @@ impl Outbox {
 
     /// The chunk stands in the packet in the making.
     pub(crate) fn put_chunk(&mut self, stream: StreamId, chunk: Chunk) {
-        let half = half_of(&self.types, stream);
-        half.is_lawful();
-        let before = half.sent_end();
+        is_lawful(&self.types, stream);
         let lanes = &mut self.types[type_of(stream)];
-        lanes.sent(index_of(stream), chunk);
-        let after = half_of(&self.types, stream).sent_end();
-        self.sent = self.sent - before + after;
+        self.sent += lanes.sent(index_of(stream), chunk);
         hold(&mut self.pending, Piece::Data { stream, chunk });
         self.spare -= 1;
     }
@@ -122,8 +118,17 @@ fn put_pieces(records: &mut Records, number: u64, pending: &mut Vec<Piece>, room
     }
 }
 
-// The stream of the last chunk among the pieces.
+// The stream of the last chunk among the pieces: mostly the last piece, as the items go in first.
 fn last_data(pieces: &[Piece]) -> Option<StreamId> {
+    if let Some(Piece::Data { stream, .. }) = pieces.last() {
+        return Some(*stream);
+    }
+    last_looked_for(pieces)
+}
+
+// The same by a look at each piece.
+#[inline(never)]
+fn last_looked_for(pieces: &[Piece]) -> Option<StreamId> {
     let mut last = None;
     for piece in pieces {
         if let Piece::Data { stream, .. } = *piece {

@@ -180,6 +180,7 @@ impl Outbox {
     }
 
     /// The least number of a stream whose sending half came to its end and wasn't told.
+    #[inline(always)]
     pub(crate) fn next_ended_untold(&self, told: &ToldStreams) -> Option<StreamId> {
         let _next = self.next;
         let search = Search {
@@ -190,6 +191,7 @@ impl Outbox {
     }
 
     /// The least number of a stream of which a STOP_SENDING came that wasn't told.
+    #[inline(always)]
     pub(crate) fn next_stopped_untold(&self, told: &ToldStreams) -> Option<StreamId> {
         let _next = self.next;
         let search = Search {

@@ -45,7 +45,7 @@ pub returns-clause-step : goal.returns-clause-step
 returns-clause-step c =
     fill_some _ c.args.self.now c.self.view_is (record c.self.inside.core { outbox = c.begin.new.self }) c.fill-packet.new.self c.args.want.now (length c.args.out.now) c.fill-packet.result.len c.fill-packet.result.quota c.fill-packet.new.out c.self.invariant.rest.idle (rw c.in_default.ensures.ok refl) c.fill-packet.ensures.packed
     c.settle.new.self c.commit.new.self c.next-number.result c.next-number.ensures c.commit.ensures.after c.settle.ensures
-    c.token_of-token.result c.last_stream-last_stream.result c.has_more-more.result c.token_of-token.ensures c.last_stream-last_stream.ensures (subst (λ w. (c.has_more-more.result ≡ true) ↔ WantedGoes w c.settle.new.self) c.still_asked-rest.ensures c.has_more-more.ensures)
+    c.token_of-token.result c.last_stream-last_stream.result c.has_more-more.result c.token_of-token.ensures c.last_stream-last_stream.ensures c.has_more-more.ensures
     (sym c.is_some.ensures ∙ c.if-is_some.false) (omega (arith, c.if-number-gt-MAX_VARINT.false, c.next-number.ensures))
     (omega (arith, c.if-len-eq0.false)) (omega (arith, c.fill-packet.ensures.filled.filling.within, c.fill-packet.ensures.filled.room)) c.fill-packet.ensures.filled.room
 

@@ -1,6 +1,7 @@
-use Rattle.std.proofs.Common.{arith}
+use Rattle.std.proofs.Common.{◌≡◌, ◌/◌, false, arith}
 use Rattle.qs_machine.specs.News.{IsEnded}
 use Rattle.qs_conn.specs.Marks.{IsUntoldOf}
+use Rattle.qs_conn.proofs.Boths.{not_both}
 use Rattle.qs_conn.proofs.Least.{clear_at}
 use Rattle.qs_conn.proofs.UntoldSearch.{clear_on, none_on, clear_past, least_at}
 use Rattle.qs_conn.proofs.endpoint.Endpoint.next_ended_untold_of.Goals as goal
@@ -20,3 +21,9 @@ loop-stream-preserved c =
 
 pub returns-clause-least : goal.returns-clause-least
 returns-clause-least c = none_on (IsUntoldOf (IsEnded c.args.self.now) c.args.told.now c.args.stream_type) 0 c.loop-stream.next c.loop-stream.invariant.clear (λ n ge p. c.in_default.ensures.none n ge tt p)
+
+pub returns-then-not-may_have-clause-least : goal.returns-then-not-may_have-clause-least
+returns-then-not-may_have-clause-least c =
+    let none : c.may_have.result ≡ false = grind (arith, c.if-not-may_have.true) in
+    let over = IsUntoldOf (IsEnded c.args.self.now) c.args.told.now c.args.stream_type in
+    none_on over 0 0 (clear_at over 0) (λ n ge p. c.ended_marks.ensures.none n p.0 (not_both c.ended_marks.result.0.now c.ended_marks.result.1.now (n / 4) (c.may_have.ensures none (n / 4))) p.1.0)

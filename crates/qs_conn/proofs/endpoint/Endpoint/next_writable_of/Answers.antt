@@ -1,5 +1,5 @@
 use Rattle.std.proofs.Common.{refl, sym, subst, ◌∙◌, ◌<◌, ℕ, arith}
-use Rattle.qs_conn.proofs.Hearing.{takes_found, takes_full, takes_next, takes_none}
+use Rattle.qs_conn.proofs.Hearing.{takes_found, takes_full, takes_untold, takes_next, takes_none}
 use Rattle.qs_conn.proofs.Least.{clear_at}
 use Rattle.qs_conn.proofs.endpoint.Endpoint.next_writable_of.Goals as goal
 
@@ -23,3 +23,6 @@ loop-stream-preserved c =
 
 pub returns : goal.returns
 returns c = takes_none _ c.args.self.now c.self.view_is c.args.short.now c.loop-stream.next c.loop-stream.invariant.clear c.in_default.ensures
+
+pub returns-then-not-may_have : goal.returns-then-not-may_have
+returns-then-not-may_have c = takes_untold c.args.self.now c.args.self.now refl c.args.short.now (c.may_have.ensures (grind (arith, c.if-not-may_have.true)))

@@ -1,12 +1,6 @@
-use Rattle.std.proofs.Common.{rules, refl, sym, ◌∙◌, ◌≡◌, ◌<◌, ◌^◌, ◌⊎◌, ℕ, true, false, None, Some, Ok, OnOk, OnErr, ◌+◌, ◌-◌, ◌*◌, ◌≤◌, length, ◌/◌, ◌%◌, Bool, nat_eq, nat_lt, List, [], ◌∷◌, ◌++◌, slice_index_or, slice_set, bit_and, bit_or, Fits, w8, w32, w64, Bor, MutBor}
-use Rattle.qs_machine.specs.Heard.{heard_nothing, heard_opened, WasResetAcked, IsFirstNews, IsHeardBy, IsNextNews, IsNotedShort, IsReadOn, with_wants}
-use Rattle.qs_machine.specs.News.{IsHeld}
-use Rattle.qs_send.specs.Lane.{SendLane}
-use Rattle.qs_machine.specs.Tables.{lookup}
-use Rattle.qs_calls.specs.declared.news.News.TheVariants as News
-use Rattle.qs_wire.specs.Streams.{dir_of}
+use Rattle.std.proofs.Common.{refl, sym, ◌∙◌}
 use Rattle.qs_conn.specs.contracts.heard.Heard.{the_view}
-use Rattle.qs_conn.proofs.FirstNews.{first_opened, first_readable, first_writable, first_stopped, first_sent, first_over, first_available, first_none}
+use Rattle.qs_conn.proofs.FirstNews.{first_opened, first_readable, first_writable, first_stopped, first_sent, first_over, first_available, first_later}
 use Rattle.qs_conn.proofs.heard.Heard.first.Goals as goal
 
 -- src/heard.rt:113:13
@@ -39,4 +33,4 @@ returns-in-Some-next_available c = rw (← c.self.view_is) (first_available c.ar
 
 -- src/heard.rt:109:5
 pub returns-in-None : goal.returns-in-None
-returns-in-None c = rw (← c.self.view_is) (first_none c.args.end.now _ (c.in_default.ensures _ refl refl) c.in_default-next_readable_untold.ensures c.in_default-next_writable_of.ensures c.in_default-next_stopped_untold.ensures c.in_default-next_sent_untold.ensures c.in_default-next_ended_untold.ensures (c.in-None.ensures (the_view c.self.inside) refl refl))
+returns-in-None c = rw (← c.self.view_is) (first_later c.args.end.now _ c.first_blocked.result (c.in_default.ensures _ refl refl) c.in_default-next_readable_untold.ensures c.in_default-next_writable_of.ensures c.in_default-next_stopped_untold.ensures c.in_default-next_sent_untold.ensures c.in_default-next_ended_untold.ensures (c.in-None.ensures (the_view c.self.inside) refl refl) (rw c.self.view_is c.first_blocked.ensures))

@@ -7,8 +7,8 @@ use Rattle.qs_conn.proofs.recv_lanes.RecvLanes.close_to.Goals as goal
 
 pub invariant_of-self : goal.invariant_of-self
 invariant_of-self c =
-    let items = c.self.inside.halves in
-    rw c.truncate.ensures (
+    let items = c.self.inside.halves.items in
+    rw c.truncate.ensures.items (
       record {
         counted = (rw (← c.self.view_is) at c.requires) ∙ c.self.invariant.0.counted;
         lawful = lawful_take c.args.count items c.self.invariant.0.lawful;

@@ -9,5 +9,5 @@ returns-clause-none c = rw (← c.self.view_is, c.ended.ensures) (c.self.invaria
 
 pub returns-clause-few : goal.returns-clause-few
 returns-clause-few c =
-    let len = marked_len (HasNone tasks.Ended) c.self.inside.halves c.self.inside.news.ended (c.self.invariant.1 tasks.Ended) in
+    let len = marked_len (HasNone tasks.Ended) c.self.inside.halves.items c.self.inside.news.ended (c.self.invariant.1 tasks.Ended) in
     rw c.ended.ensures (omega (arith, len, c.self.invariant.0.few))

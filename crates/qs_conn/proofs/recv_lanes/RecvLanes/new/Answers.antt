@@ -6,11 +6,11 @@ use Rattle.qs_conn.proofs.recv_lanes.RecvLanes.new.Goals as goal
 pub invariant_of-result : goal.invariant_of-result
 invariant_of-result c = (
   record {
-    counted = ap tally_on c.new.ensures;
-    lawful = rw c.new.ensures tt;
-    settled = rw c.new.ensures (λ i l at free. absurd (none-some l at));
-    room = rw (c.new.ensures, c.new-2.ensures.marks) refl;
-    few = rw c.new.ensures (omega arith);
+    counted = ap tally_on c.new.ensures.items;
+    lawful = rw c.new.ensures.items tt;
+    settled = rw c.new.ensures.items (λ i l at free. absurd (none-some l at));
+    room = rw (c.new.ensures.items, c.new-2.ensures.marks) refl;
+    few = rw c.new.ensures.items (omega arith);
   },
-  λ t. rw (c.new.ensures, c.new-3.ensures t) tt,
+  λ t. rw (c.new.ensures.items, c.new-3.ensures t) tt,
 )

@@ -9,7 +9,7 @@ use Rattle.qs_conn.proofs.recv_lanes.RecvLanes.raise_all.Goals as goal
 
 pub invariant_of-self : goal.invariant_of-self
 invariant_of-self c =
-    let items = c.self.inside.halves in (
+    let items = c.self.inside.halves.items in (
       rw c.raise_touched.ensures.after
           (record {
             counted = tally_raised items ∙ c.self.invariant.0.counted;
@@ -28,10 +28,10 @@ pub returns-clause-marked : goal.returns-clause-marked
 returns-clause-marked c = rw (← c.self.view_is) c.raise_touched.ensures.marked
 
 pub returns-then-is_none-clause-after : goal.returns-then-is_none-clause-after
-returns-then-is_none-clause-after c = rw (← c.self.view_is) (sym (none_raised c.self.inside.touched c.self.inside.halves c.self.invariant.0.settled (c.is_none.ensures c.if-is_none.true)))
+returns-then-is_none-clause-after c = rw (← c.self.view_is) (sym (none_raised c.self.inside.touched c.self.inside.halves.items c.self.invariant.0.settled (c.is_none.ensures c.if-is_none.true)))
 
 pub returns-then-is_none-clause-marked : goal.returns-then-is_none-clause-marked
-returns-then-is_none-clause-marked c = rw (← c.self.view_is) (none_marked c.args.stream_type c.self.inside.halves c.self.inside.touched c.args.untold.now c.self.invariant.0.settled (c.is_none.ensures c.if-is_none.true))
+returns-then-is_none-clause-marked c = rw (← c.self.view_is) (none_marked c.args.stream_type c.self.inside.halves.items c.self.inside.touched c.args.untold.now c.self.invariant.0.settled (c.is_none.ensures c.if-is_none.true))
 
 pub returns-then-is_none-clause-marks : goal.returns-then-is_none-clause-marks
 returns-then-is_none-clause-marks c = has_same c.args.untold.now

@@ -1,45 +1,27 @@
-use Rattle.std.proofs.Common.{◌<◌, length, arith, sym}
-use Rattle.qs_recv.specs.Lane.{new_lane}
-use Rattle.qs_recv.specs.declared.credit.Share.TheVariants.{Half}
-use Rattle.qs_recv.proofs.OverLaws.{over_read, over_after_read}
-use Rattle.qs_conn.proofs.OverEdits.{over_there, over_changed, none_read}
+use Rattle.std.proofs.Common.{◌<◌, length, arith}
 use Rattle.qs_conn.proofs.RecvNews.{noted_there, noted_again}
 use Rattle.qs_conn.proofs.LaneEdits.{paid_of, edited, changed_at}
 use Rattle.qs_conn.proofs.Settling.{are_touched}
 use Rattle.qs_conn.proofs.recv_lanes.RecvLanes.read.Goals as goal
 
 pub look-requires : goal.look-requires
-look-requires c = noted_there c.self.inside.halves c.self.inside.news c.args.index c.self.invariant.1 (rw c.self.view_is c.requires.there)
+look-requires c = noted_there c.self.inside.halves.items c.self.inside.news c.args.index c.self.invariant.1 (rw c.self.view_is c.requires.there)
 
 pub moved-self-inside-requires-clause-paid : goal.moved-self-inside-requires-clause-paid
 moved-self-inside-requires-clause-paid c = paid_of _ _ _ c.self.invariant.0
 
 pub touch-requires : goal.touch-requires
-touch-requires c = let there : c.args.index < length c.self.inside.halves = rw c.self.view_is c.requires.there in omega (arith, c.self.invariant.0.room, there)
+touch-requires c = let there : c.args.index < length c.self.inside.halves.items = rw c.self.view_is c.requires.there in omega (arith, c.self.invariant.0.room, there)
 
-pub invariant_of-self-2 : goal.invariant_of-self-2
-invariant_of-self-2 c =
-    let there : c.args.index < length c.self.inside.halves = rw c.self.view_is c.requires.there in
-    rw c.settle_after.ensures (
-      edited _ _ _ _ _ _ _ _ _ _ there c.in-Some.ensures.value c.self.invariant.0 c.measure-was.ensures.value c.measure-is.ensures.value c.moved-self-inside.ensures c.measure-is.ensures.lawful
-          (are_touched c.self.inside.touched c.touch.new.self c.self.inside.halves c.args.index c.read-answer.new.self c.self.invariant.0.room c.touch.ensures.touched c.self.invariant.0.settled) c.touch.ensures.len,
-      noted_again c.self.inside.halves c.self.inside.news _ c.args.index c.read-answer.new.self c.look.ensures c.self.invariant.1,
+pub invariant_of-self : goal.invariant_of-self
+invariant_of-self c =
+    let there : c.args.index < length c.self.inside.halves.items = rw c.self.view_is c.requires.there in (
+      edited _ _ _ _ _ _ _ _ _ _ there c.index_mut-half.ensures.value c.self.invariant.0 c.measure-was.ensures.value c.measure-is.ensures.value c.moved-self-inside.ensures c.measure-is.ensures.lawful
+          (are_touched c.self.inside.touched c.touch.new.self c.self.inside.halves.items c.args.index c.read-answer.new.self c.self.invariant.0.room c.touch.ensures.touched c.self.invariant.0.settled) c.touch.ensures.len,
+      noted_again c.self.inside.halves.items c.self.inside.news _ c.args.index c.read-answer.new.self c.look.ensures c.self.invariant.1,
     )
 
 pub returns-clause-after : goal.returns-clause-after
 returns-clause-after c =
-    rw (← c.self.view_is, c.settle_after.ensures)
-    (changed_at c.self.inside.halves c.args.index _ _ _ (rw c.self.view_is c.requires.there) c.in-Some.ensures.value c.read-answer.ensures.after)
-
-pub returns-in_default-clause-answer : goal.returns-in_default-clause-answer
-returns-in_default-clause-answer c =
-    let there : c.args.index < length c.self.inside.halves = rw c.self.view_is c.requires.there in
-    rw (← c.self.view_is) (sym (over_read _ (over_there c.self.inside.halves c.args.index (new_lane 0 Half) there c.in_default.ensures.over) _))
-
-pub returns-in_default-clause-bytes : goal.returns-in_default-clause-bytes
-returns-in_default-clause-bytes c =
-    let there : c.args.index < length c.self.inside.halves = rw c.self.view_is c.requires.there in
-    rw (← c.self.view_is) (none_read _ _ _ (over_there c.self.inside.halves c.args.index (new_lane 0 Half) there c.in_default.ensures.over))
-
-pub returns-in_default-clause-after : goal.returns-in_default-clause-after
-returns-in_default-clause-after c = rw (← c.self.view_is) (over_changed c.self.inside.halves c.args.index _ c.in_default.ensures.over (λ l at h. over_after_read l h _))
+    rw (← c.self.view_is)
+    (changed_at c.self.inside.halves.items c.args.index _ _ _ (rw c.self.view_is c.requires.there) c.index_mut-half.ensures.value c.read-answer.ensures.after)

@@ -1,4 +1,5 @@
-use Rattle.std.proofs.Common.{ap, ◌∙◌, sym, subst}
+use Rattle.std.proofs.Common.{◌≡◌, ◌+◌, ◌-◌, ap, ◌∙◌, sym, subst, arith}
+use Rattle.qs_send.specs.Lane.{Sending, after_sent}
 use Rattle.qs_conn.specs.declared.send_marks.Task.TheVariants as tasks
 use Rattle.qs_conn.specs.Tasks.{IsQuiet, marks_of}
 use Rattle.std.proofs.lemmas.List.{get_or_default}
@@ -36,10 +37,24 @@ invariant_of-self-2 c =
     all_looked _ _ _ _ _ _ _ c.args.index c.sent.new.self c.look_sent.ensures c.self.invariant
     (sums_same c.self.inside.halves c.self.inside.promised c.self.inside.kept c.args.index c.in-Some.half.now c.sent.new.self (rw c.self.view_is c.requires.there) (lent_at c.self.inside.halves c.args.index c.in-Some.half.now (rw c.self.view_is c.requires.there) c.in-Some.ensures.found) (sent_promises c.in-Some.half.now c.sent.new.self c.args.chunk c.is_lawful.ensures (subst (λ s. IsDueChunk s c.args.chunk) (sym ((lent_at c.self.inside.halves c.args.index c.in-Some.half.now (rw c.self.view_is c.requires.there) c.in-Some.ensures.found) ∙ get_or_default c.self.inside.halves c.args.index _ no_sending (rw c.self.view_is c.requires.there))) (rw c.self.view_is c.requires.due)) c.sent.ensures) (ap kept_of c.sent.ensures) c.self.invariant.2)
 
-pub returns : goal.returns
-returns c =
+pub returns-clause-after : goal.returns-clause-after
+returns-clause-after c =
     rw (← c.self.view_is)
     (changed_at c.self.inside.halves c.args.index c.in-Some.half.now c.sent.new.self _ (rw c.self.view_is c.requires.there) (lent_at c.self.inside.halves c.args.index c.in-Some.half.now (rw c.self.view_is c.requires.there) c.in-Some.ensures.found) c.sent.ensures)
+
+pub overflow_sub-moved : goal.overflow_sub-moved
+overflow_sub-moved c =
+    let was = c.sent_end-before.ensures.exact in
+    let is = c.sent_end.ensures.exact ∙ ap (λ (s : Sending). s.lane.sent_end) c.sent.ensures in
+    omega (arith, was, is)
+
+pub returns-clause-moved : goal.returns-clause-moved
+returns-clause-moved c =
+    let was = c.sent_end-before.ensures.exact in
+    let is = c.sent_end.ensures.exact ∙ ap (λ (s : Sending). s.lane.sent_end) c.sent.ensures in
+    rw (← c.self.view_is)
+    (subst (λ (s : Sending). s.lane.sent_end + (c.sent_end.result - c.sent_end-before.result) ≡ (after_sent s c.args.chunk).lane.sent_end)
+    ((lent_at c.self.inside.halves c.args.index c.in-Some.half.now (rw c.self.view_is c.requires.there) c.in-Some.ensures.found) ∙ get_or_default c.self.inside.halves c.args.index _ no_sending (rw c.self.view_is c.requires.there)) (omega (arith, was, is)))
 
 pub returns-in_default : goal.returns-in_default
 returns-in_default c = absurd (over_sent _ c.in_default.ensures.over c.args.chunk (rw c.self.view_is c.requires.due))

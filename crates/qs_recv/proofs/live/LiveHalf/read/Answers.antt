@@ -1,6 +1,8 @@
-use Rattle.std.proofs.Common.{◌∙◌, ◌||◌, is_some, Some, ap, sym, arith, length}
+use Rattle.std.proofs.Common.{◌∙◌, ◌||◌, is_some, ap, sym, arith, length}
 use Rattle.std.proofs.lemmas.Bool.{both_ways}
-use Rattle.qs_recv.proofs.LetGoLaws.{let_go_ended, let_go_read, size_tested, tested_size}
+use Rattle.qs_recv.specs.Rest.{given}
+use Rattle.qs_recv.proofs.RestLaws.{given_some}
+use Rattle.qs_recv.proofs.LetGoLaws.{let_go_ended, let_go_read, all_read, read_all}
 use Rattle.qs_recv.proofs.SoundLaws.{sound_front, sound_told, small_front}
 use Rattle.qs_recv.proofs.live.LiveHalf.read.Goals as goal
 
@@ -11,9 +13,9 @@ pub invariant_of-self-2 : goal.invariant_of-self-2
 invariant_of-self-2 g c = rw (c.take-count.ensures.rest, c.take-count.ensures.count) (
   sound_front _ _ _ _ _ c.self.invariant.0,
   let_go_read _ _ _ (length c.args.into.now)
-      (c.self.invariant.0.lawful.discards ∙ ap (λ o. is_some o || is_some c.self.inside.stop_code) c.in_default.is ∙ sym c.is_some.ensures ∙ c.if-is_some.false)
-      (λ all. both_ways _ (sym c.eq.ensures ∙ c.if-eq.false) (size_tested _ _ (all ∙ ap Some c.self.invariant.0.count_is))) c.self.invariant.1,
+      (c.self.invariant.0.lawful.discards ∙ ap (λ o. is_some (given o c.self.inside.reset) || is_some (given c.self.inside.is_stopped c.self.inside.stop)) c.if-self.false ∙ given_some _ _ ∙ c.if-self-2.false)
+      (λ all. both_ways _ (rw (← c.self.view_is) at (sym c.is_at_end.ensures ∙ c.if-is_at_end.false)) (read_all _ _ all)) c.self.invariant.1,
 )
 
-pub invariant_of-self-then-eq : goal.invariant_of-self-then-eq
-invariant_of-self-then-eq g c = rw c.give_back.ensures.same (sound_told _ _ _ _ c.self.invariant.0, let_go_ended _ _ _ (tested_size _ _ (sym c.eq.ensures ∙ c.if-eq.true) ∙ ap Some (sym c.self.invariant.0.count_is)) c.self.invariant.0.lawful c.self.invariant.1 c.give_back.ensures.gone)
+pub invariant_of-self-then-is_at_end : goal.invariant_of-self-then-is_at_end
+invariant_of-self-then-is_at_end g c = rw c.give_back.ensures.same (sound_told _ _ _ _ c.self.invariant.0, let_go_ended _ _ _ (all_read _ _ (rw (← c.self.view_is) at (sym c.is_at_end.ensures ∙ c.if-is_at_end.true))) c.self.invariant.0.lawful c.self.invariant.1 c.give_back.ensures.gone)

@@ -1,15 +1,15 @@
 use Rattle.std.proofs.Common.{sym, ◌∙◌}
-use Rattle.qs_recv.proofs.RestLaws.{given_is, reset_is, reset_at_rest}
+use Rattle.qs_recv.proofs.RestLaws.{given_some, reset_is, reset_at_rest}
 use Rattle.qs_recv.proofs.live.LiveHalf.reset.Goals as goal
 
 pub invariant_of-result : goal.invariant_of-result
 invariant_of-result g c =
     let s = c.self.inside in
-    rw (c.new.ensures, c.is_some-2.ensures, c.unwrap_or.ensures, given_is)
-    (reset_at_rest _ s.widest s.read_count s.received_end c.args.code c.args.size (sym c.is_some.ensures ∙ c.if-is_some.false) (rw (← c.self.view_is) at (sym c.is_whole.ensures ∙ c.if-is_whole.false)) (rw (← c.self.view_is) at c.requires.passed) c.self.invariant.0)
+    rw (c.copied.ensures)
+    (reset_at_rest _ s.windows.0 s.read_count s.received_end c.args.code c.args.size (given_some _ _ ∙ c.if-self.false) (rw (← c.self.view_is) at (sym c.is_whole.ensures ∙ c.if-is_whole.false)) (rw (← c.self.view_is) at c.requires.passed) c.self.invariant.0)
 
 pub returns-clause-after : goal.returns-clause-after
 returns-clause-after g c =
     let s = c.self.inside in
-    rw (← c.self.view_is, c.new.ensures, c.is_some-2.ensures, c.unwrap_or.ensures, given_is)
-    (reset_is _ s.widest s.read_count s.received_end c.args.code c.args.size (sym c.is_some.ensures ∙ c.if-is_some.false) (rw (← c.self.view_is) at (sym c.is_whole.ensures ∙ c.if-is_whole.false)) c.self.invariant.0)
+    rw (← c.self.view_is, c.copied.ensures)
+    (reset_is _ s.windows.0 s.read_count s.received_end c.args.code c.args.size (given_some _ _ ∙ c.if-self.false) (rw (← c.self.view_is) at (sym c.is_whole.ensures ∙ c.if-is_whole.false)) c.self.invariant.0)

@@ -10,8 +10,11 @@ at_rest-requires-clause-came g c = came_at_rest _ _ _ _ _ _ _ _ c.rest.invariant
 
 pub invariant_of-result : goal.invariant_of-result
 invariant_of-result g c =
-    rw (c.at_rest.ensures.nothing, c.widest-widest.ensures, c.size.ensures, c.share.ensures, c.is_either-is_over.ensures, c.given-reset_code.ensures, c.given-stop_code.ensures, c.given.ensures)
+    let off = rw (← c.rest.view_is) at c.discards-discarding.ensures in
+    rw (c.at_rest.ensures.nothing, c.widest-widest.ensures, c.copied.ensures, off)
     (sound_at_rest _ _ _ _ _ _ _ _ c.rest.invariant, let_go_at_rest _ _ _ _ refl c.at_rest.ensures.small c.rest.invariant)
 
 pub returns : goal.returns
-returns g c = rw (← c.rest.view_is, c.at_rest.ensures.nothing, c.widest-widest.ensures, c.size.ensures, c.share.ensures, c.is_either-is_over.ensures, c.given-reset_code.ensures, c.given-stop_code.ensures, c.given.ensures) refl
+returns g c =
+    let off = rw (← c.rest.view_is) at c.discards-discarding.ensures in
+    rw (← c.rest.view_is, c.at_rest.ensures.nothing, c.widest-widest.ensures, c.copied.ensures, off) refl

@@ -1,4 +1,4 @@
-use Rattle.std.proofs.Common.{◌≡◌, ◌∙◌, ℕ, ◌+◌, ◌/◌, ap, sym, refl, arith, length, slice_index}
+use Rattle.std.proofs.Common.{◌∙◌, ◌+◌, ap, sym, arith}
 use Rattle.std.specs.Option.{is_some, option_copied}
 use Rattle.std.proofs.lemmas.Bool.{both_ways}
 use Rattle.qs_recv.proofs.PageLaws.{piece_there}

@@ -1,8 +1,5 @@
-use Rattle.std.proofs.Common.{◌≡◌, ℕ, ◌+◌, ◌-◌, ◌*◌, ◌/◌, ◌%◌, ◌<◌, ◌≤◌, ◌⊎◌, ◌&&◌, if◌then◌else◌, nat_le, nat_lt, max, length, slice_index, true, None}
-use Rattle.std.specs.Ordering.{nat_cmp}
-use Rattle.std.specs.BTreeMap as tree
-use Rattle.qs_ranges.specs.Numbers.{is_within}
-use Rattle.qs_recv.specs.Pages.{AreWhole, has_page, is_used, moved_byte, page_byte}
+use Rattle.std.proofs.Common.{◌≡◌, ℕ, ◌+◌, ◌-◌, ◌<◌, ◌≤◌, length, slice_index}
+use Rattle.qs_recv.specs.Pages.{page_byte}
 use Rattle.qs_recv.proofs.pages.Pages.are_at.Given as goal
 
 abbrev pub invariant-loop-done : goal.invariant-loop-done

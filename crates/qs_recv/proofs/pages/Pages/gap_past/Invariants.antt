@@ -1,4 +1,4 @@
-use Rattle.std.proofs.Common.{ℕ, ◌+◌, ◌-◌, ◌*◌, ◌<◌, ◌≤◌, max}
+use Rattle.std.proofs.Common.{◌+◌, ◌-◌, ◌*◌, ◌<◌, ◌≤◌, max}
 use Rattle.qs_recv.proofs.pages.Pages.gap_past.Given as goal
 
 abbrev pub invariant-loop-number : goal.invariant-loop-number

@@ -1,10 +1,8 @@
-use Rattle.std.proofs.Common.{◌≡◌, ◌∙◌, ℕ, ◌+◌, ◌/◌, ap, sym, refl, arith, length, slice_index}
+use Rattle.std.proofs.Common.{◌∙◌, ◌+◌, ◌/◌, ap, sym, arith, length, slice_index}
 use Rattle.std.proofs.lemmas.Bool.{both_ways}
 use Rattle.qs_recv.proofs.RingLaws.{vec_written}
 use Rattle.std.specs.Option.{is_some, option_copied_mut}
-use Rattle.std.specs.Ordering.{nat_cmp}
 use Rattle.std.specs.Vec.{with_items}
-use Rattle.std.specs.BTreeMap as tree
 use Rattle.qs_recv.proofs.PageLaws.{piece_put, piece_stays, piece_whole}
 use Rattle.qs_recv.proofs.pages.Pages.write.Goals.{in-Some, in-None}
 use Rattle.qs_recv.proofs.pages.Pages.write.Goals as goal

@@ -1,4 +1,4 @@
-use Rattle.std.proofs.Common.{◌≡◌, false, ◌&&◌, ◌||◌, cond, is_some, ap, ◌∙◌, sym, arith}
+use Rattle.std.proofs.Common.{◌≡◌, cond, ap, ◌∙◌, sym, arith}
 use Rattle.std.specs.FinSet as set
 use Rattle.qs_ranges.specs.Numbers.{run_starts}
 use Rattle.qs_ranges.proofs.Count.{one_run_below, no_run_below}

@@ -1,4 +1,4 @@
-use Rattle.std.proofs.Common.{refl, sym, ◌∙◌, ap, arith}
+use Rattle.std.proofs.Common.{arith}
 use Rattle.qs_send.proofs.SlotEdits.{none_of, in_slots, place_there, full_read, same_over}
 use Rattle.qs_send.proofs.halves.SendHalves.settle.Goals as goal
 

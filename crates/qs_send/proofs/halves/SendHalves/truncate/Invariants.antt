@@ -1,4 +1,4 @@
-use Rattle.std.proofs.Common.{◌≡◌, ◌<◌, ℕ, length, take}
+use Rattle.std.proofs.Common.{◌≡◌, ◌<◌, length, take}
 use Rattle.qs_send.specs.Halves.{halves_from, ArePlaced}
 use Rattle.qs_send.proofs.halves.SendHalves.truncate.Given as goal
 

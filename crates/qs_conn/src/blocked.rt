@@ -1,0 +1,127 @@
+//! What the peer says to hold it back, until its owner is told.
+ghost use Rattle.std.specs.Prelude.{◌≡◌, ◌<◌, ◌^◌, true, None, IfSome, OnOk, OnErr};
+ghost use Rattle.qs_machine.specs.Heard.{nothing_blocked, is_held_back, with_held_back, is_told, IsToldBeside, IsForgotten};
+ghost use Rattle.qs_machine.specs.News.{IsLeast};
+ghost use Rattle.qs_machine.specs.Tables.{lookup};
+ghost use Rattle.qs_conn.specs.ByDir.{IsFirstDir};
+ghost use Rattle.qs_conn.specs.Hearing.{IsToldOf};
+
+use crate::by_dir::ByDir;
+use crate::marks::least;
+use crate::told_streams::ToldStreams;
+use qs_ranges::NoMemory;
+use qs_wire::{Dir, StreamId};
+use std::alloc::Global;
+use std::marker::Model;
+
+/// A flag for the connection and for each direction, and a mark for each stream.
+#[derive(Drop)]
+pub(crate) struct BlockedMarks {
+    conn: bool,
+    streams: ToldStreams,
+    dirs: ByDir<bool>,
+}
+
+impl Model for BlockedMarks {
+    ghost use Rattle.std.specs.Prelude.{ℕ, ◌≡◌, ◌<◌, ◌^◌, true};
+    ghost use Rattle.qs_machine.specs.Heard.{Blocked, is_told};
+    ghost use Rattle.qs_conn.specs.Hearing.{blocked_code};
+
+    ghost Value = { Blocked };
+
+    ghost coded = { blocked_code };
+
+    ghost view = { λ b. record { conn = b.conn; streams = b.streams; bidi = b.dirs.bidi; uni = b.dirs.uni } };
+
+    // What has a mark is a stream.
+    ghost invariant = { λ b. (n : ℕ) → is_told b.streams n ≡ true → n < 2 ^ 62 };
+}
+
+impl BlockedMarks {
+    /// Nothing was said.
+    pub(crate) fn new(alloc: Global) -> Self
+        ensures { result ≡ nothing_blocked }
+    {
+        BlockedMarks {
+            conn: false,
+            streams: ToldStreams::new(alloc),
+            dirs: ByDir::new(false, false),
+        }
+    }
+
+    /// Whether the connection's limit was said to.
+    pub(crate) fn has_conn(&self) -> bool
+        ensures { result ≡ self.now.conn }
+    {
+        self.conn
+    }
+
+    /// The connection's limit was said to, or its owner is told.
+    pub(crate) fn set_conn(&mut self, is_said: bool)
+        ensures { self.new ≡ record self.old { conn = is_said } }
+    {
+        self.conn = is_said;
+    }
+
+    /// A direction's count was said to, or its owner is told.
+    pub(crate) fn set_dir(&mut self, dir: Dir, is_said: bool)
+        ensures { self.new ≡ with_held_back self.old dir is_said }
+    {
+        self.dirs.set(dir, is_said);
+    }
+
+    /// A stream's limit was said to. It takes memory where the stream is the highest of its type so far.
+    pub(crate) fn tell(&mut self, stream: StreamId) -> Result<(), NoMemory>
+        ensures ok { OnOk result (IsToldBeside stream self.old.streams self.new.streams × (self.new ≡ record self.old { streams = self.new.streams })) }
+        ensures err { OnErr result (self.new ≡ self.old) }
+        ensures asks { OnErr result (lookup self.old.streams stream ≡ None) }
+    {
+        self.streams.tell(stream)
+    }
+
+    /// Its owner is told.
+    pub(crate) fn forget(&mut self, stream: StreamId)
+        ensures forgotten { IsForgotten stream self.old.streams self.new.streams }
+        ensures rest { self.new ≡ record self.old { streams = self.new.streams } }
+    {
+        self.streams.forget(stream);
+    }
+
+    /// The first direction whose count was said to.
+    pub(crate) fn next_dir(&self) -> Option<Dir>
+        ensures { IsFirstDir (λ d. is_held_back self.now d ≡ true) result }
+    {
+        if self.dirs.bidi {
+            return Some(Dir::Bidi);
+        }
+        if self.dirs.uni {
+            return Some(Dir::Uni);
+        }
+        None
+    }
+
+    /// The least stream whose limit was said to.
+    pub(crate) fn next_stream(&self) -> Option<StreamId>
+        ensures { IsLeast (λ n. is_told self.now.streams n ≡ true) 0 result }
+    {
+        let bidi = least(self.next_of(0), self.next_of(1));
+        let uni = least(self.next_of(2), self.next_of(3));
+        match least(bidi, uni) {
+            Some(number) => StreamId::new(number),
+            None => None,
+        }
+    }
+
+    // The least one of a type.
+    fn next_of(&self, stream_type: usize) -> Option<u64>
+        requires { stream_type < 4 }
+        ensures least { IsLeast (IsToldOf self.now.streams stream_type) 0 result }
+        ensures small { IfSome result (λ n. n < 2 ^ 62) }
+    {
+        let told = self.streams.of_type(stream_type);
+        match told.marks().next(0) {
+            Some(index) => Some((index * 4 + stream_type) as u64),
+            None => None,
+        }
+    }
+}
