@@ -44,7 +44,7 @@ def align(old, new, kinds, crate):
     by_first = {}
     for kind in kinds:
         first = next((element for element in kind.old if element != "^"), None)
-        plain = first is not None and (len(first) == 1 or first[0] not in "$%") and "*" not in first and first != "{ghosts}"
+        plain = first is not None and (len(first) == 1 or first[0] not in "$%") and "*" not in first and first not in ("{ghosts}", "{step}")
         by_first.setdefault(first if plain else None, []).append(kind)
     open_ended = by_first.get(None, [])
     goal = (len(old), len(new))

@@ -10,6 +10,9 @@ Tokens are parted by spaces. Beside plain tokens a pattern may have
     (*)        a parenthesis and all up to its partner; so are [*], {*} and <*>
     {clauses}  one clause or more: `requires`, `ensures`, perhaps a name, and braces
     {ghosts}   braces in which every member is a ghost: `ghost NAME .. ;` with braces in pairs
+    %step      a name that begins with `learn_`: a step that only tells the prover a fact
+    (shared)   a parenthesis in which nothing is `mut`
+    {step}     a statement that is a call of such a step: names, calls and places joined by `.` or `::`, the step's name last, and its semicolon
     **;        all up to the next semicolon that no bracket holds, and it
 """
 
@@ -19,6 +22,7 @@ _WORD = re.compile(r"(?:r#)?[A-Za-z_][A-Za-z0-9_]*\Z")
 _PAIRS = {"(": ")", "[": "]", "{": "}"}
 _CLOSING = set(_PAIRS.values())
 _RESERVED = {"ghost", "requires", "ensures"}
+_STEP = re.compile(r"learn_[a-z_]+\Z")
 _CRATE = re.compile(r"qs_[a-z]+\Z")
 
 
@@ -157,11 +161,42 @@ def _end_of_clauses(tokens, at):
     return end
 
 
+def _end_of_shared(tokens, at):
+    end = end_of_group(tokens, at, "(")
+    if end is None or any(token == "mut" for token, _line in tokens[at:end]):
+        return None
+    return end
+
+
+def _end_of_step(tokens, at):
+    """The place behind a statement that is a call of a step, or None."""
+    if at == 0 or tokens[at - 1][0] not in (";", "{", "}"):
+        return None
+    while at < len(tokens) and _WORD.match(tokens[at][0]):
+        name = tokens[at][0]
+        at += 1
+        while at < len(tokens) and tokens[at][0] in ("(", "["):
+            is_call = tokens[at][0] == "("
+            at = end_of_group(tokens, at, tokens[at][0])
+            if at is None:
+                return None
+            if is_call and _STEP.match(name):
+                return at + 1 if at < len(tokens) and tokens[at][0] == ";" else None
+        if at >= len(tokens) or tokens[at][0] not in (".", "::"):
+            return None
+        at += 1
+    return None
+
+
 def _end_of_element(element, tokens, at):
     if element == "{clauses}":
         return _end_of_clauses(tokens, at)
     if element == "{ghosts}":
         return _end_of_ghosts(tokens, at)
+    if element == "{step}":
+        return _end_of_step(tokens, at)
+    if element == "(shared)":
+        return _end_of_shared(tokens, at)
     if element == "**;":
         return _end_of_statement(tokens, at)
     if element == "<*>":
@@ -176,6 +211,8 @@ def _end_of_element(element, tokens, at):
 def _takes_word(element, word, words):
     if element == "%own":
         return word == words["%own"]
+    if element == "%step":
+        return bool(_STEP.match(word))
     if element == "%crate" and not _CRATE.match(word):
         return False
     if not _WORD.match(word) or word in _RESERVED:

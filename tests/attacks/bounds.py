@@ -40,7 +40,7 @@ BOUNDS = {
         heap_why="16 bytes of each byte that came after the stop, without an end: it is to fall",
         growth=0.1,
         growth_why="no search at the last run",
-        count=111_000,
+        count=125_000,
     ),
     "far-byte": Bound(
         sizes=(16_383, 65_535, 262_143),

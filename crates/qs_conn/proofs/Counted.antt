@@ -28,7 +28,7 @@ use Rattle.qs_machine.specs.Verdicts.{or_new}
 use Rattle.qs_machine.proofs.EndedHalves.{reset_stays_ended}
 use Rattle.qs_machine.proofs.LanesAgain.{data_after}
 use Rattle.qs_conn.proofs.ToldEnds.{still_told, forgotten_told, told_updated, told_read, told_opened, told_raised, none_told}
-use Rattle.qs_machine.proofs.Bounds.{within_credit}
+use Rattle.qs_machine.proofs.Counts.{within_credit}
 use Rattle.qs_machine.specs.Credit.{recv_ended, send_ended, granted_streams, lifetime, count_after}
 use Rattle.qs_machine.specs.Seen.{Seen, Ack, Stream, Control, Close, Plain}
 use Rattle.qs_machine.specs.Lawful.{frame_put, chunk_of}

@@ -1,6 +1,6 @@
 -- Streams that are over and weren't told: what the marks of their halves say of them.
 use Rattle.std.proofs.Common.{◌≡◌, ℕ, ◌+◌, ◌-◌, ◌*◌, ◌/◌, ◌%◌, ◌<◌, ◌≤◌, ◌^◌, ◌==◌, ◌&&◌, not, nat_le, Bool, true, false, List, length, Option, None, Some, refl, sym, ap, ◌∙◌, subst, arith}
-use Rattle.std.specs.Option.{IfSome}
+use Rattle.std.specs.Option.{IfSome, IfNone}
 use Rattle.std.proofs.lemmas.Bool.{true≢false, both_ways, eq-eqb, ne_eqb}
 use Rattle.std.proofs.lemmas.Bool.Decides.{nat_tests}
 use Rattle.qs_recv.specs.Lane.{RecvLane}
@@ -9,7 +9,7 @@ use Rattle.qs_machine.specs.Tables.{Tables, type_of, lookup, table}
 use Rattle.qs_machine.specs.Ends.{End, role_bit, is_uni, is_own}
 use Rattle.qs_machine.specs.News.{IsHeld, IsEnded}
 use Rattle.qs_machine.specs.Heard.{is_told}
-use Rattle.qs_conn.specs.Marks.{is_marked, both, untold, AreEndsMarked, IsNextMark, IsUntoldOf}
+use Rattle.qs_conn.specs.Marks.{is_marked, both, untold, AreEndsMarked, IsBefore, IsNextMark, IsUntoldOf}
 use Rattle.qs_conn.specs.Ended.{recv_over, send_over}
 use Rattle.qs_conn.specs.RecvTasks.{HasOne}
 use Rattle.qs_conn.specs.declared.recv_marks.RecvTask.TheVariants as tasks
@@ -101,6 +101,10 @@ module _ (v e : End) (same : v ≡ e) (k : ℕ) (recvs sends : List Bool) (recei
         (recv_held v e same n (peers_recv v e same n uni (own_is false (ne_eqb (k % 2) (role_bit v.role) bit))) over)
 
 -- A search
+
+pub before_numbered : (m n : ℕ) (r : Option ℕ) → m < 2 ^ 62 → IfSome r (λ id. (id ≡ m) × (m < 2 ^ 62)) → IfNone r (2 ^ 62 ≤ m) → IsBefore n r → n < m
+before_numbered m n None few some none before = absurd (omega (arith, few, none))
+before_numbered m n (Some id) few some none before = omega (arith, before, some.0)
 
 module _ (P : ℕ → Type 0) (told : Tables Bool) (k from start : ℕ) (a b : List Bool) (small : k < 4) (at : start ≡ (from + 3 - k) / 4) (none : (n : ℕ) → type_of n ≡ k → is_marked (both a b) (n / 4) ≡ false → P n → ⊥) where
   unmarked_none : (n : ℕ) → is_marked (untold (both a b) (table told k)) (n / 4) ≡ false → IsUntoldOf P told k n → ⊥

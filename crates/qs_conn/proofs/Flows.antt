@@ -223,29 +223,33 @@ capped_whole wish room old text e frames around first n on none ack items over (
     ends m alone (inl same) = alone.no_byte (subst (λ x. ByteGoes e x alone.half) (sym same) (subst (ByteGoes e n) (same_Some l alone.half (sym lane ∙ ap (send_lane e) (sym same) ∙ alone.lane)) byte))
     ends m alone (inr ne) = over m (elim (had_or_not around first n m) [ inl had ↦ had | inr not ↦ absurd (alone.in_turn n (comes_after around first m n on not ne) (l, lane, inl byte)) ]) (alone.half, alone.lane, inr alone.end)
 
+-- a stream ends of which nothing goes any more
+pub chunking_done : (wish : Wish) (room : ℕ) (old : End) (text : List ℕ) (e : End) (quota : ℕ) (around : Bool) (first n : ℕ) → Chunking wish room old text e quota around first n → (StreamGoes e n → ⊥) → Flowing wish room old text e quota (turn_at around first (n + 1))
+chunking_done wish room old text e quota around first n k none =
+    record {
+      frames = k.frames;
+      fills = k.fills;
+      cap = k.cap;
+      begins = k.begins;
+      spells = k.spells;
+      acks = k.acks;
+      wished = k.wished;
+      turns = k.turns;
+      order = k.order;
+      within = k.within;
+      ack = k.ack;
+      items = k.items;
+      over = λ m had goes. elim (had_before around first n (n + 1) m had) [
+        | inl before ↦ k.over m before goes
+        | inr (ge, lt) ↦ (let same : m ≡ n = omega (arith, lt, ge) in none (subst (StreamGoes e) same goes))
+      ];
+      untouched = λ m no. k.untouched m (λ had. no (had_still around first n (n + 1) m (omega arith) had)) (λ same. no (subst (HadTurn around first (n + 1)) (sym same) (now_had around first n k.on_way)));
+    }
+
 module _ (wish : Wish) (room : ℕ) (old : End) (text : List ℕ) (e : End) (quota : ℕ) (around : Bool) (first n : ℕ) (k : Chunking wish room old text e quota around first n) (s : Sending) (t : Ties e n s) (fits : length text ≤ room) where
   -- it ends, as no chunk may go any more, whatever the room
   pub chunking_ends : HasNoChunk s 25 (e.known_data - all_sent e) → Flowing wish room old text e quota (turn_at around first (n + 1))
-  chunking_ends none =
-      record {
-        frames = k.frames;
-        fills = k.fills;
-        cap = k.cap;
-        begins = k.begins;
-        spells = k.spells;
-        acks = k.acks;
-        wished = k.wished;
-        turns = k.turns;
-        order = k.order;
-        within = k.within;
-        ack = k.ack;
-        items = k.items;
-        over = λ m had goes. elim (had_before around first n (n + 1) m had) [
-          | inl before ↦ k.over m before goes
-          | inr (ge, lt) ↦ (let same : m ≡ n = omega (arith, lt, ge) in none_goes e n s 25 t (omega arith) k.within none (subst (StreamGoes e) same goes))
-        ];
-        untouched = λ m no. k.untouched m (λ had. no (had_still around first n (n + 1) m (omega arith) had)) (λ same. no (subst (HadTurn around first (n + 1)) (sym same) (now_had around first n k.on_way)));
-      }
+  chunking_ends none = chunking_done wish room old text e quota around first n k (none_goes e n s 25 t (omega arith) k.within none)
 
   -- the packet is full, as the room holds a chunk back
   pub chunking_full : HasNoChunk s (room - length text) (e.known_data - all_sent e) → IsHeldByRoom s (room - length text) (e.known_data - all_sent e) → Packed first wish room old text e quota
@@ -515,18 +519,18 @@ end_chunk t recvs o e n c bytes count = ap (λ k. end_by t recvs (chunk_put n (r
 pub lane_there : (o : Outgoing) (n : ℕ) (s : Sending) → HasSending o n s → or_none (lookup o.sends n) ≡ s.lane
 lane_there o n s h = ap or_none h.lane
 
-pub chunking_put : (around : Bool) (first : ℕ) (t : Limits) (recvs : Tables RecvLane) (o : Outgoing) (e : End) (quota rest : ℕ) (wish : Wish) (room : ℕ) (old : End) (before after : List ℕ) (len end n : ℕ) (c : Chunk) (left fresh : ℕ) (s : Sending) →
-    HasSending o n s → IsNextChunk s left fresh c → HasBytes s.lane c → len ≤ length before → room ≡ length before → left ≡ length before - len → fresh ≡ t.known_data - sent_sum o.sends →
+pub chunking_put : (around : Bool) (first : ℕ) (t : Limits) (recvs : Tables RecvLane) (o o' : Outgoing) (e : End) (quota rest : ℕ) (wish : Wish) (room : ℕ) (old : End) (before after : List ℕ) (len end n : ℕ) (c : Chunk) (left fresh : ℕ) (s : Sending) →
+    o' ≡ chunk_put n c o → HasSending o n s → IsNextChunk s left fresh c → HasBytes s.lane c → len ≤ length before → room ≡ length before → left ≡ length before - len → fresh ≡ t.known_data - sent_sum o.sends →
     length (bytes_of (or_none (lookup o.sends n)) c) ≡ c.len → rest + c.len ≡ quota → take end after ≡ take len before ++ canonical (stream_frame o n c) →
-    Chunking wish room old (take len before) (end_by t recvs o e) quota around first n → Chunking wish room old (take end after) (end_by t recvs (chunk_put n c o) e) rest around first n
-chunking_put around first t recvs o e quota rest wish room old before after len end n c left fresh s h next has within at left_is fresh_is count split text k =
+    Chunking wish room old (take len before) (end_by t recvs o e) quota around first n → Chunking wish room old (take end after) (end_by t recvs o' e) rest around first n
+chunking_put around first t recvs o o' e quota rest wish room old before after len end n c left fresh s is h next has within at left_is fresh_is count split text k =
     let there = end_by t recvs o e in
     let len_is : length (take len before) ≡ len = length-take-le len before within in
     let same : room - length (take len before) ≡ left = omega (arith, len_is, at, left_is) in
     let now : IsNextChunk s (room - length (take len before)) (there.known_data - all_sent there) c = subst (λ f. IsNextChunk s (room - length (take len before)) f c) fresh_is (subst (λ r. IsNextChunk s r fresh c) (sym same) next) in
     let bytes : List ℕ = bytes_of (or_none (lookup o.sends n)) c in
     let told : bytes ≡ bytes_of s.lane c = ap (λ l. bytes_of l c) (lane_there o n s h) in
-    rw (text, end_chunk t recvs o e n c bytes count) (chunking_next wish room old (take len before) there quota around first n k s (ties_of t recvs o e n s h) (omega (arith, len_is, at, within)) c now.allowed has bytes told count now rest split)
+    rw (text, is, end_chunk t recvs o e n c bytes count) (chunking_next wish room old (take len before) there quota around first n k s (ties_of t recvs o e n s h) (omega (arith, len_is, at, within)) c now.allowed has bytes told count now rest split)
 
 -- there is one half of each stream
 pub one_half : (e : End) (n : ℕ) (s s' : Sending) → Ties e n s → Ties e n s' → s ≡ s'

@@ -1,5 +1,5 @@
 -- What is news at an end: the next stream that the peer opened, of those that its owner didn't hear of; and what a search for streams finds.
-use Rattle.std.proofs.Common.{◌≡◌, ◌≢◌, ℕ, zero, suc, ◌+◌, ◌-◌, ◌*◌, ◌/◌, ◌%◌, ◌<◌, ◌≤◌, ◌⊎◌, ◌==◌, Bool, true, false, nat_lt, IsTrue, Option, None, Some, unwrap_or, is_some, refl, sym, ap, ◌∙◌, subst, arith, inl, inr, if◌then◌else◌}
+use Rattle.std.proofs.Common.{◌≡◌, ◌≢◌, ℕ, ◌+◌, ◌-◌, ◌*◌, ◌/◌, ◌%◌, ◌<◌, ◌≤◌, ◌⊎◌, Bool, true, false, nat_lt, IsTrue, Option, None, Some, unwrap_or, is_some, refl, sym, ap, ◌∙◌, subst, arith, inl, inr, if◌then◌else◌}
 use Rattle.std.proofs.lemmas.Bool.Decides.{nat_tests}
 use Rattle.std.proofs.lemmas.Bool.{cases_lt, both_ways, true≢false}
 use Rattle.std.proofs.lemmas.Option.{none-some, same_Some}
@@ -15,7 +15,7 @@ use Rattle.qs_machine.specs.Owner.{opened_count, accepted_by, is_read_no_more}
 use Rattle.qs_machine.specs.News.{IsLeast, IsHeld, IsReadable}
 use Rattle.qs_machine.specs.Asking.{room, room_of, stop_of}
 use Rattle.qs_machine.specs.Outgoing.{IsAckedReset}
-use Rattle.qs_machine.proofs.Writing.{accepted_few}
+use Rattle.qs_machine.proofs.EveryCall.{accepted_few}
 use Rattle.qs_recv.specs.Lane.{RecvLane}
 use Rattle.qs_recv.specs.News.{is_readable}
 use Rattle.qs_send.specs.Lane.{SendLane, refusal, free_room, accepted}
@@ -30,10 +30,6 @@ use Rattle.qs_conn.specs.Marks.{IsUntold}
 use Rattle.qs_conn.specs.RecvTasks.{HasOne}
 use Rattle.qs_conn.specs.declared.recv_marks.RecvTask.TheVariants as recv_tasks
 use Rattle.qs_conn.proofs.Least.{IsClear, least_two, least_by, none_before}
-
--- a number as its type and its index
-by_parts : (n : ℕ) → n ≡ index_of n * 4 + type_of n
-by_parts n = omega arith
 
 dir_bidi : (n : ℕ) → type_of n < 2 → dir_of n ≡ Bidi
 dir_bidi n lt = (let half : n / 2 % 2 ≡ 0 = omega (arith, lt) in grind (arith, nat_tests, half))

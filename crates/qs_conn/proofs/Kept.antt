@@ -23,9 +23,9 @@ use Rattle.qs_conn.proofs.Funded.{no_sum, no_runs}
 use Rattle.qs_conn.proofs.Runs.{idle_new}
 use Rattle.qs_conn.specs.Untold.{TellsAt, SendTells}
 use Rattle.qs_conn.proofs.Untolds.{told_none}
-use Rattle.qs_machine.proofs.Sound.{keeps_open}
+use Rattle.qs_machine.proofs.CallsSound.{keeps_open}
 use Rattle.qs_machine.proofs.CallsSound.{sound_read, sound_stop, sound_forget, sound_window}
-use Rattle.qs_machine.proofs.Bounds.{new_ends_sound}
+use Rattle.qs_machine.proofs.Counts.{new_ends_sound}
 
 record AllTrue (a b c : Bool) : Type 0 where
   pub first : a ≡ true

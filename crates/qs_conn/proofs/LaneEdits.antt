@@ -15,7 +15,7 @@ use Rattle.qs_machine.specs.Tables.{widened}
 use Rattle.qs_machine.specs.Sums.{changed, tally_of, moved, IsPaid}
 use Rattle.qs_conn.specs.Layers.{AreCounted}
 use Rattle.qs_conn.specs.Touches.{AreSettled}
-use Rattle.qs_machine.proofs.Tallies.{tally_set, each_paid, lawful_set, lawful_append, lawful_begun, tally_opened}
+use Rattle.qs_machine.proofs.Counts.{tally_set, each_paid, lawful_set, lawful_append, lawful_begun, tally_opened}
 use Rattle.qs_conn.proofs.Settling.{are_opened}
 
 pub paid_of : (xs : List RecvLane) (t : Tally) (touched : Touches) → AreCounted xs t touched → IsPaid t

@@ -8,7 +8,7 @@ use Rattle.qs_machine.specs.Sums.{tables_of}
 use Rattle.qs_machine.specs.Tables.{Tables, type_of}
 use Rattle.qs_machine.proofs.TableEdits.{lookup_is}
 use Rattle.qs_conn.specs.Marks.{is_marked, AreMarked, IsBefore, IsNextMark, IsAt, IsHeldOf, least_of}
-use Rattle.qs_conn.proofs.Marked.{mark_past, marked_len, unmarked_at, least_has}
+use Rattle.qs_conn.proofs.Marked.{mark_past, marked_len, unmarked_at, least_has, before_least}
 
 -- none below the answer has the property
 pub least_by : (P : ℕ → Type 0) (from : ℕ) (answer : Option ℕ) → ((n : ℕ) → answer ≡ Some n → (from ≤ n) × P n) → ((n : ℕ) → from ≤ n → IsBefore n answer → P n → ⊥) → IsLeast P from answer
@@ -29,6 +29,30 @@ pub record IsClear (P : ℕ → Type 0) (from next : ℕ) : Type 0 where
 pub clear_at : (P : ℕ → Type 0) (from : ℕ) → IsClear P from from
 clear_at P from = record { after = omega arith; none = λ i ge lt p. omega (arith, ge, lt) }
 
+-- any property that only marked indexes have
+module _ (P : ℕ → Type 0) (ms : List Bool) (none : (i : ℕ) → is_marked ms i ≡ false → P i → ⊥) where
+  pub clear_marked : (from next index : ℕ) → IsClear P from next → IsNextMark ms next (Some index) → IsClear P from index
+  clear_marked from next index c h =
+      record {
+        after = omega (arith, c.after, (h.found index refl).0);
+        none = λ i ge lt p. elim (cases_lt i next) [ inl before ↦ c.none i ge before p | inr past ↦ none i (h.unmarked i past lt) p ];
+      }
+
+  pub none_marked : (from next : ℕ) → IsClear P from next → IsNextMark ms next None → IsLeast P from None
+  none_marked from next c h = least_by P from None (λ n is. absurd (none-some n is)) (λ i ge before p. elim (cases_lt i next) [ inl lt ↦ c.none i ge lt p | inr past ↦ none i (h.unmarked i past tt) p ])
+
+module _ (P : ℕ → Type 0) (from index : ℕ) (c : IsClear P from index) where
+  pub clear_over : (P index → ⊥) → IsClear P from (index + 1)
+  clear_over without =
+      record {
+        after = omega (arith, c.after);
+        none = λ i ge lt p. elim (cases_lt i index) [ inl before ↦ c.none i ge before p | inr past ↦ (let same : i ≡ index = omega (arith, lt, past) in without (subst P same p)) ];
+      }
+
+  pub least_here : P index → IsLeast P from (Some index)
+  least_here p = least_by P from (Some index) (λ n is. (let same : index ≡ n = same_Some index n is in (omega (arith, c.after, same), subst P same p))) (λ i ge before q. c.none i ge before q)
+
+-- parts with the property
 module _ {X : Type 0} (Q R : X → Type 0) (apart : (x : X) → Q x → R x → ⊥) (xs : List X) (ms : List Bool) (marked : AreMarked Q xs ms) where
   -- an unmarked index has no part with the property
   unmarked_none : (i : ℕ) → is_marked ms i ≡ false → IsAt R xs i → ⊥
@@ -38,15 +62,10 @@ module _ {X : Type 0} (Q R : X → Type 0) (apart : (x : X) → Q x → R x → 
   next_there next index h = elim (cases_lt index (length xs)) [ inl lt ↦ lt | inr ge ↦ absurd (both_ways (is_marked ms index) (mark_past ms index (omega (arith, ge, marked_len Q xs ms marked))) (h.found index refl).1) ]
 
   pub clear_to : (from next index : ℕ) → IsClear (IsAt R xs) from next → IsNextMark ms next (Some index) → IsClear (IsAt R xs) from index
-  clear_to from next index c h =
-      record {
-        after = omega (arith, c.after, (h.found index refl).0);
-        none = λ i ge lt p. elim (cases_lt i next) [ inl before ↦ c.none i ge before p | inr past ↦ unmarked_none i (h.unmarked i past lt) p ];
-      }
+  clear_to = clear_marked (IsAt R xs) ms unmarked_none
 
   pub clear_all : (from next : ℕ) → IsClear (IsAt R xs) from next → IsNextMark ms next None → IsLeast (IsAt R xs) from None
-  clear_all from next c h =
-      least_by (IsAt R xs) from None (λ n none. absurd (none-some n none)) (λ i ge before p. elim (cases_lt i next) [ inl lt ↦ c.none i ge lt p | inr past ↦ unmarked_none i (h.unmarked i past tt) p ])
+  clear_all = none_marked (IsAt R xs) ms unmarked_none
 
 -- a part is read
 pub part_at : {X : Type 0} (xs : List X) (i : ℕ) (x : X) → i < length xs → x ≡ get_or xs i x → slice_get xs i ≡ Some x
@@ -54,32 +73,17 @@ part_at xs i x lt is = slice_get_read xs (length xs) i x refl lt is
 
 module _ {X : Type 0} (R : X → Type 0) (xs : List X) where
   pub clear_past : (from index : ℕ) (x : X) → slice_get xs index ≡ Some x → (R x → ⊥) → IsClear (IsAt R xs) from index → IsClear (IsAt R xs) from (index + 1)
-  clear_past from index x at without c =
-      record {
-        after = omega (arith, c.after);
-        none = λ i ge lt p. elim (cases_lt i index) [ inl before ↦ c.none i ge before p | inr past ↦ (let same : i ≡ index = omega (arith, lt, past) in without (subst R (same_Some p.0 x (sym p.1 ∙ ap (slice_get xs) same ∙ at)) p.2)) ];
-      }
+  clear_past from index x at without c = clear_over (IsAt R xs) from index c (λ p. without (subst R (same_Some p.0 x (sym p.1 ∙ at)) p.2))
 
   pub least_at : (from index : ℕ) (x : X) → slice_get xs index ≡ Some x → R x → IsClear (IsAt R xs) from index → IsLeast (IsAt R xs) from (Some index)
-  least_at from index x at r c =
-      least_by (IsAt R xs) from (Some index) (λ n is. (let same : index ≡ n = same_Some index n is in (omega (arith, c.after, same), subst (IsAt R xs) same (x, at, r)))) (λ i ge before p. c.none i ge before p)
+  least_at from index x at r c = least_here (IsAt R xs) from index c (x, at, r)
 
 -- Answers of several searches
 
 -- the lesser of two answers, where each number with the property is in one of two parts
 pub least_two : (P Q R : ℕ → Type 0) (from : ℕ) (a b : Option ℕ) → ((n : ℕ) → P n → R n) → ((n : ℕ) → Q n → R n) → ((n : ℕ) → R n → P n ⊎ Q n) → IsLeast P from a → IsLeast Q from b → IsLeast R from (least_of a b)
-least_two P Q R from a b left right parts p q = least_by R from (least_of a b) (found a b p q) (λ n le before r. elim (parts n r) [ inl x ↦ none_before P from a p n le (before_left a b n before) x | inr y ↦ none_before Q from b q n le (before_right a b n before) y ])
+least_two P Q R from a b left right parts p q = least_by R from (least_of a b) (found a b p q) (λ n le before r. elim (parts n r) [ inl x ↦ none_before P from a p n le (before_least a b n before).0 x | inr y ↦ none_before Q from b q n le (before_least a b n before).1 y ])
   where
-    before_left : (x y : Option ℕ) (n : ℕ) → IsBefore n (least_of x y) → IsBefore n x
-    before_left None y n is = tt
-    before_left (Some x) None n is = is
-    before_left (Some x) (Some y) n is = omega (arith, is)
-
-    before_right : (x y : Option ℕ) (n : ℕ) → IsBefore n (least_of x y) → IsBefore n y
-    before_right None y n is = is
-    before_right (Some x) None n is = tt
-    before_right (Some x) (Some y) n is = omega (arith, is)
-
     found : (x y : Option ℕ) → IsLeast P from x → IsLeast Q from y → (n : ℕ) → least_of x y ≡ Some n → (from ≤ n) × R n
     found None y s t n is = (let f = t.found n is in (f.0, right n f.1))
     found (Some x) None s t n is = (let f = s.found n is in (f.0, left n f.1))
@@ -90,35 +94,37 @@ least_two P Q R from a b left right parts p q = least_by R from (least_of a b) (
 
 -- Streams
 
-index_from : (n k from first : ℕ) → k < 4 → first ≡ (from + 3 - k) / 4 → type_of n ≡ k → from ≤ n → first ≤ n / 4
-index_from n k from first small is kind ge = omega (arith, small, is, kind, ge)
+-- those of one type
+abbrev pub OfKind : (ℕ → Type 0) → ℕ → ℕ → Type 0
+OfKind P k n = (type_of n ≡ k) × P n
 
-part_of : {X : Type 0} (R : X → Type 0) (ls : List (List X)) (k n : ℕ) (d : List X) → length ls ≡ 4 → IsHeldOf R (tables_of ls) k n → IsAt R (get_or ls k d) (n / 4)
-part_of R ls k n d len held = (held.1.0, sym (lookup_is ls n k (n / 4) d len (sym held.0) refl) ∙ held.1.1, held.1.2)
+-- where the streams of a type have the property as their indexes do, the least of both are one
+module _ (P Row : ℕ → Type 0) (k from first : ℕ) (small : k < 4) (begin : first ≡ (from + 3 - k) / 4) (there : (n : ℕ) → type_of n ≡ k → P n → Row (n / 4)) where
+  index_from : (n : ℕ) → type_of n ≡ k → from ≤ n → first ≤ n / 4
+  index_from n kind ge = omega (arith, small, begin, kind, ge)
+
+  pub row_none : IsLeast Row first None → IsLeast (OfKind P k) from None
+  row_none h = least_by (OfKind P k) from None (λ n is. absurd (none-some n is)) (λ n ge before p. none_before Row first None h (n / 4) (index_from n p.0 ge) tt (there n p.0 p.1))
+
+  pub row_some : (i : ℕ) → ((n : ℕ) → type_of n ≡ k → i ≡ n / 4 → Row i → P n) → IsLeast Row first (Some i) → IsLeast (OfKind P k) from (Some (i * 4 + k))
+  row_some i back h =
+      let (ge, here) = h.found i refl in
+      let kind : type_of (i * 4 + k) ≡ k = omega (arith, small) in
+      let index : i ≡ (i * 4 + k) / 4 = omega (arith, small) in
+      least_by (OfKind P k) from (Some (i * 4 + k)) (λ n is. (let at = same_Some (i * 4 + k) n is in (omega (arith, at, ge, begin, small), subst (OfKind P k) at (kind, back (i * 4 + k) kind index here))))
+      (λ n on before p. none_before Row first (Some i) h (n / 4) (index_from n p.0 on) (let kind = p.0 in omega (arith, before, kind, small)) (there n p.0 p.1))
+
+part_of : {X : Type 0} (R : X → Type 0) (ls : List (List X)) (k : ℕ) (d : List X) → length ls ≡ 4 → (n : ℕ) → type_of n ≡ k → IsHeld R (tables_of ls) n → IsAt R (get_or ls k d) (n / 4)
+part_of R ls k d len n kind (x, at, r) = (x, sym (lookup_is ls n k (n / 4) d len (sym kind) refl) ∙ at, r)
 
 -- of all parts of one type, the least index from one on
 pub kind_none : {X : Type 0} (R : X → Type 0) (ls : List (List X)) (k from first : ℕ) (d : List X) → length ls ≡ 4 → k < 4 → first ≡ (from + 3 - k) / 4 → IsLeast (IsAt R (get_or ls k d)) first None → IsLeast (IsHeldOf R (tables_of ls) k) from None
-kind_none R ls k from first d len small is h = least_by (IsHeldOf R (tables_of ls) k) from None (λ n none. absurd (none-some n none)) (λ n ge before held. none_before (IsAt R (get_or ls k d)) first None h (n / 4) (index_from n k from first small is held.0 ge) tt (part_of R ls k n d len held))
+kind_none R ls k from first d len small begin = row_none (IsHeld R (tables_of ls)) (IsAt R (get_or ls k d)) k from first small begin (part_of R ls k d len)
 
 pub kind_some : {X : Type 0} (R : X → Type 0) (ls : List (List X)) (k from first i : ℕ) (d : List X) → length ls ≡ 4 → k < 4 → first ≡ (from + 3 - k) / 4 → IsLeast (IsAt R (get_or ls k d)) first (Some i) → IsLeast (IsHeldOf R (tables_of ls) k) from (Some (i * 4 + k))
-kind_some R ls k from first i d len small is h =
-    least_by (IsHeldOf R (tables_of ls) k) from (Some (i * 4 + k)) found
-    (λ n ge before held. none_before (IsAt R (get_or ls k d)) first (Some i) h (n / 4) (index_from n k from first small is held.0 ge) (let kind = held.0 in omega (arith, before, kind, small)) (part_of R ls k n d len held))
-  where
-    found : (n : ℕ) → Some (i * 4 + k) ≡ Some n → (from ≤ n) × IsHeldOf R (tables_of ls) k n
-    found n e =
-        let at : i * 4 + k ≡ n = same_Some (i * 4 + k) n e in
-        let f = h.found i refl in
-        let ge = f.0 in
-        let p = f.1 in
-        let kind : type_of n ≡ k = omega (arith, at, small) in
-        let index : i ≡ n / 4 = omega (arith, at, small) in
-        (omega (arith, at, ge, is, small), (kind, (p.0, lookup_is ls n k i d len (sym kind) index ∙ p.1, p.2)))
+kind_some R ls k from first i d len small begin = row_some (IsHeld R (tables_of ls)) (IsAt R (get_or ls k d)) k from first small begin (part_of R ls k d len) i (λ n kind index (x, at, r). (x, lookup_is ls n k i d len (sym kind) index ∙ at, r))
 
 -- of all four types
-abbrev OfKind : (ℕ → Type 0) → ℕ → ℕ → Type 0
-OfKind P k n = (type_of n ≡ k) × P n
-
 pub kinds_four : (P : ℕ → Type 0) (from : ℕ) (a b c d : Option ℕ) → IsLeast (OfKind P 0) from a → IsLeast (OfKind P 1) from b → IsLeast (OfKind P 2) from c → IsLeast (OfKind P 3) from d → IsLeast P from (least_of (least_of a b) (least_of c d))
 kinds_four P from a b c d p q r s =
     let Bidi : ℕ → Type 0 = λ n. OfKind P 0 n ⊎ OfKind P 1 n in

@@ -80,4 +80,4 @@ pub mod OverHalves
 pub mod NewlyTold
 pub mod TurnsTold
 pub mod Within
-pub mod WindowSet
+pub mod Plains

@@ -19,12 +19,12 @@ use Rattle.qs_conn.specs.declared.limits.Limits.{Limits}
 use Rattle.qs_conn.specs.declared.filling.Wish.{Wish}
 use Rattle.qs_machine.specs.Ends.{End}
 use Rattle.qs_machine.specs.Credit.{settle}
-use Rattle.qs_machine.specs.Seen.{Seen, Ack, Stream, Control, Close, Plain, seen_all, asks_ack, any_asks}
+use Rattle.qs_machine.specs.Seen.{Seen, Ack, Stream, Control, seen_all, asks_ack, any_asks}
 use Rattle.qs_machine.specs.Due.{Among, Sendable}
 use Rattle.qs_machine.specs.Lawful.{Fills, frame_put, pieces_so_far}
-use Rattle.qs_machine.specs.Making.{IsText, NamesMost, IsMade, MakeAt, MakeStep, make_refusal}
+use Rattle.qs_machine.specs.Making.{NamesMost, IsMade, MakeAt, MakeStep, make_refusal}
 use Rattle.qs_machine.specs.Alone.{token_of}
-use Rattle.qs_machine.specs.Filling.{IsWanted, WantedGoes, HasWanted, GoesWithin, EndGoesAlone, still_asked, IsFilled, FillAt, FillStep}
+use Rattle.qs_machine.specs.Filling.{IsWanted, WantedGoes, HasWanted, GoesWithin, still_asked, IsFilled, FillAt, FillStep}
 use Rattle.qs_machine.specs.InOrder.{AreInOrder, NothingStarves, NoItemStarves}
 use Rattle.qs_machine.specs.Outgoing.{Outgoing}
 use Rattle.qs_conn.specs.declared.middle.Core.{Core}
@@ -37,11 +37,11 @@ use Rattle.qs_conn.proofs.Flows.{within_goes}
 
 -- Refusals
 
+exhausted : (v : End) → is_some v.closed ≡ false → MAX_VARINT < v.next → make_refusal v ≡ Some making.Exhausted
+exhausted v clear past = (let test : nat_le (MAX_VARINT + 1) v.next ≡ true = grind (arith, nat_tests, past) in rw (clear, test) refl)
+
 pub make_exhausted : (v old : End) (first delay room : ℕ) → v ≡ old → is_some v.closed ≡ false → MAX_VARINT < v.next → MakeStep old first delay room (Err making.Exhausted) [] old
-make_exhausted v old first delay room same clear past = subst (λ e. MakeStep e first delay room (Err making.Exhausted) [] e) same (subst (λ r. MakeAt r v first delay room (Err making.Exhausted) [] v) (sym is) (refl, refl, refl))
-  where
-    is : make_refusal v ≡ Some making.Exhausted
-    is = (let test : nat_le (MAX_VARINT + 1) v.next ≡ true = grind (arith, nat_tests, past) in rw (clear, test) refl)
+make_exhausted v old first delay room same clear past = subst (λ e. MakeStep e first delay room (Err making.Exhausted) [] e) same (subst (λ r. MakeAt r v first delay room (Err making.Exhausted) [] v) (sym (exhausted v clear past)) (refl, refl, refl))
 
 pub no_refusal : (v : End) → is_some v.closed ≡ false → v.next ≤ MAX_VARINT → make_refusal v ≡ None
 no_refusal v clear le = (let test : nat_le (MAX_VARINT + 1) v.next ≡ false = grind (arith, nat_tests, le) in rw (clear, test) refl)
@@ -160,8 +160,7 @@ module _ (wish : Wish) (none : wish.ack_due ≡ false) where
   one_wanted (Ack largest ranges) is = absurd (true≢false (sym is ∙ none))
   one_wanted (Stream n offset bytes fin) is = is
   one_wanted (Control i) is = is
-  one_wanted (Close code) is = absurd is
-  one_wanted (Plain asks) is = absurd is
+  one_wanted f is = absurd is
 
   all_wanted : (fs : List Seen) → AllByRecursion (IsWished wish) fs → AllByRecursion (IsWanted wish.want) fs
   all_wanted [] all = tt
@@ -181,11 +180,9 @@ no_seen (f ∷ fs) is = cc is
 
 -- so they ask for an ACK
 asks_one : (want : Fill) (f : Seen) → IsWanted want f → asks_ack f ≡ true
-asks_one want (Ack largest ranges) is = absurd is
 asks_one want (Stream n offset bytes fin) is = refl
 asks_one want (Control i) is = refl
-asks_one want (Close code) is = absurd is
-asks_one want (Plain asks) is = absurd is
+asks_one want f is = absurd is
 
 asks_all : (want : Fill) (fs : List Seen) → fs ≢ [] → AllByRecursion (IsWanted want) fs → any_asks fs ≡ true
 asks_all want [] some all = absurd (some refl)
@@ -202,10 +199,7 @@ names_less old delay room less (f ∷ fs) le all = (one f all.0, names_less old 
     one f is = is
 
 pub fill_exhausted : (v old : End) (want : Fill) (room : ℕ) → v ≡ old → is_some v.closed ≡ false → MAX_VARINT < v.next → FillStep old want room (Err making.Exhausted) [] old
-fill_exhausted v old want room same clear past = subst (λ e. FillStep e want room (Err making.Exhausted) [] e) same (subst (λ r. FillAt r v want room (Err making.Exhausted) [] v) (sym is) (refl, refl, refl))
-  where
-    is : make_refusal v ≡ Some making.Exhausted
-    is = (let test : nat_le (MAX_VARINT + 1) v.next ≡ true = grind (arith, nat_tests, past) in rw (clear, test) refl)
+fill_exhausted v old want room same clear past = subst (λ e. FillStep e want room (Err making.Exhausted) [] e) same (subst (λ r. FillAt r v want room (Err making.Exhausted) [] v) (sym (exhausted v clear past)) (refl, refl, refl))
 
 module _ (v old : End) (same : v ≡ old) (c new_c : Core) (want : Fill) (room len quota : ℕ) (out : List ℕ) (idle : fmap.get v.outstanding v.next ≡ None) (parts : end_of c v ≡ v)
     (fills : (x : End) (b : Bool) → end_of c x ≡ x → x.done ≡ v.done → IsAckLeft false x.ack_due b → ((p : Piece) → InPacket x p → ⊥) → Packed want.first (only_of want) room x (take len out) (end_of new_c (record x { ack_due = b })) quota) where

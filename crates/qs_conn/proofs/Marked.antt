@@ -1,5 +1,5 @@
 -- Marks beside parts: each part that isn't marked has a property.
-use Rattle.std.proofs.Common.{◌≡◌, ℕ, zero, suc, ◌+◌, ◌-◌, ◌*◌, ◌/◌, ◌%◌, min, ◌<◌, ◌≤◌, ◌^◌, Bool, true, false, List, [], ◌∷◌, ◌++◌, map, length, get_or, take, replicate, Option, None, Some, slice_get, refl, sym, ap, ◌∙◌, subst, arith, inl, inr}
+use Rattle.std.proofs.Common.{◌≡◌, ℕ, zero, suc, ◌+◌, ◌-◌, ◌*◌, ◌/◌, ◌%◌, min, ◌<◌, ◌≤◌, ◌^◌, Bool, true, false, List, [], ◌∷◌, ◌++◌, map, length, get_or, take, replicate, Option, None, Some, is_some, nat_lt, slice_get, refl, sym, ap, ◌∙◌, subst, arith, inl, inr}
 use Rattle.std.specs.List.{range_with_len}
 use Rattle.std.specs.Option.{IfSome, IfNone}
 use Rattle.std.proofs.Math.ListN.{set}
@@ -7,13 +7,15 @@ use Rattle.std.proofs.lemmas.Bool.{cases_lt, both_ways, true≢false}
 use Rattle.std.proofs.lemmas.List.{length-append, length-take, length-replicate, get_or_past, set-get_or, set-append_right}
 use Rattle.std.proofs.lemmas.List.FromFn.{length-map-range_with_len}
 use Rattle.std.proofs.lemmas.Option.{none-some, same_Some, get_or_from_slice_get}
+use Rattle.std.proofs.lemmas.Bool.Decides.{nat_tests}
 use Rattle.std.specs.Prelude.{Result, Ok, Err}
 use Rattle.std.specs.Result.{OnOk, OnErr}
 use Rattle.qs_conn.specs.Untold.{IsClear}
 use Rattle.qs_conn.specs.Marks.{is_marked, AreMarked, IsBefore, IsNextMark, HaveTo, least_of}
+use Rattle.qs_conn.specs.Tasks.{IsOpen}
 use Rattle.qs_machine.specs.Sums.{tables_of}
 use Rattle.qs_machine.specs.Tables.{Tables, type_of, lookup, widened}
-use Rattle.qs_machine.proofs.TableEdits.{lookup_is}
+use Rattle.qs_machine.proofs.TableEdits.{lookup_is, some_tested}
 
 pub mark_past : (ms : List Bool) (i : ℕ) → length ms ≤ i → is_marked ms i ≡ false
 mark_past ms i le = get_or_past ms i false le
@@ -83,10 +85,14 @@ module _ {X : Type 0} (Q : X → Type 0) where
   found_from xs ms from None h next = tt
   found_from xs ms from (Some n) h next = (next.found n refl).0
 
+  pub found_there : (xs : List X) (ms : List Bool) (from : ℕ) (answer : Option ℕ) → AreMarked Q xs ms → IsNextMark ms from answer → IfSome answer (λ n. n < length xs)
+  found_there xs ms from None h next = tt
+  found_there xs ms from (Some n) h next =
+      elim (cases_lt n (length xs)) [ inl lt ↦ lt | inr ge ↦ absurd (both_ways (is_marked ms n) (mark_past ms n (omega (arith, ge, marked_len xs ms h))) (next.found n refl).1) ]
+
   pub found_small : (xs : List X) (ms : List Bool) (from : ℕ) (answer : Option ℕ) → (length xs ≤ 2 ^ 60) × AreMarked Q xs ms → IsNextMark ms from answer → IfSome answer (λ n. n < 2 ^ 60)
   found_small xs ms from None h next = tt
-  found_small xs ms from (Some n) h next =
-      elim (cases_lt n (length xs)) [ inl lt ↦ omega (arith, lt, h.0) | inr ge ↦ absurd (both_ways (is_marked ms n) (mark_past ms n (omega (arith, ge, marked_len xs ms h.1))) (next.found n refl).1) ]
+  found_small xs ms from (Some n) h next = omega (arith, found_there xs ms from (Some n) h.1 next, h.0)
 
   pub fewer : (xs now : List X) (ms now_ms : List Bool) (n : ℕ) → now ≡ take n xs → now_ms ≡ take n ms → (length xs ≤ 2 ^ 60) × AreMarked Q xs ms → (length now ≤ 2 ^ 60) × AreMarked Q now now_ms
   fewer xs now ms now_ms n is are h = rw (is, are) (omega (arith, h.0, length-take n xs), marked_take n xs ms h.1)
@@ -228,6 +234,20 @@ has_each {X} Q ls d0 d1 d2 d3 len q0 q1 q2 q3 n x at = go (n % 4) refl (omega ar
     go (suc (suc (suc (suc k)))) e lt = absurd (omega (arith, lt))
 
 -- the number of a stream
+-- what holds of each holds of the least, as a stream's number too
+pub id_has : (P : ℕ → Type 0) (id a b c d : Option ℕ) (number : ℕ) → least_of (least_of a b) (least_of c d) ≡ Some number → IfSome a P → IfSome b P → IfSome c P → IfSome d P → IfSome id (λ m. (m ≡ number) × (number < 2 ^ 62)) → IfSome id P
+id_has P None a b c d number is pa pb pc pd some = tt
+id_has P (Some m) a b c d number is pa pb pc pd some =
+    subst P (sym some.0) (subst (λ r. IfSome r P) is (least_has P (least_of a b) (least_of c d) (least_has P a b pa pb) (least_has P c d pc pd)))
+
+-- a place in a table is one of a stream
+pub open_at : {X : Type 0} (ls : List (List X)) (k i : ℕ) (d : List X) → length ls ≡ 4 → k < 4 → i < length (get_or ls k d) → IsOpen (tables_of ls) (i * 4 + k)
+open_at ls k i d len small there =
+    let kind : k ≡ (i * 4 + k) % 4 = omega (arith, small) in
+    let index : i ≡ (i * 4 + k) / 4 = omega (arith, small) in
+    let within : nat_lt i (length (get_or ls k d)) ≡ true = grind (arith, nat_tests, there) in
+    ap is_some (lookup_is ls (i * 4 + k) k i d len kind index) ∙ sym (some_tested (get_or ls k d) i _ refl) ∙ within
+
 pub before_id : (id : Option ℕ) (a b c d r : Option ℕ) (number from n : ℕ) → r ≡ least_of (least_of a b) (least_of c d) → r ≡ Some number → IfSome a (IsIn from) → IfSome b (IsIn from) → IfSome c (IsIn from) → IfSome d (IsIn from)
     → IfSome id (λ m. (m ≡ number) × (number < 2 ^ 62)) → IfNone id (2 ^ 62 ≤ number) → IsBefore n id → IsBefore n (Some number)
 before_id (Some m) a b c d r number from n is at pa pb pc pd some none before = omega (arith, some.0, before)

@@ -12,7 +12,7 @@ use Rattle.qs_machine.specs.News.{IsLeast}
 use Rattle.qs_machine.specs.Newly.{IsNewlyAcked, payload_acks, acks_number}
 use Rattle.qs_machine.specs.Seen.{Seen, Ack, Stream, Control, Close, Plain, seen_all}
 use Rattle.qs_conn.specs.Named.{or_less, with_range, with_ranges, with_frames}
-use Rattle.qs_machine.proofs.Prefix.{or_false, or_twice}
+use Rattle.qs_machine.proofs.Again.{or_false, or_twice}
 
 -- the answer is the least number of those that a test takes
 abbrev Least : (ℕ → Bool) → ℕ → Option ℕ → Type 0

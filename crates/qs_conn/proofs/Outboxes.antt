@@ -1,6 +1,8 @@
 -- An outbox: what each call is to its value, and that it keeps what holds of it.
 use Rattle.std.proofs.Common.{◌≡◌, ℕ, ◌<◌, ◌%◌, Bool, true, false, List, [], length, take, Option, Some, None, is_some, Result, Ok, Err, cond, unwrap_or, option_map, refl, sym, ap, ◌∙◌, subst, arith, nat_cmp}
 use Rattle.std.proofs.lemmas.Bool.{both_ways}
+use Rattle.std.specs.Option.{IfSome}
+use Rattle.qs_conn.specs.Tasks.{IsOpen}
 use Rattle.std.specs.FinMap as fmap
 use Rattle.std.specs.FinSet as set
 use Rattle.std.specs.Result.{OnOk, OnErr, IfOk, IfErr}
@@ -272,6 +274,10 @@ open_now e now t n is sends = go (lookup t n) ∙ ap is_some (sym (lookup_lanes 
     go : (o : Option Sending) → is_some o ≡ is_some (elim o [ None ↦ None | Some s ↦ Some s.lane ])
     go None = refl
     go (Some s) = refl
+
+pub some_open : (e now : Outgoing) (t : Tables Sending) (r : Option ℕ) → e ≡ now → e.sends ≡ lanes_of t → IfSome r (IsOpen t) → IfSome r (IsOpen now.sends)
+some_open e now t None is sends there = tt
+some_open e now t (Some n) is sends there = sym (open_now e now t n is sends) ∙ there
 
 pub report_none : (e now : Outgoing) (t : Tables Sending) (n : ℕ) → e ≡ now → e.sends ≡ lanes_of t → is_some (lookup t n) ≡ false → ◌≡◌ {A = Option SendReport} None (option_map send_report (lookup now.sends n))
 report_none e now t n is sends none = go (lookup now.sends n) (sym (open_now e now t n is sends) ∙ none)

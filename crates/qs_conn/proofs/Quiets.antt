@@ -4,20 +4,24 @@ use Rattle.std.proofs.lemmas.Bool.{both_ways, cases_lt}
 use Rattle.std.proofs.lemmas.Option.{none-some, same_Some}
 use Rattle.std.specs.FinSet as set
 use Rattle.qs_recv.specs.Lane.{RecvLane}
-use Rattle.qs_send.specs.Lane.{SendLane, Sending}
+use Rattle.qs_send.specs.declared.parts.Chunk.{Chunk}
+use Rattle.qs_send.specs.Chunks.{IsDueChunk}
+use Rattle.qs_send.specs.Lane.{SendLane, Sending, sent_lane, after_sent}
 use Rattle.qs_conn.specs.declared.limits.Limits.{Limits}
 use Rattle.qs_calls.specs.declared.settings.Settings.{Settings}
 use Rattle.qs_wire.specs.declared.stream_id.Role.{Role}
-use Rattle.qs_machine.specs.Tables.{Tables, type_of, lookup}
+use Rattle.qs_machine.specs.Tables.{Tables, type_of, lookup, updated}
 use Rattle.qs_machine.specs.Ends.{End, window_by, role_bit}
 use Rattle.qs_machine.specs.Due.{IsDue, IsEndDue, StreamGoes}
-use Rattle.qs_machine.specs.Outgoing.{Outgoing, IsTied, WantsMore, lanes_of, sent_sum}
+use Rattle.qs_machine.specs.Outgoing.{Outgoing, IsTied, HasSending, IsBlockedAt, WantsMore, chunk_put, lanes_of, sent_sum}
 use Rattle.qs_conn.specs.Filling.{end_by, AnyWantsMore}
 use Rattle.qs_conn.specs.declared.send_marks.Task.{Task}
 use Rattle.qs_conn.specs.declared.send_marks.Task.TheVariants as tasks
-use Rattle.qs_conn.specs.Tasks.{IsQuiet, IsQuietAt}
+use Rattle.qs_conn.specs.Tasks.{IsQuiet, IsQuietAt, IsDoneAfter, IsFree}
 use Rattle.qs_conn.proofs.DueTied.{is_due, is_end_due}
 use Rattle.qs_machine.proofs.LaneTables.{lookup_lanes}
+use Rattle.qs_machine.proofs.TableLaws.{lookup_same}
+use Rattle.qs_machine.proofs.Tied.{tied_sent}
 
 -- of a quiet half among the halves
 pub quiet_at : (task : Task) (v o : Outgoing) (t : Tables Sending) (n : ℕ) → v ≡ o → lanes_of t ≡ v.sends → ((s : Sending) → lookup t n ≡ Some s → IsTied v.outstanding n s) → ((s : Sending) → lookup t n ≡ Some s → IsQuiet task s) → IsQuietAt task o n
@@ -55,6 +59,17 @@ module _ (o : Outgoing) (n : ℕ) (q : IsQuietAt tasks.Bytes o n) where
       let (s, is, tied, quiet) = q l at in
       let there = end_by t recvs o e in
       both_ways s.due.fin (quiet.no_end (ap (λ x. x.sent_end) is ∙ whole ∙ ap (λ x. x.written) (sym is))) (is_end_due there n s tied (subst (IsEndDue there n) (sym is) due))
+
+-- A stream of which a chunk went
+module _ (o : Outgoing) (n : ℕ) (s : Sending) (c : Chunk) (there : HasSending o n s) (due : IsDueChunk s c) where
+  lane_put : lookup (chunk_put n c o).sends n ≡ Some (sent_lane s.lane c)
+  lane_put = subst (λ x. lookup (updated o.sends n (λ l. sent_lane l c) x) n ≡ Some (sent_lane s.lane c)) (sym there.lane) (lookup_same o.sends n s.lane (sent_lane s.lane c) there.lane)
+
+  pub done_quiet : IsDoneAfter o n c → IsQuietAt tasks.Bytes (chunk_put n c o) n
+  done_quiet done l at = (after_sent s c, same_Some (sent_lane s.lane c) l (sym lane_put ∙ at), tied_sent o.outstanding o.next n s c there.tied there.lawful due, done s there)
+
+  pub not_blocked : IsFree o n → (m : ℕ) → IsBlockedAt (lookup (chunk_put n c o).sends n) m → ⊥
+  not_blocked free m blocked = (let more = subst (λ x. IsBlockedAt x m) lane_put blocked in omega (arith, more.2, free s there))
 
 -- while the connection's credit is used up, nothing goes but what takes none
 pub no_goes_again : (o : Outgoing) (n : ℕ) → IsQuietAt tasks.Again o n → (t : Limits) (recvs : Tables RecvLane) (e : End) → t.known_data ≤ sent_sum o.sends → StreamGoes (end_by t recvs o e) n → ⊥

@@ -1,5 +1,5 @@
 -- The packets of a token are acknowledged, as an ACK of them alone does.
-use Rattle.std.proofs.Common.{◌≡◌, ℕ, zero, suc, ◌+◌, ◌<◌, ◌≤◌, nat_lt, nat_le, ◌&&◌, ◌||◌, Bool, true, false, List, [], ◌∷◌, ◌++◌, map, Option, None, Some, is_some, Result, Ok, Err, refl, sym, ap, ◌∙◌, subst, inl, inr, arith}
+use Rattle.std.proofs.Common.{◌≡◌, ℕ, zero, suc, ◌+◌, ◌<◌, ◌≤◌, Bool, true, false, List, [], ◌∷◌, ◌++◌, map, Option, None, Some, is_some, Result, Ok, Err, refl, sym, ap, ◌∙◌, subst, inl, inr, arith}
 use Rattle.std.specs.Prelude.{reverse, flat_map}
 use Rattle.std.specs.List.{filter}
 use Rattle.std.specs.FinMap as fmap
@@ -10,7 +10,7 @@ use Rattle.qs_ranges.specs.declared.NoMemory.{NoMemory}
 use Rattle.qs_send.specs.declared.piece.Piece.{Piece}
 use Rattle.qs_calls.specs.declared.token.Token.{Token}
 use Rattle.qs_machine.specs.Ends.{End, Records, LostPackets}
-use Rattle.qs_machine.specs.FrameStep.{AckedPiece, acked_at, is_named, pieces_of, named_in, named, acks, frame_taken}
+use Rattle.qs_machine.specs.FrameStep.{AckedPiece, acked_at, is_named, pieces_of, named_in, frame_taken}
 use Rattle.qs_machine.specs.Receiving.{RunsOut}
 use Rattle.qs_machine.specs.Alone.{only}
 use Rattle.qs_machine.specs.Outgoing.{Outgoing, with_outgoing, first_piece}

@@ -13,7 +13,7 @@ use Rattle.qs_recv.specs.News.{tells_something}
 use Rattle.qs_recv.specs.declared.credit.Share.{Share}
 use Rattle.qs_recv.specs.declared.credit.Share.TheVariants.{Half}
 use Rattle.qs_machine.specs.Credit.{recv_ended}
-use Rattle.qs_machine.proofs.Choices.{not_chosen}
+use Rattle.qs_machine.proofs.EveryCall.{not_chosen}
 use Rattle.qs_conn.specs.Marks.{is_marked, AreMarked}
 use Rattle.qs_conn.specs.RecvTasks.{has, marks_of, HasNone, AreNoted}
 use Rattle.qs_conn.specs.declared.recv_marks.RecvTask.{RecvTask}

@@ -1,9 +1,9 @@
 -- A STREAM frame that raises the highest offset of its stream changes the end.
-use Rattle.std.proofs.Common.{◌≡◌, ℕ, zero, suc, ◌+◌, ◌-◌, ◌<◌, ◌&&◌, ◌||◌, not, Bool, true, false, cond, max, nat_eq, nat_lt, nat_le, List, [], ◌∷◌, length, Option, None, Some, is_some, is_none, Result, Ok, Err, slice_get, refl, sym, ap, ◌∙◌, subst, arith}
+use Rattle.std.proofs.Common.{◌≡◌, ℕ, ◌+◌, ◌-◌, ◌<◌, ◌&&◌, ◌||◌, not, Bool, true, false, cond, max, nat_eq, nat_lt, nat_le, List, length, Option, None, Some, is_some, is_none, Result, Ok, Err, refl, sym, ap, ◌∙◌, subst, arith}
 use Rattle.std.specs.Prelude.{unwrap_or}
 use Rattle.std.proofs.lemmas.Bool.{true≢false, or_left, or_right}
 use Rattle.std.proofs.lemmas.Bool.Decides.{nat_tests}
-use Rattle.std.proofs.lemmas.Option.{same_Some, none-some}
+use Rattle.std.proofs.lemmas.Option.{none-some}
 use Rattle.qs_ranges.specs.Numbers.{NumberSet, covers, end_of}
 use Rattle.qs_ranges.proofs.Sets.{below-end_of, covers-is}
 use Rattle.qs_recv.specs.Lane.{RecvLane, highest, breaks_known, breaks_final_size, check_stream}
@@ -16,15 +16,8 @@ use Rattle.qs_machine.specs.Ends.{End, is_own, is_uni, send_lane, recv_lane, win
 use Rattle.qs_machine.specs.Seen.{Stream}
 use Rattle.qs_machine.specs.Credit.{grant}
 use Rattle.qs_machine.specs.Tables.{index_of}
-use Rattle.qs_machine.specs.Sums.{EachLawful}
 use Rattle.qs_machine.specs.Changes.{half_changes, changes}
 use Rattle.qs_machine.specs.Verdicts.{STREAM_STATE_ERROR, STREAM_LIMIT_ERROR, fault_if, or_new, or_else, state_fault_in, credit_fault, bytes_fault, lane_of, verdict}
-
-pub each_lawful : (xs : List RecvLane) (i : ℕ) (l : RecvLane) → EachLawful xs → slice_get xs i ≡ Some l → IsLawful l
-each_lawful [] zero l each is = absurd (none-some l is)
-each_lawful [] (suc i) l each is = absurd (none-some l is)
-each_lawful (x ∷ xs) zero l each is = subst IsLawful (same_Some x l is) each.0
-each_lawful (x ∷ xs) (suc i) l each is = each_lawful xs i l each.1 is
 
 -- one of a lane's parts changes
 part_changes : (f r : Option ℕ) (s : NumberSet) (offset n : ℕ) (fin : Bool) → (is_some r ≡ true → is_some f ≡ true) → breaks_known f (offset + n) n fin (unwrap_or f (end_of s)) ≡ false

@@ -13,7 +13,7 @@ use Rattle.qs_recv.specs.Lawful.{IsLawful}
 use Rattle.qs_recv.specs.declared.credit.Share.{Share}
 use Rattle.qs_conn.specs.declared.touches.Touches.{Touches}
 use Rattle.qs_machine.specs.Sums.{changed}
-use Rattle.qs_machine.proofs.ProcessedAgain.{next_twice}
+use Rattle.qs_machine.proofs.Again.{next_twice}
 use Rattle.qs_conn.specs.Marks.{is_marked}
 use Rattle.qs_conn.specs.declared.touches.Touched.{Touched}
 use Rattle.qs_conn.specs.declared.touches.Touched.TheVariants.{Nothing, Lane, Several}

@@ -1,5 +1,6 @@
 -- Sending halves that have something for a packet, or for their owner.
 use Rattle.std.proofs.Common.{◌≡◌, ℕ, ◌≤◌, Bool, false, Option, Some, None, is_some, option_map, refl, sym, ap, ◌∙◌, subst, inl, inr}
+use Rattle.std.specs.Prelude.{⊤}
 use Rattle.std.proofs.lemmas.Bool.{both_ways}
 use Rattle.std.proofs.lemmas.Option.{none-some, same_Some}
 use Rattle.std.specs.FinSet as set
@@ -86,19 +87,25 @@ sendable_least v old o b at from r same out is none begin h =
     rw (← same, ← begin) (least_given (v.closed ≡ None) (IsDueOf v) at r (none_is v.closed (sym is ∙ none)) (subst (λ x. IsLeast (IsDueOf x) at r) out (h v)))
 
 -- an answer about halves is one about their lanes
-pub lanes_least : (P : Sending → Type 0) (Q : SendLane → Type 0) → ((s : Sending) → P s → Q s.lane) → ((s : Sending) → Q s.lane → P s) → (v o : Outgoing) (t : Tables Sending) (from : ℕ) (r : Option ℕ) → v ≡ o → lanes_of t ≡ v.sends → IsLeast (IsHeld P t) from r → IsLeast (IsHeld Q o.sends) from r
-lanes_least P Q to back v o t from r same lanes h = subst (λ (x : Outgoing). IsLeast (IsHeld Q x.sends) from r) same (record { found = found; least = least })
+pub lanes_with : (P : Sending → Type 0) (Q : SendLane → Type 0) (T : ℕ → Type 0) → ((s : Sending) → P s → Q s.lane) → ((s : Sending) → Q s.lane → P s) → (v o : Outgoing) (t : Tables Sending) (from : ℕ) (r : Option ℕ) → v ≡ o → lanes_of t ≡ v.sends
+    → IsLeast (λ n. IsHeld P t n × T n) from r → IsLeast (λ n. IsHeld Q o.sends n × T n) from r
+lanes_with P Q T to back v o t from r same lanes h = subst (λ (x : Outgoing). IsLeast (λ n. IsHeld Q x.sends n × T n) from r) same (record { found = found; least = least })
   where
-    found : (n : ℕ) → r ≡ Some n → (from ≤ n) × IsHeld Q v.sends n
+    found : (n : ℕ) → r ≡ Some n → (from ≤ n) × (IsHeld Q v.sends n × T n)
     found n is =
         let f = h.found n is in
-        let s = f.1.0 in
-        (f.0, (s.lane, ap (λ x. lookup x n) (sym lanes) ∙ lane_there t n s f.1.1, to s f.1.2))
+        let s = f.1.0.0 in
+        (f.0, ((s.lane, ap (λ x. lookup x n) (sym lanes) ∙ lane_there t n s f.1.0.1, to s f.1.0.2), f.1.1))
 
-    least : (n : ℕ) → from ≤ n → IsHeld Q v.sends n → (m : ℕ) × (r ≡ Some m) × (m ≤ n)
-    least n ge (l, at, q) =
+    least : (n : ℕ) → from ≤ n → IsHeld Q v.sends n × T n → (m : ℕ) × (r ≡ Some m) × (m ≤ n)
+    least n ge ((l, at, q), also) =
         let (s, there, is) = half_of_lane t n l (ap (λ x. lookup x n) lanes ∙ at) in
-        h.least n ge (s, there, back s (subst Q (sym is) q))
+        h.least n ge ((s, there, back s (subst Q (sym is) q)), also)
+
+pub lanes_least : (P : Sending → Type 0) (Q : SendLane → Type 0) → ((s : Sending) → P s → Q s.lane) → ((s : Sending) → Q s.lane → P s) → (v o : Outgoing) (t : Tables Sending) (from : ℕ) (r : Option ℕ) → v ≡ o → lanes_of t ≡ v.sends → IsLeast (IsHeld P t) from r → IsLeast (IsHeld Q o.sends) from r
+lanes_least P Q to back v o t from r same lanes h =
+    let with_all = lanes_with P Q (λ n. ⊤) to back v o t from r same lanes (record { found = λ n is. (let f = h.found n is in (f.0, (f.1, tt))); least = λ n ge p. h.least n ge p.0 }) in
+    record { found = λ n is. (let f = with_all.found n is in (f.0, f.1.0)); least = λ n ge q. with_all.least n ge (q, tt) }
 
 pub writable_least : (v old : End) (b : Bool) (at from : ℕ) (r : Option ℕ) → v ≡ old → b ≡ is_some v.closed → b ≡ false → at ≡ from → IsLeast (IsHeld MayWrite v.sends) at r → IsLeast (IsWritable old) from r
 writable_least v old b at from r same is none begin h = rw (← same, ← begin) (least_given (v.closed ≡ None) (IsHeld MayWrite v.sends) at r (none_is v.closed (sym is ∙ none)) h)

@@ -1,26 +1,25 @@
 -- Searches for the least stream whose sending half has something, of those that an owner was told of or of those that it wasn't.
-use Rattle.std.proofs.Common.{◌≡◌, ℕ, ◌+◌, ◌-◌, ◌*◌, ◌/◌, ◌<◌, ◌≤◌, ◌&&◌, not, if◌then◌else◌, Bool, true, false, List, length, get_or, Option, None, Some, slice_get, refl, sym, ap, ◌∙◌, subst, arith}
+use Rattle.std.proofs.Common.{◌≡◌, ℕ, ◌+◌, ◌-◌, ◌*◌, ◌/◌, ◌<◌, ◌&&◌, not, if◌then◌else◌, Bool, true, false, List, length, get_or, Option, None, Some, slice_get, refl, sym, ap, ◌∙◌, subst, arith}
 use Rattle.std.proofs.lemmas.Bool.{both_ways, true≢false, and_right}
-use Rattle.std.proofs.lemmas.Option.{none-some, same_Some}
+use Rattle.std.proofs.lemmas.Option.{same_Some}
 use Rattle.qs_send.specs.Lane.{SendLane, Sending}
 use Rattle.qs_machine.specs.Heard.{is_told}
 use Rattle.qs_machine.specs.News.{IsLeast, IsHeld}
 use Rattle.qs_machine.specs.Outgoing.{Outgoing, lanes_of}
 use Rattle.qs_machine.specs.Sums.{tables_of}
-use Rattle.qs_machine.specs.Tables.{Tables, type_of, table, lookup}
-use Rattle.qs_machine.proofs.LaneTables.{lane_there}
+use Rattle.qs_machine.specs.Tables.{Tables, type_of, table}
 use Rattle.qs_machine.proofs.TableEdits.{lookup_is}
 use Rattle.qs_conn.specs.Marks.{is_marked, both, untold, AreMarked, IsNextMark}
 use Rattle.qs_conn.specs.Tasks.{IsQuiet, HasTask, sought_of, IsSoughtAt, IsSought, IsSoughtOf}
 use Rattle.qs_conn.specs.Untold.{IsClear as HasNoMarks}
 use Rattle.qs_conn.specs.declared.send_marks.Search.{Search}
 use Rattle.qs_conn.proofs.Boths.{both_is}
-use Rattle.qs_conn.proofs.Least.{IsClear, least_by, none_before}
+use Rattle.qs_conn.proofs.Least.{IsClear, clear_marked, none_marked, clear_over, least_here, row_none, row_some}
 use Rattle.qs_conn.proofs.Marked.{marked_len, unmarked_at, clear_next}
-use Rattle.qs_conn.proofs.Sought.{quiet_has_none, half_of_lane}
+use Rattle.qs_conn.proofs.Sought.{quiet_has_none, lanes_with}
 use Rattle.qs_conn.proofs.Summed.{marked_below}
 use Rattle.qs_conn.proofs.UntoldMarks.{untold_is}
-use Rattle.qs_conn.proofs.UntoldSearch.{next_self, clear_to, clear_all, clear_past, least_at, told_of}
+use Rattle.qs_conn.proofs.UntoldSearch.{next_self, told_of}
 
 -- Marks that are sought
 
@@ -68,58 +67,34 @@ module _ (q : Search) (xs : List Sending) (ms ts : List Bool) (marked : AreMarke
       omega (arith, marked_below ms index (sought_mark q.is_told ms ts index (h.found index refl).1).0, marked_len (IsQuiet q.task) xs ms marked)
 
   pub sought_left : (from next : ℕ) → IsClear (IsSoughtAt q xs ts) from next → IsNextMark (sought_of q ms ts) next None → IsLeast (IsSoughtAt q xs ts) from None
-  sought_left = clear_all (IsSoughtAt q xs ts) (sought_of q ms ts) unmarked_none
+  sought_left = none_marked (IsSoughtAt q xs ts) (sought_of q ms ts) unmarked_none
 
   module _ (from next index : ℕ) (x : Sending) (c : IsClear (IsSoughtAt q xs ts) from next) (h : IsNextMark (sought_of q ms ts) next (Some index)) (at : slice_get xs index ≡ Some x) where
     clear_here : IsClear (IsSoughtAt q xs ts) from index
-    clear_here = clear_to (IsSoughtAt q xs ts) (sought_of q ms ts) unmarked_none from next index c h
+    clear_here = clear_marked (IsSoughtAt q xs ts) (sought_of q ms ts) unmarked_none from next index c h
 
     pub sought_found : HasTask q.task x → IsLeast (IsSoughtAt q xs ts) from (Some index)
-    sought_found r = least_at (IsSoughtAt q xs ts) from index clear_here ((x, at, r), (sought_mark q.is_told ms ts index (h.found index refl).1).1)
+    sought_found r = least_here (IsSoughtAt q xs ts) from index clear_here ((x, at, r), (sought_mark q.is_told ms ts index (h.found index refl).1).1)
 
     pub sought_passed : (HasTask q.task x → ⊥) → IsClear (IsSoughtAt q xs ts) from (index + 1)
-    sought_passed without = clear_past (IsSoughtAt q xs ts) from index clear_here (λ p. without (subst (HasTask q.task) (same_Some p.0.0 x (sym p.0.1 ∙ at)) p.0.2))
+    sought_passed without = clear_over (IsSoughtAt q xs ts) from index clear_here (λ p. without (subst (HasTask q.task) (same_Some p.0.0 x (sym p.0.1 ∙ at)) p.0.2))
 
 -- Streams of a type
 
 module _ (q : Search) (ls : List (List Sending)) (told : Tables Bool) (k from first : ℕ) (d : List Sending) (len : length ls ≡ 4) (small : k < 4) (begin : first ≡ (from + 3 - k) / 4) where
-  index_of : (n : ℕ) → type_of n ≡ k → from ≤ n → first ≤ n / 4
-  index_of n kind ge = omega (arith, small, begin, kind, ge)
+  part_of : (n : ℕ) → type_of n ≡ k → IsSought q (tables_of ls) told n → IsSoughtAt q (get_or ls k d) (table told k) (n / 4)
+  part_of n kind ((x, at, r), is) = ((x, sym (lookup_is ls n k (n / 4) d len (sym kind) refl) ∙ at, r), sym (told_of told n k kind) ∙ is)
 
-  part_of : (n : ℕ) → IsSoughtOf q (tables_of ls) told k n → IsSoughtAt q (get_or ls k d) (table told k) (n / 4)
-  part_of n (kind, ((x, at, r), is)) = ((x, sym (lookup_is ls n k (n / 4) d len (sym kind) refl) ∙ at, r), sym (told_of told n k kind) ∙ is)
-
-  stream_of : (i n : ℕ) → n ≡ i * 4 + k → IsSoughtAt q (get_or ls k d) (table told k) i → IsSoughtOf q (tables_of ls) told k n
-  stream_of i n at ((x, there, r), is) =
-      let kind : type_of n ≡ k = omega (arith, at, small) in
-      let index : i ≡ n / 4 = omega (arith, at, small) in
-      (kind, ((x, lookup_is ls n k i d len (sym kind) index ∙ there, r), told_of told n k kind ∙ ap (is_marked (table told k)) (sym index) ∙ is))
+  stream_of : (i n : ℕ) → type_of n ≡ k → i ≡ n / 4 → IsSoughtAt q (get_or ls k d) (table told k) i → IsSought q (tables_of ls) told n
+  stream_of i n kind index ((x, at, r), is) = ((x, lookup_is ls n k i d len (sym kind) index ∙ at, r), told_of told n k kind ∙ ap (is_marked (table told k)) (sym index) ∙ is)
 
   pub sought_none : IsLeast (IsSoughtAt q (get_or ls k d) (table told k)) first None → IsLeast (IsSoughtOf q (tables_of ls) told k) from None
-  sought_none h =
-      least_by (IsSoughtOf q (tables_of ls) told k) from None (λ n is. absurd (none-some n is))
-      (λ n ge before p. none_before (IsSoughtAt q (get_or ls k d) (table told k)) first None h (n / 4) (index_of n p.0 ge) tt (part_of n p))
+  sought_none = row_none (IsSought q (tables_of ls) told) (IsSoughtAt q (get_or ls k d) (table told k)) k from first small begin part_of
 
   pub sought_some : (i : ℕ) → IsLeast (IsSoughtAt q (get_or ls k d) (table told k)) first (Some i) → IsLeast (IsSoughtOf q (tables_of ls) told k) from (Some (i * 4 + k))
-  sought_some i h =
-      let f = h.found i refl in
-      let ge = f.0 in
-      least_by (IsSoughtOf q (tables_of ls) told k) from (Some (i * 4 + k))
-      (λ n is. (let at : n ≡ i * 4 + k = sym (same_Some (i * 4 + k) n is) in (omega (arith, at, ge, begin, small), stream_of i n at f.1)))
-      (λ n on before p. none_before (IsSoughtAt q (get_or ls k d) (table told k)) first (Some i) h (n / 4) (index_of n p.0 on) (let kind = p.0 in omega (arith, before, kind, small)) (part_of n p))
+  sought_some i = row_some (IsSought q (tables_of ls) told) (IsSoughtAt q (get_or ls k d) (table told k)) k from first small begin part_of i (stream_of i)
 
 -- an answer about halves is one about their lanes
 pub lanes_sought : (q : Search) (Q : SendLane → Type 0) → ((s : Sending) → HasTask q.task s → Q s.lane) → ((s : Sending) → Q s.lane → HasTask q.task s) → (told : Tables Bool) (v o : Outgoing) (t : Tables Sending) (from : ℕ) (r : Option ℕ) → v ≡ o → lanes_of t ≡ v.sends
     → IsLeast (IsSought q t told) from r → IsLeast (λ n. IsHeld Q o.sends n × (is_told told n ≡ q.is_told)) from r
-lanes_sought q Q to back told v o t from r same lanes h = subst (λ (x : Outgoing). IsLeast (λ n. IsHeld Q x.sends n × (is_told told n ≡ q.is_told)) from r) same (record { found = found; least = least })
-  where
-    found : (n : ℕ) → r ≡ Some n → (from ≤ n) × (IsHeld Q v.sends n × (is_told told n ≡ q.is_told))
-    found n is =
-        let f = h.found n is in
-        let s = f.1.0.0 in
-        (f.0, ((s.lane, ap (λ x. lookup x n) (sym lanes) ∙ lane_there t n s f.1.0.1, to s f.1.0.2), f.1.1))
-
-    least : (n : ℕ) → from ≤ n → IsHeld Q v.sends n × (is_told told n ≡ q.is_told) → (m : ℕ) × (r ≡ Some m) × (m ≤ n)
-    least n ge ((l, at, p), is) =
-        let (s, there, lane) = half_of_lane t n l (ap (λ x. lookup x n) lanes ∙ at) in
-        h.least n ge ((s, there, back s (subst Q (sym lane) p)), is)
+lanes_sought q Q to back told = lanes_with (HasTask q.task) Q (λ n. is_told told n ≡ q.is_told) to back

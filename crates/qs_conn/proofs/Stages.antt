@@ -28,7 +28,7 @@ use Rattle.qs_conn.proofs.Pieces.{put_packet, due_more, end_due_more, item_ack_d
 use Rattle.qs_conn.proofs.PacketOrder.{order_first, order_item}
 use Rattle.qs_conn.proofs.Items.{current_by_base, acked_by_base, sum_by_base, known_by_base, base_item, fills_push, out_old, out_is}
 use Rattle.qs_conn.proofs.Texts.{all_push, no_text, no_frames, text_push, seen_push, seen_item, item_most, plain_item, control_item}
-use Rattle.qs_machine.proofs.Prefix.{or_false}
+use Rattle.qs_machine.proofs.Again.{or_false}
 
 -- the frames with one more
 pushed : (frames : List FrameValue) (f : FrameValue) (s : Seen) → seen f ≡ s → (P : List Seen → Type 0) → P (seen_all frames ++ s ∷ []) → P (seen_all (frames ++ f ∷ []))

@@ -1,5 +1,5 @@
 -- The least stream with a mark.
-use Rattle.std.proofs.Common.{◌≡◌, ℕ, ◌+◌, ◌*◌, ◌/◌, ◌<◌, ◌^◌, Bool, true, false, unwrap_or, List, None, Some, refl, sym, ap, ◌∙◌, subst, arith}
+use Rattle.std.proofs.Common.{◌≡◌, ℕ, ◌+◌, ◌*◌, ◌/◌, ◌<◌, ◌^◌, Bool, true, false, unwrap_or, List, Option, None, Some, refl, sym, ap, ◌∙◌, arith}
 use Rattle.std.proofs.lemmas.Bool.{both_ways}
 use Rattle.std.proofs.lemmas.Option.{none-some, same_Some}
 use Rattle.qs_machine.specs.News.{IsLeast}
@@ -7,13 +7,19 @@ use Rattle.qs_machine.specs.Heard.{is_told}
 use Rattle.qs_machine.specs.Tables.{Tables, type_of, table, no_streams}
 use Rattle.qs_machine.proofs.Ties.{nowhere}
 use Rattle.qs_conn.specs.Hearing.{IsToldOf}
-use Rattle.qs_conn.specs.Marks.{is_marked, IsNextMark}
+use Rattle.qs_conn.specs.Marks.{is_marked, IsNextMark, IsUntold}
 use Rattle.qs_conn.proofs.Least.{least_by}
 use Rattle.qs_conn.proofs.UntoldSearch.{told_of}
 
 -- at first none has one
+none_told : (told : Tables Bool) → told ≡ no_streams → (n : ℕ) → is_told told n ≡ false
+none_told told same n = ap (λ t. is_told t n) same ∙ ap (λ o. unwrap_or o false) (nowhere n)
+
 pub none_marked : (told : Tables Bool) → told ≡ no_streams → (n : ℕ) → is_told told n ≡ true → n < 2 ^ 62
-none_marked told same n is = absurd (both_ways (is_told no_streams n) (ap (λ o. unwrap_or o false) (nowhere n)) (subst (λ t. is_told t n ≡ true) same is))
+none_marked told same n is = absurd (both_ways (is_told told n) (none_told told same n) is)
+
+pub untold_of_none : (P : ℕ → Type 0) (told : Tables Bool) (from : ℕ) (r : Option ℕ) → told ≡ no_streams → IsLeast (IsUntold P told) from r → IsLeast P from r
+untold_of_none P told from r same h = record { found = λ n is. (let f = h.found n is in (f.0, f.1.0)); least = λ n ge p. h.least n ge (p, none_told told same n) }
 
 module _ (told : Tables Bool) (k : ℕ) (marks : List Bool) (small : k < 4) (are : marks ≡ table told k) where
   mark_of : (n : ℕ) → type_of n ≡ k → is_told told n ≡ is_marked marks (n / 4)

@@ -1,9 +1,8 @@
 -- What the frames of a payload tell, one after the other.
 use Rattle.std.proofs.Common.{◌≡◌, ℕ, Bool, true, false, not, ◌||◌, List, ◌∷◌, ◌++◌, is_some, Result, Ok, Err, refl, sym, ap, ◌∙◌, subst, inr}
-use Rattle.std.specs.Prelude.{reverse}
+use Rattle.std.specs.Prelude.{reverse, ⊤}
 use Rattle.std.specs.List.{filter, FoldsTo}
 use Rattle.std.specs.FinMap as fmap
-use Rattle.qs_send.specs.declared.piece.Item.{Item}
 use Rattle.qs_send.specs.Records.{NoneEmpty}
 use Rattle.qs_wire.specs.Layout.{PlacedValue}
 use Rattle.qs_wire.specs.Grammar.{frames_of}
@@ -11,7 +10,7 @@ use Rattle.qs_wire.specs.Reading.{Reading, reading_of, with_first}
 use Rattle.qs_calls.specs.declared.closing.Closed.{Closed}
 use Rattle.qs_calls.specs.declared.closing.Closing.{Closing}
 use Rattle.qs_calls.specs.declared.closing.Received.{Received}
-use Rattle.qs_calls.specs.declared.closing.Received.TheVariants.{Done, Duplicate, BelowFloor, PeerClosed, NoMemory}
+use Rattle.qs_calls.specs.declared.closing.Received.TheVariants.{PeerClosed, NoMemory}
 use Rattle.qs_machine.specs.Ends.{End, Records, closes}
 use Rattle.qs_machine.specs.FrameStep.{is_named, named, acks, frame_taken}
 use Rattle.qs_machine.specs.Newly.{gone, in_turn, newly_acked}
@@ -29,8 +28,7 @@ unfolding frame_taken
 frame_full (Ack largest r) e full = (acks_all r e full).none
 frame_full (Stream n offset bytes fin) e full = subst NoneEmpty (sym (stream_out n offset bytes fin e)) full
 frame_full (Control item) e full = subst NoneEmpty (sym (item_out item e)) full
-frame_full (Close code) e full = full
-frame_full (Plain asks) e full = full
+frame_full f e full = full
 
 same_within : (e new : End) → new.outstanding ≡ e.outstanding → Within new e
 same_within e new same j is = ap (λ (m : Records). is_some (fmap.get m j)) (sym same) ∙ is
@@ -40,8 +38,7 @@ unfolding frame_taken
 frame_within (Ack largest r) e full = (acks_all r e full).within
 frame_within (Stream n offset bytes fin) e full = same_within e (frame_taken (Stream n offset bytes fin) e) (stream_out n offset bytes fin e)
 frame_within (Control item) e full = same_within e (frame_taken (Control item) e) (item_out item e)
-frame_within (Close code) e full = λ j is. is
-frame_within (Plain asks) e full = λ j is. is
+frame_within f e full = λ j is. is
 
 module _ {S : Type 0} (R : S → ℕ → S → Type 0) where
   nothing_now : (fs : List Seen) (e mid new : End) (s u t : S) → mid.outstanding ≡ e.outstanding → s ≡ u → FoldsTo R u (in_turn fs (gone mid new)) t → FoldsTo R s (in_turn fs (gone e new)) t
@@ -72,58 +69,27 @@ module _ {S : Type 0} (R : S → ℕ → S → Type 0) where
 
 acks_others : (p : PlacedValue) (largest : ℕ) (r : List (ℕ × ℕ)) (e : End) (result : Result Received Closing) (new : End) → NoneEmpty e.outstanding → Stops p (Ack largest r) e result new → (j : ℕ) → is_named r j ≡ false → holds new j ≡ holds e j
 acks_others p largest r e (Ok NoMemory) new full h j off = ap (λ (x : End). holds x j) h.1.1 ∙ (acks_some r e h.1.0 full).others j off
-acks_others p largest r e (Ok Done) new full h j off = absurd h
-acks_others p largest r e (Ok Duplicate) new full h j off = absurd h
-acks_others p largest r e (Ok BelowFloor) new full h j off = absurd h
-acks_others p largest r e (Ok (PeerClosed code)) new full h j off = absurd h
 acks_others p largest r e (Err closing) new full h j off = ap (λ (x : End). holds x j) h.2
+acks_others p largest r e (Ok other) new full h j off = absurd h
 
-acks_within : (p : PlacedValue) (largest : ℕ) (r : List (ℕ × ℕ)) (e : End) (result : Result Received Closing) (new : End) → NoneEmpty e.outstanding → Stops p (Ack largest r) e result new → Within new e
-acks_within p largest r e (Ok NoMemory) new full h = subst (λ (x : End). Within x e) (sym h.1.1) (acks_some r e h.1.0 full).within
-acks_within p largest r e (Ok Done) new full h = absurd h
-acks_within p largest r e (Ok Duplicate) new full h = absurd h
-acks_within p largest r e (Ok BelowFloor) new full h = absurd h
-acks_within p largest r e (Ok (PeerClosed code)) new full h = absurd h
-acks_within p largest r e (Err closing) new full h = same_within e new (ap (λ (x : End). x.outstanding) h.2)
+-- any other frame leaves the records alone
+abbrev IsNoAck : Seen → Type 0
+IsNoAck (Ack largest r) = ⊥
+IsNoAck f = ⊤
 
-stream_stops : (p : PlacedValue) (n offset : ℕ) (bytes : List ℕ) (fin : Bool) (e : End) (result : Result Received Closing) (new : End) → Stops p (Stream n offset bytes fin) e result new → new.outstanding ≡ e.outstanding
-stream_stops p n offset bytes fin e (Ok NoMemory) new h = ap (λ (x : End). x.outstanding) h.1.0
-stream_stops p n offset bytes fin e (Ok Done) new h = absurd h
-stream_stops p n offset bytes fin e (Ok Duplicate) new h = absurd h
-stream_stops p n offset bytes fin e (Ok BelowFloor) new h = absurd h
-stream_stops p n offset bytes fin e (Ok (PeerClosed code)) new h = absurd h
-stream_stops p n offset bytes fin e (Err closing) new h = ap (λ (x : End). x.outstanding) h.2
-
-control_stops : (p : PlacedValue) (i : Item) (e : End) (result : Result Received Closing) (new : End) → Stops p (Control i) e result new → new.outstanding ≡ e.outstanding
-control_stops p i e (Ok NoMemory) new h = ap (λ (x : End). x.outstanding) h.1.0
-control_stops p i e (Ok Done) new h = absurd h
-control_stops p i e (Ok Duplicate) new h = absurd h
-control_stops p i e (Ok BelowFloor) new h = absurd h
-control_stops p i e (Ok (PeerClosed code)) new h = absurd h
-control_stops p i e (Err closing) new h = ap (λ (x : End). x.outstanding) h.2
-
-plain_stops : (p : PlacedValue) (asks : Bool) (e : End) (result : Result Received Closing) (new : End) → Stops p (Plain asks) e result new → new.outstanding ≡ e.outstanding
-plain_stops p asks e (Ok NoMemory) new h = ap (λ (x : End). x.outstanding) h.1.0
-plain_stops p asks e (Ok Done) new h = absurd h
-plain_stops p asks e (Ok Duplicate) new h = absurd h
-plain_stops p asks e (Ok BelowFloor) new h = absurd h
-plain_stops p asks e (Ok (PeerClosed code)) new h = absurd h
-plain_stops p asks e (Err closing) new h = ap (λ (x : End). x.outstanding) h.2
-
-close_stops : (p : PlacedValue) (code : ℕ) (e : End) (result : Result Received Closing) (new : End) → Stops p (Close code) e result new → new.outstanding ≡ e.outstanding
-close_stops p code e (Ok (PeerClosed told)) new h = ap (λ (x : End). x.outstanding) h.1
-close_stops p code e (Ok NoMemory) new h = absurd h
-close_stops p code e (Ok Done) new h = absurd h
-close_stops p code e (Ok Duplicate) new h = absurd h
-close_stops p code e (Ok BelowFloor) new h = absurd h
-close_stops p code e (Err closing) new h = absurd h
+records_stay : (p : PlacedValue) (f : Seen) (e : End) (result : Result Received Closing) (new : End) → IsNoAck f → Stops p f e result new → new.outstanding ≡ e.outstanding
+records_stay p (Ack largest r) e result new quiet h = absurd quiet
+records_stay p (Close code) e (Ok (PeerClosed told)) new quiet h = ap (λ (x : End). x.outstanding) h.1
+records_stay p (Close code) e result new quiet h = absurd h
+records_stay p f e (Ok NoMemory) new quiet h = ap (λ (x : End). x.outstanding) h.1.0
+records_stay p f e (Err closing) new quiet h = ap (λ (x : End). x.outstanding) h.2
+records_stay p f e (Ok other) new quiet h = absurd h
 
 pub stops_within : (p : PlacedValue) (f : Seen) (e : End) (result : Result Received Closing) (new : End) → NoneEmpty e.outstanding → Stops p f e result new → Within new e
-stops_within p (Ack largest r) e result new full h = acks_within p largest r e result new full h
-stops_within p (Stream n offset bytes fin) e result new full h = same_within e new (stream_stops p n offset bytes fin e result new h)
-stops_within p (Control i) e result new full h = same_within e new (control_stops p i e result new h)
-stops_within p (Close code) e result new full h = same_within e new (close_stops p code e result new h)
-stops_within p (Plain asks) e result new full h = same_within e new (plain_stops p asks e result new h)
+stops_within p (Ack largest r) e (Ok NoMemory) new full h = subst (λ (x : End). Within x e) (sym h.1.1) (acks_some r e h.1.0 full).within
+stops_within p (Ack largest r) e (Err closing) new full h = same_within e new (ap (λ (x : End). x.outstanding) h.2)
+stops_within p (Ack largest r) e (Ok other) new full h = absurd h
+stops_within p f e result new full h = same_within e new (records_stay p f e result new tt h)
 
 module _ {S : Type 0} (R : S → ℕ → S → Type 0) where
   nothing_more : (fs : List Seen) (e new : End) (s t : S) → new.outstanding ≡ e.outstanding → s ≡ t → FoldsTo R s (in_turn fs (gone e new)) t
@@ -134,20 +100,15 @@ module _ {S : Type 0} (R : S → ℕ → S → Type 0) where
   stops_here p (Ack largest r) fs e new result s t full h now =
       subst (λ xs. FoldsTo R s (xs ++ in_turn fs (filter (λ n. not (is_named r n)) (gone e new))) t) (sym (told_first r e new new (λ j is. refl)))
       (tells_on R s (told_of (Ack largest r) e new) t _ t now (subst (λ ns. FoldsTo R t (in_turn fs ns) t) (sym (told_last r e new (acks_others p largest r e result new full h))) (subst (λ xs. FoldsTo R t xs t) (sym (turn_none fs)) refl)))
-  stops_here p (Stream n offset bytes fin) fs e new result s t full h now = nothing_more fs e new s t (stream_stops p n offset bytes fin e result new h) now
-  stops_here p (Control i) fs e new result s t full h now = nothing_more fs e new s t (control_stops p i e result new h) now
   stops_here p (Close code) fs e new result s t full h now = now
-  stops_here p (Plain asks) fs e new result s t full h now = nothing_more fs e new s t (plain_stops p asks e result new h) now
+  stops_here p f fs e new result s t full h now = nothing_more fs e new s t (records_stay p f e result new tt h) now
 
   -- an end that closes tells nothing
   pub closed_tells : (f : Seen) (c : Closed) (e new : End) (s : S) → new ≡ closes c e → FoldsTo R s (told_of f e new) s
   closed_tells (Ack largest r) c e new s is =
       subst (λ xs. FoldsTo R s xs s) (told_first r e new new (λ j named. refl))
       (subst (λ ns. FoldsTo R s (reverse (filter (is_named r) ns)) s) (sym (gone_none e new (ap (λ (x : End). x.outstanding) is))) refl)
-  closed_tells (Stream n offset bytes fin) c e new s is = refl
-  closed_tells (Control i) c e new s is = refl
-  closed_tells (Close code) c e new s is = refl
-  closed_tells (Plain asks) c e new s is = refl
+  closed_tells f c e new s is = refl
 
 -- The frames that are left
 

@@ -10,7 +10,7 @@ use Rattle.qs_machine.specs.Tables.{Tables, each, total}
 use Rattle.qs_machine.specs.Ends.{End, Present}
 use Rattle.qs_machine.specs.Credit.{count_after, settle}
 use Rattle.qs_machine.proofs.TableLaws.{total_each}
-use Rattle.qs_machine.proofs.ProcessedAgain.{next_twice}
+use Rattle.qs_machine.proofs.Again.{next_twice}
 use Rattle.qs_conn.specs.declared.by_dir.ByDir.{ByDir}
 use Rattle.qs_conn.specs.Ended.{AreAllCounted}
 use Rattle.qs_conn.specs.Settled.{AreNext, AreNextWhere}

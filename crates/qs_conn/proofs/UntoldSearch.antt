@@ -7,8 +7,8 @@ use Rattle.qs_machine.specs.Heard.{is_told}
 use Rattle.qs_machine.specs.Sums.{tables_of}
 use Rattle.qs_machine.specs.Tables.{Tables, type_of, table, lookup}
 use Rattle.qs_machine.proofs.TableEdits.{lookup_is}
-use Rattle.qs_conn.specs.Marks.{is_marked, both, untold, AreMarked, IsNextMark, IsUntoldOf, IsUntoldAt}
-use Rattle.qs_conn.proofs.Least.{IsClear, least_by, none_before}
+use Rattle.qs_conn.specs.Marks.{is_marked, both, untold, AreMarked, IsNextMark, IsUntold, IsUntoldOf, IsUntoldAt}
+use Rattle.qs_conn.proofs.Least.{IsClear, least_by, clear_marked, none_marked, clear_over, least_here, row_none, row_some}
 use Rattle.qs_conn.proofs.Marked.{marked_len, unmarked_at}
 use Rattle.qs_conn.proofs.Summed.{marked_below}
 use Rattle.qs_conn.proofs.UntoldMarks.{untold_is, untold_len}
@@ -22,30 +22,6 @@ both_self (false ∷ ms) = ap (λ xs. false ∷ xs) (both_self ms)
 
 pub next_self : (ms ts : List Bool) (from : ℕ) (r : Option ℕ) → IsNextMark (untold (both ms ms) ts) from r → IsNextMark (untold ms ts) from r
 next_self ms ts from r h = subst (λ xs. IsNextMark (untold xs ts) from r) (both_self ms) h
-
--- Any property that only marked indexes have
-
-module _ (P : ℕ → Type 0) (ms : List Bool) (none : (i : ℕ) → is_marked ms i ≡ false → P i → ⊥) where
-  pub clear_to : (from next index : ℕ) → IsClear P from next → IsNextMark ms next (Some index) → IsClear P from index
-  clear_to from next index c h =
-      record {
-        after = omega (arith, c.after, (h.found index refl).0);
-        none = λ i ge lt p. elim (cases_lt i next) [ inl before ↦ c.none i ge before p | inr past ↦ none i (h.unmarked i past lt) p ];
-      }
-
-  pub clear_all : (from next : ℕ) → IsClear P from next → IsNextMark ms next None → IsLeast P from None
-  clear_all from next c h = least_by P from None (λ n is. absurd (none-some n is)) (λ i ge before p. elim (cases_lt i next) [ inl lt ↦ c.none i ge lt p | inr past ↦ none i (h.unmarked i past tt) p ])
-
-module _ (P : ℕ → Type 0) (from index : ℕ) (c : IsClear P from index) where
-  pub clear_past : (P index → ⊥) → IsClear P from (index + 1)
-  clear_past without =
-      record {
-        after = omega (arith, c.after);
-        none = λ i ge lt p. elim (cases_lt i index) [ inl before ↦ c.none i ge before p | inr past ↦ (let same : i ≡ index = omega (arith, lt, past) in without (subst P same p)) ];
-      }
-
-  pub least_at : P index → IsLeast P from (Some index)
-  least_at p = least_by P from (Some index) (λ n is. (let same : index ≡ n = same_Some index n is in (omega (arith, c.after, same), subst P same p))) (λ i ge before q. c.none i ge before q)
 
 -- where none between has the property, nor any from there on
 module _ (P : ℕ → Type 0) (from next : ℕ) (c : IsClear P from next) where
@@ -82,17 +58,17 @@ module _ {X : Type 0} (Q R : X → Type 0) (apart : (x : X) → Q x → R x → 
   free_there next index h = (left_mark (is_marked ms index) (is_marked ts index) (sym (untold_is ms ts index) ∙ (h.found index refl).1)).1
 
   pub clear_here : (from next index : ℕ) → IsClear (IsUntoldAt R xs ts) from next → IsNextMark (untold ms ts) next (Some index) → IsClear (IsUntoldAt R xs ts) from index
-  clear_here = clear_to (IsUntoldAt R xs ts) (untold ms ts) unmarked_none
+  clear_here = clear_marked (IsUntoldAt R xs ts) (untold ms ts) unmarked_none
 
   pub clear_left : (from next : ℕ) → IsClear (IsUntoldAt R xs ts) from next → IsNextMark (untold ms ts) next None → IsLeast (IsUntoldAt R xs ts) from None
-  clear_left = clear_all (IsUntoldAt R xs ts) (untold ms ts) unmarked_none
+  clear_left = none_marked (IsUntoldAt R xs ts) (untold ms ts) unmarked_none
 
   module _ (from next index : ℕ) (x : X) (c : IsClear (IsUntoldAt R xs ts) from next) (h : IsNextMark (untold ms ts) next (Some index)) (at : slice_get xs index ≡ Some x) where
     pub part_found : R x → IsLeast (IsUntoldAt R xs ts) from (Some index)
-    part_found r = least_at (IsUntoldAt R xs ts) from index (clear_here from next index c h) ((x, at, r), free_there next index h)
+    part_found r = least_here (IsUntoldAt R xs ts) from index (clear_here from next index c h) ((x, at, r), free_there next index h)
 
     pub part_passed : (R x → ⊥) → IsClear (IsUntoldAt R xs ts) from (index + 1)
-    part_passed without = clear_past (IsUntoldAt R xs ts) from index (clear_here from next index c h) (λ p. without (subst R (same_Some p.0.0 x (sym p.0.1 ∙ at)) p.0.2))
+    part_passed without = clear_over (IsUntoldAt R xs ts) from index (clear_here from next index c h) (λ p. without (subst R (same_Some p.0.0 x (sym p.0.1 ∙ at)) p.0.2))
 
 -- Streams of a type
 
@@ -104,21 +80,14 @@ pub told_of : (t : Tables Bool) (n k : ℕ) → type_of n ≡ k → is_told t n 
 told_of t n k kind = told_row t n ∙ ap (λ j. is_marked (table t j) (n / 4)) kind
 
 module _ {X : Type 0} (R : X → Type 0) (ls : List (List X)) (told : Tables Bool) (k : ℕ) (d : List X) (len : length ls ≡ 4) (small : k < 4) where
-  part_of : (n : ℕ) → IsUntoldOf (IsHeld R (tables_of ls)) told k n → IsUntoldAt R (get_or ls k d) (table told k) (n / 4)
-  part_of n (kind, ((x, at, r), free)) = ((x, sym (lookup_is ls n k (n / 4) d len (sym kind) refl) ∙ at, r), sym (told_of told n k kind) ∙ free)
+  part_of : (n : ℕ) → type_of n ≡ k → IsUntold (IsHeld R (tables_of ls)) told n → IsUntoldAt R (get_or ls k d) (table told k) (n / 4)
+  part_of n kind ((x, at, r), free) = ((x, sym (lookup_is ls n k (n / 4) d len (sym kind) refl) ∙ at, r), sym (told_of told n k kind) ∙ free)
 
-  stream_of : (i n : ℕ) → n ≡ i * 4 + k → IsUntoldAt R (get_or ls k d) (table told k) i → IsUntoldOf (IsHeld R (tables_of ls)) told k n
-  stream_of i n is ((x, at, r), free) =
-      let kind : type_of n ≡ k = omega (arith, is, small) in
-      let index : i ≡ n / 4 = omega (arith, is, small) in
-      (kind, ((x, lookup_is ls n k i d len (sym kind) index ∙ at, r), told_of told n k kind ∙ ap (is_marked (table told k)) (sym index) ∙ free))
+  stream_of : (i n : ℕ) → type_of n ≡ k → i ≡ n / 4 → IsUntoldAt R (get_or ls k d) (table told k) i → IsUntold (IsHeld R (tables_of ls)) told n
+  stream_of i n kind index ((x, at, r), free) = ((x, lookup_is ls n k i d len (sym kind) index ∙ at, r), told_of told n k kind ∙ ap (is_marked (table told k)) (sym index) ∙ free)
 
   pub kind_none : IsLeast (IsUntoldAt R (get_or ls k d) (table told k)) 0 None → IsLeast (IsUntoldOf (IsHeld R (tables_of ls)) told k) 0 None
-  kind_none h =
-      least_by (IsUntoldOf (IsHeld R (tables_of ls)) told k) 0 None (λ n is. absurd (none-some n is))
-      (λ n ge before p. none_before (IsUntoldAt R (get_or ls k d) (table told k)) 0 None h (n / 4) (omega arith) tt (part_of n p))
+  kind_none = row_none (IsUntold (IsHeld R (tables_of ls)) told) (IsUntoldAt R (get_or ls k d) (table told k)) k 0 0 small (omega (arith, small)) part_of
 
   pub kind_some : (i : ℕ) → IsLeast (IsUntoldAt R (get_or ls k d) (table told k)) 0 (Some i) → IsLeast (IsUntoldOf (IsHeld R (tables_of ls)) told k) 0 (Some (i * 4 + k))
-  kind_some i h =
-      least_by (IsUntoldOf (IsHeld R (tables_of ls)) told k) 0 (Some (i * 4 + k)) (λ n is. (omega arith, stream_of i n (sym (same_Some (i * 4 + k) n is)) (h.found i refl).1))
-      (λ n ge before p. none_before (IsUntoldAt R (get_or ls k d) (table told k)) 0 (Some i) h (n / 4) (omega arith) (let kind = p.0 in omega (arith, before, kind, small)) (part_of n p))
+  kind_some i = row_some (IsUntold (IsHeld R (tables_of ls)) told) (IsUntoldAt R (get_or ls k d) (table told k)) k 0 0 small (omega (arith, small)) part_of i (stream_of i)

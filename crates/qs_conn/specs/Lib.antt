@@ -20,3 +20,4 @@ pub mod Middle
 pub mod NewlyTold
 pub mod Promised
 pub mod Hearing
+pub mod Plain

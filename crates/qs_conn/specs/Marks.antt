@@ -6,7 +6,7 @@ use Rattle.qs_machine.specs.Tables.{Tables, type_of, lookup}
 use Rattle.qs_send.specs.declared.piece.Item.{Item}
 use Rattle.qs_conn.specs.declared.slot.Slot.{Slot}
 use Rattle.qs_machine.specs.Ends.{End}
-use Rattle.qs_machine.specs.News.{IsHeld, IsEnded}
+use Rattle.qs_machine.specs.News.{IsHeld}
 use Rattle.qs_machine.specs.Heard.{is_told}
 use Rattle.qs_machine.specs.Due.{IsCurrent, IsCovered}
 use Rattle.qs_conn.specs.Filling.{slot_of}
@@ -85,10 +85,6 @@ IsHeldOf {X} P t kind n = (type_of n ≡ kind) × IsHeld P t n
 -- a stream of a type without a mark doesn't have the property
 abbrev pub AreEndsMarked : {X : Type 0} → (X → Type 0) → Tables X → ℕ → List Bool → Type 0
 AreEndsMarked {X} P t kind marks = (n : ℕ) → type_of n ≡ kind → is_marked marks (n / 4) ≡ false → IsHeld P t n → ⊥
-
--- a stream of a type that is over
-abbrev pub IsEndedOf : End → ℕ → ℕ → Type 0
-IsEndedOf e kind n = (type_of n ≡ kind) × IsEnded e n
 
 -- no index of a word of 64 is marked
 abbrev pub HasNoMark : List Bool → ℕ → Type 0

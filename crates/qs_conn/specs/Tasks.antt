@@ -2,13 +2,14 @@
 -- Which sending halves have something for a packet or for their owner, by what it is, and those that have not.
 use Rattle.std.specs.Prelude.{◌≡◌, ℕ, ◌≤◌, ◌<◌, ◌⊎◌, Bool, true, false, if◌then◌else◌, List, slice_set, None, Some, is_some}
 use Rattle.std.specs.FinSet as set
-use Rattle.qs_send.specs.Lane.{SendLane, Sending}
+use Rattle.qs_send.specs.declared.parts.Chunk.{Chunk}
+use Rattle.qs_send.specs.Lane.{SendLane, Sending, after_sent}
 use Rattle.qs_send.specs.Writable.{is_writable}
 use Rattle.qs_machine.specs.Credit.{send_ended}
 use Rattle.qs_machine.specs.Heard.{is_told}
 use Rattle.qs_machine.specs.News.{IsHeld}
 use Rattle.qs_machine.specs.Tables.{Tables, type_of, lookup}
-use Rattle.qs_machine.specs.Outgoing.{Outgoing, IsTied}
+use Rattle.qs_machine.specs.Outgoing.{Outgoing, IsTied, HasSending}
 use Rattle.qs_conn.specs.declared.send_marks.Task.{Task}
 use Rattle.qs_conn.specs.declared.send_marks.Task.TheVariants as tasks
 use Rattle.qs_conn.specs.declared.send_marks.Search.{Search}
@@ -76,6 +77,18 @@ AreAllMarked halves marks = (t : Task) → AreMarked (IsQuiet t) halves (marks_o
 -- the stream's half, where it has one, has nothing of the kind
 abbrev pub IsQuietAt : Task → Outgoing → ℕ → Type 0
 IsQuietAt t o n = (l : SendLane) → lookup o.sends n ≡ Some l → (s : Sending) × (s.lane ≡ l) × IsTied o.outstanding n s × IsQuiet t s
+
+-- the stream has a half
+abbrev pub IsOpen : {X : Type 0} → Tables X → ℕ → Type 0
+IsOpen t n = is_some (lookup t n) ≡ true
+
+-- of a stream whose half takes in that a chunk was sent nothing more may go
+abbrev pub IsDoneAfter : Outgoing → ℕ → Chunk → Type 0
+IsDoneAfter o n c = (s : Sending) → HasSending o n s → HasNothing (after_sent s c)
+
+-- the stream's own limit holds nothing back (RFC 9000, section 4.1)
+abbrev pub IsFree : Outgoing → ℕ → Type 0
+IsFree o n = (s : Sending) → HasSending o n s → s.lane.written ≤ s.lane.limit
 
 -- those of the marks that an owner was told of, or those that it wasn't, as a search asks
 abbrev pub sought_of : Search → List Bool → List Bool → List Bool

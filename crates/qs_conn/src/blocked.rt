@@ -1,5 +1,5 @@
 //! What the peer says to hold it back, until its owner is told.
-ghost use Rattle.std.specs.Prelude.{◌≡◌, ◌<◌, ◌^◌, true, None, IfSome, OnOk, OnErr};
+ghost use Rattle.std.specs.Prelude.{◌≡◌, ◌<◌, ◌^◌, true, None, OnOk, OnErr};
 ghost use Rattle.qs_machine.specs.Heard.{nothing_blocked, is_held_back, with_held_back, is_told, IsToldBeside, IsForgotten};
 ghost use Rattle.qs_machine.specs.News.{IsLeast};
 ghost use Rattle.qs_machine.specs.Tables.{lookup};
@@ -7,7 +7,7 @@ ghost use Rattle.qs_conn.specs.ByDir.{IsFirstDir};
 ghost use Rattle.qs_conn.specs.Hearing.{IsToldOf};
 
 use crate::by_dir::ByDir;
-use crate::marks::least;
+use crate::places::lesser;
 use crate::told_streams::ToldStreams;
 use qs_ranges::NoMemory;
 use qs_wire::{Dir, StreamId};
@@ -104,23 +104,19 @@ impl BlockedMarks {
     pub(crate) fn next_stream(&self) -> Option<StreamId>
         ensures { IsLeast (λ n. is_told self.now.streams n ≡ true) 0 result }
     {
-        let bidi = least(self.next_of(0), self.next_of(1));
-        let uni = least(self.next_of(2), self.next_of(3));
-        match least(bidi, uni) {
-            Some(number) => StreamId::new(number),
-            None => None,
-        }
+        let bidi = lesser(self.next_of(0), self.next_of(1));
+        let uni = lesser(self.next_of(2), self.next_of(3));
+        lesser(bidi, uni)
     }
 
     // The least one of a type.
-    fn next_of(&self, stream_type: usize) -> Option<u64>
+    fn next_of(&self, stream_type: usize) -> Option<StreamId>
         requires { stream_type < 4 }
-        ensures least { IsLeast (IsToldOf self.now.streams stream_type) 0 result }
-        ensures small { IfSome result (λ n. n < 2 ^ 62) }
+        ensures { IsLeast (IsToldOf self.now.streams stream_type) 0 result }
     {
         let told = self.streams.of_type(stream_type);
         match told.marks().next(0) {
-            Some(index) => Some((index * 4 + stream_type) as u64),
+            Some(index) => StreamId::new((index * 4 + stream_type) as u64),
             None => None,
         }
     }

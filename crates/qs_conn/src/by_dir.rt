@@ -19,6 +19,7 @@ impl<T: Copy> ByDir<T> {
     }
 
     /// The one of a direction.
+    #[inline(always)]
     pub(crate) fn of(&self, dir: Dir) -> T
         ensures { result ≡ of_dir self.now dir }
     {

@@ -63,6 +63,7 @@ pub struct Endpoint {
     floor: u64,
     ack_due: bool,
     closed: Option<Closed>,
+    alloc: Global,
 }
 
 impl Model for Endpoint {
@@ -183,6 +184,7 @@ impl Endpoint {
             floor: 0,
             ack_due: false,
             closed: None,
+            alloc,
         }
     }
 

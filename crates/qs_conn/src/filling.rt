@@ -17,6 +17,7 @@ ghost use Rattle.qs_machine.specs.Due.{IsCovered};
 ghost use Rattle.qs_machine.specs.Outgoing.{IsCarried, MayTell, sent_sum, on_lane, chunk_put};
 ghost use Rattle.qs_machine.specs.Sums.{or_none};
 ghost use Rattle.qs_conn.specs.Filling.{frame_of_item, end_by, HasSpare, HasOneSpare, LeavesRest, PutsItem, no_slot, InPacket, Begun, IsAckLeft, IsAckText, IsPassed, MayGo, stream_frame};
+ghost use Rattle.qs_conn.specs.Tasks.{IsDoneAfter, IsFree};
 
 use crate::outbox::Outbox;
 use qs_calls::Fill;
@@ -75,6 +76,7 @@ fn put_frame(frame: &Frame<'_>, out: &mut [u8], len: usize) -> Option<usize>
 }
 
 /// Writes a STREAM frame with the bytes of a front and a back behind the bytes that are there, as `put_frame` does.
+#[inline(always)]
 fn put_data(
     id: StreamId,
     chunk: Chunk,
@@ -185,35 +187,56 @@ pub(crate) fn cut_to(chunk: Chunk, bytes: usize) -> Chunk
     }
 }
 
-/// Puts a chunk into the packet that is known to fit, and answers how many bytes there are then.
+/// A packet into which a chunk went.
+#[derive(Clone, Copy, Drop)]
+pub(crate) struct Put {
+    /// How many bytes it has then.
+    pub len: usize,
+    /// Nothing more of the stream may go.
+    pub is_done: bool,
+    /// The stream's own limit holds nothing back.
+    pub is_free: bool,
+}
+
+/// Puts a chunk into the packet that is known to fit.
 pub(crate) fn put_chunk(
     outbox: &mut Outbox,
     stream: StreamId,
     chunk: Chunk,
     out: &mut [u8],
     len: usize,
-) -> usize
+) -> Put
     requires within { len ≤ length out.old }
     requires spare { HasOneSpare (length out.old) len outbox.old.spare }
     requires open { is_some (lookup outbox.old.sends stream) ≡ true }
     requires may { MayGo outbox.old stream chunk (length out.old - len) }
     requires small { sent_sum (on_lane stream (λ l. sent_lane l chunk) outbox.old).sends ≤ MAX_VARINT }
     ensures outbox { outbox.new ≡ chunk_put stream chunk outbox.old }
-    ensures text { take result out.new ≡ take len out.old ++ canonical (stream_frame outbox.old stream chunk) }
+    ensures done { result.is_done ≡ true → IsDoneAfter outbox.old stream chunk }
+    ensures free { result.is_free ≡ true → IsFree outbox.old stream }
+    ensures text { take result.len out.new ≡ take len out.old ++ canonical (stream_frame outbox.old stream chunk) }
     ensures count { length (bytes_of (or_none (lookup outbox.old.sends stream)) chunk) ≡ chunk.len }
-    ensures end { result ≡ len + frame_len stream chunk.offset chunk.len }
-    ensures within { result ≤ length out.new }
-    ensures spare { HasSpare (length out.old) len outbox.old.spare → HasSpare (length out.new) result outbox.new.spare }
-    ensures rest { LeavesRest len out.old result out.new }
+    ensures end { result.len ≡ len + frame_len stream chunk.offset chunk.len }
+    ensures within { result.len ≤ length out.new }
+    ensures spare { HasSpare (length out.old) len outbox.old.spare → HasSpare (length out.new) result.len outbox.new.spare }
+    ensures rest { LeavesRest len out.old result.len out.new }
     ensures room { length out.new ≡ length out.old }
 {
     let (front, back) = outbox.bytes(stream, chunk);
     match put_data(stream, chunk, front, back, out, len) {
         Some(end) => {
-            outbox.put_chunk(stream, chunk);
-            end
+            let sent = outbox.put_chunk(stream, chunk);
+            Put {
+                len: end,
+                is_done: sent.is_done,
+                is_free: sent.is_free,
+            }
         }
-        None => len,
+        None => Put {
+            len,
+            is_done: false,
+            is_free: false,
+        },
     }
 }
 

@@ -127,7 +127,7 @@ impl Marks {
         ensures { self.new ≡ slice_set self.old index is_marked }
     {
         // Most marks stay as they are.
-        if self.has(index) == is_marked {
+        if self.marks.has(index) == is_marked {
             return;
         }
         self.turn(index, is_marked);

@@ -40,7 +40,7 @@ impl Core {
         ensures value { result ≡ is_over self.now.limits.role self.now.recvs self.now.outbox.sends stream }
         ensures few { (k : ℕ) → k < 4 → length (table self.now.recvs k) ≤ 2 ^ 60 }
     {
-        self.recvs.are_few();
+        self.recvs.learn_few();
         if type_of(stream) % 2 == role_bit(self.limits.role) {
             return false;
         }

@@ -17,7 +17,7 @@ use crate::places::{index_of, type_of};
 use crate::send_lanes::SendLanes;
 use crate::told::ToldItems;
 use crate::told_index::ToldIndex;
-use halves::{half_of, is_lawful, is_open};
+use halves::{half_of, is_open};
 use qs_calls::SendReport;
 use qs_ranges::NoMemory;
 use qs_send::{LostRecords, Piece, Records, SendFault, SendState};
@@ -101,7 +101,7 @@ impl Outbox {
     }
 
     /// Each outstanding piece is of an open stream, and each lost one. It does nothing: a caller learns the clauses.
-    pub(crate) fn are_of_open(&self)
+    pub(crate) fn learn_of_open(&self)
         ensures outstanding { AreOfOpen self.now.sends self.now.outstanding }
         ensures lost { AreOfOpen self.now.sends self.now.lost.pieces }
     {
@@ -109,12 +109,12 @@ impl Outbox {
     }
 
     /// What holds of an open stream's half. It does nothing: a caller learns the clause.
-    pub(crate) fn has_sending(&self, stream: StreamId)
+    pub(crate) fn learn_sending(&self, stream: StreamId)
         requires { is_some (lookup self.now.sends stream) ≡ true }
         ensures { (s : Sending) × HasSending self.now stream s }
     {
         let _next = self.next;
-        is_lawful(&self.types, stream);
+        halves::learn_lawful(&self.types, stream);
     }
 
     /// Whether the stream has a sending half.
@@ -149,7 +149,7 @@ impl Outbox {
             return false;
         }
         let half = half_of(&self.types, stream);
-        half.is_lawful();
+        half.learn_lawful();
         matches!(half.state(), SendState::DataRecvd | SendState::ResetRecvd)
     }
 
@@ -273,7 +273,7 @@ impl Outbox {
             IfErr result (λ fault. (self.new ≡ self.old) × (fault ≡ unwrap_or (refusal lane) SendFault.NoMemory)) }
         ensures grows { result ≡ Err SendFault.NoMemory → 0 < accepted (or_none (lookup self.old.sends stream)) (length bytes.now) }
     {
-        is_lawful(&self.types, stream);
+        halves::learn_lawful(&self.types, stream);
         let lanes = &mut self.types[type_of(stream)];
         lanes.write(index_of(stream), bytes)
     }
@@ -285,7 +285,7 @@ impl Outbox {
         ensures ok { OnOk result (self.new ≡ on_lane stream finish_lane self.old) }
         ensures err { OnErr result (self.new ≡ self.old) }
     {
-        is_lawful(&self.types, stream);
+        halves::learn_lawful(&self.types, stream);
         let lanes = &mut self.types[type_of(stream)];
         lanes.finish(index_of(stream))
     }

@@ -1,8 +1,45 @@
 //! Where a stream stands in a table.
 ghost use Rattle.std.specs.Prelude.{◌≡◌, ◌+◌, ◌-◌, ◌/◌, ◌≤◌, ◌<◌, ◌^◌};
 ghost use Rattle.qs_machine.specs.Tables.{type_of, index_of};
+ghost use Rattle.qs_conn.specs.Marks.{least_of};
 
 use qs_wire::StreamId;
+use std::marker::Model;
+
+/// A stream with its place in a table, which is worked out once for a frame.
+#[derive(Clone, Copy)]
+pub(crate) struct Place {
+    pub id: StreamId,
+    pub stream_type: usize,
+    pub index: usize,
+}
+
+// Clauses see the stream's number.
+impl Model for Place {
+    ghost use Rattle.std.specs.Prelude.{ℕ, ◌≡◌, ◌<◌, ◌^◌};
+    ghost use Rattle.qs_machine.specs.Tables.{type_of, index_of};
+
+    ghost Value = { ℕ };
+
+    ghost view = { λ p. p.id };
+
+    ghost inverse = { λ n. record { id = n; stream_type = type_of n; index = index_of n } };
+
+    ghost invariant = { λ p. (p.stream_type ≡ type_of p.id) × (p.index ≡ index_of p.id) × (p.id < 2 ^ 62) };
+}
+
+impl Place {
+    pub(crate) fn of(stream: StreamId) -> Place
+        ensures { result ≡ stream }
+    {
+        let number = stream.value();
+        Place {
+            id: stream,
+            stream_type: (number % 4) as usize,
+            index: (number / 4) as usize,
+        }
+    }
+}
 
 /// The type of a stream, 0 to 3: its two lowest bits (RFC 9000, section 2.1).
 pub(crate) fn type_of(stream: StreamId) -> usize
@@ -27,4 +64,15 @@ pub(crate) fn index_from(stream_type: usize, from: u64) -> usize
     ensures { result ≡ (from + 3 - stream_type) / 4 }
 {
     ((from + 3 - stream_type as u64) / 4) as usize
+}
+
+/// The lesser of two streams, where there are some.
+pub(crate) fn lesser(a: Option<StreamId>, b: Option<StreamId>) -> Option<StreamId>
+    ensures { result ≡ least_of a b }
+{
+    match (a, b) {
+        (Some(first), Some(second)) if second.value() < first.value() => b,
+        (Some(_first), _) => a,
+        (None, _) => b,
+    }
 }

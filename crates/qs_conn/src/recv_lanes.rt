@@ -1,5 +1,5 @@
 //! The receiving halves of the streams of one type.
-ghost use Rattle.std.specs.Prelude.{◌≡◌, ◌+◌, ◌-◌, ◌≤◌, ◌<◌, ◌^◌, ◌++◌, ◌∷◌, [], length, drop, map, min, take, slice_get, slice_index_or, option_map, ℕ, false, None, Some, IfSome, OnOk, OnErr, IsOk, IfOk, Ok};
+ghost use Rattle.std.specs.Prelude.{◌≡◌, ◌+◌, ◌-◌, ◌≤◌, ◌<◌, ◌^◌, ◌++◌, ◌∷◌, [], length, drop, map, min, take, slice_get, slice_index_or, option_map, ℕ, false, None, Some, IfSome, IfNone, OnOk, OnErr, IsOk, IfOk, Ok};
 ghost use Rattle.std.specs.List.{sum_by};
 ghost use Rattle.qs_ranges.specs.Numbers.{MAX_VARINT};
 ghost use Rattle.qs_recv.specs.Lane.{MAX_WINDOW, RecvLane, new_lane, check_stream, check_reset, check_bytes, highest, highest_after, taken, take_stream, take_reset, read_answer, bytes_read, after_read, raise, stop, stop_and_forget, set_window};
@@ -35,7 +35,7 @@ use qs_wire::StreamId;
 use std::alloc::Global;
 use std::marker::Model;
 
-type Half = RecvHalf<RingAssembly>;
+pub(crate) type Half = RecvHalf<RingAssembly>;
 
 /// The receiving halves of the streams of one type, by index.
 #[derive(Drop)]
@@ -93,7 +93,17 @@ impl RecvLanes {
         self.halves.len()
     }
 
+    /// A lane, where it is open.
+    #[inline(always)]
+    pub(crate) fn half(&self, index: usize) -> Option<&Half>
+        ensures found { IfSome result (λ half. slice_get self.now index ≡ Some half.now) }
+        ensures none { IfNone result (slice_get self.now index ≡ None) }
+    {
+        self.halves.get(index)
+    }
+
     /// The sums over all lanes.
+    #[inline(always)]
     pub(crate) fn tally(&self) -> Tally
         ensures value { result ≡ tally_on self.now }
         ensures paid { IsPaid result }
@@ -413,13 +423,10 @@ impl RecvLanes {
     pub(crate) fn has_ended(&self, index: usize) -> bool
         ensures { result ≡ recv_over (slice_get self.now index) }
     {
-        let Some(half) = self.halves.get(index) else {
-            return false;
-        };
-        if !half.is_told() {
-            return false;
+        match self.halves.get(index) {
+            Some(half) => half.has_ended(),
+            None => false,
         }
-        matches!(half.state(), RecvState::DataRead | RecvState::ResetRead)
     }
 
     /// How a lane stands, where it is open.
@@ -430,7 +437,7 @@ impl RecvLanes {
         Some(RecvReport {
             state: half.state(),
             read_count: half.read_count(),
-            highest: half.highest(),
+            highest: half.sizes().spent,
             limit: half.limit(),
             final_size: half.final_size(),
             reset_code: half.reset_code(),
@@ -443,7 +450,7 @@ impl RecvLanes {
         ensures { result ≡ option_map taken (slice_get self.now index) }
     {
         let half = self.halves.get(index)?;
-        Some(half.taken())
+        Some(half.sizes().taken)
     }
 
     /// The limit of an open lane of which no final size is known.
@@ -452,7 +459,6 @@ impl RecvLanes {
         ensures small { IfSome result (λ limit. limit ≤ MAX_VARINT) }
     {
         let half = self.halves.get(index)?;
-        half.is_lawful();
         match half.final_size() {
             Some(_known) => None,
             None => Some(half.limit()),
@@ -559,12 +565,12 @@ fn measure(half: &Half) -> Tally
     ensures lawful { IsLawful half.now }
     ensures paid { IsPaid result }
 {
-    half.is_lawful();
+    let sizes = half.sizes();
     Tally {
-        spent: half.highest(),
-        taken: half.taken(),
-        stored: half.stored(),
-        noted: half.noted(),
+        spent: sizes.spent,
+        taken: sizes.taken,
+        stored: sizes.stored,
+        noted: sizes.noted,
     }
 }
 

@@ -1,7 +1,6 @@
 //! Which receiving halves of one type wait for their owner, and which are over.
 ghost use Rattle.std.specs.Prelude.{◌≡◌, ◌++◌, ◌-◌, ◌<◌, [], false, length, take, slice_set, replicate, OnOk, OnErr};
 ghost use Rattle.qs_recv.specs.News.{is_readable};
-ghost use Rattle.qs_machine.specs.Credit.{recv_ended};
 ghost use Rattle.qs_conn.specs.Marks.{is_marked, untold, IsNextMark};
 ghost use Rattle.qs_conn.specs.RecvTasks.{has, marks_of};
 ghost use Rattle.qs_conn.specs.Untold.{IsClear};
@@ -9,7 +8,7 @@ ghost use Rattle.qs_conn.specs.Untold.{IsClear};
 use crate::marks::Marks;
 use crate::told_marks::ToldMarks;
 use qs_ranges::NoMemory;
-use qs_recv::{RecvHalf, RecvState, RingAssembly};
+use qs_recv::{RecvHalf, RingAssembly};
 use std::alloc::Global;
 
 /// What an owner may want to know of a receiving half.
@@ -65,8 +64,9 @@ impl RecvMarks {
         requires { (t : RecvTask) → index < length (marks_of self.old t) }
         ensures { (t : RecvTask) → marks_of self.new t ≡ slice_set (marks_of self.old t) index (has t half.now) }
     {
-        self.readable.set(index, half.is_readable());
-        self.ended.set(index, has_ended(half));
+        let standing = half.standing();
+        self.readable.set(index, standing.is_readable);
+        self.ended.set(index, standing.has_ended);
     }
 
     /// Whether a half may have an answer of any kind.
@@ -122,16 +122,6 @@ pub(crate) fn has(task: RecvTask, half: &RecvHalf<RingAssembly>) -> bool
 {
     match task {
         RecvTask::Readable => half.is_readable(),
-        RecvTask::Ended => has_ended(half),
+        RecvTask::Ended => half.has_ended(),
     }
-}
-
-// Whether the end or a reset was told to a reader (RFC 9000, section 3.2).
-fn has_ended(half: &RecvHalf<RingAssembly>) -> bool
-    ensures { result ≡ recv_ended half.now }
-{
-    if !half.is_told() {
-        return false;
-    }
-    matches!(half.state(), RecvState::DataRead | RecvState::ResetRead)
 }

@@ -1,12 +1,11 @@
 //! The receiving halves of an end.
-ghost use Rattle.std.specs.Prelude.{◌≡◌, ◌+◌, ◌≤◌, ◌<◌, ◌^◌, ◌++◌, ℕ, length, drop, take, is_some, option_map, true, false, Some, OnOk, OnErr, IsOk, IfOk, IfSome};
+ghost use Rattle.std.specs.Prelude.{◌≡◌, ◌+◌, ◌≤◌, ◌<◌, ◌^◌, ◌++◌, ℕ, length, drop, take, is_some, option_map, true, false, Some, None, OnOk, OnErr, IsOk, IfOk, IfSome, IfNone};
 ghost use Rattle.qs_ranges.specs.Numbers.{MAX_VARINT};
 ghost use Rattle.qs_recv.specs.Lane.{RecvLane, new_lane, check_stream, check_reset, check_bytes, highest, taken, noted, take_stream, take_reset, read_answer, bytes_read, after_read, raise, stop, stop_and_forget, MAX_WINDOW, set_window};
 ghost use Rattle.qs_machine.specs.Tables.{no_streams, table, with_table, lookup, updated, open_to, each, total, type_of};
 ghost use Rattle.qs_machine.specs.Memory.{HasNews};
 ghost use Rattle.qs_machine.specs.Changes.{half_changes, reset_changes};
 ghost use Rattle.qs_recv.specs.Changes.{stream_changes};
-ghost use Rattle.qs_recv.specs.Lawful.{IsLawful};
 ghost use Rattle.qs_recv.specs.Peek.{IsPeek};
 ghost use Rattle.qs_machine.specs.Reports.{recv_report};
 ghost use Rattle.qs_machine.specs.Verdicts.{or_new};
@@ -21,8 +20,8 @@ ghost use Rattle.qs_conn.specs.Untold.{HasMore};
 ghost use Rattle.qs_conn.specs.RecvTasks.{HasOne, HasNone, has_news};
 
 use crate::marks::{Marks, least};
-use crate::places::{index_from, index_of, type_of};
-use crate::recv_lanes::RecvLanes;
+use crate::places::{Place, index_from, index_of, type_of};
+use crate::recv_lanes::{Half, RecvLanes};
 use crate::recv_marks::RecvTask;
 use crate::told_streams::ToldStreams;
 use crate::untold::Untold;
@@ -78,6 +77,15 @@ impl RecvTables {
     {
         let lanes = &self.types[type_of(stream)];
         index_of(stream) < lanes.len()
+    }
+
+    /// The receiving half of a stream, where it is open.
+    pub(crate) fn half(&self, stream: Place) -> Option<&Half>
+        ensures found { IfSome result (λ half. lookup self.now stream ≡ Some half.now) }
+        ensures none { IfNone result (lookup self.now stream ≡ None) }
+    {
+        let lanes = &self.types[stream.stream_type];
+        lanes.half(stream.index)
     }
 
     /// Whether a frame may be taken, at a stream that may have yet to be opened with that window.
@@ -141,15 +149,6 @@ impl RecvTables {
         lanes.stream_changes(index_of(stream), offset, len, fin)
     }
 
-    /// The half of an open stream is lawful. It does nothing: a caller learns the clause.
-    pub(crate) fn is_lawful(&self, stream: StreamId)
-        ensures { (l : RecvLane) → lookup self.now stream ≡ Some l → IsLawful l }
-    {
-        let lanes = &self.types[type_of(stream)];
-        let _index = index_of(stream);
-        let _tally = lanes.tally();
-    }
-
     /// Whether a reset that passed the check would change an open stream.
     pub(crate) fn reset_changes(&self, stream: StreamId) -> bool
         ensures { result ≡ half_changes reset_changes (lookup self.now stream) }
@@ -211,7 +210,7 @@ impl RecvTables {
     /// Takes a frame that passed both checks, at an open stream; or changes nothing.
     pub(crate) fn take_stream(
         &mut self,
-        stream: StreamId,
+        stream: Place,
         offset: u64,
         bytes: &[u8],
         fin: bool,
@@ -225,8 +224,8 @@ impl RecvTables {
         ensures err { OnErr result (self.new ≡ self.old) }
         ensures news { OnErr result (HasNews (or_new (lookup self.old stream) 0 Share.Half) offset (length bytes.now)) }
     {
-        let lanes = &mut self.types[type_of(stream)];
-        lanes.take_stream(index_of(stream), offset, bytes, fin)
+        let lanes = &mut self.types[stream.stream_type];
+        lanes.take_stream(stream.index, offset, bytes, fin)
     }
 
     /// Takes a reset that passed the check, at an open stream.
@@ -333,7 +332,7 @@ impl RecvTables {
     }
 
     /// No type has more streams than have a number. It does nothing: a caller learns the clause.
-    pub(crate) fn are_few(&self)
+    pub(crate) fn learn_few(&self)
         ensures { (k : ℕ) → k < 4 → length (table self.now k) ≤ 2 ^ 60 }
     {
         let _client_bidi = self.types[0].len();
@@ -395,8 +394,8 @@ impl RecvTables {
         }
     }
 
-    /// The least such number among the streams of a type.
-    pub(crate) fn next_with_of(&self, task: RecvTask, stream_type: usize, from: u64) -> Option<u64>
+    // The least such number among the streams of a type.
+    fn next_with_of(&self, task: RecvTask, stream_type: usize, from: u64) -> Option<u64>
         requires stream_type { stream_type < 4 }
         requires from { from ≤ 2 ^ 62 }
         ensures least { IsLeast (IsHeldOf (HasOne task) self.now stream_type) from result }
@@ -464,9 +463,12 @@ impl RecvTables {
         ensures noted { result.noted ≡ total noted self.now }
         ensures paid { IsPaid result }
     {
-        let bidi = sum(self.types[0].tally(), self.types[1].tally());
-        let uni = sum(self.types[2].tally(), self.types[3].tally());
-        sum(bidi, uni)
+        sum(
+            self.types[0].tally(),
+            self.types[1].tally(),
+            self.types[2].tally(),
+            self.types[3].tally(),
+        )
     }
 
     /// What the rings of all streams take, in bytes, by a walk over them.
@@ -494,17 +496,19 @@ impl RecvTables {
     }
 }
 
-fn sum(a: Tally, b: Tally) -> Tally
-    requires paid_a { IsPaid a }
-    requires paid_b { IsPaid b }
-    requires small { a.spent + b.spent < 2 ^ 62 }
-    ensures value { result ≡ record { spent = a.spent + b.spent; taken = a.taken + b.taken; stored = a.stored + b.stored; noted = a.noted + b.noted } }
+fn sum(a: Tally, b: Tally, c: Tally, d: Tally) -> Tally
+    requires paid { IsPaid a × IsPaid b × IsPaid c × IsPaid d }
+    requires small { a.spent + b.spent + c.spent + d.spent < 2 ^ 62 }
+    ensures spent { result.spent ≡ a.spent + b.spent + c.spent + d.spent }
+    ensures taken { result.taken ≡ a.taken + b.taken + c.taken + d.taken }
+    ensures stored { result.stored ≡ a.stored + b.stored + c.stored + d.stored }
+    ensures noted { result.noted ≡ a.noted + b.noted + c.noted + d.noted }
     ensures paid { IsPaid result }
 {
     Tally {
-        spent: a.spent + b.spent,
-        taken: a.taken + b.taken,
-        stored: a.stored + b.stored,
-        noted: a.noted + b.noted,
+        spent: a.spent + b.spent + c.spent + d.spent,
+        taken: a.taken + b.taken + c.taken + d.taken,
+        stored: a.stored + b.stored + c.stored + d.stored,
+        noted: a.noted + b.noted + c.noted + d.noted,
     }
 }

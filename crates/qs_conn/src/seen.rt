@@ -6,10 +6,11 @@ ghost use Rattle.qs_machine.specs.Seen.{seen, asks_ack};
 ghost use Rattle.qs_machine.specs.Alone.{is_ours};
 ghost use Rattle.qs_conn.specs.Seen.{view_seen, SeenFits};
 
+use crate::places::Place;
 use SeenFrame::{Ack, Close, Control, Plain, Stream};
 use qs_calls::MAX_VARINT;
 use qs_send::Item;
-use qs_wire::{Dir, Frame, StreamId};
+use qs_wire::{Dir, Frame};
 
 /// The most streams of a direction, whose numbers have a spelling (RFC 9000, section 4.6).
 const MAX_STREAMS: u64 = 1 << 60;
@@ -22,7 +23,7 @@ pub(crate) enum SeenFrame<'a> {
         ranges: &'a [u8],
     },
     Stream {
-        stream: StreamId,
+        stream: Place,
         offset: u64,
         bytes: &'a [u8],
         fin: bool,
@@ -71,7 +72,7 @@ pub(crate) fn seen<'a>(frame: &Frame<'a>) -> SeenFrame<'a>
             fin,
             bytes,
         } => Stream {
-            stream,
+            stream: Place::of(stream),
             offset,
             bytes,
             fin,

@@ -1,5 +1,5 @@
 //! The sending halves of the streams of one type.
-ghost use Rattle.std.specs.Prelude.{◌≡◌, ◌+◌, ◌-◌, ◌*◌, ◌≤◌, ◌<◌, ◌^◌, [], length, min, take, slice_get, slice_index_or, unwrap_or, ℕ, false, None, Some, OnOk, OnErr, IfOk, IfErr, IfSome};
+ghost use Rattle.std.specs.Prelude.{◌≡◌, ◌+◌, ◌-◌, ◌*◌, ◌≤◌, ◌<◌, ◌^◌, [], true, length, min, take, slice_get, slice_index_or, unwrap_or, ℕ, false, None, Some, OnOk, OnErr, IfOk, IfErr, IfSome};
 ghost use Rattle.std.specs.List.{sum_by};
 ghost use Rattle.qs_ranges.specs.Numbers.{MAX_VARINT};
 ghost use Rattle.qs_send.specs.Lane.{Sending, new_sending, accepted, refusal, reset_refusal, answer_of, state, after_write, after_finish, after_reset, after_stop, after_reset_acked, after_blocked, after_allow, after_buffer, after_sent, after_acked, after_lost};
@@ -24,6 +24,17 @@ use qs_send::{Chunk, SendFault, SendHalf, SendHalves, SendState, SendView};
 use qs_wire::StreamId;
 use std::alloc::Global;
 use std::marker::Model;
+
+/// What a chunk that was sent does to its half.
+#[derive(Clone, Copy, Drop)]
+pub(crate) struct Sent {
+    /// So far it moves the sent end.
+    pub(crate) moved: u64,
+    /// Nothing more of the half may go.
+    pub(crate) is_done: bool,
+    /// Its own limit holds nothing back.
+    pub(crate) is_free: bool,
+}
 
 /// The sending halves of the streams of one type, by index.
 #[derive(Drop)]
@@ -72,6 +83,7 @@ impl SendLanes {
     }
 
     /// How many halves are open.
+    #[inline(always)]
     pub(crate) fn len(&self) -> usize
         ensures value { result ≡ length self.now }
         ensures small { result ≤ 2 ^ 60 }
@@ -110,11 +122,11 @@ impl SendLanes {
 
     /// What holds of an open half. It does nothing: a caller learns the clause.
     #[inline(always)]
-    pub(crate) fn is_lawful(&self, index: usize)
+    pub(crate) fn learn_lawful(&self, index: usize)
         requires { index < length self.now }
         ensures { IsLawful (slice_index_or self.now index no_sending) }
     {
-        self.halves.is_lawful(index);
+        let _half = self.halves.at(index);
     }
 
     /// An open half.
@@ -192,7 +204,7 @@ impl SendLanes {
         let Some(half) = self.halves.full_mut(index) else {
             return Err(SendFault::Finished);
         };
-        half.is_lawful();
+        half.learn_lawful();
         let answer = half.write(bytes);
         let accepted = answer.unwrap_or(0) as u128;
         self.promised += accepted;
@@ -301,22 +313,32 @@ impl SendLanes {
         self.marks.look(index, half);
     }
 
-    /// Takes in that a chunk was sent, and answers how far that moves the sent end.
-    pub(crate) fn sent(&mut self, index: usize, chunk: Chunk) -> u64
+    /// Takes in that a chunk was sent.
+    pub(crate) fn sent(&mut self, index: usize, chunk: Chunk) -> Sent
         requires there { index < length self.old }
         requires due { IsDueChunk (slice_index_or self.old index no_sending) chunk }
         ensures after { self.new ≡ changed self.old index (λ s. after_sent s chunk) (slice_get self.old index) }
-        ensures moved { let half = slice_index_or self.old index no_sending in half.lane.sent_end + result ≡ (after_sent half chunk).lane.sent_end }
+        ensures moved { let half = slice_index_or self.old index no_sending in half.lane.sent_end + result.moved ≡ (after_sent half chunk).lane.sent_end }
+        ensures done { result.is_done ≡ true → IsQuiet tasks.Bytes (after_sent (slice_index_or self.old index no_sending) chunk) }
+        ensures free { let half = slice_index_or self.old index no_sending in result.is_free ≡ true → half.lane.written ≤ half.lane.limit }
     {
         let Some(half) = self.halves.full_mut(index) else {
-            return 0;
+            return Sent {
+                moved: 0,
+                is_done: false,
+                is_free: false,
+            };
         };
-        half.is_lawful();
+        half.learn_lawful();
         let before = half.sent_end();
         half.sent(chunk);
         let moved = half.sent_end() - before;
-        self.marks.look_sent(index, half);
-        moved
+        let is_done = self.marks.look_sent(index, half);
+        Sent {
+            moved,
+            is_done,
+            is_free: half.written() <= half.limit(),
+        }
     }
 
     /// Takes in that a chunk is acknowledged, or changes nothing.
@@ -370,6 +392,7 @@ impl SendLanes {
     pub(crate) fn next_marked(&self, task: Task, from: usize) -> Option<usize>
         ensures from { IfSome result (λ n. from ≤ n) }
         ensures small { IfSome result (λ n. n < 2 ^ 60) }
+        ensures open { IfSome result (λ n. n < length self.now) }
         ensures quiet { (i : ℕ) (s : Sending) → from ≤ i → IsBefore i result → slice_get self.now i ≡ Some s → IsQuiet task s }
     {
         if from >= self.halves.len() {
@@ -423,7 +446,7 @@ fn promised(half: &SendHalf) -> u128
     ensures value { result ≡ promised_on half.now.lane }
     ensures small { result ≤ MAX_VARINT }
 {
-    half.is_lawful();
+    half.learn_lawful();
     if let Some(_code) = half.reset_code() {
         return half.sent_end() as u128;
     }
@@ -435,7 +458,7 @@ fn kept(half: &SendHalf) -> u128
     ensures value { result ≡ kept_on half.now.lane }
     ensures small { result ≤ MAX_VARINT }
 {
-    half.is_lawful();
+    half.learn_lawful();
     half.kept_len() as u128
 }
 

@@ -134,17 +134,21 @@ impl SendMarks {
         self.writable.set(index, half.is_writable());
     }
 
-    /// Looks again at a half of which a chunk was sent: that moves neither its room nor its end, and leaves no more to send again.
-    pub(crate) fn look_sent(&mut self, index: usize, half: &SendHalf)
+    /// Looks again at a half of which a chunk was sent, and answers whether nothing more may go: that moves neither its room nor its end, and
+    /// leaves no more to send again.
+    pub(crate) fn look_sent(&mut self, index: usize, half: &SendHalf) -> bool
         requires there { (t : Task) → index < length (marks_of self.old t) }
         requires again { IsStill tasks.Again index half.now self.old }
         requires room { IsStill tasks.Writable index half.now self.old }
         requires end { IsStill tasks.Ended index half.now self.old }
         requires stop { IsStill tasks.Stopped index half.now self.old }
-        ensures { (t : Task) → IsLooked t index half.now (marks_of self.old t) (marks_of self.new t) }
+        ensures looked { (t : Task) → IsLooked t index half.now (marks_of self.old t) (marks_of self.new t) }
+        ensures done { result ≡ true → IsQuiet tasks.Bytes half.now }
     {
-        self.bytes.set(index, may_send(half));
+        let goes_on = may_send(half);
+        self.bytes.set(index, goes_on);
         look_again(&mut self.again, index, half);
+        !goes_on
     }
 
     /// Looks again at a half of which a chunk was acknowledged: that leaves no more to send again.
@@ -184,6 +188,7 @@ impl SendMarks {
     }
 
     /// The least marked index from one on.
+    #[inline(always)]
     pub(crate) fn next(&self, task: Task, from: usize) -> Option<usize>
         ensures { IsNextMark (marks_of self.now task) from result }
     {
@@ -265,7 +270,7 @@ fn may_send(half: &SendHalf) -> bool
     ensures some { result ≡ true → HasTask tasks.Bytes half.now }
     ensures none { result ≡ false → IsQuiet tasks.Bytes half.now }
 {
-    half.is_lawful();
+    half.learn_lawful();
     // Bytes that were never sent come first: they need no search of what was sent and what of it is acknowledged.
     if half.reset_code().is_none() && half.sent_end() < half.written().min(half.limit()) {
         return true;
@@ -281,7 +286,7 @@ fn may_send_again(half: &SendHalf) -> bool
     ensures some { result ≡ true → HasTask tasks.Again half.now }
     ensures none { result ≡ false → IsQuiet tasks.Again half.now }
 {
-    half.is_lawful();
+    half.learn_lawful();
     if half.end_due() && half.sent_end() == half.written() {
         return true;
     }
@@ -292,6 +297,6 @@ fn may_send_again(half: &SendHalf) -> bool
 fn has_ended(half: &SendHalf) -> bool
     ensures { result ≡ send_ended half.now.lane }
 {
-    half.is_lawful();
+    half.learn_lawful();
     matches!(half.state(), SendState::DataRecvd | SendState::ResetRecvd)
 }

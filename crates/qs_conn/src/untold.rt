@@ -60,6 +60,7 @@ impl UntoldLanes {
         self.marks.set(index, is_marked);
     }
 
+    #[inline(always)]
     fn may_have(&self) -> bool
         ensures { result ≡ false → IsClear self.now }
     {
@@ -165,6 +166,7 @@ impl Untold {
     }
 
     /// Whether any stream may be marked.
+    #[inline(always)]
     pub(crate) fn may_have(&self) -> bool
         ensures { result ≡ false → (n : ℕ) (b : Bool) → lookup self.now n ≡ Some b → b ≡ false }
     {

@@ -1,13 +1,13 @@
--- Frames that took effect and come again have no fault and change nothing.
-use Rattle.std.proofs.Common.{◌≡◌, ℕ, ◌+◌, ◌-◌, ◌/◌, ◌≤◌, Bool, true, false, not, ◌&&◌, cond, List, [], ◌∷◌, length, Option, Some, None, is_some, refl, ◌⊎◌, sym, ap, ◌∙◌, subst, arith, inl, inr}
-use Rattle.std.specs.Prelude.{⊤, max, nat_le, nat_lt, is_none, IsOk, Result, Ok}
+-- What comes again changes nothing: frames that took effect, a payload that found no memory, and one that was processed.
+use Rattle.std.proofs.Common.{◌≡◌, ℕ, ◌+◌, ◌-◌, ◌/◌, ◌≤◌, Bool, true, false, not, ◌&&◌, cond, List, [], ◌∷◌, length, Option, Some, None, is_some, refl, ◌⊎◌, sym, ap, ◌∙◌, subst, arith, inl, inr, ◌||◌, ◌++◌, zero, suc, take, map}
+use Rattle.std.specs.Prelude.{⊤, max, nat_le, nat_lt, is_none, IsOk, Result, Ok, Err, min, ◌==◌}
 use Rattle.std.specs.FinMap as fmap
 use Rattle.std.proofs.lemmas.Option.{none-some}
 use Rattle.std.proofs.lemmas.Bool.{both_ways, cond_both}
 use Rattle.std.proofs.lemmas.Bool.Decides.{nat_tests}
 use Rattle.qs_wire.specs.declared.stream_id.Role.{Role}
 use Rattle.qs_wire.specs.declared.stream_id.Dir.TheVariants.{Bidi, Uni}
-use Rattle.qs_recv.specs.Lane.{RecvLane, new_lane as new_recv_lane, highest, check_stream, check_reset, check_bytes, take_stream, take_reset}
+use Rattle.qs_recv.specs.Lane.{RecvLane, new_lane as new_recv_lane, highest, check_stream, check_reset, check_bytes, take_stream, take_reset, taken, raise, step, next_limit}
 use Rattle.qs_recv.specs.declared.credit.Share.TheVariants.{Half}
 use Rattle.qs_recv.specs.declared.half.Highest.{Highest}
 use Rattle.qs_recv.specs.declared.half.RecvFault.{RecvFault}
@@ -15,24 +15,41 @@ use Rattle.qs_send.specs.Lane.{SendLane, new_lane as new_send_lane, reset_refusa
 use Rattle.qs_send.specs.Records.{Among}
 use Rattle.qs_send.specs.declared.piece.Item.{Item}
 use Rattle.qs_send.specs.declared.piece.Item.TheVariants.{MaxData, MaxStreamData, MaxStreams, ResetStream, StopSending, DataBlocked, StreamDataBlocked, StreamsBlocked}
-use Rattle.qs_machine.specs.Tables.{Tables, lookup, updated, open_to}
-use Rattle.qs_machine.specs.Ends.{End, is_own, is_own_by, is_uni, on_send, on_recv, opens, opened_by_peer, first_send_limit, window}
-use Rattle.qs_machine.specs.Credit.{spent}
-use Rattle.qs_machine.specs.Seen.{Seen, Ack, Stream, Control, Close, Plain}
+use Rattle.qs_machine.specs.Tables.{Tables, lookup, updated, open_to, each}
+use Rattle.qs_machine.specs.Ends.{End, is_own, is_own_by, is_uni, on_send, on_recv, opens, opened_by_peer, first_send_limit, window, closes}
+use Rattle.qs_machine.specs.Credit.{spent, settle, all_taken}
+use Rattle.qs_machine.specs.Seen.{Seen, Ack, Stream, Control, Close, Plain, seen, seen_all, asks_ack, any_asks}
 use Rattle.qs_machine.specs.Verdicts.{verdict, item_verdict, state_fault_in, state_fault_out, credit_fault, bytes_fault, fault_of, ack_fault, fault_if, or_else, or_new}
-use Rattle.qs_machine.specs.FrameStep.{frame_taken, item_taken, frames_taken, held, is_named, NoFault}
-use Rattle.qs_machine.specs.Receiving.{GoesOn}
+use Rattle.qs_machine.specs.FrameStep.{frame_taken, item_taken, frames_taken, held, is_named, NoFault, named, acks}
+use Rattle.qs_machine.specs.Receiving.{GoesOn, Takes, EndsBy, AtEnd, RunsOut, TakesPayload, told_receive, Stops, OpenReceive, ReceiveBy, ReceiveStep}
 use Rattle.qs_machine.specs.Standing.{IsInCredit, IsSound}
-use Rattle.qs_machine.specs.Repeats.{SentWasWritten, AreAmong}
-use Rattle.qs_machine.proofs.Choices.{not_chosen}
-use Rattle.qs_machine.proofs.TableLaws.{lookup_same, open_at}
-use Rattle.qs_machine.proofs.FramesSound.{sound_frame, sound_opened}
+use Rattle.qs_machine.specs.Repeats.{SentWasWritten, AreAmong, Resumes, OnlyRecords}
+use Rattle.qs_machine.proofs.EveryCall.{not_chosen, no_fault_there, stops_by, by_open}
+use Rattle.qs_machine.proofs.TableLaws.{lookup_same, open_at, total_each}
+use Rattle.qs_machine.proofs.CallsSound.{sound_frame, sound_opened, sound_acks, sound_settle}
 use Rattle.qs_machine.proofs.Taken.{out_there, in_there, stream_in, reset_in, stream_checked, stream_unchanged, reset_checked}
-use Rattle.qs_machine.proofs.EveryCall.{no_fault_there}
 use Rattle.qs_machine.proofs.LanesAgain.{LaneAfter, HasData, HasReset, data_stays, data_taken, data_again, reset_stays, reset_taken, reset_again}
 use Rattle.qs_machine.proofs.TablesAfter.{still_open, updated_back, open_back}
-use Rattle.qs_machine.proofs.EndsAfter.{HalfAfter, IsAfter, IsBare, after_same, after_twice, after_opened, after_frame, mid_stream, mid_reset, mid_allow, mid_stop, has_code, lawful_in, sent_stays}
-use Rattle.qs_machine.proofs.AcksAgain.{named_bare, named_again}
+use Rattle.qs_machine.proofs.EndsAfter.{HalfAfter, IsAfter, IsBare, after_same, after_twice, after_opened, after_frame, mid_stream, mid_reset, mid_allow, mid_stop, has_code, lawful_in, sent_stays, after_closes, after_recorded, after_settle, after_acks, all_take, named_written}
+use Rattle.qs_machine.proofs.AcksAgain.{named_bare, named_again, named_nothing}
+use Rattle.qs_wire.specs.Layout.{PlacedValue}
+use Rattle.qs_wire.specs.Grammar.{frames_of}
+use Rattle.qs_wire.specs.declared.fault.WireFault.{WireFault}
+use Rattle.qs_calls.specs.declared.closing.Closing.{Closing}
+use Rattle.qs_calls.specs.declared.closing.Received.{Received}
+use Rattle.qs_wire.specs.Reading.{reading_of}
+use Rattle.qs_calls.specs.declared.closing.Closed.{Closed}
+use Rattle.qs_calls.specs.declared.closing.Received.TheVariants as received
+use Rattle.qs_machine.specs.Recording.{recorded}
+use Rattle.qs_ranges.specs.Numbers.{MAX_VARINT}
+use Rattle.qs_recv.specs.declared.credit.Share.{Share}
+use Rattle.qs_calls.specs.declared.closing.Closer.{Closer}
+use Rattle.qs_calls.specs.declared.closing.Closer.TheVariants.{Us, Peer}
+use Rattle.qs_calls.specs.declared.closing.Closed.TheVariants.{ByUs, ByPeer, Told}
+use Rattle.qs_machine.proofs.Leaves.{frame_leaves}
+use Rattle.qs_machine.proofs.Counts.{next_settle}
+
+-- Frames that took effect and come again have no fault and change nothing.
 
 -- Openings
 
@@ -296,9 +313,6 @@ in_again n l e check fine is passes sound =
     ∙ ap (credit_fault e) passes
     ∙ ap (λ b. fault_if b 0x03) (no_growth (highest l) (spent e) e.granted sound.spent)
 
-bytes_again : (n offset : ℕ) (bytes : List ℕ) (l : RecvLane) (e : End) → lookup e.recvs n ≡ Some l → check_bytes l offset bytes ≡ Ok tt → bytes_fault e n offset bytes ≡ None
-bytes_again n offset bytes l e is passes = ap (λ o. fault_of (check_bytes (or_new o (window e n) e.tuning.credit_step) offset bytes)) is ∙ ap fault_of passes
-
 -- a third check that passes, past two that do
 passes_last : (a b c : Option ℕ) → or_else a b ≡ None → c ≡ None → or_else a (or_else b c) ≡ None
 passes_last None None c h last = last
@@ -340,7 +354,7 @@ unfolding verdict frame_taken
 frame_again (Ack largest ranges) e (fine, bare) sound = (fine, named_again e ranges bare)
 frame_again (Stream n offset bytes fin) e (fine, was, l, is, has) sound =
     let h = data_again l offset bytes fin (lawful_in e n l sound is) has in (
-      passes_last _ _ (bytes_fault e n offset bytes) (in_again n l e (λ k. check_stream k offset (length bytes) fin) fine is h.0 sound) (bytes_again n offset bytes l e is h.1),
+      passes_last _ _ (bytes_fault e n offset bytes) (in_again n l e (λ k. check_stream k offset (length bytes) fin) fine is h.0 sound) (ap (λ o. fault_of (check_bytes (or_new o (window e n) e.tuning.credit_step) offset bytes)) is ∙ ap fault_of h.1),
       recv_back n (λ k. take_stream k offset bytes fin) l e was is h.2,
     )
 frame_again (Control i) e h sound = item_again i e h sound
@@ -408,3 +422,249 @@ pub frames_repeat : (e : End) (frames again : List Seen) → IsSound e → SentW
     → NoFault (frames_taken frames e) again × (frames_taken again (frames_taken frames e) ≡ frames_taken frames e)
 frames_repeat e frames again sound sent h among =
     all_again again (frames_taken frames e) (all_left frames e sound sent h).sound.0 (λ f a. all_done frames e sound sent h f (among f a))
+
+-- The first frames of a payload took effect, for some number of them.
+
+pub or_false : (a : Bool) → a ≡ (a || false)
+or_false true = refl
+or_false false = refl
+
+pub or_twice : (a b c : Bool) → ((a || b) || c) ≡ (a || (b || c))
+or_twice true b c = refl
+or_twice false b c = refl
+
+abbrev pub seen_in : List PlacedValue → List Seen
+seen_in ps = seen_all (frames_of ps)
+
+pub takes_prefix : (number : ℕ) (fault : Option WireFault) (asks : Bool) (e : End) (ps : List PlacedValue) (result : Result Received Closing) (new : End) → Takes number fault asks e ps result new
+    → (taken : List PlacedValue) × (left : List PlacedValue) × (ps ≡ taken ++ left) × NoFault e (seen_in taken) × EndsBy number fault (asks || any_asks (seen_in taken)) left (frames_taken (seen_in taken) e) result new
+unfolding frames_taken
+takes_prefix number fault asks e [] result new takes = ([], [], refl, tt, subst (λ a. EndsBy number fault a [] e result new) (or_false asks) takes)
+takes_prefix number fault asks e (p ∷ ps) result new takes =
+    elim takes [
+      | inl stops ↦ ([], p ∷ ps, refl, tt, stops)
+      | inr goes ↦
+          let f = seen p.frame in
+          let (taken, left, parts, fine, ends) = takes_prefix number fault (asks || asks_ack f) (frame_taken f e) ps result new goes.1 in (
+            p ∷ taken,
+            left,
+            ap (λ qs. p ∷ qs) parts,
+            one_more e f (seen_in taken) goes.0 fine,
+            subst (λ a. EndsBy number fault a left (frames_taken (seen_in taken) (frame_taken f e)) result new) (or_twice asks (asks_ack f) (any_asks (seen_in taken))) ends,
+          )
+    ]
+
+-- A payload whose processing ended, and that comes again, goes on where it ended.
+
+-- What the end of a processing leaves
+
+left_by : (e new : End) → IsSound e → SentWasWritten e → IsAfter e new → IsInCredit new → IsLeft e new
+left_by e new sound sent x keeps = record { after = x; sound = (keeps, x.counts sound.1); sent = sent_stays e new x sent }
+
+becomes : (e mid new : End) → new ≡ mid → IsLeft e mid → IsLeft e new
+becomes e mid new same h = subst (IsLeft e) (sym same) h
+
+left_same : (e : End) → IsSound e → SentWasWritten e → IsLeft e e
+left_same e sound sent = left_by e e sound sent (after_same e) sound.0
+
+left_closes : (c : Closed) (e : End) → IsSound e → SentWasWritten e → IsLeft e (closes c e)
+left_closes c e sound sent = left_by e (closes c e) sound sent (after_closes c e) sound.0
+
+left_end : (number : ℕ) (asks : Bool) (fault : Option WireFault) (e : End) (result : Result Received Closing) (new : End) → IsSound e → SentWasWritten e → AtEnd number asks fault e result new → IsLeft e new
+left_end number asks None e (Ok received.Done) new sound sent step = becomes e _ new step (left_by e (recorded number asks e) sound sent (after_recorded number asks e) sound.0)
+left_end number asks None e (Ok received.NoMemory) new sound sent step = becomes e e new step.0 (left_same e sound sent)
+left_end number asks (Some fault) e (Err closing) new sound sent step = becomes e _ new step.1 (left_closes _ e sound sent)
+left_end number asks fault e result new sound sent step = absurd step
+
+left_runs_out : (e : End) (f : Seen) (new : End) → IsSound e → SentWasWritten e → RunsOut e f new → IsLeft e new
+left_runs_out e (Ack largest ranges) new sound sent (m, after, asks) =
+    becomes e _ new after
+    (left_by e (acks (take m (named e ranges)) e) sound sent
+    (after_acks (take m (named e ranges)) e (all_take e.sends m (named e ranges) (named_written e ranges sent)))
+    (sound_acks (take m (named e ranges)) e sound.0))
+left_runs_out e f new sound sent after = becomes e e new after.0 (left_same e sound sent)
+
+pub left_ends : (number : ℕ) (fault : Option WireFault) (asks : Bool) (left : List PlacedValue) (e : End) (result : Result Received Closing) (new : End)
+    → IsSound e → SentWasWritten e → EndsBy number fault asks left e result new → IsLeft e new
+left_ends number fault asks [] e result new sound sent h = left_end number asks fault e result new sound sent h
+left_ends number fault asks (p ∷ ps) e result new sound sent h =
+    stops_by (IsLeft e new) p (seen p.frame) e result new h
+    (λ c same fault. becomes e _ new same (left_closes c e sound sent))
+    (λ is out. left_runs_out e (seen p.frame) new sound sent out)
+
+-- It comes again
+
+acks_none : (m : ℕ) (e : End) → acks (take m []) e ≡ e
+unfolding acks
+acks_none zero e = refl
+acks_none (suc m) e = refl
+
+-- where a frame that took effect finds no memory, nothing changes
+out_again : (f : Seen) (e new : End) → IsDone f e → RunsOut e f new → new ≡ e
+out_again (Ack largest ranges) e new done (m, after, asks) = after ∙ ap (λ ps. acks (take m ps) e) (named_nothing e ranges done.1) ∙ acks_none m e
+out_again f e new done after = after.0
+
+takes_again : (number : ℕ) (fault : Option WireFault) (asks : Bool) (e : End) (taken left : List PlacedValue) (result : Result Received Closing) (new : End)
+    → IsInCredit e → ((f : Seen) → Among f (seen_in taken) → IsDone f e) → Takes number fault asks e (taken ++ left) result new → Resumes number fault (asks || any_asks (seen_in taken)) e left result new
+takes_again number fault asks e [] left result new sound done takes = inr (subst (λ a. Takes number fault a e left result new) (or_false asks) takes)
+takes_again number fault asks e (p ∷ taken) left result new sound done takes =
+    let f = seen p.frame in
+    let here : IsDone f e = done f (inl refl) in
+    let (goes, same) = frame_again f e here sound in
+    elim takes [
+      | inl stops ↦
+          stops_by (Resumes number fault (asks || any_asks (seen_in (p ∷ taken))) e left result new) p f e result new stops
+          (λ c closed fault. absurd (fault goes))
+          (λ is out. inl (is, out_again f e new here out))
+      | inr on ↦
+          subst (λ a. Resumes number fault a e left result new) (or_twice asks (asks_ack f) (any_asks (seen_in taken)))
+          (takes_again number fault (asks || asks_ack f) e taken left result new sound (λ g a. done g (inr a))
+          (subst (λ k. Takes number fault (asks || asks_ack f) k (taken ++ left) result new) same on.1))
+    ]
+
+pub payloads_repeat : (number again : ℕ) (payload : List ℕ) (old mid : End) (result : Result Received Closing) → IsSound old → SentWasWritten old → TakesPayload number payload old result mid
+    → (taken : List PlacedValue) × (left : List PlacedValue)
+    × ((reading_of payload).left ≡ taken ++ left)
+    × EndsBy number (reading_of payload).fault (any_asks (seen_in taken)) left (frames_taken (seen_in taken) old) result mid
+    × ((next : Result Received Closing) (new : End) → TakesPayload again payload (settle mid) next new → Resumes again (reading_of payload).fault (any_asks (seen_in taken)) (settle mid) left next new)
+payloads_repeat number again payload old mid result sound sent takes =
+    let (taken, left, parts, fine, ends) = takes_prefix number (reading_of payload).fault false old (reading_of payload).left result mid takes in
+    let then_end = frames_taken (seen_in taken) old in
+    let first = all_left (seen_in taken) old sound sent fine in
+    let last = left_ends number (reading_of payload).fault (any_asks (seen_in taken)) left then_end result mid first.sound first.sent ends in
+    let x : IsAfter then_end (settle mid) = after_twice then_end mid (settle mid) last.after (after_settle mid) in
+    let done : (f : Seen) → Among f (seen_in taken) → IsDone f (settle mid) = λ f a. done_stays f then_end (settle mid) x (all_done (seen_in taken) old sound sent fine f a) in (
+      taken,
+      left,
+      parts,
+      ends,
+      λ next new more.
+          takes_again again (reading_of payload).fault false (settle mid) taken left next new (sound_settle mid last.sound.0) done
+          (subst (λ ps. Takes again (reading_of payload).fault false (settle mid) ps next new) parts more),
+    )
+
+-- A payload that was processed and comes again only records its number.
+
+-- Limits that moved don't move again
+
+pub next_twice : (l t w : ℕ) (share : Share) → next_limit (next_limit l t w share) t w share ≡ next_limit l t w share
+next_twice l t w share = go (moves l) refl
+  where
+    m : ℕ
+    m = min MAX_VARINT (t + w)
+
+    moves : ℕ → Bool
+    moves k = nat_le (k + step share w) m || ((m == MAX_VARINT) && nat_lt k m)
+
+    no_more : moves m ≡ false
+    no_more = let a : nat_le (m + step share w) m ≡ false = grind (arith, nat_tests) in let b : nat_lt m m ≡ false = grind (arith, nat_tests) in
+        ap (λ c. c || ((m == MAX_VARINT) && nat_lt m m)) a ∙ ap (λ c. (m == MAX_VARINT) && c) b ∙ none (m == MAX_VARINT)
+      where
+        none : (c : Bool) → (c && false) ≡ false
+        none true = refl
+        none false = refl
+
+    go : (b : Bool) → moves l ≡ b → cond (moves (cond b m l)) m (cond b m l) ≡ cond b m l
+    go true is = ap (λ c. cond c m m) no_more
+    go false is = ap (λ c. cond c m l) is
+
+pub raise_twice : (l : RecvLane) → raise (raise l) ≡ raise l
+raise_twice l = ap (λ k. record l { limit = k }) (go (is_some l.final_size))
+  where
+    go : (b : Bool) → cond b (cond b l.limit (next_limit l.limit (taken l) l.window l.share)) (next_limit (cond b l.limit (next_limit l.limit (taken l) l.window l.share)) (taken l) l.window l.share)
+        ≡ cond b l.limit (next_limit l.limit (taken l) l.window l.share)
+    go true = refl
+    go false = next_twice l.limit (taken l) l.window l.share
+
+map_twice : {X : Type 0} (f : X → X) → ((x : X) → f (f x) ≡ f x) → (xs : List X) → map f (map f xs) ≡ map f xs
+map_twice f same [] = refl
+map_twice f same (x ∷ xs) = λ i. same x i ∷ map_twice f same xs i
+
+each_twice : {X : Type 0} (f : X → X) → ((x : X) → f (f x) ≡ f x) → (t : Tables X) → each f (each f t) ≡ each f t
+unfolding each
+each_twice f same t = λ i. record { client_bidi = map_twice f same t.client_bidi i; server_bidi = map_twice f same t.server_bidi i; client_uni = map_twice f same t.client_uni i; server_uni = map_twice f same t.server_uni i }
+
+pub settle_twice : (e : End) → settle (settle e) ≡ settle e
+settle_twice e =
+    let r : each raise (each raise e.recvs) ≡ each raise e.recvs = each_twice raise raise_twice e.recvs in
+    let t : all_taken (settle e) ≡ all_taken e = total_each taken raise e.recvs (λ l. refl) in
+    let g : next_limit (next_limit e.granted (all_taken e) e.present.conn_window e.tuning.credit_step) (all_taken (settle e)) e.present.conn_window e.tuning.credit_step ≡ next_limit e.granted (all_taken e) e.present.conn_window e.tuning.credit_step =
+    ap (λ k. next_limit (next_limit e.granted (all_taken e) e.present.conn_window e.tuning.credit_step) k e.present.conn_window e.tuning.credit_step) t ∙ next_twice e.granted (all_taken e) e.present.conn_window e.tuning.credit_step in
+    λ i. record e { recvs = r i; granted = g i; granted_bidi = next_settle e Bidi i; granted_uni = next_settle e Uni i }
+
+-- Frames close nothing
+
+open_frames : (fs : List Seen) (e : End) → (frames_taken fs e).closed ≡ e.closed
+unfolding frames_taken
+open_frames [] e = refl
+open_frames (f ∷ fs) e = open_frames fs (frame_taken f e) ∙ ap (λ (x : End). x.closed) (frame_leaves f e)
+
+-- A payload that was processed
+
+never_done : (p : PlacedValue) (f : Seen) (e new : End) → Stops p f e (Ok received.Done) new → ⊥
+never_done p (Close code) e new h = h
+never_done p f e new h = h
+
+-- all its frames took effect, and it ended without a fault
+all_taken_by : (number : ℕ) (fault : Option WireFault) (asks : Bool) (left : List PlacedValue) (e mid : End) → EndsBy number fault asks left e (Ok received.Done) mid → (left ≡ []) × (fault ≡ None) × (mid ≡ recorded number asks e)
+all_taken_by number None asks [] e mid h = (refl, refl, h)
+all_taken_by number (Some fault) asks [] e mid h = absurd h
+all_taken_by number fault asks (p ∷ ps) e mid h = absurd (never_done p (seen p.frame) e mid h)
+
+was_open : (c : Option Closed) (number : ℕ) (payload : List ℕ) (old new : End) → ReceiveBy c number payload old (Ok received.Done) new
+    → (c ≡ None) × (mid : End) × TakesPayload number payload old (Ok received.Done) mid × (new ≡ settle mid)
+was_open (Some (ByUs closing)) number payload old new step = absurd (not_ok closing step.0)
+  where
+    not_ok : (c : Closing) → ◌≡◌ {A = Result Received Closing} (Ok received.Done) (Err c) → ⊥
+    not_ok c h = cc
+was_open (Some (ByPeer code)) number payload old new step = absurd (not_done code step.0)
+  where
+    not_done : (code : ℕ) → ◌≡◌ {A = Result Received Closing} (Ok received.Done) (Ok (received.PeerClosed code)) → ⊥
+    not_done code h = cc
+was_open (Some (Told close)) number payload old new step = absurd (never close.by step.0)
+  where
+    never : (c : Closer) → ◌≡◌ {A = Result Received Closing} (Ok received.Done) (told_receive c close.code) → ⊥
+    never Us h = cc
+    never Peer h = cc
+was_open None number payload old new step =
+    let Rest : Type 0 = (mid : End) × TakesPayload number payload old (Ok received.Done) mid × (new ≡ settle mid) in
+    let found : Rest = by_open Rest number payload old (Ok received.Done) new step (λ low is. absurd (cc)) (λ again is. absurd (cc)) (λ high mid takes is. (mid, takes, is)) in
+    (refl, found.0, found.1, found.2)
+
+-- what comes of it again, where no frame is left and no fault follows
+ends_again : (again : ℕ) (asks : Bool) (answer : Result Received Closing) (e mid later : End) → settle e ≡ e → Resumes again None asks e [] answer mid → later ≡ settle mid → OnlyRecords again asks answer e later
+ends_again again asks answer e mid later same (inl out) is = subst (λ a. OnlyRecords again asks a e later) (sym out.0) (is ∙ ap settle out.1 ∙ same)
+ends_again again asks (Ok received.Done) e mid later same (inr end) is = is ∙ ap settle end ∙ ap (recorded again asks) same
+ends_again again asks (Ok received.NoMemory) e mid later same (inr end) is = is ∙ ap settle end.0 ∙ same
+ends_again again asks answer e mid later same (inr end) is = absurd end
+
+opened_again : (again : ℕ) (payload : List ℕ) (asks : Bool) (e : End) (answer : Result Received Closing) (later : End) → ((mid : End) → TakesPayload again payload e answer mid → later ≡ settle mid → OnlyRecords again asks answer e later)
+    → OpenReceive again payload e answer later → OnlyRecords again asks answer e later
+opened_again again payload asks e answer later taken step =
+    let stays : (r : Result Received Closing) → answer ≡ r → OnlyRecords again asks r e later → OnlyRecords again asks answer e later = λ r is h. subst (λ a. OnlyRecords again asks a e later) (sym is) h in
+    by_open (OnlyRecords again asks answer e later) again payload e answer later step (stays (Ok received.BelowFloor)) (stays (Ok received.Duplicate)) (λ high mid takes is. taken mid takes is)
+
+append_none : (ps : List PlacedValue) → ps ++ [] ≡ ps
+append_none [] = refl
+append_none (p ∷ ps) = ap (λ qs. p ∷ qs) (append_none ps)
+
+pub processed_repeat : (number again : ℕ) (payload : List ℕ) (old new later : End) (answer : Result Received Closing) → IsSound old → SentWasWritten old
+    → ReceiveStep old number payload (Ok received.Done) new → ReceiveStep new again payload answer later
+    → OnlyRecords again (any_asks (seen_all (frames_of (reading_of payload).left))) answer new later
+processed_repeat number again payload old new later answer sound sent step next =
+    let (unclosed, mid, takes, is) = was_open old.closed number payload old new step in
+    let (taken, left, parts, ends, resume) = payloads_repeat number again payload old mid (Ok received.Done) sound sent takes in
+    let (none, fine, at) = all_taken_by number (reading_of payload).fault (any_asks (seen_all (frames_of taken))) left (frames_taken (seen_all (frames_of taken)) old) mid ends in
+    let whole : taken ≡ (reading_of payload).left = sym (parts ∙ ap (λ qs. taken ++ qs) none ∙ append_none taken) in
+    let still : new.closed ≡ None = ap (λ (k : End). k.closed) is ∙ ap (λ (k : End). k.closed) at ∙ open_frames (seen_all (frames_of taken)) old ∙ unclosed in
+    let settled : settle new ≡ new = ap settle is ∙ settle_twice mid ∙ sym is in
+    subst (λ ps. OnlyRecords again (any_asks (seen_all (frames_of ps))) answer new later) whole
+    (opened_again again payload (any_asks (seen_all (frames_of taken))) new answer later
+    (λ end more ended.
+    let on : Resumes again (reading_of payload).fault (any_asks (seen_all (frames_of taken))) (settle mid) left answer end = resume answer end (subst (λ (k : End). TakesPayload again payload k answer end) is more) in
+    let there : Resumes again None (any_asks (seen_all (frames_of taken))) new [] answer end =
+    subst (λ (k : End). Resumes again None (any_asks (seen_all (frames_of taken))) k [] answer end) (sym is)
+    (subst (λ qs. Resumes again None (any_asks (seen_all (frames_of taken))) (settle mid) qs answer end) none
+    (subst (λ fault. Resumes again fault (any_asks (seen_all (frames_of taken))) (settle mid) left answer end) fine on)) in
+    ends_again again (any_asks (seen_all (frames_of taken))) answer new end later settled there ended)
+    (subst (λ c. ReceiveBy c again payload new answer later) still next))

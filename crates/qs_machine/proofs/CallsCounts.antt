@@ -3,20 +3,17 @@ use Rattle.std.proofs.Common.{◌≡◌, ℕ, ◌+◌, ◌&&◌, take, refl, sym
 use Rattle.std.proofs.lemmas.Bool.{cond_both}
 use Rattle.qs_wire.specs.declared.stream_id.Dir.TheVariants.{Bidi, Uni}
 use Rattle.qs_recv.specs.Lane.{RecvLane, new_lane as new_recv_lane, after_read, stop, raise, stop_and_forget, set_window}
-use Rattle.qs_send.specs.Lane.{buffer_lane}
 use Rattle.qs_send.specs.declared.piece.Piece.{Piece}
 use Rattle.qs_machine.specs.Ends.{End, on_recv, is_own, is_uni, opens, window}
-use Rattle.qs_machine.specs.Seen.{Seen}
 use Rattle.qs_machine.specs.FrameStep.{frame_taken, acks, named}
 use Rattle.qs_machine.specs.Lawful.{frame_put}
 use Rattle.qs_machine.specs.Making.{first_lost}
 use Rattle.qs_machine.specs.EndStep.{Call, Answer, EndStep}
-use Rattle.qs_machine.specs.Setting.{Setting, ConnWindow, Grant, with_setting, StreamWindow}
+use Rattle.qs_machine.specs.Setting.{Setting, ConnWindow, Grant, with_setting, StreamWindow, SendBuffer}
 use Rattle.qs_machine.proofs.Leaves.{put_leaves}
 use Rattle.qs_machine.specs.Standing.{IsSound, IsInCredit, CountsAreSettled, CountsRise}
 use Rattle.qs_machine.specs.Repeats.{SentWasWritten}
-use Rattle.qs_machine.proofs.EveryCall.{Change, changed, Comes, each_call, ends_by, Wanted, Opened, Stopped, WasRead, WasSet, Took, Acked, Put, Settled, Forgotten}
-use Rattle.qs_machine.specs.Setting.{SendBuffer}
+use Rattle.qs_machine.proofs.EveryCall.{Change, changed, Comes, each_call, ends_by, Wanted, Opened, Stopped, WasRead, WasSet, Took, Acked, Put, Settled, Forgotten, Lost, Numbered}
 use Rattle.qs_machine.proofs.TablesAfter.{KeptIn, kept_same, kept_twice, kept_updated, kept_open, kept_each}
 use Rattle.qs_machine.proofs.Counts.{counts_settle, counts_rise}
 use Rattle.qs_machine.proofs.CallsSound.{sound_call, sound_change, stand_call, grant_grows}
@@ -47,7 +44,7 @@ sound_end old call answer new h step = (sound_call old call answer new h.0 step,
 
 -- What a change leaves: no count falls, and a receiving half keeps what it knows.
 
-abbrev Moves : End → End → Type 0
+abbrev pub Moves : End → End → Type 0
 Moves a b = CountsRise a b × KeptIn LaneAfter a.recvs b.recvs
 
 -- a change that leaves the counts
@@ -87,40 +84,41 @@ moves_set (StreamWindow n w) e = moves_recvs e (with_setting (StreamWindow n w) 
 moves_after : (a b : End) → IsAfter a b → Moves a b
 moves_after a b after = (counts_rise a b after.bidi_granted after.uni_granted, after.recvs)
 
-moves_put : (f : Seen) (e : End) → Moves e (frame_put f e)
-moves_put f e =
-    moves_none e (frame_put f e) (ap (λ (x : End). x.granted_bidi) (put_leaves f e)) (ap (λ (x : End). x.granted_uni) (put_leaves f e)) (ap (λ (x : End). x.recvs) (put_leaves f e))
-
-moves_change : (old : End) (call : Call) (c : Change) (e : End) → Comes old call e c → IsInCredit e → SentWasWritten e → Moves e (changed c e)
+pub moves_change : (old : End) (call : Call) (c : Change) (e : End) → Comes old call e c → IsInCredit e → SentWasWritten e → Moves e (changed c e)
 moves_change old call (Wanted Uni count) e comes sound sent = moves_same e
 moves_change old call (Opened n) e comes sound sent = moves_opens n e
 moves_change old call (Stopped n code) e comes sound sent = moves_recv n (λ m. stop m code) e sound (λ l lawful. stop_after l code lawful)
 moves_change old call (Forgotten n code) e comes sound sent = moves_recv n (λ m. stop_and_forget m code) e sound (λ l lawful. forget_after l code lawful)
 moves_change old call (WasRead n size) e comes sound sent = moves_recv n (λ m. after_read m size) e sound (λ l lawful. read_after l size lawful)
 moves_change old call (WasSet x) e comes sound sent = moves_set x e
-moves_change old call (Took f) e comes sound sent = moves_after e (frame_taken f e) (after_frame f e comes sound sent)
+moves_change old call (Took f) e comes sound sent = moves_after e (frame_taken f e) (after_frame f e comes.0 sound sent)
 moves_change old call (Acked count ranges) e comes sound sent =
     moves_after e (acks (take count (named e ranges)) e) (after_acks (take count (named e ranges)) e (all_take e.sends count (named e ranges) (named_written e ranges sent)))
-moves_change old call (Put f) e comes sound sent = moves_put f e
+moves_change old call (Put f) e comes sound sent = moves_none e (frame_put f e) (ap (λ (x : End). x.granted_bidi) (put_leaves f e)) (ap (λ (x : End). x.granted_uni) (put_leaves f e)) (ap (λ (x : End). x.recvs) (put_leaves f e))
 moves_change old call Settled e comes sound sent = (counts_rise e (settle e) (omega arith) (omega arith), kept_each LaneAfter lane_same e.recvs raise raise_after)
 moves_change old call c e comes sound sent = moves_none e (changed c e) refl refl refl
 
 -- Every call
 
--- an end that a call of old has led to so far
-abbrev IsReached : End → End → Type 0
-IsReached old e = IsInCredit e × SentWasWritten e × Moves old e
+-- A relation that holds across each change of a sound end that sent what was written, and across two where it does across each, holds across every call.
+module _ (T : End → End → Type 0) (same : (e : End) → T e e) (twice : (a b c : End) → T a b → T b c → T a c) (old : End) (sound : IsSound old) (sent : SentWasWritten old) (call : Call)
+    (one : (c : Change) (e : End) → Comes old call e c → IsInCredit e → SentWasWritten e → T e (changed c e)) where
+  -- an end that the call has led to so far
+  abbrev IsReached : End → Type 0
+  IsReached e = IsInCredit e × SentWasWritten e × T old e
+
+  reached : (c : Change) (e : End) → Comes old call e c → IsReached e → IsReached (changed c e)
+  reached c e comes h = (sound_change old call c e comes h.0, keeps_change old call c e comes h.1, twice old e (changed c e) h.2 (one c e comes h.0 h.1))
+
+  at_first : IsReached old
+  at_first = (sound.0, sent, same old)
+
+  pub relates_sound : (answer : Answer call) (new : End) → EndStep old call answer new → T old new
+  relates_sound answer new step =
+      (each_call old call IsReached IsReached (record { begins = at_first; goes = reached; stays = at_first; settles = λ e. reached Settled e tt; loses = λ k p e is. reached (Lost k p) e is; claims = reached (Numbered (old.next + 1)) old refl at_first }) answer new step).2
 
 keeps_all : (old : End) → IsSound old → SentWasWritten old → (call : Call) (answer : Answer call) (new : End) → EndStep old call answer new → Moves old new
-keeps_all old sound sent call answer new step =
-    each_call old call (IsReached old) (Moves old) (record {
-      begins = (sound.0, sent, moves_same old);
-      goes = λ c e comes h. (sound_change old call c e comes h.0, keeps_change old call c e comes h.1, moves_twice old e (changed c e) h.2 (moves_change old call c e comes h.0 h.1));
-      stays = moves_same old;
-      settles = λ e h. moves_twice old e (settle e) h.2 (counts_rise e (settle e) (omega arith) (omega arith), kept_each LaneAfter lane_same e.recvs raise raise_after);
-      loses = λ k p e is h. moves_twice old e (first_lost k p e) h (moves_none e (first_lost k p e) refl refl refl);
-      claims = moves_none old (record old { next = old.next + 1 }) refl refl refl;
-    }) answer new step
+keeps_all old sound sent call answer new step = relates_sound Moves moves_same moves_twice old sound sent call (moves_change old call) answer new step
 
 pub counts_call : (old : End) → IsSound old → SentWasWritten old → (call : Call) (answer : Answer call) (new : End) → EndStep old call answer new → CountsRise old new
 counts_call old sound sent call answer new step = (keeps_all old sound sent call answer new step).0

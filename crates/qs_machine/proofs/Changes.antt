@@ -1,11 +1,11 @@
 -- A frame without a fault changes an end exactly where a test of what it finds says so.
-use Rattle.std.proofs.Common.{◌≡◌, ℕ, ◌+◌, ◌≤◌, Bool, true, false, not, ◌&&◌, ◌||◌, cond, List, [], length, Option, Some, None, is_some, ◌⊎◌, refl, sym, ap, ◌∙◌, subst, arith, inl, inr}
-use Rattle.std.specs.Prelude.{max, nat_lt, is_none, ◌==◌, IsOk}
+use Rattle.std.proofs.Common.{◌≡◌, ℕ, ◌+◌, Bool, true, false, not, ◌&&◌, ◌||◌, cond, List, length, Option, Some, None, is_some, ◌⊎◌, refl, sym, ap, ◌∙◌, subst, arith, inl, inr}
+use Rattle.std.specs.Prelude.{max, nat_lt, is_none, IsOk}
 use Rattle.std.specs.FinSet as set
 use Rattle.std.proofs.lemmas.Option.{none-some, same_Some}
-use Rattle.std.proofs.lemmas.Bool.{both_ways, cond_both, or_cases, or_right}
+use Rattle.std.proofs.lemmas.Bool.{and_parts, both_ways, cond_both, or_cases, or_right}
 use Rattle.std.proofs.lemmas.Bool.Decides.{nat_tests}
-use Rattle.qs_ranges.specs.Numbers.{covers, is_within, numbers}
+use Rattle.qs_ranges.specs.Numbers.{covers, is_within}
 use Rattle.qs_ranges.proofs.Sets.{covers-is, covers-of}
 use Rattle.qs_ranges.proofs.Algebra.{inside}
 use Rattle.qs_wire.specs.declared.stream_id.Dir.TheVariants.{Bidi, Uni}
@@ -29,7 +29,7 @@ use Rattle.qs_machine.specs.Verdicts.{verdict, state_fault_in, state_fault_out, 
 use Rattle.qs_machine.specs.FrameStep.{frame_taken, item_taken}
 use Rattle.qs_machine.specs.Alone.{is_ours}
 use Rattle.qs_machine.specs.Changes.{is_yet_to_open, half_changes, reset_changes, item_changes, changes}
-use Rattle.qs_machine.proofs.Choices.{not_chosen}
+use Rattle.qs_machine.proofs.EveryCall.{not_chosen}
 use Rattle.qs_machine.proofs.TablesAfter.{open_back}
 use Rattle.qs_machine.proofs.Taken.{out_there, in_there, stream_in, reset_in, stream_checked, mid_sends}
 use Rattle.qs_machine.proofs.LanesAgain.{put_again}
@@ -40,10 +40,6 @@ use Rattle.qs_machine.proofs.Again.{WasOpened, opens_it, opened_back, recv_back,
 neither : (a b : Bool) → (a || b) ≡ false → (a ≡ false) × (b ≡ false)
 neither true b h = absurd (both_ways true h refl)
 neither false b h = (refl, h)
-
-both_true : (a b : Bool) → (a && b) ≡ true → (a ≡ true) × (b ≡ true)
-both_true true b h = (refl, h)
-both_true false b h = absurd (both_ways false refl h)
 
 one_false : (a b : Bool) → (a && b) ≡ false → (a ≡ false) ⊎ (b ≡ false)
 one_false true b h = inr h
@@ -99,11 +95,11 @@ data_differs l offset bytes fin some same =
     elim (or_cases _ _ some) [
       | inl ends ↦ no_size fin l.final_size ends (ap (λ (k : RecvLane). k.final_size) same)
       | inr new ↦
-          let (open_still, missing) = both_true (is_none l.reset_code) _ new in
+          let (open_still, missing) = and_parts (is_none l.reset_code) _ new in
           both_ways (covers l.arrived.received offset (offset + length bytes)) (not_true _ missing)
           (covers-of l.arrived.received offset (offset + length bytes) (λ q low high.
           sym (ap (λ (k : RecvLane). set.contains k.arrived.received q) same)
-          ∙ put_at l.reset_code (is_missing l.reset_code open_still) q
+          ∙ (ap (λ c. set.contains (cond (is_some c) l.arrived (put l.arrived offset bytes)).received q) (is_missing l.reset_code open_still))
           ∙ contains-with_run l.arrived.received offset (length bytes) q
           ∙ or_right (set.contains l.arrived.received q) (is_within offset (offset + length bytes) q) (inside offset (offset + length bytes) q low high)))
     ]
@@ -113,12 +109,6 @@ data_differs l offset bytes fin some same =
     no_size true None h is = none-some _ (sym is)
     no_size true (Some s) h is = both_ways false refl h
 
-    put_at : (o : Option ℕ) → o ≡ None → (q : ℕ) → set.contains (cond (is_some o) l.arrived (put l.arrived offset bytes)).received q ≡ set.contains (put l.arrived offset bytes).received q
-    put_at o is q = ap (λ c. set.contains (cond (is_some c) l.arrived (put l.arrived offset bytes)).received q) is
-
-reset_same : (l : RecvLane) (code size : ℕ) → reset_changes l ≡ false → take_reset l code size ≡ l
-reset_same l code size none = ap (λ b. cond b l (record l { arrived = forget l.arrived; final_size = Some size; reset_code = Some code })) (not_false _ none)
-
 reset_differs : (l : RecvLane) (code size : ℕ) → reset_changes l ≡ true → take_reset l code size ≡ l → ⊥
 reset_differs l code size some same =
     let over = not_true (is_some l.reset_code || is_whole l) some in
@@ -126,9 +116,6 @@ reset_differs l code size some same =
     both_ways (is_some l.reset_code) (neither _ _ over).0 (sym (ap (λ (k : RecvLane). is_some k.reset_code) same) ∙ then)
 
 -- Sending halves
-
-allow_same : (l : SendLane) (m : ℕ) → nat_lt l.limit m ≡ false → allow_lane l m ≡ l
-allow_same l m none = allow_back l m (grind (arith, nat_tests))
 
 allow_differs : (l : SendLane) (m : ℕ) → nat_lt l.limit m ≡ true → allow_lane l m ≡ l → ⊥
 allow_differs l m some same = let e : max l.limit m ≡ l.limit = ap (λ (k : SendLane). k.limit) same in grind (arith, nat_tests)
@@ -143,7 +130,7 @@ stop_same false l code none = stopped_back false l code (inl (is_there (reset_re
 
 stop_differs : (answers : Bool) (l : SendLane) (code : ℕ) → changes_by_stop answers l ≡ true → stop_taken answers l code ≡ l → ⊥
 stop_differs true l code some same =
-    let open_still = both_true (is_none (reset_refusal l)) (is_none l.stopped) some in
+    let open_still = and_parts (is_none (reset_refusal l)) (is_none l.stopped) some in
     let none = is_missing (reset_refusal l) open_still.0 in
     no_code l.stopped open_still.1 (sym (ap (λ o. (cond (is_some o) l (record l { stopped = first_code l.stopped code })).stopped) none) ∙ ap (λ (k : SendLane). k.stopped) same)
   where
@@ -249,12 +236,12 @@ unfolding verdict
 item_same (MaxData m) e v none = ap (λ k. record e { known_data = k }) (max_same e.known_data m none)
 item_same (MaxStreamData n m) e v none =
     let (yet, half) = neither _ _ none in
-    send_same n (λ l. allow_lane l m) e v yet (λ l is. allow_same l m (half_false (λ (k : SendLane). nat_lt k.limit m) (send_lane e n) l is half))
+    send_same n (λ l. allow_lane l m) e v yet (λ l is. (allow_back l m (grind ((half_false (λ (k : SendLane). nat_lt k.limit m) (send_lane e n) l is half), arith, nat_tests))))
 item_same (MaxStreams Bidi m) e v none = ap (λ k. record e { known_bidi = k }) (max_same e.known_bidi m none)
 item_same (MaxStreams Uni m) e v none = ap (λ k. record e { known_uni = k }) (max_same e.known_uni m none)
 item_same (ResetStream n code size) e v none =
     let (yet, half) = neither _ _ none in
-    recv_same n (λ l. take_reset l code size) e (reset_in e n code size v) yet (λ l is. reset_same l code size (half_false reset_changes (recv_lane e n) l is half))
+    recv_same n (λ l. take_reset l code size) e (reset_in e n code size v) yet (λ l is. (ap (λ b. cond b l (record l { arrived = forget l.arrived; final_size = Some size; reset_code = Some code })) (not_false _ (half_false reset_changes (recv_lane e n) l is half))))
 item_same (StopSending n code) e v none =
     let (yet, half) = neither _ _ none in
     let answers = e.tuning.answers_stops in

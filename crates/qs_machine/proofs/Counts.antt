@@ -1,7 +1,7 @@
--- How many streams ended: no fewer where halves that ended stay so, and as many once limits were raised.
-use Rattle.std.proofs.Common.{◌≡◌, ℕ, zero, suc, ◌+◌, ◌-◌, ◌*◌, ◌/◌, ◌%◌, ◌<◌, ◌≤◌, Bool, true, false, cond, List, [], ◌∷◌, length, map, Option, None, Some, slice_get, refl, sym, ap, ◌∙◌, subst, arith}
-use Rattle.std.specs.Prelude.{max, zip}
-use Rattle.std.specs.List.{filter}
+-- How many streams ended and what is stored: bounds, sums over the halves of a type, and counts that never fall.
+use Rattle.std.proofs.Common.{◌≡◌, ℕ, zero, suc, ◌+◌, ◌-◌, ◌*◌, ◌/◌, ◌%◌, ◌<◌, ◌≤◌, Bool, true, false, cond, List, [], ◌∷◌, length, map, Option, None, Some, slice_get, refl, sym, ap, ◌∙◌, subst, arith, not, ◌&&◌, ◌||◌, is_some, ◌++◌, get_or, take}
+use Rattle.std.specs.Prelude.{max, zip, Ok, if◌then◌else◌}
+use Rattle.std.specs.List.{filter, sum_by}
 use Rattle.std.proofs.lemmas.Option.{none-some, same_Some}
 use Rattle.std.proofs.lemmas.Bool.{both_ways, and_parts, and_from}
 use Rattle.std.proofs.lemmas.Nat.{le-div, mod_below}
@@ -9,17 +9,38 @@ use Rattle.std.proofs.Math.Nat.{mul-le-mul_right}
 use Rattle.qs_wire.specs.declared.stream_id.Dir.{Dir}
 use Rattle.qs_wire.specs.declared.stream_id.Dir.TheVariants.{Bidi, Uni}
 use Rattle.qs_wire.specs.declared.stream_id.Role.{Role}
-use Rattle.qs_recv.specs.Lane.{RecvLane, raise}
+use Rattle.qs_recv.specs.Lane.{RecvLane, raise, highest, taken, new_lane, noted, is_whole, MAX_WINDOW}
 use Rattle.qs_send.specs.Lane.{SendLane}
 use Rattle.qs_calls.specs.declared.settings.Settings.{Settings}
 use Rattle.qs_calls.specs.declared.settings.Tuning.{Tuning}
 use Rattle.qs_recv.specs.declared.credit.Share.{Share}
-use Rattle.qs_machine.specs.Tables.{Tables, table, lookup, each}
-use Rattle.qs_machine.specs.Ends.{End, role_bit, peer_type}
-use Rattle.qs_machine.specs.Credit.{recv_ended, send_ended, both_ended, ended, lifetime, count_step, in_steps, count_after, next_count, settle}
-use Rattle.qs_machine.specs.Standing.{CountsStand, CountsAreSettled, CountsRise}
+use Rattle.qs_machine.specs.Tables.{Tables, table, lookup, each, total, no_streams}
+use Rattle.qs_machine.specs.Ends.{End, role_bit, peer_type, new_end, end_made, wide_end_made, end_unless}
+use Rattle.qs_machine.specs.Credit.{recv_ended, send_ended, both_ended, ended, lifetime, count_step, in_steps, count_after, next_count, settle, spent, all_taken, all_stored, granted_streams}
+use Rattle.qs_machine.specs.Standing.{CountsStand, CountsAreSettled, CountsRise, HasLawfulLane, IsInCredit, IsSound, IsWithinCredit}
 use Rattle.qs_machine.proofs.EndedHalves.{RecvStays, SendStays}
 use Rattle.qs_machine.proofs.TablesAfter.{KeptIn}
+use Rattle.std.specs.FinMap as fmap
+use Rattle.std.specs.Ordering.{nat_cmp}
+use Rattle.std.proofs.lemmas.Bool.Decides.{nat_tests}
+use Rattle.qs_ranges.proofs.Sets.{below-end_of, end_of-empty}
+use Rattle.qs_recv.specs.Lawful.{IsLawful}
+use Rattle.qs_recv.proofs.LaneLaws.{len_within}
+use Rattle.qs_recv.proofs.LawfulLaws.{stored_within, taken_within, lawful_new, lawful_raise}
+use Rattle.qs_calls.specs.declared.settings.PeerLimits.{PeerLimits}
+use Rattle.qs_calls.specs.declared.settings.SetupFault.{SetupFault}
+use Rattle.qs_calls.specs.declared.settings.SetupFault.TheVariants.{OutOfRange, TooManyStreams}
+use Rattle.qs_calls.specs.Settings.{are_in_range, are_in_wide_range, are_spellable, are_countable, fault_where, setup_fault, wide_setup_fault, default_tuning}
+use Rattle.qs_machine.proofs.TableLaws.{value, total_le, total_both}
+use Rattle.std.specs.FinSet as set
+use Rattle.std.proofs.lemmas.List.Sums.{sum_by-set, sum_by-cons, sum_by-append, get_or-le-sum_by}
+use Rattle.std.proofs.Math.ListN.{set}
+use Rattle.qs_ranges.specs.Numbers.{run_starts}
+use Rattle.qs_ranges.proofs.Starts.{starts_below_end}
+use Rattle.qs_machine.specs.declared.tally.Tally.{Tally}
+use Rattle.qs_machine.specs.Sums.{stored_on, tally_of, tally_on, moved, IsPaid, EachLawful}
+
+-- How many streams ended: no fewer where halves that ended stay so, and as many once limits were raised.
 
 -- Lists
 
@@ -74,14 +95,8 @@ kept_table : {X : Type 0} (R : X → X → Type 0) (t u : Tables X) (k : ℕ) �
 unfolding lookup
 kept_table {X} R t u k few kept i x is = let (y, there, r) = kept (i * 4 + k) x (at t ∙ is) in (y, sym (at u) ∙ there, r)
   where
-    kind : (i * 4 + k) % 4 ≡ k
-    kind = omega arith
-
-    index : (i * 4 + k) / 4 ≡ i
-    index = omega arith
-
     at : (v : Tables X) → slice_get (table v ((i * 4 + k) % 4)) ((i * 4 + k) / 4) ≡ slice_get (table v k) i
-    at v = ap (λ j. slice_get (table v j) ((i * 4 + k) / 4)) kind ∙ ap (slice_get (table v k)) index
+    at v = ap (λ j. slice_get (table v j) ((i * 4 + k) / 4)) (omega arith) ∙ ap (slice_get (table v k)) (omega arith)
 
 each_table : {X : Type 0} (f : X → X) (t : Tables X) (k : ℕ) → table (each f t) k ≡ map f (table t k)
 unfolding each
@@ -100,10 +115,6 @@ one_step (Some share) grant = omega arith
 -- whole steps are at most all
 pub steps_within : (k n : ℕ) → 0 < k → in_steps k n ≤ n
 steps_within k n pos = omega (arith, mod_below n k pos)
-
--- steps of one are all
-pub steps_of_one : (n : ℕ) → in_steps 1 n ≡ n
-steps_of_one n = omega arith
 
 -- more streams make no fewer whole steps, and no lower count
 steps_more : (k a b : ℕ) → 0 < k → a ≤ b → in_steps k a ≤ in_steps k b
@@ -161,3 +172,214 @@ counts_stand e h = (omega (arith, h.0), omega (arith, h.1))
 pub counts_rise : (a b : End) → a.granted_bidi ≤ b.granted_bidi → a.granted_uni ≤ b.granted_uni → CountsRise a b
 counts_rise a b bidi uni Bidi = bidi
 counts_rise a b bidi uni Uni = uni
+
+-- A sound end stores at most what it granted, and a new end is sound.
+
+-- of one lane: what is stored and what was taken, together, the peer has used up
+pub stored_and_taken : (l : RecvLane) → IsLawful l → fmap.len l.arrived.stored + taken l ≤ highest l
+stored_and_taken l h = by_use (is_some l.reset_code || is_some l.stop_code) h.discards (taken_within l h)
+  where
+    by_use : (b : Bool) → l.arrived.discarding ≡ b → cond b (highest l) l.arrived.read_count ≤ highest l → fmap.len l.arrived.stored + cond b (highest l) l.arrived.read_count ≤ highest l
+    by_use true is within =
+        let none : fmap.len l.arrived.stored ≡ 0 = ap fmap.len (h.thrown_away is) ∙ fmap.len-empty nat_cmp ℕ in
+        omega arith
+    by_use false is within =
+        let few : fmap.len l.arrived.stored ≤ highest l - l.arrived.read_count =
+        len_within (highest l - l.arrived.read_count) l.arrived.read_count l.arrived.stored (λ q some.
+        let p = h.stored_received q some in
+        let below = below-end_of l.arrived.received q p.1 in
+        (p.0, omega (arith, below, h.received_within, p.0))) in
+        omega arith
+
+slot_within : (role : Role) (s : Settings) (n : ℕ) (o : Option RecvLane) → HasLawfulLane role s n o → value (λ l. fmap.len l.arrived.stored + taken l) o ≤ value highest o
+slot_within role s n None h = omega arith
+slot_within role s n (Some l) h = stored_and_taken l h.0
+
+few_counts : (e : End) → CountsStand e → (d : Dir) → granted_streams e d ≤ lifetime e.settings d
+few_counts e h Bidi = h.0
+few_counts e h Uni = h.1
+
+pub within_credit : (e : End) → IsSound e → IsWithinCredit e
+within_credit e h =
+    let all : all_stored e + all_taken e ≤ spent e =
+    omega (
+      arith,
+      total_both (λ l. fmap.len l.arrived.stored) taken e.recvs,
+      total_le (λ l. fmap.len l.arrived.stored + taken l) highest e.recvs e.recvs (λ n. slot_within e.role e.settings n (lookup e.recvs n) (h.0.lanes n)),
+    ) in
+    record {
+      stored = omega (arith, all, h.0.spent);
+      credit = omega (arith, h.0.in_window);
+      spent = h.0.spent;
+      lanes = λ n l is. (let p : HasLawfulLane e.role e.settings n (Some l) = subst (HasLawfulLane e.role e.settings n) is (h.0.lanes n) in (record { stored = stored_within l p.0; credit = omega (arith, p.0.in_window); spent = p.0.granted }));
+      counts = few_counts e h.1;
+    }
+
+-- A new end
+
+pub no_table : {X : Type 0} (k : ℕ) → table (no_streams {X = X}) k ≡ []
+no_table zero = refl
+no_table (suc zero) = refl
+no_table (suc (suc zero)) = refl
+no_table (suc (suc (suc k))) = refl
+
+pub no_lane : (n : ℕ) → lookup (no_streams {X = RecvLane}) n ≡ None
+unfolding lookup
+no_lane n = ap (λ xs. slice_get xs (n / 4)) (no_table (n % 4))
+
+new_end_in_credit : (role : Role) (s : Settings) (t : Tuning) (p : PeerLimits) → are_in_wide_range s ≡ true → IsInCredit (new_end role s t p)
+unfolding total
+new_end_in_credit role s t p fits =
+    record {
+      settings = fits;
+      present = record { some = grind (arith, nat_tests, fits); widest = omega arith; small = grind (arith, nat_tests, fits); bidi = grind (arith, nat_tests, fits); uni = grind (arith, nat_tests, fits) };
+      lanes = λ n. subst (HasLawfulLane role s n) (sym (no_lane n)) tt;
+      spent = omega arith;
+      in_window = omega arith;
+    }
+
+-- none of its streams ended
+
+none_ended : (role : Role) (s : Settings) (t : Tuning) (p : PeerLimits) (d : Dir) → ended (new_end role s t p) d ≡ 0
+none_ended role s t p Bidi = ap (λ (xs : List RecvLane). length (filter both_ended (zip xs (table (no_streams {X = SendLane}) (1 - role_bit role))))) (no_table (1 - role_bit role))
+none_ended role s t p Uni = ap (λ (xs : List RecvLane). length (filter recv_ended xs)) (no_table (3 - role_bit role))
+
+pub record GrantsFit (s : Settings) : Type 0 where
+  pub bidi : s.grant_bidi ≤ s.lifetime_bidi
+  pub uni : s.grant_uni ≤ s.lifetime_uni
+
+grants_fit : (s : Settings) → are_in_wide_range s ≡ true → GrantsFit s
+grants_fit s h = record { bidi = grind (arith, nat_tests, h); uni = grind (arith, nat_tests, h) }
+
+new_end_settled : (role : Role) (s : Settings) (t : Tuning) (p : PeerLimits) → are_in_wide_range s ≡ true → CountsAreSettled (new_end role s t p)
+new_end_settled role s t p fits Bidi = omega (arith, count_first s t Bidi s.grant_bidi (ended (new_end role s t p) Bidi) (none_ended role s t p Bidi) (grants_fit s fits).bidi)
+new_end_settled role s t p fits Uni = omega (arith, count_first s t Uni s.grant_uni (ended (new_end role s t p) Uni) (none_ended role s t p Uni) (grants_fit s fits).uni)
+
+new_end_sound : (role : Role) (s : Settings) (t : Tuning) (p : PeerLimits) → are_in_wide_range s ≡ true → IsSound (new_end role s t p)
+new_end_sound role s t p fits = (new_end_in_credit role s t p fits, ((grants_fit s fits).bidi, (grants_fit s fits).uni))
+
+in_range : (a b c : Bool) → cond (not (a && b)) (Some OutOfRange) (cond (not c) (Some TooManyStreams) None) ≡ None → a ≡ true
+in_range true b c e = refl
+in_range false b c e = absurd (none-some OutOfRange (sym e))
+
+pub made_end : (o : Option SetupFault) (x e : End) → end_unless o x ≡ Ok e → (o ≡ None) × (x ≡ e)
+made_end None x e made = (refl, cc)
+made_end (Some fault) x e made = absurd (cc)
+
+-- what is in a script's ranges is in the wide ones
+
+pub no_wide_fault : (s : Settings) (p : PeerLimits) → setup_fault s p ≡ None → wide_setup_fault s p ≡ None
+no_wide_fault s p none =
+    let fits = in_range (are_in_range s) (are_spellable p) (are_countable p) none in
+    ap (λ b. fault_where b p) ((grind (arith, nat_tests, fits)) ∙ sym fits) ∙ none
+
+pub new_ends_wide : (role : Role) (s : Settings) (p : PeerLimits) (e : End) → end_made role s p ≡ Ok e → wide_end_made role s default_tuning p ≡ Ok e
+new_ends_wide role s p e made =
+    let (none, is) = made_end (setup_fault s p) (new_end role s default_tuning p) e made in
+    ap (λ o. end_unless o (new_end role s default_tuning p)) (no_wide_fault s p none) ∙ ap Ok is
+
+pub new_ends_sound : (role : Role) (s : Settings) (t : Tuning) (p : PeerLimits) (e : End) → wide_end_made role s t p ≡ Ok e → IsSound e
+new_ends_sound role s t p e made =
+    let (none, is) = made_end (wide_setup_fault s p) (new_end role s t p) e made in
+    subst IsSound is (new_end_sound role s t p (in_range (are_in_wide_range s) (are_spellable p) (are_countable p) none))
+
+pub new_ends_settled : (role : Role) (s : Settings) (t : Tuning) (p : PeerLimits) (e : End) → wide_end_made role s t p ≡ Ok e → CountsAreSettled e
+new_ends_settled role s t p e made =
+    let (none, is) = made_end (wide_setup_fault s p) (new_end role s t p) e made in
+    subst CountsAreSettled is (new_end_settled role s t p (in_range (are_in_wide_range s) (are_spellable p) (are_countable p) none))
+
+-- The sums over the receiving lanes of one type of stream, where one of them changes, and where some are opened.
+
+-- One lane among all
+
+sum_part : (f : RecvLane → ℕ) (xs : List RecvLane) (i : ℕ) (x : RecvLane) → i < length xs → x ≡ get_or xs i x → f x ≤ sum_by f xs
+sum_part f xs i x there is =
+    let le = get_or-le-sum_by f xs i x there in
+    let e : f (get_or xs i x) ≡ f x = ap f (sym is) in
+    omega (arith, le, e)
+
+sum_set : (f : RecvLane → ℕ) (xs : List RecvLane) (i : ℕ) (x y : RecvLane) → i < length xs → x ≡ get_or xs i x → sum_by f (set xs i y) ≡ sum_by f xs - f x + f y
+sum_set f xs i x y there is =
+    let le = sum_part f xs i x there is in
+    let whole = sum_by-set f xs i y x there in
+    let e : f (get_or xs i x) ≡ f x = ap f (sym is) in
+    omega (arith, le, e, whole)
+
+abbrev sums : ℕ → ℕ → ℕ → ℕ → Tally
+sums spent taken stored count = record { spent = spent; taken = taken; stored = stored; noted = count }
+
+same_tally : (a b : Tally) → a.spent ≡ b.spent → a.taken ≡ b.taken → a.stored ≡ b.stored → a.noted ≡ b.noted → a ≡ b
+same_tally a b p q r t =
+    ap (λ k. sums k a.taken a.stored a.noted) p
+    ∙ ap (λ k. sums b.spent k a.stored a.noted) q
+    ∙ ap (λ k. sums b.spent b.taken k a.noted) r
+    ∙ ap (sums b.spent b.taken b.stored) t
+
+pub tally_set : (xs : List RecvLane) (i : ℕ) (x y : RecvLane) → i < length xs → x ≡ get_or xs i x → tally_on (set xs i y) ≡ moved (tally_on xs) (tally_of x) (tally_of y)
+tally_set xs i x y there is = same_tally _ _ (sum_set highest xs i x y there is) (sum_set taken xs i x y there is) (sum_set stored_on xs i x y there is) (sum_set noted xs i x y there is)
+
+noted_within : (l : RecvLane) → IsLawful l → noted l ≤ highest l
+noted_within l h = go ((l.told && is_whole l) || is_some l.reset_code)
+  where
+    go : (b : Bool) → (if b then 0 else set.len (run_starts l.arrived.received)) ≤ highest l
+    go true = omega arith
+    go false = omega (arith, starts_below_end l.arrived.received, h.received_within)
+
+pub each_paid : (xs : List RecvLane) → EachLawful xs → IsPaid (tally_on xs)
+each_paid [] each = record { moved = omega arith; noted = omega arith }
+each_paid (x ∷ xs) each =
+    let rest = each_paid xs each.1 in
+    let one = stored_and_taken x each.0 in
+    record {
+      moved = omega (arith, rest.moved, one, sum_by-cons taken x xs, sum_by-cons highest x xs, sum_by-cons stored_on x xs);
+      noted = omega (arith, rest.noted, noted_within x each.0, sum_by-cons noted x xs, sum_by-cons highest x xs);
+    }
+
+-- Each lane is lawful
+
+pub lawful_set : (xs : List RecvLane) (i : ℕ) (y : RecvLane) → IsLawful y → EachLawful xs → EachLawful (set xs i y)
+lawful_set [] i y is each = tt
+lawful_set (x ∷ xs) zero y is each = (is, each.1)
+lawful_set (x ∷ xs) (suc i) y is each = (each.0, lawful_set xs i y is each.1)
+
+pub lawful_take : (n : ℕ) (xs : List RecvLane) → EachLawful xs → EachLawful (take n xs)
+lawful_take zero xs each = tt
+lawful_take (suc n) [] each = tt
+lawful_take (suc n) (x ∷ xs) each = (each.0, lawful_take n xs each.1)
+
+pub lawful_append : (xs ys : List RecvLane) → EachLawful xs → EachLawful ys → EachLawful (xs ++ ys)
+lawful_append [] ys a b = b
+lawful_append (x ∷ xs) ys a b = (a.0, lawful_append xs ys a.1 b)
+
+pub lawful_begun : (w : ℕ) (share : Share) (ks : List ℕ) → 1 ≤ w → w ≤ MAX_WINDOW → EachLawful (map (λ (i : ℕ). new_lane w share) ks)
+lawful_begun w share [] some small = tt
+lawful_begun w share (k ∷ ks) some small = (lawful_new w share some small, lawful_begun w share ks some small)
+
+pub lawful_raised : (xs : List RecvLane) → EachLawful xs → EachLawful (map raise xs)
+lawful_raised [] each = tt
+lawful_raised (x ∷ xs) each = (lawful_raise x each.0, lawful_raised xs each.1)
+
+-- Lanes that are opened have spent nothing
+
+sum_begun : (f : RecvLane → ℕ) (w : ℕ) (share : Share) (ks : List ℕ) → f (new_lane w share) ≡ 0 → sum_by f (map (λ (i : ℕ). new_lane w share) ks) ≡ 0
+sum_begun f w share [] none = refl
+sum_begun f w share (k ∷ ks) none = sum_by-cons f (new_lane w share) (map (λ (i : ℕ). new_lane w share) ks) ∙ omega (arith, none, sum_begun f w share ks none)
+
+sum_opened : (f : RecvLane → ℕ) (xs : List RecvLane) (w : ℕ) (share : Share) (ks : List ℕ) → f (new_lane w share) ≡ 0 → sum_by f (xs ++ map (λ (i : ℕ). new_lane w share) ks) ≡ sum_by f xs
+sum_opened f xs w share ks none = sum_by-append f xs (map (λ (i : ℕ). new_lane w share) ks) ∙ omega (arith, sum_begun f w share ks none)
+
+pub tally_opened : (xs : List RecvLane) (w : ℕ) (share : Share) (ks : List ℕ) → tally_on (xs ++ map (λ (i : ℕ). new_lane w share) ks) ≡ tally_on xs
+tally_opened xs w share ks =
+    same_tally _ _ (sum_opened highest xs w share ks end_of-empty) (sum_opened taken xs w share ks refl) (sum_opened stored_on xs w share ks (fmap.len-empty nat_cmp ℕ)) (sum_opened noted xs w share ks (omega (arith, starts_below_end set.empty, end_of-empty)))
+
+-- A raised limit changes no sum
+
+sum_raised : (f : RecvLane → ℕ) → ((l : RecvLane) → f (raise l) ≡ f l) → (xs : List RecvLane) → sum_by f (map raise xs) ≡ sum_by f xs
+sum_raised f same [] = refl
+sum_raised f same (x ∷ xs) =
+    let rest = sum_raised f same xs in
+    let one = same x in
+    sum_by-cons f (raise x) (map raise xs) ∙ omega (arith, rest, one, sum_by-cons f x xs)
+
+pub tally_raised : (xs : List RecvLane) → tally_on (map raise xs) ≡ tally_on xs
+tally_raised xs = same_tally _ _ (sum_raised highest (λ l. refl) xs) (sum_raised taken (λ l. refl) xs) (sum_raised stored_on (λ l. refl) xs) (sum_raised noted (λ l. refl) xs)

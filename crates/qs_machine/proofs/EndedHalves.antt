@@ -1,29 +1,25 @@
 -- A half of a stream that ended stays so.
 use Rattle.std.proofs.Common.{◌≡◌, ℕ, ◌+◌, ◌≤◌, Bool, true, false, ◌&&◌, ◌||◌, [], cond, Option, Some, None, is_some, refl, sym, ap, ◌∙◌, arith, inl, inr}
-use Rattle.std.specs.Prelude.{is_none, ◌==◌}
+use Rattle.std.specs.Prelude.{is_none, ◌==◌, nat_lt}
 use Rattle.std.specs.FinSet as set
-use Rattle.std.proofs.lemmas.Option.{none-some}
 use Rattle.std.proofs.lemmas.Bool.{both_ways, cond_both, and_parts, and_from, or_cases, or_left, or_right}
 use Rattle.std.proofs.lemmas.Bool.Decides.{nat_tests}
 use Rattle.qs_ranges.specs.Numbers.{missing_from}
 use Rattle.qs_ranges.proofs.Sets.{covers-is, covers-of, missing_from-with_later}
 use Rattle.qs_recv.specs.Assembled.{discard, forget}
-use Rattle.qs_recv.specs.Lane.{RecvLane, is_whole as recv_whole, whole_to, take_reset, after_read, after_answer, read_answer, stop, stop_and_forget, is_over}
+use Rattle.qs_recv.specs.Lane.{RecvLane, is_whole as recv_whole, whole_to, take_reset, after_read, after_answer, read_answer, stop, stop_and_forget, is_over, state as recv_state}
 use Rattle.qs_recv.specs.declared.half.Read.{Read}
 use Rattle.qs_recv.specs.declared.half.Read.TheVariants as reads
-use Rattle.qs_send.specs.Lane.{SendLane, is_whole as send_whole, unacked_from, chunk_offsets, refusal, reset_refusal, finish_lane, reset_lane, reset_acked_lane, acked_lane}
+use Rattle.qs_send.specs.Lane.{SendLane, is_whole as send_whole, unacked_from, chunk_offsets, reset_refusal, reset_acked_lane, acked_lane, Sending, state as send_state}
 use Rattle.qs_send.specs.declared.parts.Chunk.{Chunk}
 use Rattle.qs_send.specs.declared.parts.SendFault.{SendFault}
 use Rattle.qs_send.specs.declared.parts.SendFault.TheVariants.{Finished, WasReset}
 use Rattle.qs_machine.specs.Credit.{recv_ended, send_ended}
 use Rattle.qs_machine.specs.Laws.{is_last_recv, is_last_send, EndedIsLastState}
-use Rattle.qs_recv.specs.Lane.{state as recv_state}
 use Rattle.qs_recv.specs.declared.half.RecvState.TheVariants.{Recv, SizeKnown, DataRecvd as at_data, DataRead, ResetRecvd as at_reset, ResetRead}
-use Rattle.qs_send.specs.Lane.{Sending, state as send_state}
 use Rattle.qs_send.specs.Sound.{IsLawful}
 use Rattle.qs_send.specs.declared.parts.Reset.{Reset}
 use Rattle.qs_send.specs.declared.parts.SendState.TheVariants.{Ready, Send, DataSent, DataRecvd, ResetSent, ResetRecvd}
-use Rattle.std.specs.Prelude.{nat_lt}
 
 -- where the first half ended, the second one did too
 abbrev pub RecvStays : RecvLane → RecvLane → Type 0
@@ -114,11 +110,6 @@ refused_whole true b h = refl
 refused_whole false true h = refl
 refused_whole false false h = absurd (both_ways false refl h)
 
-never_refused : (a b : Bool) → b ≡ true → ◌≡◌ {A = Option SendFault} (cond a (Some WasReset) (cond b (Some Finished) None)) None → ⊥
-never_refused true b h e = none-some WasReset (sym e)
-never_refused false true h e = none-some Finished (sym e)
-never_refused false false h e = both_ways false refl h
-
 -- the half as a reset leaves it
 abbrev pub reset_by : ℕ → SendLane → SendLane
 reset_by code l = record l { kept = []; was_reset = Some (record { code = code; size = cond l.fin_sent l.written l.sent_end }) }
@@ -126,9 +117,6 @@ reset_by code l = record l { kept = []; was_reset = Some (record { code = code; 
 pub new_reset_keeps : (code : ℕ) (l : SendLane) → is_some (reset_refusal l) ≡ false → SendStays l (reset_by code l)
 new_reset_keeps code l allowed =
     send_stays l (reset_by code l) (λ is. is) (λ b. absurd (both_ways (is_some (reset_refusal l)) allowed (refused_whole (is_some l.was_reset) (send_whole l) (data_of l b).whole)))
-
-pub reset_keeps : (code : ℕ) (l : SendLane) → SendStays l (reset_lane l code)
-reset_keeps code l = cond_both (is_some (reset_refusal l)) l (reset_by code l) (SendStays l) (λ _ h. h) (new_reset_keeps code l)
 
 pub reset_acked_keeps : (l : SendLane) → SendStays l (reset_acked_lane l)
 reset_acked_keeps l h = refl
@@ -145,16 +133,6 @@ acked_keeps l c within =
     send_stays l (acked_lane l c) (λ is. is) (λ b.
     let d = data_of l b in
     data_from (is_none l.was_reset) l.finished (send_whole (acked_lane l c)) d.no_reset d.finished (whole_acked l c within d.whole))
-
-pub write_keeps : (l m : SendLane) → refusal l ≡ None → m.reset_acked ≡ l.reset_acked → SendStays l m
-write_keeps l m allowed same =
-    send_stays l m (λ is. same ∙ is) (λ b. absurd (never_refused (is_some l.was_reset) l.finished (data_of l b).finished allowed))
-
-pub finish_keeps : (l : SendLane) → SendStays l (finish_lane l)
-finish_keeps l =
-    send_stays l (finish_lane l) (λ is. is) (λ b.
-    let d = data_of l b in
-    data_from (is_none l.was_reset) true (send_whole l) d.no_reset refl d.whole)
 
 -- The last states
 

@@ -4,12 +4,11 @@ use Rattle.std.specs.Prelude.{⊤, flat_map, IsOk}
 use Rattle.std.specs.FinMap as fmap
 use Rattle.std.proofs.lemmas.Bool.{both_ways, cond_both}
 use Rattle.std.proofs.lemmas.Bool.Decides.{nat_tests}
-use Rattle.qs_wire.specs.declared.stream_id.Dir.{Dir}
 use Rattle.qs_wire.specs.declared.stream_id.Dir.TheVariants.{Bidi, Uni}
 use Rattle.qs_recv.specs.Lane.{RecvLane, new_lane as new_recv_lane, check_stream, check_reset, take_stream, take_reset, raise}
 use Rattle.qs_recv.specs.declared.credit.Share.TheVariants.{Half}
 use Rattle.qs_recv.specs.Lawful.{IsLawful}
-use Rattle.qs_send.specs.Lane.{SendLane, new_lane as new_send_lane, reset_refusal, is_whole, acked_lane, reset_lane, first_code, stop_taken, reset_acked_lane, allow_lane}
+use Rattle.qs_send.specs.Lane.{SendLane, new_lane as new_send_lane, reset_refusal, is_whole, acked_lane, first_code, stop_taken, reset_acked_lane, allow_lane}
 use Rattle.qs_send.specs.Records.{Among, IsCarried, without_first}
 use Rattle.qs_send.specs.declared.parts.Chunk.{Chunk}
 use Rattle.qs_send.specs.declared.parts.SendFault.{SendFault}
@@ -31,7 +30,7 @@ use Rattle.qs_machine.specs.Standing.{IsInCredit, CountsStand, HasLawfulLane}
 use Rattle.qs_machine.specs.Repeats.{IsWritten, WasWritten, SentWasWritten}
 use Rattle.qs_machine.proofs.EndedHalves.{RecvStays, SendStays, reset_by, new_reset_keeps, reset_acked_keeps, whole_acked, acked_keeps}
 use Rattle.qs_machine.proofs.Counts.{counts_stand}
-use Rattle.qs_machine.proofs.FramesSound.{sound_opened}
+use Rattle.qs_machine.proofs.CallsSound.{sound_opened}
 use Rattle.qs_machine.proofs.Taken.{stream_checked, reset_checked}
 use Rattle.qs_machine.proofs.LanesAgain.{LaneAfter, lane_same, lane_twice, data_after, reset_after, raise_after}
 use Rattle.qs_machine.proofs.TablesAfter.{KeptIn, kept_same, kept_twice, kept_updated, kept_open, kept_each}
@@ -52,14 +51,6 @@ half_same l = record { limit = omega arith; written = omega arith; refused = λ 
 pub half_twice : (l m k : SendLane) → HalfAfter l m → HalfAfter m k → HalfAfter l k
 half_twice l m k a b = record { limit = omega (arith, a.limit, b.limit); written = omega (arith, a.written, b.written); refused = λ is. b.refused (a.refused is); stopped = λ is. b.stopped (a.stopped is); ended = λ is. b.ended (a.ended is) }
 
-half_allow : (l : SendLane) (m : ℕ) → HalfAfter l (allow_lane l m)
-half_allow l m = record { limit = omega arith; written = omega arith; refused = λ is. is; stopped = λ is. is; ended = λ is. is }
-
-half_reset : (l : SendLane) (code : ℕ) → HalfAfter l (reset_lane l code)
-half_reset l code =
-    cond_both (is_some (reset_refusal l)) l (reset_by code l) (HalfAfter l) (λ _. half_same l) (λ allowed.
-    record { limit = omega arith; written = omega arith; refused = λ is. refl; stopped = λ is. is; ended = new_reset_keeps code l allowed })
-
 pub has_code : (o : Option ℕ) (code : ℕ) → is_some (first_code o code) ≡ true
 has_code None code = refl
 has_code (Some first) code = refl
@@ -71,9 +62,6 @@ half_stopped true l code =
 half_stopped false l code =
     cond_both (is_some (reset_refusal l)) l (record (reset_by code l) { stopped = first_code l.stopped code }) (HalfAfter l) (λ _. half_same l) (λ allowed.
     record { limit = omega arith; written = omega arith; refused = λ is. refl; stopped = λ is. has_code l.stopped code; ended = new_reset_keeps code l allowed })
-
-half_reset_acked : (l : SendLane) → HalfAfter l (reset_acked_lane l)
-half_reset_acked l = record { limit = omega arith; written = omega arith; refused = λ is. is; stopped = λ is. is; ended = reset_acked_keeps l }
 
 refused_more : (a b c : Bool) → (b ≡ true → c ≡ true) → is_some {T = SendFault} (cond a (Some WasReset) (cond b (Some Finished) None)) ≡ true → is_some {T = SendFault} (cond a (Some WasReset) (cond c (Some Finished) None)) ≡ true
 refused_more true b c more is = refl
@@ -274,16 +262,13 @@ after_acked_items : (e : End) (a : AckedItems) → IsAfter e (record e { acked =
 after_acked_items e a = record { role = refl; settings = refl; tuning = refl; next = omega arith; credit = omega arith; bidi = omega arith; uni = omega arith; bidi_granted = omega arith; uni_granted = omega arith; counts = λ h. h; recvs = recvs_same e.recvs; sends = sends_same e.sends; bare = λ late k is. is; carried = λ late p is. is }
 
 after_item_acked : (i : Item) (e : End) → IsAfter e (item_acked i e)
-after_item_acked (ResetStream n code size) e = after_send n reset_acked_lane e (λ l is. half_reset_acked l)
+after_item_acked (ResetStream n code size) e = after_send n reset_acked_lane e (λ l is. (record { limit = omega arith; written = omega arith; refused = λ is. is; stopped = λ is. is; ended = reset_acked_keeps l }))
 after_item_acked (MaxStreams Uni m) e = after_acked_items e _
 after_item_acked (StreamsBlocked Uni m) e = after_acked_items e _
 after_item_acked i e = after_acked_items e _
 
-written_lane : (o : Option SendLane) (l : SendLane) (c : Chunk) → o ≡ Some l → IsWritten o c → c.offset + c.len ≤ l.written
-written_lane o l c is h = subst (λ x. IsWritten x c) is h
-
 after_piece : (p : Piece) (e : End) → WasWritten e.sends p → IsAfter e (piece_acked p e)
-after_piece (Data n c) e written = after_send n (λ l. acked_lane l c) e (λ l is. half_acked l c (written_lane (lookup e.sends n) l c is written))
+after_piece (Data n c) e written = after_send n (λ l. acked_lane l c) e (λ l is. half_acked l c (subst (λ x. IsWritten x c) is written))
 after_piece (Told i) e written = after_item_acked i e
 
 after_first : (a : AckedPiece) (e : End) → WasWritten e.sends a.piece → IsAfter e (first_acked a e)
@@ -373,7 +358,7 @@ mid_reset n code size e v sound =
     (subst (λ o. IsOk (check_reset (or_new o 0 Half) size)) is (reset_checked e (opened_by_peer n e) n code size v refl)))
 
 pub mid_allow : (n m : ℕ) (e : End) → IsAfter (opened_by_peer n e) (on_send n (λ l. allow_lane l m) (opened_by_peer n e))
-mid_allow n m e = after_send n (λ l. allow_lane l m) (opened_by_peer n e) (λ l is. half_allow l m)
+mid_allow n m e = after_send n (λ l. allow_lane l m) (opened_by_peer n e) (λ l is. (record { limit = omega arith; written = omega arith; refused = λ is. is; stopped = λ is. is; ended = λ is. is }))
 
 pub mid_stop : (answers : Bool) (n code : ℕ) (e : End) → IsAfter (opened_by_peer n e) (on_send n (λ l. stop_taken answers l code) (opened_by_peer n e))
 mid_stop answers n code e = after_send n (λ l. stop_taken answers l code) (opened_by_peer n e) (λ l is. half_stopped answers l code)

@@ -1,19 +1,24 @@
--- One induction over all calls of an end: each is made of a few changes, and most end as the limits move.
-use Rattle.std.proofs.Common.{◌≡◌, ℕ, ◌+◌, ◌*◌, Bool, true, false, ◌||◌, ◌&&◌, List, [], ◌∷◌, ◌++◌, length, take, drop, append-nil, Option, Some, None, is_some, refl, sym, ap, ◌∙◌, subst, inl, inr, arith, zero, suc, ◌-◌}
-use Rattle.std.specs.Prelude.{⊤, not, nat_eq, nat_lt, nat_le, Result, Ok, Err, MatchBool}
+-- One induction over all calls of an end: each is made of a few changes, and most end as the limits move; after a closing nothing changes.
+use Rattle.std.proofs.Common.{◌≡◌, Bool, true, false, Option, Some, None, refl, sym, ℕ, ◌≤◌, ◌-◌, List, length, take, min, arith, ◌+◌, ◌*◌, ◌||◌, ◌&&◌, [], ◌∷◌, ◌++◌, drop, append-nil, is_some, ap, ◌∙◌, subst, inl, inr, zero, suc}
+use Rattle.std.specs.Prelude.{MatchBool, Result, cond, ⊤, not, nat_eq, nat_lt, nat_le, Ok, Err}
+use Rattle.std.proofs.lemmas.Bool.{false≢true}
+use Rattle.qs_machine.specs.Ends.{End, send_lane, recv_lane, on_send, on_recv, opens, closes}
+use Rattle.qs_machine.specs.Owner.{Certain, at_most, accepted_by, OpenStep, AcceptStep, AcceptOfStep, ReadBy, ConsumeStep, with_wanted, first_refusal, refuse_if, no_half, half_refusal, send_refusal, recv_refusal, is_read_no_more, IsBlocked, IsOpened, GivesNone, GivesBidi, GivesUni, AcceptOpen, AcceptOpenOf, peer_type, next_stream}
+use Rattle.std.proofs.lemmas.List.{length-take, take-append-drop}
+use Rattle.qs_ranges.specs.Numbers.{MAX_VARINT}
+use Rattle.qs_send.specs.Lane.{SendLane, accepted, refusal, reset_refusal, write_lane, finish_lane, reset_lane}
+use Rattle.qs_machine.specs.Credit.{credit_for, window_left, settle}
 use Rattle.std.specs.FinSet as set
 use Rattle.std.specs.FinMap as fmap
 use Rattle.std.proofs.lemmas.Option.{none-some}
 use Rattle.std.proofs.lemmas.Bool.Decides.{nat_tests}
-use Rattle.std.proofs.lemmas.List.{take-append-drop}
 use Rattle.qs_wire.specs.Layout.{FrameValue, PlacedValue}
 use Rattle.qs_wire.specs.Reading.{reading_of}
 use Rattle.qs_wire.specs.declared.fault.WireFault.{WireFault}
 use Rattle.qs_wire.specs.declared.stream_id.Dir.{Dir}
 use Rattle.qs_wire.specs.declared.stream_id.Dir.TheVariants.{Bidi, Uni}
-use Rattle.qs_recv.specs.Lane.{after_read, stop, stop_and_forget}
+use Rattle.qs_recv.specs.Lane.{after_read, stop, stop_and_forget, RecvLane}
 use Rattle.qs_recv.specs.declared.half.Read.{Read}
-use Rattle.qs_send.specs.Lane.{SendLane, refusal, reset_refusal, write_lane, finish_lane, reset_lane}
 use Rattle.qs_send.specs.Records.{IsCarried}
 use Rattle.qs_send.specs.declared.parts.SendFault.{SendFault}
 use Rattle.qs_send.specs.declared.piece.Piece.{Piece}
@@ -41,22 +46,67 @@ use Rattle.qs_calls.specs.declared.uses.OpenFault.TheVariants as opening
 use Rattle.qs_calls.specs.declared.uses.UseFault.{UseFault}
 use Rattle.qs_calls.specs.declared.uses.UseFault.TheVariants as uses
 use Rattle.qs_machine.specs.Due.{known_count}
-use Rattle.qs_machine.specs.Ends.{End, send_lane, recv_lane, on_send, on_recv, opens, closes}
-use Rattle.qs_machine.specs.Credit.{settle}
 use Rattle.qs_machine.specs.Seen.{Seen, Ack, Close, seen, seen_all, asks_ack}
-use Rattle.qs_machine.specs.Verdicts.{verdict, fault_if, PROTOCOL_VIOLATION}
+use Rattle.qs_machine.specs.Verdicts.{verdict}
 use Rattle.qs_machine.specs.FrameStep.{frame_taken, acks, named}
 use Rattle.qs_machine.specs.Recording.{recorded}
 use Rattle.qs_machine.specs.Lawful.{MayPut, Fills, frame_put}
-use Rattle.qs_machine.specs.Owner.{OpenStep, AcceptStep, AcceptOfStep, ReadBy, ConsumeStep, with_wanted, Certain, first_refusal, refuse_if, no_half, half_refusal, send_refusal, recv_refusal, is_read_no_more, IsBlocked, IsOpened, GivesNone, GivesBidi, GivesUni, AcceptOpen, AcceptOpenOf, peer_type, next_stream, accepted_by}
 use Rattle.qs_machine.specs.Receiving.{ClosedReceive, AtEnd, RunsOut, Stops, GoesOn, Takes, ReceiveBy, TakesPayload, OpenReceive}
 use Rattle.qs_machine.specs.Making.{MakeAt, MakeAckAt, make_refusal, claim_refusal, LoseStep, lose_refusal, first_lost, losses}
 use Rattle.qs_machine.specs.Filling.{FillAt}
-use Rattle.qs_machine.specs.Alone.{is_ours, TakesOne, OpenTake, TakeBy, TakesEach, TakeAllBy, token_refusal, only, LosesEach, TokenAckedStep, TokenLostStep}
+use Rattle.qs_machine.specs.Alone.{is_ours, TakesOne, TakeBy, TakesEach, TakeAllBy, token_refusal, only, LosesEach, TokenAckedStep, TokenLostStep}
 use Rattle.qs_machine.specs.Raising.{limits_raised, raise_refusal}
 use Rattle.qs_machine.specs.Setting.{Setting, SetStep, set_refusal, with_setting}
 use Rattle.qs_machine.specs.EndStep.{Call, Answer, EndStep, Open, Accept, AcceptOf, Write, Finish, Reset, Stop, ReadUpTo, Consume, Receive, TakeFrame, TakeFrames, TokenAcked, TokenLost, Make, MakeAck, FillIn, Lose, Claim, RaiseLimits, Set, StopAndForget}
-use Rattle.qs_machine.proofs.Choices.{by_refusal, by_test, if_allowed}
+use Rattle.qs_calls.specs.declared.making.LostFault.TheVariants as losing
+use Rattle.qs_machine.specs.Tables.{Tables}
+use Rattle.qs_machine.specs.Laws.{StaysOnceClosed, StaysButRead}
+use Rattle.qs_calls.specs.declared.settings.RaiseFault.TheVariants as raising
+use Rattle.qs_calls.specs.declared.settings.SetFault.TheVariants as setting
+
+-- The cases of a call: what is refused, what is tested.
+
+-- a call that is refused changes nothing
+pub by_refusal : {A F : Type 0} (P : Type 0) (r : Option F) (old : End) (answer : Result A F) (new : End) (Effect : Type 0) → Certain r old answer new Effect → (new ≡ old → P) → (Effect → P) → P
+by_refusal P (Some fault) old answer new Effect h same effect = same h.1
+by_refusal P None old answer new Effect h same effect = effect h
+
+-- the same, with what tells that nothing was refused
+pub if_allowed : {A F : Type 0} (P : Type 0) (r : Option F) (old : End) (answer : Result A F) (new : End) (Effect : Type 0) → Certain r old answer new Effect → (new ≡ old → P) → (r ≡ None → Effect → P) → P
+if_allowed P (Some fault) old answer new Effect h same effect = same h.1
+if_allowed P None old answer new Effect h same effect = effect refl h
+
+pub by_test : (P : Type 0) (b : Bool) (Yes No : Type 0) → MatchBool b Yes No → (Yes → P) → (No → P) → P
+by_test P true Yes No h if_so if_not = if_so h
+by_test P false Yes No h if_so if_not = if_not h
+
+-- what is chosen by a test that failed
+pub not_chosen : {A : Type 0} (b : Bool) (x y : A) → b ≡ false → cond b x y ≡ y
+not_chosen true x y e = absurd (false≢true (sym e))
+not_chosen false x y e = refl
+
+-- A write takes no more than its half has room for, whatever credit and the window over all halves leave.
+
+at_most_few : (o : Option ℕ) (n : ℕ) → at_most o n ≤ n
+at_most_few None n = omega arith
+at_most_few (Some left) n = omega arith
+
+pub accepted_few : (e : End) (l : SendLane) (n : ℕ) → accepted_by e l n ≤ accepted l n
+accepted_few e l n =
+    let few = at_most_few (window_left e) (cond e.tuning.within_credit (min (accepted l n) (credit_for e l)) (accepted l n)) in
+    omega (arith, few, cut e.tuning.within_credit (accepted l n) (credit_for e l))
+  where
+    cut : (b : Bool) (n m : ℕ) → cond b (min n m) n ≤ n
+    cut true n m = omega arith
+    cut false n m = omega arith
+
+-- no offset past the greatest integer is written
+pub few_taken : (e : End) (l : SendLane) (bytes : List ℕ) → length (take (accepted_by e l (length bytes)) bytes) ≤ MAX_VARINT - l.written
+few_taken e l bytes =
+    let few : accepted l (length bytes) ≤ MAX_VARINT - l.written = omega arith in
+    omega (arith, length-take (accepted_by e l (length bytes)) bytes, few, accepted_few e l (length bytes))
+
+-- One induction over all calls of an end: each is made of a few changes, and most end as the limits move.
 
 -- a change of an end
 pub data Change : Type 0 where
@@ -113,10 +163,16 @@ MovesStanding (TakeFrames fs) = ⊤
 MovesStanding (RaiseLimits p) = ⊤
 MovesStanding call = ⊥
 
+-- and beside these only a token that was acknowledged tells an end what its peer did
+abbrev pub HearsPeer : Call → Type 0
+HearsPeer (TokenAcked t) = ⊤
+HearsPeer call = MovesStanding call
+
 -- what is known where a change comes, in a call that began at old and has led to e so far
 abbrev pub Comes : End → Call → End → Change → Type 0
-Comes old call e (Written n bytes l) = (send_lane e n ≡ Some l) × (refusal l ≡ None)
-Comes old call e (Took f) = verdict e f ≡ None
+Comes old call e (Written n bytes l) = (send_lane e n ≡ Some l) × (refusal l ≡ None) × (length bytes ≤ MAX_VARINT - l.written)
+Comes old call e (Took f) = (verdict e f ≡ None) × HearsPeer call
+Comes old call e (Acked count ranges) = HearsPeer call
 Comes old call e (Put f) = MayPut old e f
 Comes old call e (Numbered next) = next ≡ old.next + 1
 Comes old call e (Raised limits) = MovesStanding call
@@ -153,9 +209,6 @@ given_is_no_fault : (e : End) (t : Token) → token_refusal e t ≡ None → ver
 unfolding verdict
 given_is_no_fault e t allowed = (let made : nat_le e.next t.number ≡ false = go (is_some e.closed) (nat_eq t.epoch e.tuning.epoch) (nat_le t.first t.number) allowed in rw made refl)
   where
-    later : nat_lt t.number e.next ≡ true → nat_le e.next t.number ≡ false
-    later lt = grind (arith, nat_tests, lt)
-
     by : (made : Bool) → refuse_if (not made) tokens.NotGiven ≡ None → made ≡ true
     by true h = refl
     by false h = absurd (none-some _ (sym h))
@@ -164,7 +217,7 @@ given_is_no_fault e t allowed = (let made : nat_le e.next t.number ≡ false = g
     go true own ordered h = absurd (none-some _ (sym h))
     go false false ordered h = absurd (none-some _ (sym h))
     go false true false h = absurd (none-some _ (sym h))
-    go false true true h = later (by (nat_lt t.number e.next) h)
+    go false true true h = grind (arith, nat_tests, (by (nat_lt t.number e.next) h))
 
 -- what comes of a payload at an end that is open: it isn't taken and changes nothing, or it is taken
 pub by_open : (P : Type 0) (number : ℕ) (payload : List ℕ) (old : End) (result : Result Received Closing) (new : End) → OpenReceive number payload old result new
@@ -186,11 +239,10 @@ by_open P number payload old result new step below again taken = by_floor (nat_l
 -- a closed end stays as it is
 pub closed_same : (c : Closed) (old : End) (result : Result Received Closing) (new : End) → ClosedReceive c old result new → new ≡ old
 closed_same (ByUs closing) old result new h = h.1
-closed_same (ByPeer code) old result new h = h.1
-closed_same (closings.Told close) old result new h = h.1
+closed_same c old result new h = h.1
 
 -- a half that takes bytes refuses none
-pub half_allowed : (closed other : Bool) (o : Option SendLane) → first_refusal (refuse_if closed uses.Closed) (elim o [ None ↦ Some (no_half other) | Some l ↦ half_refusal (refusal l) ]) ≡ None → (l : SendLane) → o ≡ Some l → refusal l ≡ None
+half_allowed : (closed other : Bool) (o : Option SendLane) → first_refusal (refuse_if closed uses.Closed) (elim o [ None ↦ Some (no_half other) | Some l ↦ half_refusal (refusal l) ]) ≡ None → (l : SendLane) → o ≡ Some l → refusal l ≡ None
 half_allowed true other o h l is = absurd (none-some uses.Closed (sym h))
 half_allowed false other None h l is = absurd (none-some l is)
 half_allowed false other (Some k) h l is = subst (λ o. elim o as (λ _. Type 0) [ None ↦ Unit {0} | Some m ↦ refusal m ≡ None ]) is (no_refusal (refusal k) h)
@@ -198,6 +250,11 @@ half_allowed false other (Some k) h l is = subst (λ o. elim o as (λ _. Type 0)
     no_refusal : (r : Option SendFault) → half_refusal r ≡ None → r ≡ None
     no_refusal None e = refl
     no_refusal (Some fault) e = absurd (none-some _ (sym e))
+
+-- a frame that may close the end is the peer's
+pub hears : (call : Call) → MovesStanding call → HearsPeer call
+hears (TokenAcked t) comes = tt
+hears call comes = comes
 
 module _ (old : End) (call : Call) (Q P : End → Type 0) (c : Cases old call Q P) where
   same : (new : End) → new ≡ old → P new
@@ -214,9 +271,9 @@ module _ (old : End) (call : Call) (Q P : End → Type 0) (c : Cases old call Q 
   edited one new comes is = settled (changed one old) new is (c.goes one old comes c.begins)
 
   -- no memory was found: of an ACK some of the pieces are acknowledged
-  runs_out : (f : Seen) (e new : End) → Q e → RunsOut e f new → Q new
-  runs_out (Ack largest ranges) e new h (count, is, asks) = becomes _ new is (c.goes (Acked count ranges) e tt h)
-  runs_out f e new h out = becomes e new out.0 h
+  runs_out : HearsPeer call → (f : Seen) (e new : End) → Q e → RunsOut e f new → Q new
+  runs_out hears (Ack largest ranges) e new h (count, is, asks) = becomes _ new is (c.goes (Acked count ranges) e hears h)
+  runs_out hears f e new h out = becomes e new out.0 h
 
   -- Payloads
 
@@ -227,14 +284,11 @@ module _ (old : End) (call : Call) (Q P : End → Type 0) (c : Cases old call Q 
     at_end number asks (Some fault) e (Err closing) new h ends = becomes _ new ends.1 (c.goes (Shut (ByUs closing)) e comes h)
     at_end number asks fault e result new h none = absurd none
 
-    stops : (p : PlacedValue) (f : Seen) (e : End) (result : Result Received Closing) (new : End) → Q e → Stops p f e result new → Q new
-    stops p f e result new h ends = stops_by (Q new) p f e result new ends (λ closed is fault. becomes _ new is (c.goes (Shut closed) e comes h)) (λ is out. runs_out f e new h out)
-
     takes : (number : ℕ) (fault : Option WireFault) (asks : Bool) (e : End) (ps : List PlacedValue) (result : Result Received Closing) (new : End) → Q e → Takes number fault asks e ps result new → Q new
     takes number fault asks e [] result new h ends = at_end number asks fault e result new h ends
-    takes number fault asks e (p ∷ ps) result new h (inl ends) = stops p (seen p.frame) e result new h ends
+    takes number fault asks e (p ∷ ps) result new h (inl ends) = stops_by (Q new) p (seen p.frame) e result new ends (λ closed is fault. becomes _ new is (c.goes (Shut closed) e comes h)) (λ is out. runs_out (hears call comes) (seen p.frame) e new h out)
     takes number fault asks e (p ∷ ps) result new h (inr (goes, rest)) =
-        takes number fault (asks || asks_ack (seen p.frame)) (frame_taken (seen p.frame) e) ps result new (c.goes (Took (seen p.frame)) e (no_fault_there e (seen p.frame) goes) h) rest
+        takes number fault (asks || asks_ack (seen p.frame)) (frame_taken (seen p.frame) e) ps result new (c.goes (Took (seen p.frame)) e (no_fault_there e (seen p.frame) goes, hears call comes) h) rest
 
     receive_by : (o : Option Closed) (number : ℕ) (payload : List ℕ) (result : Result Received Closing) (new : End) → ReceiveBy o number payload old result new → P new
     receive_by (Some closed) number payload result new step = same new (closed_same closed old result new step)
@@ -246,10 +300,10 @@ module _ (old : End) (call : Call) (Q P : End → Type 0) (c : Cases old call Q 
 
   module _ (comes : MovesStanding call) where
     takes_one : (f : FrameValue) (e : End) (answer : Result Taken TakeFault) (new : End) → Q e → TakesOne e f answer new → Q new
-    takes_one f e (Ok taken.Took) new h took = becomes _ new took.1 (c.goes (Took (seen f)) e took.0.1 h)
-    takes_one f e (Ok taken.Unchanged) new h took = becomes _ new took.1 (c.goes (Took (seen f)) e took.0.1 h)
+    takes_one f e (Ok taken.Took) new h took = becomes _ new took.1 (c.goes (Took (seen f)) e (took.0.1, hears call comes) h)
+    takes_one f e (Ok taken.Unchanged) new h took = becomes _ new took.1 (c.goes (Took (seen f)) e (took.0.1, hears call comes) h)
     takes_one f e (Ok taken.NotOurs) new h took = absurd took
-    takes_one f e (Err faults.NoMemory) new h took = runs_out (seen f) e new h took.1
+    takes_one f e (Err faults.NoMemory) new h took = runs_out (hears call comes) (seen f) e new h took.1
     takes_one f e (Err (faults.Closing closing)) new h took = becomes _ new took.2 (c.goes (Shut (ByUs closing)) e comes h)
     takes_one f e (Err (faults.PeerClosed code)) new h took = absurd took
 
@@ -322,12 +376,12 @@ module _ (old : End) (call : Call) (Q P : End → Type 0) (c : Cases old call Q 
 
   -- Tokens
 
-  acked_by : (t : Token) (answer : Answer (TokenAcked t)) (new : End) → TokenAckedStep old t answer new → P new
-  acked_by t answer new step =
+  acked_by : HearsPeer call → (t : Token) (answer : Answer (TokenAcked t)) (new : End) → TokenAckedStep old t answer new → P new
+  acked_by told_of t answer new step =
       if_allowed (P new) (token_refusal old t) old answer new _ step (same new) (λ allowed told.
       elim told [
-        | inl done ↦ edited (Took (only t)) new (given_is_no_fault old t allowed) done.1
-        | inr (none, mid, out, after) ↦ settled mid new after (runs_out (only t) old mid c.begins out)
+        | inl done ↦ edited (Took (only t)) new (given_is_no_fault old t allowed, told_of) done.1
+        | inr (none, mid, out, after) ↦ settled mid new after (runs_out told_of (only t) old mid c.begins out)
       ])
 
   lost_by : (t : Token) (answer : Answer (TokenLost t)) (new : End) → TokenLostStep old t answer new → P new
@@ -373,7 +427,7 @@ module _ (old : End) (call : Call) (Q P : End → Type 0) (c : Cases old call Q 
       if_allowed (P new) (send_refusal old n refusal) old answer new _ step (same new) (λ allowed some.
       elim some [
         | inl none ↦ same new none.1
-        | inr (l, is, done) ↦ edited (Written n (take (accepted_by old l (length bytes)) bytes) l) new (is, half_allowed (is_some old.closed) (is_some (recv_lane old n)) (send_lane old n) allowed l is) done.1
+        | inr (l, is, done) ↦ edited (Written n (take (accepted_by old l (length bytes)) bytes) l) new (is, half_allowed (is_some old.closed) (is_some (recv_lane old n)) (send_lane old n) allowed l is, few_taken old l bytes) done.1
       ])
 
   read_by : (r : Option UseFault) (n size : ℕ) (answer : Result Read UseFault) (bytes : List ℕ) (new : End) → ReadBy r old n size answer bytes new → P new
@@ -402,7 +456,7 @@ each_call old (Consume n most) Q P c answer new step = consume_by old (Consume n
 each_call old (Receive k payload) Q P c answer new step = receive_by old (Receive k payload) Q P c tt old.closed k payload answer new step
 each_call old (TakeFrame f) Q P c answer new step = take_by old (TakeFrame f) Q P c tt old.closed f answer new step
 each_call old (TakeFrames fs) Q P c answer new step = take_all_by old (TakeFrames fs) Q P c tt old.closed fs answer new step
-each_call old (TokenAcked t) Q P c answer new step = acked_by old (TokenAcked t) Q P c t answer new step
+each_call old (TokenAcked t) Q P c answer new step = acked_by old (TokenAcked t) Q P c tt t answer new step
 each_call old (TokenLost t) Q P c answer new step = lost_by old (TokenLost t) Q P c t answer new step
 each_call old (Make first delay room) Q P c answer new step = make_by old (Make first delay room) Q P c (make_refusal old) first delay room answer.0 answer.1 new step
 each_call old (MakeAck delay room) Q P c answer new step = ack_by old (MakeAck delay room) Q P c (make_refusal old) delay room answer.0 answer.1 new step
@@ -434,3 +488,70 @@ module _ (P : End → Type 0) (old : End) (kept : P old) (settles : (e : End) �
   pub ends_by : (call : Call) (answer : Answer call) (new : End) → EndStep old call answer new → P new
   ends_by call answer new step =
       each_call old call (λ e. ⊤) P (record { begins = tt; goes = λ c e comes h. tt; stays = kept; settles = λ e h. settles e; loses = λ k p e is h. loses k p e h; claims = claims }) answer new step
+
+-- After a closing nothing changes but the number of the next packet, and what is read on.
+
+-- what was taken, and the limits that follow it
+but_read : (old new : End) (recvs : Tables RecvLane) (g bidi uni : ℕ) → new ≡ record old { recvs = recvs; granted = g; granted_bidi = bidi; granted_uni = uni } → StaysButRead true old new
+but_read old new recvs g bidi uni same =
+    same ∙ ap (λ (e : End). record old { recvs = e.recvs; granted = e.granted; granted_bidi = e.granted_bidi; granted_uni = e.granted_uni }) (sym same)
+
+unread : (chosen : Bool) (old new : End) → new ≡ old → StaysButRead chosen old new
+unread true old new same = but_read old new old.recvs old.granted old.granted_bidi old.granted_uni same
+unread false old new same = same
+
+read_on : (b chosen : Bool) (r : Option UseFault) (old : End) (n size : ℕ) (answer : Answer (ReadUpTo n size)) (new : End) → b ≡ true
+    → ReadBy (first_refusal (refuse_if (b && not chosen) uses.Closed) r) old n size answer.0 answer.1 new → StaysButRead chosen old new
+read_on false chosen r old n size answer new is h = absurd (false≢true is)
+read_on true false r old n size answer new is h = h.2
+read_on true true (Some fault) old n size answer new is h = unread true old new h.2
+read_on true true None old n size answer new is (l, at, told, given, after) = but_read old new _ _ _ _ after
+
+consumed_on : (b chosen : Bool) (r : Option UseFault) (old : End) (n most : ℕ) (answer : Answer (Consume n most)) (new : End) (A B : RecvLane → Type 0) → b ≡ true
+    → Certain (first_refusal (refuse_if (b && not chosen) uses.Closed) r) old answer new ((l : RecvLane) × A l × B l × (new ≡ settle (on_recv n (λ m. after_read m 0) (on_recv n (λ m. after_read m most) old)))) → StaysButRead chosen old new
+consumed_on false chosen r old n most answer new A B is h = absurd (false≢true is)
+consumed_on true false r old n most answer new A B is h = h.1
+consumed_on true true (Some fault) old n most answer new A B is h = unread true old new h.1
+consumed_on true true None old n most answer new A B is (l, a, b, after) = but_read old new _ _ _ _ after
+
+receive_again : (c : Option Closed) (number : ℕ) (payload : List ℕ) (old : End) (result : Result Received Closing) (new : End) → is_some c ≡ true → ReceiveBy c number payload old result new → new ≡ old
+receive_again None number payload old result new is h = absurd (false≢true is)
+receive_again (Some (ByUs closing)) number payload old result new is h = h.1
+receive_again c number payload old result new is h = h.1
+
+take_again : (c : Option Closed) (f : FrameValue) (old : End) (answer : Result Taken TakeFault) (new : End) → is_some c ≡ true → TakeBy c f old answer new → new ≡ old
+take_again None f old answer new is h = absurd (false≢true is)
+take_again (Some closed) f old answer new is h = h.1
+
+take_all_again : (c : Option Closed) (fs : List FrameValue) (old : End) (answer : Result Taken TakeFault) (new : End) → is_some c ≡ true → TakeAllBy c fs old answer new → new ≡ old
+take_all_again None fs old answer new is h = absurd (false≢true is)
+take_all_again (Some closed) fs old answer new is h = h.1
+
+-- a number that was claimed
+but_number : (old new : End) (n : ℕ) → new ≡ record old { next = n } → new ≡ record old { next = new.next }
+but_number old new n same = same ∙ ap (λ (e : End). record old { next = e.next }) (sym same)
+
+pub closed_stays : (old : End) (call : Call) (answer : Answer call) (new : End) → is_some old.closed ≡ true → EndStep old call answer new → StaysOnceClosed old call new
+closed_stays old (Open d) answer new is h = (rw is at h).1
+closed_stays old Accept answer new is h = (rw is at h).1
+closed_stays old (AcceptOf d) answer new is h = (rw is at h).1
+closed_stays old (Write n bytes) answer new is h = (rw is at h).1
+closed_stays old (Finish n) answer new is h = (rw is at h).1
+closed_stays old (Reset n code) answer new is h = (rw is at h).1
+closed_stays old (Stop n code) answer new is h = (rw is at h).1
+closed_stays old (StopAndForget n code) answer new is h = (rw is at h).1
+closed_stays old (ReadUpTo n size) answer new is h = read_on (is_some old.closed) old.tuning.reads_when_closed _ old n size answer new is h
+closed_stays old (Consume n most) answer new is h = consumed_on (is_some old.closed) old.tuning.reads_when_closed _ old n most answer new _ _ is h
+closed_stays old (Receive k payload) answer new is h = receive_again old.closed k payload old answer new is h
+closed_stays old (TakeFrame f) answer new is h = take_again old.closed f old answer new is h
+closed_stays old (TakeFrames fs) answer new is h = take_all_again old.closed fs old answer new is h
+closed_stays old (TokenAcked t) answer new is h = (rw is at h).1
+closed_stays old (TokenLost t) answer new is h = (rw is at h).1
+closed_stays old (Make first delay room) answer new is h = (rw is at h).2
+closed_stays old (MakeAck delay room) answer new is h = (rw is at h).2
+closed_stays old (FillIn want room) answer new is h = (rw is at h).2
+closed_stays old (Lose k) answer new is h = (rw is at h).1
+closed_stays old Claim answer new is h = by_refusal (new ≡ record old { next = new.next }) (claim_refusal old) old answer new _ h (but_number old new old.next) (λ done. but_number old new (old.next + 1) done.1)
+closed_stays old (RaiseLimits p) answer new is h = (rw is at h).1
+closed_stays old (Set x) answer new is h = (rw is at h).1
+closed_stays old call answer new is h = h.1

@@ -15,7 +15,7 @@ use Rattle.qs_ranges.specs.Numbers.{numbers, end_of}
 use Rattle.qs_ranges.proofs.Sets.{end_of-empty, end_of-with_range}
 use Rattle.qs_machine.specs.Tables.{lookup, update, open_to, each, total}
 use Rattle.qs_machine.specs.Verdicts.{verdict}
-use Rattle.qs_machine.specs.FrameStep.{frame_taken}
+use Rattle.qs_machine.specs.FrameStep.{frame_taken, AckedPiece, acked_at, or_zero, is_named, pieces_of, named_in, named}
 use Rattle.qs_machine.specs.Examples.{RangesHold, StreamLimitHolds, ConnectionLimitHolds, FinalSizeHolds, ChangedBytesClose, StreamStateHolds, UnusedNumbersClose, LimitsMove, LowerStreamsOpen, StopResets, StopIsAnswered, BlockedIsTold, LimitsRiseAfterwards, NewLimitIsTold, StreamCountsGrow, EmptyStreamIsSent, AcksTakeWhatTheyName, Examples, letters, first_part, second_part, two_sent, three_frames, three_frames_text, third_offends, told_end, server, standard}
 use Rattle.qs_machine.specs.Ends.{End}
 use Rattle.qs_machine.specs.Seen.{Stream}
@@ -24,9 +24,8 @@ use Rattle.qs_wire.specs.Varint.{varint_at, short_len}
 use Rattle.qs_wire.specs.Reading.{reading_of, reading_from, frames_at, frame_at, number_of_type_at, body_at, number_at, counted_at, plain_at}
 use Rattle.qs_send.specs.Records.{Among}
 use Rattle.qs_machine.specs.Lawful.{frame_put}
-use Rattle.qs_machine.specs.FrameStep.{AckedPiece, acked_at, or_zero, is_named, pieces_of, named_in, named}
 use Rattle.qs_machine.proofs.Named.{filter_nothing}
-use Rattle.qs_machine.proofs.Choices.{not_chosen}
+use Rattle.qs_machine.proofs.EveryCall.{not_chosen}
 use Rattle.qs_machine.proofs.SmallEndsLaws.{none_in}
 use Rattle.qs_send.specs.declared.parts.SendState.TheVariants.{DataRecvd, DataSent}
 use Rattle.qs_send.specs.declared.piece.Piece.{Piece}

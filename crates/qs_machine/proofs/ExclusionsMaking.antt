@@ -1,49 +1,217 @@
--- What no packet holds, which packets aren't made, and what a loss doesn't leave.
-use Rattle.std.proofs.Common.{◌≡◌, ◌≢◌, ℕ, zero, suc, ◌+◌, ◌-◌, ◌<◌, ◌≤◌, ◌⊎◌, List, [], ◌∷◌, ◌++◌, take, drop, length, slice_index_or, Bool, true, false, ◌||◌, cond, Option, Some, None, is_some, is_none, refl, sym, ap, ◌∙◌, subst, arith, inl, inr}
-use Rattle.std.specs.Prelude.{Result, Ok, Err}
-use Rattle.std.specs.List.{AllByRecursion}
-use Rattle.std.proofs.lemmas.List.{length-append}
+-- What the definitions exclude of packets: what is due, what one holds, what is filled in, and in which order.
+use Rattle.std.proofs.Common.{◌≡◌, ℕ, ◌<◌, ◌+◌, [], ◌∷◌, true, false, ◌||◌, None, refl, sym, ap, ◌∙◌, subst, arith, inl, inr, ◌≢◌, zero, suc, ◌-◌, ◌≤◌, ◌⊎◌, List, ◌++◌, take, drop, length, slice_index_or, Bool, cond, Option, Some, is_some, is_none}
 use Rattle.std.specs.FinMap as fmap
 use Rattle.std.specs.FinSet as set
 use Rattle.std.specs.Ordering.{nat_cmp, eq_by_cmp}
 use Rattle.std.specs.Cmp.{nat_cmp_total}
 use Rattle.std.proofs.lemmas.Option.{same_Some, none-some}
 use Rattle.std.proofs.lemmas.Bool.{false≢true, true≢false, both_ways}
-use Rattle.qs_ranges.specs.Numbers.{contains-numbers}
-use Rattle.qs_ranges.proofs.Sets.{end_of-empty, missing_from-past}
-use Rattle.qs_wire.specs.Layout.{ack}
-use Rattle.qs_wire.specs.Grammar.{Fits, canonical}
-use Rattle.qs_wire.proofs.Numbers.{short_byte, short_most}
-use Rattle.qs_wire.specs.Varint.{short}
+use Rattle.std.proofs.lemmas.Bool.Decides.{nat_tests}
+use Rattle.qs_ranges.specs.Numbers.{NumberSet, contains-numbers, contains-with_range, numbers, covers}
+use Rattle.qs_ranges.proofs.Sets.{covers-of, end_of-empty, missing_from-past}
+use Rattle.qs_recv.specs.Lane.{RecvLane, is_whole}
 use Rattle.qs_send.specs.Lane.{SendLane, unacked_from}
-use Rattle.qs_send.specs.Records.{Among, IsCarried, PacketPieces, without_first}
-use Rattle.qs_send.specs.LostRecords.{with_piece, with_number, without_oldest}
-use Rattle.qs_wire.specs.declared.stream_id.Dir.TheVariants.{Bidi, Uni}
-use Rattle.qs_send.specs.declared.piece.Item.{Item}
+use Rattle.qs_send.specs.Records.{IsCarried, Among, PacketPieces, without_first}
+use Rattle.qs_send.specs.declared.parts.Chunk.{Chunk}
+use Rattle.qs_send.specs.declared.parts.Reset.{Reset}
 use Rattle.qs_send.specs.declared.piece.Item.TheVariants.{MaxData, MaxStreamData, MaxStreams, ResetStream, StopSending, DataBlocked, StreamDataBlocked, StreamsBlocked}
 use Rattle.qs_send.specs.declared.piece.Piece.{Piece}
 use Rattle.qs_send.specs.declared.piece.Piece.TheVariants.{Data, Told}
 use Rattle.qs_send.proofs.Carrying.{carried-empty}
+use Rattle.qs_machine.specs.Tables.{lookup, total, update}
+use Rattle.qs_machine.specs.Due.{IsDue, IsCurrent, StreamGoes, Sendable, IsDueItem}
+use Rattle.qs_machine.specs.SmallEnds.{client_with, chunk, wrote, all_came, abc, owing}
+use Rattle.qs_machine.specs.ExclusionsDue.{NoOffsetIsDue, NoEndIsDue, NoLimitIsTold, NoAbortIsTold, NothingIsBlocked, ToldIsNotDue, NoneIsNoAnswer, NotDue}
+use Rattle.qs_machine.proofs.SmallEndsLaws.{one_carried, only_carried, only_open, none_in, no_member}
+use Rattle.std.specs.Prelude.{Result, Ok, Err}
+use Rattle.std.specs.List.{AllByRecursion}
+use Rattle.std.proofs.lemmas.List.{length-append}
+use Rattle.qs_wire.specs.Layout.{ack}
+use Rattle.qs_wire.specs.Grammar.{Fits, canonical}
+use Rattle.qs_wire.proofs.Numbers.{short_byte, short_most}
+use Rattle.qs_wire.specs.Varint.{short}
+use Rattle.qs_send.specs.LostRecords.{with_piece, with_number, without_oldest}
+use Rattle.qs_wire.specs.declared.stream_id.Dir.TheVariants.{Bidi, Uni}
+use Rattle.qs_send.specs.declared.piece.Item.{Item}
 use Rattle.qs_calls.specs.declared.making.Made.{Made}
 use Rattle.qs_calls.specs.declared.making.MakeFault.{MakeFault}
 use Rattle.qs_calls.specs.declared.making.LostFault.{LostFault}
 use Rattle.qs_calls.specs.declared.making.LostFault.TheVariants as losing
-use Rattle.qs_machine.specs.Tables.{lookup, update, total}
 use Rattle.qs_machine.specs.Ends.{End, send_lane}
 use Rattle.qs_machine.specs.Credit.{all_sent, settle}
 use Rattle.qs_machine.specs.Seen.{Seen, Ack, Stream, Control, Close, Plain, seen_all, asks_ack, any_asks}
 use Rattle.qs_machine.specs.FrameStep.{is_named}
 use Rattle.qs_machine.specs.Verdicts.{verdict}
-use Rattle.qs_machine.specs.Due.{IsDue, IsCurrent, StreamGoes, Sendable}
-use Rattle.qs_machine.specs.Lawful.{MayPut, Fills, Lawful, frame_put}
+use Rattle.qs_machine.specs.Lawful.{MayPut, Fills, Lawful, frame_put, AreInTurn, pieces_so_far}
 use Rattle.qs_machine.specs.Owner.{Certain, first_refusal, refuse_if}
 use Rattle.qs_machine.specs.Making.{NamesMost, IsAckMade, LoseStep, losses, lose_refusal}
 use Rattle.qs_machine.specs.Examples.{standard, server}
-use Rattle.qs_machine.specs.SmallEnds.{chunk, abc, wrote, owing}
 use Rattle.qs_machine.specs.ExclusionsMaking.{NoSuchStreamFrame, NoSuchAck, NoSuchFrame, NoSuchPacket, NothingIsLeftOut, NothingIsOutOfTurn, NoSuchText, NoSuchAnswer, NoSuchAckAlone, NoSuchClaim, NoSuchLoss, NotMade, writer, two_due, two_writers, one_flying, two_flying}
 use Rattle.qs_machine.proofs.Ties.{nowhere}
-use Rattle.qs_machine.proofs.SmallEndsLaws.{none_in, only_carried}
 use Rattle.qs_machine.proofs.Carried.{among_last}
+use Rattle.qs_wire.specs.LastStream.{last_stream_of}
+use Rattle.qs_calls.specs.declared.filling.Fill.{Fill}
+use Rattle.qs_calls.specs.declared.filling.Filled.{Filled}
+use Rattle.qs_calls.specs.declared.token.Token.{Token}
+use Rattle.qs_machine.specs.Filling.{IsWanted, IsFilled, WantedGoes, stream_bytes, still_asked}
+use Rattle.qs_machine.specs.ExclusionsFilling.{NoSuchFrames, NothingWantedIsLeftOut, NoSuchFill, NotFilled, everything, items_alone, no_bytes}
+use Rattle.qs_machine.specs.InOrder.{AreInOrder, NothingStarves}
+use Rattle.qs_machine.specs.ExclusionsInOrder.{NothingIsStarved, two_resets, stopping, two_counts}
+
+-- What isn't due, and may not go out.
+
+abbrev data_of : (p : Piece) → Chunk
+data_of (Data n c) = c
+data_of (Told i) = chunk 0 0 false
+
+abbrev value_of : (p : Piece) → ℕ
+value_of (Data n c) = 0
+value_of (Told (MaxData m)) = m
+value_of (Told i) = 0
+
+-- only the offsets of the one piece are in flight
+flying : (c d : Chunk) → IsCarried (fmap.insert fmap.empty 0 (Data 0 c ∷ [])) (Data 0 d) → d ≡ c
+flying c d is = ap data_of (only_carried 0 (Data 0 c) (Data 0 d) is)
+
+offsets : NoOffsetIsDue
+offsets =
+    record {
+      after_reset = λ due. none-some _ (sym due.no_reset);
+      unwritten = λ due. (let lt : 3 < 3 = due.written in omega arith);
+      acked = λ due. both_ways _ due.not_acked (contains-numbers 1 2 1);
+      in_flight = λ due. due.not_sent (chunk 0 3 false, one_carried 0 (Data 0 (chunk 0 3 false)), omega arith, omega arith);
+      past_flight = record {
+        no_reset = refl;
+        written = omega arith;
+        not_acked = set.contains-empty nat_cmp 2;
+        not_sent = λ (c, is, low, high). (let e = flying (chunk 0 2 false) c is in let n : c.offset + c.len ≡ 2 = ap (λ (d : Chunk). d.offset + d.len) e in omega arith);
+      };
+      before_flight = record {
+        no_reset = refl;
+        written = omega arith;
+        not_acked = set.contains-empty nat_cmp 0;
+        not_sent = λ (c, is, low, high). (let e = flying (chunk 1 2 false) c is in let n : c.offset ≡ 1 = ap (λ (d : Chunk). d.offset) e in omega arith);
+      };
+    }
+
+ends : NoEndIsDue
+ends =
+    record {
+      after_reset = λ due. none-some _ (sym due.no_reset);
+      unasked = λ due. false≢true due.finished;
+      acked = λ due. true≢false due.not_acked;
+      in_flight = λ due. due.not_sent 0 0 (one_carried 0 (Data 0 (chunk 0 0 true)));
+    }
+
+limits : NoLimitIsTold
+unfolding lookup
+limits =
+    record {
+      other_data = λ is. (let e : 6000 ≡ 5000 = is.0 in omega arith);
+      first_data = λ is. (let lt : 4096 < 4096 = is.1 in omega arith);
+      other_stream_data = λ (l, at, value, more, fine). (let e : 3000 ≡ 2000 = value ∙ ap (λ (k : RecvLane). k.limit) (sym (same_Some _ l at)) in omega arith);
+      first_stream_data = λ (l, at, value, more, fine). (let lt : 1024 < 1024 = more in omega arith);
+      ended_stream_data = λ (l, at, value, more, fine). none-some 5 (sym (ap (λ (k : RecvLane). k.final_size) (same_Some _ l at) ∙ fine));
+      other_streams = λ is. (let e : 10 ≡ 9 = is.0 in omega arith);
+      first_streams = λ is. (let lt : 8 < 8 = is.1 in omega arith);
+    }
+
+-- all bytes below a count came
+pub came_whole : (n : ℕ) → covers (set.union set.empty (numbers 0 n)) 0 n ≡ true
+came_whole n = covers-of (set.union set.empty (numbers 0 n)) 0 n (λ q low high. contains-with_range set.empty 0 n q ∙ (grind (arith, nat_tests, set.contains-empty nat_cmp q)))
+
+pub whole : is_whole all_came ≡ true
+whole = came_whole 3
+
+aborts : NoAbortIsTold
+unfolding lookup
+aborts =
+    record {
+      no_reset = λ (l, at, reset). none-some _ (ap (λ (k : SendLane). k.was_reset) (same_Some _ l at) ∙ reset);
+      other_size = λ (l, at, reset). (let e : 0 ≡ 3 = ap (λ (r : Reset). r.size) (same_Some _ _ (ap (λ (k : SendLane). k.was_reset) (same_Some _ l at) ∙ reset)) in omega arith);
+      other_code = λ (l, at, reset). (let e : 7 ≡ 8 = ap (λ (r : Reset). r.code) (same_Some _ _ (ap (λ (k : SendLane). k.was_reset) (same_Some _ l at) ∙ reset)) in omega arith);
+      no_stop = λ (l, at, code, fine, more). none-some 7 (ap (λ (k : RecvLane). k.stop_code) (same_Some _ l at) ∙ code);
+      other_stop = λ (l, at, code, fine, more). (let e : 7 ≡ 8 = same_Some 7 8 (ap (λ (k : RecvLane). k.stop_code) (same_Some _ l at) ∙ code) in omega arith);
+      stop_after_reset = λ (l, at, code, fine, more). none-some 5 (sym (ap (λ (k : RecvLane). k.reset_code) (same_Some _ l at) ∙ fine));
+      stop_after_all = λ (l, at, code, fine, more). both_ways _ more (ap is_whole (sym (same_Some _ l at)) ∙ whole);
+    }
+
+blocked : NothingIsBlocked
+unfolding lookup total
+blocked =
+    record {
+      other_data = λ is. (let e : 2 ≡ 5 = is.0 in omega arith);
+      credit_left = λ is. (let e : 2 ≡ 5 = is.1 in omega arith);
+      all_sent = λ (value, all, (n, l, wants)). (let lt : 2 < 2 = subst (λ (k : SendLane). k.sent_end < k.written) (only_open _ l n wants.lane) wants.more in omega arith);
+      own_limit = λ (value, all, (n, l, wants)). (let lt : 2 < 2 = subst (λ (k : SendLane). k.sent_end < k.limit) (only_open _ l n wants.lane) wants.below in omega arith);
+      after_reset = λ (value, all, (n, l, wants)). none-some _ (sym (ap (λ (k : SendLane). k.was_reset) (sym (only_open _ l n wants.lane)) ∙ wants.no_reset));
+      other_stream = λ (l, at, fine, value, more, end). (let e : 3 ≡ 2 = value ∙ ap (λ (k : SendLane). k.limit) (sym (same_Some _ l at)) in omega arith);
+      stream_all_below = λ (l, at, fine, value, more, end). (let lt : 2 < 2 = subst (λ (k : SendLane). k.limit < k.written) (sym (same_Some _ l at)) more in omega arith);
+      stream_unsent = λ (l, at, fine, value, more, end). (let e : 1 ≡ 2 = subst (λ (k : SendLane). k.sent_end ≡ k.limit) (sym (same_Some _ l at)) end in omega arith);
+      stream_after_reset = λ (l, at, fine, value, more, end). none-some _ (sym (ap (λ (k : SendLane). k.was_reset) (same_Some _ l at) ∙ fine));
+      none_wanted = λ is. none-some 8 is.0;
+      more_allowed = λ is. (let e : 8 ≡ 9 = is.1 in omega arith);
+    }
+
+told : ToldIsNotDue
+unfolding lookup
+told =
+    record {
+      in_flight = λ due. due.1 (inl (one_carried 0 (Told (MaxData 5000))));
+      acked = λ due. due.1 (inr refl);
+      newer = (
+        (refl, omega arith),
+        λ covered. elim covered [ inl flies ↦ carried-empty _ flies | inr acked ↦ (let e : 4500 ≡ 5000 = same_Some 4500 5000 acked in omega arith) ],
+      );
+      newer_in_flight = (
+        (refl, omega arith),
+        λ covered. elim covered [
+          | inl flies ↦ (let e : 5000 ≡ 4500 = ap value_of (only_carried 0 (Told (MaxData 4500)) (Told (MaxData 5000)) flies) in omega arith)
+          | inr acked ↦ none-some 5000 acked
+        ],
+      );
+      newer_of_stream = (
+        (_, refl, refl, omega arith, refl),
+        λ covered. elim covered [
+          | inl flies ↦ carried-empty _ flies
+          | inr acked ↦ (let e : 1500 ≡ 2000 = same_Some 1500 2000 (sym (fmap.get-insert nat_cmp_total fmap.empty 0 1500 0) ∙ acked) in omega arith)
+        ],
+      );
+      newer_count = (
+        (refl, omega arith),
+        λ covered. elim covered [ inl flies ↦ carried-empty _ flies | inr acked ↦ (let e : 9 ≡ 10 = same_Some 9 10 acked in omega arith) ],
+      );
+      acked_stop = λ due. due.1 (inr (set.contains-insert nat_cmp_total set.empty 0 0));
+      acked_reset = λ due. due.1 (inr (_, refl, refl));
+    }
+
+none : NoneIsNoAnswer
+unfolding lookup total
+none =
+    record {
+      ack = λ step. step.0 (inl refl);
+      item = λ step. step.0 (inr (inl (
+        MaxData 5000,
+        ((refl, omega arith), λ covered. elim covered [ inl flies ↦ carried-empty _ flies | inr acked ↦ none-some 5000 acked ]),
+      )));
+      new_byte = λ step. step.0 (inr (inr (0, (_, refl, inl (0, first_due wrote refl (omega arith) refl, omega arith, inr (refl, omega arith))))));
+      lost_byte = λ step. step.0 (inr (inr (0, (_, refl, inl (0, (record { no_reset = refl; written = omega arith; not_acked = set.contains-empty nat_cmp 0; not_sent = λ (c, is, low, high). carried-empty _ is }), omega arith, inl (omega arith))))));
+      end = λ step. step.0 (inr (inr (0, (_, refl, inr (record { no_reset = refl; finished = refl; not_acked = refl; not_sent = λ offset len flies. carried-empty _ flies }, refl)))));
+    }
+  where
+    first_due : (l : SendLane) → l.was_reset ≡ None → 0 < l.written → l.acked ≡ set.empty → IsDue (client_with l) 0 l 0
+    first_due l fine some none =
+        record {
+          no_reset = fine;
+          written = some;
+          not_acked = ap (λ (s : NumberSet). set.contains s 0) none ∙ set.contains-empty nat_cmp 0;
+          not_sent = λ (c, is, low, high). carried-empty _ is;
+        }
+
+pub not_due : NotDue
+not_due = record { offsets = offsets; ends = ends; limits = limits; aborts = aborts; blocked = blocked; told = told; none = none }
+
+-- What no packet holds, which packets aren't made, and what a loss doesn't leave.
 
 -- the first byte that was written is due
 first_due : (l : SendLane) → wrote ≡ l → IsDue writer 0 l 0
@@ -71,10 +239,6 @@ alone p = ap (λ ps. fmap.insert fmap.empty 0 ps) (first_noted (fmap.get {R = na
 got : (ps : List Piece) → fmap.get (fmap.insert {R = nat_cmp} fmap.empty 0 ps) 0 ≡ Some ps
 got ps = fmap.get-insert nat_cmp_total fmap.empty 0 ps 0
 
--- nothing was acknowledged
-from_first : unacked_from wrote ≡ 0
-from_first = missing_from-past set.empty 0 (omega (arith, end_of-empty))
-
 stream : NoSuchStreamFrame
 unfolding lookup update frame_put
 stream =
@@ -84,17 +248,11 @@ stream =
       undue = λ (l, may). both_ways _ (may.due 1 (omega arith) (omega arith)).not_acked (ap (λ (k : SendLane). set.contains k.acked 1) (sym (same_Some _ l may.lane)) ∙ contains-numbers 1 2 1);
       not_lowest = λ (l, may). (let le : 1 ≤ 0 = may.lowest 0 (first_due l (same_Some _ l may.lane)) in omega arith);
       in_two = λ (l, may). may.whole_run (chunk 0 1 false) (found_there _ _ (Data 0 (chunk 0 1 false)) (got _) (among_last _ (Data 0 (chunk 0 1 false)))) refl;
-      other_bytes = λ (l, may). (let e : 100 ≡ 99 = ap (λ bs. slice_index_or bs 2 0) (other_told l (same_Some _ l may.lane) may.told) in omega arith);
+      other_bytes = λ (l, may). (let e : 100 ≡ 99 = ap (λ bs. slice_index_or bs 2 0) (may.told ∙ ap (λ (k : SendLane). take 3 (drop (0 - unacked_from k) k.kept)) (sym (same_Some _ l may.lane)) ∙ ap (λ n. take 3 (drop (0 - n) abc)) (missing_from-past set.empty 0 (omega (arith, end_of-empty)))) in omega arith);
       past_limit = λ (l, may). (let le : 3 ≤ 2 = subst (λ (k : SendLane). 3 ≤ k.limit) (sym (same_Some _ l may.lane)) may.within in omega arith);
       unasked_end = λ (l, may). false≢true (ap (λ (k : SendLane). k.finished) (same_Some _ l may.lane) ∙ (may.end refl).0.finished);
       early_end = λ (l, may). (let e : 1 ≡ 3 = subst (λ (k : SendLane). 1 ≡ k.written) (sym (same_Some _ l may.lane)) (may.end refl).1 in omega arith);
     }
-  where
-    other_told : (l : SendLane) → wrote ≡ l → 97 ∷ 98 ∷ 100 ∷ [] ≡ take 3 (drop (0 - unacked_from l) l.kept) → 97 ∷ 98 ∷ 100 ∷ [] ≡ abc
-    other_told l is told = told ∙ ap (λ (k : SendLane). take 3 (drop (0 - unacked_from k) k.kept)) (sym is) ∙ ap (λ n. take 3 (drop (0 - n) abc)) from_first
-
-not_kept_0 : set.contains owing.done 0 ≡ false
-not_kept_0 = set.contains-insert nat_cmp_total (set.insert set.empty 1) 3 0 ∙ set.contains-insert nat_cmp_total set.empty 1 0 ∙ set.contains-empty nat_cmp 0
 
 kept_1 : set.contains owing.done 1 ≡ true
 kept_1 = set.contains-insert nat_cmp_total (set.insert set.empty 1) 3 1 ∙ set.contains-insert nat_cmp_total set.empty 1 1
@@ -107,7 +265,7 @@ unfolding frame_put
 acks =
     record {
       undue = λ may. false≢true may.due;
-      unkept = λ may. both_ways _ not_kept_0 (may.kept 0 refl);
+      unkept = λ may. both_ways _ (set.contains-insert nat_cmp_total (set.insert set.empty 1) 3 0 ∙ set.contains-insert nat_cmp_total set.empty 1 0 ∙ set.contains-empty nat_cmp 0) (may.kept 0 refl);
       without_largest = λ may. false≢true may.names_largest;
       largest_left_out = λ may. (let le : 3 ≤ 1 = may.largest_kept 3 kept_3 in omega arith);
       higher_left_out = λ may. false≢true (may.highest 1 3 refl (omega arith) (set.contains-insert nat_cmp_total owing.done 5 3 ∙ kept_3));
@@ -200,12 +358,9 @@ both_go n l reset written acked limit sent there = (
       not_sent = λ (c, carried, low, high). carried-empty _ carried;
     },
     omega (arith, limit),
-    inr (sym sent, credit),
+    inr (sym sent, (omega arith)),
   ),
 )
-  where
-    credit : all_sent two_writers < two_writers.known_data
-    credit = omega arith
 
 turns : NothingIsOutOfTurn
 unfolding lookup
@@ -382,23 +537,20 @@ none_left ps qs k = fmap.get-remove nat_cmp_total _ 0 k ∙ by_test (eq_by_cmp n
         ∙ fmap.get-insert nat_cmp_total fmap.empty 0 ps k ∙ ap (λ b. cond b (Some ps) (fmap.get {R = nat_cmp} fmap.empty k)) is
         ∙ fmap.get-empty nat_cmp k
 
-abbrev flying : PacketPieces
-flying = fmap.insert fmap.empty 0 told_then_data
+abbrev flying_of_packets : PacketPieces
+flying_of_packets = fmap.insert fmap.empty 0 told_then_data
 
-once_shorter : without_first flying 0 (fmap.get flying 0) ≡ fmap.insert flying 0 data_left
-once_shorter = ap (without_first flying 0) (got told_then_data)
+once_shorter : without_first flying_of_packets 0 (fmap.get flying_of_packets 0) ≡ fmap.insert flying_of_packets 0 data_left
+once_shorter = ap (without_first flying_of_packets 0) (got told_then_data)
 
-once_got : fmap.get (fmap.insert flying 0 data_left) 0 ≡ Some data_left
-once_got = fmap.get-insert nat_cmp_total flying 0 data_left 0
+once_got : fmap.get (fmap.insert flying_of_packets 0 data_left) 0 ≡ Some data_left
+once_got = fmap.get-insert nat_cmp_total flying_of_packets 0 data_left 0
 
-twice_shorter : without_first (without_first flying 0 (fmap.get flying 0)) 0 (fmap.get (without_first flying 0 (fmap.get flying 0)) 0) ≡ fmap.remove (fmap.insert flying 0 data_left) 0
-twice_shorter = ap (λ m. without_first m 0 (fmap.get m 0)) once_shorter ∙ ap (without_first (fmap.insert flying 0 data_left) 0) once_got
-
-both_lost : (losses 0 told_then_data two_flying).outstanding ≡ fmap.remove (fmap.insert flying 0 data_left) 0
+both_lost : (losses 0 told_then_data two_flying).outstanding ≡ fmap.remove (fmap.insert flying_of_packets 0 data_left) 0
 unfolding losses
-both_lost = twice_shorter
+both_lost = ap (λ m. without_first m 0 (fmap.get m 0)) once_shorter ∙ ap (without_first (fmap.insert flying_of_packets 0 data_left) 0) once_got
 
-first_is_lost : (losses 0 (take 1 told_then_data) two_flying).outstanding ≡ fmap.insert flying 0 data_left
+first_is_lost : (losses 0 (take 1 told_then_data) two_flying).outstanding ≡ fmap.insert flying_of_packets 0 data_left
 unfolding losses
 first_is_lost = once_shorter
 
@@ -448,3 +600,119 @@ lost =
 
 pub not_made : NotMade
 not_made = record { stream = stream; acks = acks; others = others; packets = packets; left_out = left_out; turns = turns; texts = texts; answers = answers; alone = acked_alone; claims = claims; losses = lost }
+
+-- What isn't filled in.
+
+-- what is filled in is asked for
+wanted_are : (old : End) (want : Fill) (filled : Filled) (text : List ℕ) (new : End) (is : IsFilled old want 1200 filled text new) (frames : List Seen) → seen_all is.made.frames ≡ frames → AllByRecursion (IsWanted want) frames
+wanted_are old want filled text new is frames same = subst (AllByRecursion (IsWanted want)) same is.wanted
+
+-- what is asked for once the cap is used up was asked for before
+still_fewer : (want : Fill) (left : ℕ) (e : End) → WantedGoes (still_asked want left) e → WantedGoes want e
+still_fewer want zero e (inl some) = inl some
+still_fewer want zero e (inr (n, asked, goes)) = absurd (false≢true asked.0)
+still_fewer want (suc left) e goes = goes
+
+-- items are asked for still
+still_items : (left : ℕ) (e : End) → WantedGoes items_alone e → WantedGoes (still_asked everything left) e
+still_items zero e goes = goes
+still_items (suc left) e (inl some) = inl some
+still_items (suc left) e (inr (n, asked, goes)) = absurd (false≢true asked.0)
+
+-- and no stream where the cap is none
+still_none : (left : ℕ) (e : End) → left ≡ 0 → WantedGoes (still_asked (record no_bytes { items = false }) left) e → ⊥
+still_none zero e is (inl (on, some)) = false≢true on
+still_none zero e is (inr (n, asked, goes)) = false≢true asked.0
+still_none (suc left) e is goes = omega (arith, is)
+
+frames : NoSuchFrames
+frames =
+    record {
+      no_ack = λ filled text new is same. (wanted_are _ _ filled text new is _ same).0;
+      item = λ filled text new is same. false≢true (wanted_are _ _ filled text new is _ same).0;
+      bytes = λ filled text new is same. false≢true (wanted_are _ _ filled text new is _ same).0.0;
+      other = λ filled text new is same. elim (wanted_are _ _ filled text new is _ same).0.1 [ inl all ↦ true≢false all | inr one ↦ omega (arith, one) ];
+      past_cap = λ filled text new is same. (let le : 3 ≤ 2 = subst (λ fs. stream_bytes fs ≤ 2) same is.capped in omega (arith, le));
+      turns = λ filled text new is same. not_made.turns.first_ignored (subst (AreInTurn 4 _) same is.made.turn);
+    }
+
+-- the first byte of the writer goes
+byte_goes : StreamGoes writer 0
+unfolding lookup total
+byte_goes = (
+  _,
+  refl,
+  inl (
+    0,
+    record { no_reset = refl; written = omega arith; not_acked = set.contains-empty nat_cmp 0; not_sent = λ (c, carried, low, high). carried-empty _ carried },
+    omega arith,
+    inr (refl, omega arith),
+  ),
+)
+
+left_out_of_fills : NothingWantedIsLeftOut
+left_out_of_fills =
+    record {
+      item = λ left has. no_control (has.items refl (MaxData 5000) ((refl, omega arith), λ covered. elim covered [ inl flies ↦ carried-empty _ flies | inr acked ↦ none-some 5000 acked ]));
+      bytes = λ has. has.streams 0 (refl, inl refl) (inl (omega arith, byte_goes));
+      below_cap = λ has. has.streams 0 (refl, inl refl) (inl (omega arith, byte_goes));
+      alone = λ has. has.streams 0 (refl, inr refl) (inl (omega arith, byte_goes));
+    }
+
+answers_of_fills : NoSuchFill
+answers_of_fills =
+    record {
+      token = λ filled text new is one. (let e : 1 ≡ 0 = sym one ∙ is.made.number in omega arith);
+      epoch = λ filled text new is one. (let e : 1 ≡ 0 = sym one ∙ ap (λ (t : Token). t.epoch) is.token in omega arith);
+      again = λ filled text new is zero. (let e : 1 ≡ 0 = sym ((let (last, fills, mid) = is.made.lawful.filled in ap (λ (e : End). e.next) is.made.after ∙ ap (λ (e : End). (settle e).next) mid)) ∙ zero in omega arith);
+      len = λ last new is. (let e : 2 ≡ 1 = is.made.len in omega arith);
+      no_room = λ filled new is. (let le : 1 ≤ 0 = is.fits in omega arith);
+      no_last = λ filled text new is frames none. none-some 0 (sym none ∙ is.last_stream ∙ ap (last_stream_of None) frames);
+      no_more = λ filled text new is goes none. true≢false (sym (is.more.1 (still_items _ new goes)) ∙ none);
+      more = λ filled text new is none goes. none (still_fewer everything _ new (is.more.0 goes));
+      cap_is_more = λ filled text new is goes. still_none _ new (omega arith) (is.more.0 goes);
+      nothing = λ text new step. (step.0 (omega arith)).streams 0 (refl, inl refl) (inl (omega arith, byte_goes));
+      closed = λ filled text new step. ok_is_no_err _ _ step.0;
+      exhausted = λ filled text new step. ok_is_no_err _ _ step.0;
+      last_number = λ new step. step;
+      not_closed = λ new step. step;
+      nothing_used = λ step. (let e : 1 ≡ 0 = ap (λ (e : End). e.next) step.2 in omega arith);
+      memory_used = λ step. (let e : 1 ≡ 0 = ap (λ (e : End). e.next) step.2 in omega arith);
+      nothing_due = λ text new step. elim step.0 [ inl (on, (i, due)) ↦ no_item i due.0 | inr (n, asked, goes) ↦ none_due (inr (inr (n, goes))) ];
+      unasked = λ text new step. elim step.0 [ inl (on, (i, due)) ↦ no_item i due.0 | inr (n, asked, goes) ↦ false≢true asked.0 ];
+    }
+
+pub not_filled : NotFilled
+not_filled = record { frames = frames; left_out = left_out_of_fills; answers = answers_of_fills }
+
+-- Which packets leave out what comes first.
+
+in_order : (old : End) (pieces : List Piece) (made : Made) (new : End) → NothingStarves old (Ok (Some made)) new → pieces_so_far new made.number ≡ pieces → AreInOrder old [] pieces
+in_order old pieces made new h is = subst (AreInOrder old []) is h.1
+
+limit_due : IsDueItem two_due (MaxData 5000)
+limit_due = ((refl, omega arith), λ covered. elim covered [ inl flies ↦ carried-empty _ flies | inr acked ↦ none-some 5000 acked ])
+
+reset_due : IsDueItem two_resets (ResetStream 0 7 0)
+unfolding lookup
+reset_due = (
+  (_, refl, refl),
+  λ covered. elim covered [ inl flies ↦ carried-empty _ flies | inr (l, at, is) ↦ false≢true (ap (λ (k : SendLane). k.reset_acked) (same_Some _ l at) ∙ is) ],
+)
+
+stop_due : IsDueItem stopping (StopSending 0 7)
+unfolding lookup
+stop_due = ((_, refl, refl, refl, refl), λ covered. elim covered [ inl flies ↦ carried-empty _ flies | inr acked ↦ no_member 0 acked ])
+
+pub starved : NothingIsStarved
+starved =
+    record {
+      ack = λ made new h due. false≢true (sym h.0 ∙ due);
+      limit = λ made new h is. (in_order two_due _ made new h is).0 (MaxData 5000) limit_due;
+      limit_behind = λ made new h is. (in_order two_due _ made new h is).0 (MaxData 5000) limit_due;
+      reset = λ made new h is. (in_order two_resets _ made new h is).0 (ResetStream 0 7 0) reset_due;
+      stop = λ made new h is. (in_order stopping _ made new h is).0 (StopSending 0 7) stop_due;
+      kinds = λ made new h is. (in_order (record stopping { granted = 5000 }) _ made new h is).0 (MaxData 5000) (((refl, omega arith), λ covered. elim covered [ inl flies ↦ carried-empty _ flies | inr acked ↦ none-some 5000 acked ])) (inl (omega arith));
+      streams = λ made new h is. (in_order two_resets _ made new h is).0 (ResetStream 0 7 0) reset_due (inr (refl, omega arith));
+      directions = λ made new h is. (in_order two_counts _ made new h is).0 (MaxStreams Bidi 9) (((refl, omega arith), λ covered. elim covered [ inl flies ↦ carried-empty _ flies | inr acked ↦ none-some 9 acked ])) (inr (refl, omega arith));
+    }

@@ -1,23 +1,23 @@
--- How a payload isn't taken, and which answers aren't given.
-use Rattle.std.proofs.Common.{◌≡◌, ℕ, zero, suc, ◌+◌, ◌<◌, List, [], ◌∷◌, ◌++◌, take, length, Bool, true, false, cond, not, ◌&&◌, ◌||◌, nat_lt, Option, Some, None, is_some, refl, sym, ap, ◌∙◌, subst, arith, inl, inr}
+-- What the definitions exclude of payloads, frames and tokens that come, and of memory.
+use Rattle.std.proofs.Common.{◌≡◌, ℕ, zero, suc, ◌+◌, ◌<◌, List, [], ◌∷◌, ◌++◌, take, length, Bool, true, false, cond, not, ◌&&◌, ◌||◌, nat_lt, Option, Some, None, is_some, refl, sym, ap, ◌∙◌, subst, arith, inl, inr, ◌⊎◌, slice_get}
 use Rattle.std.specs.Prelude.{Result, Ok, Err, max, MatchBool, flat_map}
 use Rattle.std.specs.FinMap as fmap
 use Rattle.std.specs.FinSet as set
 use Rattle.std.specs.Ordering.{nat_cmp, eq_by_cmp}
 use Rattle.std.specs.Cmp.{nat_cmp_total, unsigned_tied}
 use Rattle.std.proofs.lemmas.Option.{same_Some, none-some}
-use Rattle.std.proofs.lemmas.Bool.{true≢false, both_ways, and_right, or_cases, eqb-true, eq-eqb, cases_lt}
-use Rattle.qs_ranges.specs.Numbers.{NumberSet, numbers, is_within, has_predecessor, run_starts, contains-without_range, same_numbers}
+use Rattle.std.proofs.lemmas.Bool.{true≢false, both_ways, and_right, or_cases, eqb-true, eq-eqb, cases_lt, false≢true}
+use Rattle.qs_ranges.specs.Numbers.{NumberSet, numbers, is_within, has_predecessor, run_starts, contains-without_range, same_numbers, contains-numbers, contains-with_range}
 use Rattle.qs_ranges.proofs.Sets.{end_of-empty, end_of-with_range}
-use Rattle.qs_wire.specs.Layout.{PlacedValue}
+use Rattle.qs_wire.specs.Layout.{PlacedValue, FrameValue, max_data}
 use Rattle.qs_wire.specs.declared.fault.WireFault.{WireFault}
 use Rattle.qs_recv.specs.Assembled.{forget}
 use Rattle.qs_recv.specs.declared.half.RecvState.TheVariants.{DataRecvd, SizeKnown}
-use Rattle.qs_send.specs.Lane.{new_lane as new_send_lane, state as send_state}
+use Rattle.qs_send.specs.Lane.{new_lane as new_send_lane, state as send_state, SendLane}
 use Rattle.qs_send.specs.declared.parts.SendState.TheVariants as sends
 use Rattle.qs_send.specs.declared.piece.Piece.{Piece}
 use Rattle.qs_send.specs.declared.piece.Piece.TheVariants.{Data}
-use Rattle.qs_send.specs.Records.{without_first}
+use Rattle.qs_send.specs.Records.{without_first, IsCarried}
 use Rattle.qs_calls.specs.declared.closing.Closing.{Closing}
 use Rattle.qs_calls.specs.declared.closing.Received.{Received}
 use Rattle.qs_calls.specs.declared.closing.Received.TheVariants.{Done, Duplicate, BelowFloor, PeerClosed}
@@ -31,15 +31,32 @@ use Rattle.qs_machine.specs.FrameStep.{frame_taken, frames_taken, acks, named, p
 use Rattle.qs_machine.specs.Recording.{has_too_many, lowest_end}
 use Rattle.qs_machine.specs.Receiving.{Takes, Stops, TakesPayload}
 use Rattle.qs_machine.specs.Examples.{letters}
-use Rattle.qs_machine.specs.SmallEnds.{chunk, all_came}
+use Rattle.qs_machine.specs.SmallEnds.{chunk, all_came, only, second_acked}
 use Rattle.qs_machine.specs.ExclusionsReceiving.{CodesAreThese, NoSuchStop, NothingTookEffect, NoSuchEnd, NoSuchReceipt, AcksAskNothing, RunsAreFew, RepeatsNeedSoundness, AbortsCount, ReportIsOfHighest, NotReceived, ten, flying, evens, closing}
-use Rattle.qs_machine.proofs.Choices.{not_chosen, by_test}
+use Rattle.qs_machine.proofs.EveryCall.{not_chosen, by_test}
 use Rattle.qs_machine.proofs.Examples.{none_differs, five}
 use Rattle.qs_machine.proofs.Named.{filter_nothing}
 use Rattle.qs_machine.proofs.RunLaws.{lowest_end_is}
-use Rattle.qs_machine.proofs.SmallEndsLaws.{no_member}
-use Rattle.qs_machine.proofs.ExclusionsDue.{came_whole, whole}
-use Rattle.qs_machine.proofs.ExclusionsMaking.{ok_is_no_err}
+use Rattle.qs_machine.proofs.SmallEndsLaws.{no_member, only_open}
+use Rattle.qs_machine.proofs.ExclusionsMaking.{came_whole, whole, ok_is_no_err, not_made}
+use Rattle.qs_wire.specs.Grammar.{Fits}
+use Rattle.qs_calls.specs.declared.making.LostFault.{LostFault}
+use Rattle.qs_calls.specs.declared.making.LostFault.TheVariants as losing
+use Rattle.qs_calls.specs.declared.token.Taken.{Taken}
+use Rattle.qs_calls.specs.declared.token.Taken.TheVariants.{Took, Unchanged, NotOurs}
+use Rattle.qs_calls.specs.declared.token.TakeFault.{TakeFault}
+use Rattle.qs_calls.specs.declared.token.TakeFault.TheVariants as faults
+use Rattle.qs_calls.specs.declared.token.TokenFault.{TokenFault}
+use Rattle.qs_calls.specs.declared.token.TokenFault.TheVariants as tokens
+use Rattle.qs_machine.specs.Owner.{Certain}
+use Rattle.qs_machine.specs.Making.{LoseStep, lose_refusal}
+use Rattle.qs_machine.specs.Alone.{MayTake, TakesOne, TakesEach, HasFault, after_one, lost_answer, LosesEach}
+use Rattle.qs_machine.specs.ExclusionsMaking.{two_flying}
+use Rattle.qs_machine.specs.ExclusionsAlone.{NoSuchTake, NoSuchFrameAnswer, NoSuchFramesAnswer, NoSuchToken, NotAlone, past_all, eleven_bytes}
+use Rattle.qs_machine.specs.ExclusionsMemory.{NoFrameRunsOut, NoPieceRunsOut, NoOtherEnd, NotRefused}
+use Rattle.qs_machine.specs.Memory.{StopsAt}
+
+-- How a payload isn't taken, and which answers aren't given.
 
 codes : CodesAreThese
 unfolding verdict frame_taken lookup update open_to total
@@ -288,3 +305,302 @@ repeats =
 
 pub not_received : NotReceived
 not_received = record { codes = codes; stops = stops; out_of_memory = out_of_memory; ends = ends; receipts = receipts; asks = asks; runs = runs; aborts = aborts; report = report; repeats = repeats }
+
+-- How a frame isn't taken alone, and what isn't told by tokens.
+
+-- the value has no text
+unspelled : Fits past_all → ⊥
+unspelled fits = omega (arith, fits)
+
+-- the code of a fault
+of_eleven : (code : ℕ) → HasFault ten eleven_bytes code → code ≡ 3
+of_eleven code (inl (none, is)) = absurd (none (omega arith, omega arith))
+of_eleven code (inr (fits, is)) = same_Some code 3 (sym is ∙ past_limit)
+
+of_past_all : (code : ℕ) → HasFault ten past_all code → code ≡ 7
+of_past_all code (inl (none, is)) = is
+of_past_all code (inr (fits, is)) = absurd (unspelled fits)
+
+of_max_data : (code : ℕ) → HasFault ten (max_data 5000) code → ⊥
+unfolding verdict
+of_max_data code (inl (none, is)) = none (omega arith)
+of_max_data code (inr (fits, is)) = none-some code is
+
+take_of_frames : NoSuchTake
+unfolding verdict frame_taken
+take_of_frames =
+    record {
+      past_fault = λ new h. none-some 3 (sym h.0.1 ∙ past_limit);
+      no_text = λ new h. unspelled h.0.0;
+      not_encoding = λ new h. (let e = of_past_all 10 h.0 in omega (arith, e));
+      not_ours = λ new h. h;
+      no_effect = λ new h same. (let e : 5000 ≡ 4096 = sym (ap (λ (e : End). e.known_data) h.1) ∙ same in omega (arith, e));
+      raised = λ new h. (let e : 5000 ≡ 4096 = ap (λ (e : End). e.known_data) (sym h.1 ∙ h.2) in omega (arith, e));
+      not_raised = λ new h. h.2 h.1;
+      no_fault = λ new h. of_max_data 3 h.0;
+      other_code = λ new h. (let e = of_eleven 6 h.0 in omega (arith, e));
+      other_type = λ new h. (let e : 8 ≡ 10 = ap (λ (c : Closing). c.frame_type) h.1 in omega (arith, e));
+      other_place = λ new h. (let e : 5 ≡ 0 = ap (λ (c : Closing). c.place) h.1 in omega (arith, e));
+      still_open = λ h. none-some _ (ap (λ (e : End). e.closed) h.2);
+      faulty_memory = λ new h. none-some 3 (sym h.0.1 ∙ past_limit);
+      none_asked = λ new h. h.1.1;
+      changed = λ new h is. (let e : 4096 ≡ 4097 = sym (ap (λ (e : End). e.known_data) h.1.0) ∙ is in omega (arith, e));
+      peer_open = λ new h. h;
+    }
+
+abbrev fault_in : Result Taken TakeFault → Option TakeFault
+fault_in (Ok taken) = None
+fault_in (Err fault) = Some fault
+
+abbrev closing_in : Result Taken TakeFault → ℕ
+closing_in (Ok taken) = 0
+closing_in (Err (faults.Closing closing)) = closing.code
+closing_in (Err (faults.PeerClosed code)) = code
+closing_in (Err faults.NoMemory) = 0
+
+abbrev is_took : Result Taken TakeFault → Bool
+is_took (Ok Took) = true
+is_took r = false
+
+frame : NoSuchFrameAnswer
+frame =
+    record {
+      closed = λ new step. false≢true (sym (ap is_took step.0));
+      other_closing = λ new step. (let e : 6 ≡ 3 = ap closing_in step.0 in omega (arith, e));
+      other_peer = λ new step. (let e : 8 ≡ 7 = ap closing_in step.0 in omega (arith, e));
+      ack_taken = λ new step. false≢true (sym (ap is_took step.0));
+      ack_closes = λ closing new step. none-some _ (sym (ap fault_in step.0));
+      close_closes = λ answer new step is. none-some _ (sym (ap (λ (e : End). e.closed) step.1) ∙ is);
+    }
+
+-- what is answered of a frame that was taken
+was_taken : (e : End) (f : FrameValue) (one : Taken) (new : End) → TakesOne e f (Ok one) new → MayTake e f × (new ≡ frame_taken (seen f) e)
+was_taken e f Took new h = (h.0, h.1)
+was_taken e f Unchanged new h = (h.0, h.1)
+was_taken e f NotOurs new h = absurd h
+
+-- a limit that no text has takes no effect behind another frame
+behind : (mid : End) (one : Taken) (later : Result Taken TakeFault) (new : End) → TakesEach (past_all ∷ []) mid later new → ◌≡◌ {A = Result Taken TakeFault} (Ok Took) (after_one one later) → ⊥
+behind mid one later new (inl (next, kind, rest, last, more, is)) took = unspelled (was_taken mid past_all kind next last).0.0
+behind mid one later new (inr (fault, last, is)) took = none-some fault (ap fault_in (took ∙ ap (after_one one) is))
+
+-- and the frame before it has its effect
+stays : (mid : End) (later : Result Taken TakeFault) (new : End) → TakesEach (past_all ∷ []) mid later new → new.known_data ≡ mid.known_data
+stays mid later new (inl (next, kind, rest, one, more, is)) = absurd (unspelled (was_taken mid past_all kind next one).0.0)
+stays mid later new (inr (faults.Closing closing, one, is)) = ap (λ (e : End). e.known_data) one.2
+stays mid later new (inr (faults.NoMemory, one, is)) = absurd (unspelled one.0.0)
+stays mid later new (inr (faults.PeerClosed code, one, is)) = absurd one
+
+no_first : (fault : TakeFault) (new : End) → TakesOne ten (max_data 5000) (Err fault) new → ⊥
+no_first (faults.Closing closing) new one = of_max_data closing.code one.0
+no_first faults.NoMemory new one = one.1.1
+no_first (faults.PeerClosed code) new one = one
+
+abbrev is_other : Result Taken TakeFault → Bool
+is_other (Ok NotOurs) = true
+is_other r = false
+
+-- a frame that was taken is of these kinds, whatever comes behind it
+after_took : (e : End) (f : FrameValue) (one : Taken) (mid : End) (later : Result Taken TakeFault) → TakesOne e f (Ok one) mid → ◌≡◌ {A = Result Taken TakeFault} (Ok NotOurs) (after_one one later) → ⊥
+after_took e f one mid (Err fault) h is = none-some fault (ap fault_in is)
+after_took e f NotOurs mid (Ok later) h is = absurd h
+after_took e f Took mid (Ok later) h is = false≢true (sym (ap is_other is))
+after_took e f Unchanged mid (Ok Took) h is = false≢true (sym (ap is_other is))
+after_took e f one mid later h is = false≢true (sym (ap is_other is))
+
+abbrev is_same : Result Taken TakeFault → Bool
+is_same (Ok Unchanged) = true
+is_same r = false
+
+-- where a limit rises behind other frames, something changed
+changed_last : (mid : End) (one : Taken) (later : Result Taken TakeFault) (new : End) → mid.known_data ≡ 4096 → TakesEach (max_data 5000 ∷ []) mid later new → ◌≡◌ {A = Result Taken TakeFault} (Ok Unchanged) (after_one one later) → ⊥
+unfolding frame_taken
+changed_last mid one later new at (inl (next, Took, rest, last, more, is)) same = last_took one later is more.0 same
+  where
+    last_took : (first : Taken) (r : Result Taken TakeFault) → r ≡ after_one Took rest → rest ≡ Ok NotOurs → ◌≡◌ {A = Result Taken TakeFault} (Ok Unchanged) (after_one first r) → ⊥
+    last_took Took r e none s = false≢true (sym (ap is_same (s ∙ ap (after_one Took) (e ∙ ap (after_one Took) none))))
+    last_took Unchanged r e none s = false≢true (sym (ap is_same (s ∙ ap (after_one Unchanged) (e ∙ ap (after_one Took) none))))
+    last_took NotOurs r e none s = false≢true (sym (ap is_same (s ∙ ap (after_one NotOurs) (e ∙ ap (after_one Took) none))))
+changed_last mid one later new at (inl (next, Unchanged, rest, last, more, is)) same = (let e : max mid.known_data 5000 ≡ mid.known_data = ap (λ (e : End). e.known_data) (sym last.1 ∙ last.2) in omega (arith, e, at))
+changed_last mid one later new at (inl (next, NotOurs, rest, last, more, is)) same = absurd last
+changed_last mid one later new at (inr (fault, last, is)) same = none-some fault (ap fault_in (same ∙ ap (after_one one) is))
+
+-- a limit that rises before other frames changed something
+changed_first : (mid : End) (one : Taken) (later : Result Taken TakeFault) → TakesOne ten (max_data 5000) (Ok one) mid → ◌≡◌ {A = Result Taken TakeFault} (Ok Unchanged) (after_one one later) → ⊥
+changed_first mid Took (Ok later) h is = false≢true (sym (ap is_same is))
+changed_first mid Took (Err fault) h is = none-some fault (ap fault_in is)
+changed_first mid Unchanged later h is = take_of_frames.raised mid h
+changed_first mid NotOurs later h is = absurd h
+
+-- and one that rises no limit changed nothing
+changed_none : (mid : End) (one : Taken) (later : Result Taken TakeFault) → TakesOne ten (max_data 4000) (Ok one) mid → later ≡ Ok NotOurs → ◌≡◌ {A = Result Taken TakeFault} (Ok Took) (after_one one later) → ⊥
+changed_none mid Took later h none is = take_of_frames.not_raised mid h
+changed_none mid Unchanged later h none is = false≢true (sym (ap is_took (is ∙ ap (after_one Unchanged) none)))
+changed_none mid NotOurs later h none is = absurd h
+
+frames : NoSuchFramesAnswer
+unfolding frame_taken
+frames =
+    record {
+      past_fault = λ new h. elim h [ inl (mid, kind, later, one, more, is) ↦ unspelled (was_taken ten past_all kind mid one).0.0 | inr (fault, one, is) ↦ false≢true (sym (ap is_took is)) ];
+      left_out = λ new h. elim h [ inl (mid, kind, later, one, more, is) ↦ behind mid kind later new more is | inr (fault, one, is) ↦ false≢true (sym (ap is_took is)) ];
+      before_fault = λ fault new h same. elim h [
+        | inl (mid, kind, later, one, more, is) ↦ (let e : 5000 ≡ 4096 = sym (stays mid later new more ∙ ap (λ (e : End). e.known_data) (was_taken ten (max_data 5000) kind mid one).1) ∙ same in omega (arith, e))
+        | inr (other, one, is) ↦ no_first other new one
+      ];
+      one_ours = λ new h. elim h [ inl (mid, kind, later, one, more, is) ↦ after_took ten (max_data 5000) kind mid later one is | inr (fault, one, is) ↦ none-some fault (ap fault_in is) ];
+      first_changed = λ new h. elim h [ inl (mid, kind, later, one, more, is) ↦ changed_first mid kind later one is | inr (fault, one, is) ↦ false≢true (sym (ap is_same is)) ];
+      last_changed = λ new h. elim h [
+        | inl (mid, kind, later, one, more, is) ↦ changed_last mid kind later new (ap (λ (e : End). e.known_data) (was_taken ten (max_data 4000) kind mid one).1) more is
+        | inr (fault, one, is) ↦ false≢true (sym (ap is_same is))
+      ];
+      none_changed = λ new h. elim h [ inl (mid, kind, later, one, more, is) ↦ changed_none mid kind later one more.0 is | inr (fault, one, is) ↦ false≢true (sym (ap is_took is)) ];
+      unchanged_is_ours = λ new h. elim h [ inl (mid, kind, later, one, more, is) ↦ after_took ten (max_data 4000) kind mid later one is | inr (fault, one, is) ↦ none-some fault (ap fault_in is) ];
+      none_ours = λ new h. false≢true (sym (ap is_took h.0));
+      closed = λ new step. false≢true (sym (ap is_took step.0));
+    }
+
+-- Tokens
+
+abbrev told_fault : Result (Unit {0}) TokenFault → Option TokenFault
+told_fault (Ok done) = None
+told_fault (Err fault) = Some fault
+
+abbrev is_memory : Result (Unit {0}) TokenFault → Bool
+is_memory (Err tokens.NoMemory) = true
+is_memory answer = false
+
+abbrev is_closing : Result (Unit {0}) TokenFault → Bool
+is_closing (Err tokens.Closed) = true
+is_closing answer = false
+
+-- no declared loss is answered so
+not_given : (declared : Result (Unit {0}) LostFault) → ◌≡◌ {A = Result (Unit {0}) TokenFault} (Err tokens.NotGiven) (lost_answer declared) → ⊥
+not_given (Ok done) is = none-some _ (sym (ap told_fault is))
+not_given (Err losing.NotOutstanding) is = none-some _ (sym (ap told_fault is))
+not_given (Err losing.NoMemory) is = false≢true (ap is_memory is)
+not_given (Err losing.Closed) is = false≢true (ap is_closing is)
+
+lost_part : (declared : Result (Unit {0}) LostFault) (new : End) → LoseStep two_flying 0 declared new → ◌≡◌ {A = Result (Unit {0}) TokenFault} (Ok tt) (lost_answer declared) → IsCarried new.outstanding (Data 0 (chunk 0 3 false)) → ⊥
+lost_part (Ok done) new lose is carried = not_made.losses.in_part new lose carried
+lost_part (Err losing.NotOutstanding) new lose is carried = not_made.losses.known new lose
+lost_part (Err losing.NoMemory) new lose is carried = none-some _ (ap told_fault is)
+lost_part (Err losing.Closed) new lose is carried = none-some _ (ap told_fault is)
+
+lost_whole : (declared : Result (Unit {0}) LostFault) (new : End) → LoseStep two_flying 0 declared new → ◌≡◌ {A = Result (Unit {0}) TokenFault} (Err tokens.NoMemory) (lost_answer declared) → fmap.get new.outstanding 0 ≡ None → ⊥
+lost_whole (Ok done) new lose is none = none-some _ (sym (ap told_fault is))
+lost_whole (Err losing.NotOutstanding) new lose is none = none-some _ (sym (ap told_fault is))
+lost_whole (Err losing.NoMemory) new lose is none = not_made.losses.whole new lose none
+lost_whole (Err losing.Closed) new lose is none = false≢true (sym (ap is_memory is))
+
+-- a packet that isn't outstanding changes nothing
+none_there : (e : End) (k : ℕ) (declared : Result (Unit {0}) LostFault) (new : End) → fmap.get e.outstanding k ≡ None → LoseStep e k declared new → new ≡ e
+none_there e k declared new none step = go (lose_refusal e k) _ (λ (ps, is, gone). absurd (none-some ps (sym none ∙ is))) step
+  where
+    go : (o : Option LostFault) (E : Type 0) → (E → new ≡ e) → Certain o e declared new E → new ≡ e
+    go (Some fault) E by h = h.1
+    go None E by h = by h
+
+second_is_none : fmap.get two_flying.outstanding 1 ≡ None
+second_is_none = fmap.get-insert nat_cmp_total fmap.empty 0 _ 1 ∙ fmap.get-empty nat_cmp 1
+
+part_of_one : (e new : End) → e ≡ two_flying → LosesEach 1 0 e (Ok tt) new → IsCarried new.outstanding (Data 0 (chunk 0 3 false)) → ⊥
+part_of_one e new same (inl (mid, (declared, lose, is), (ok, after))) carried =
+    lost_part declared mid (subst (λ x. LoseStep x 0 declared mid) same lose) is (subst (λ (x : End). IsCarried x.outstanding (Data 0 (chunk 0 3 false))) after carried)
+part_of_one e new same (inr (fault, one, is)) carried = none-some _ (ap told_fault is)
+
+told : NoSuchToken
+told =
+    record {
+      next = λ new step. none-some _ (ap told_fault step.0);
+      next_lost = λ new step. none-some _ (ap told_fault step.0);
+      not_all = λ new step. none-some _ (ap told_fault step.0);
+      not_all_lost = λ new step. none-some _ (ap told_fault step.0);
+      none = λ new step. none-some _ (ap told_fault step.0);
+      none_lost = λ new step. none-some _ (ap told_fault step.0);
+      foreign = λ new step. none-some _ (ap told_fault step.0);
+      foreign_lost = λ new step. none-some _ (ap told_fault step.0);
+      last = λ new step. elim step [ inl done ↦ none-some _ (sym (ap told_fault done.0)) | inr out ↦ false≢true (ap is_memory out.0) ];
+      last_lost = λ new step. elim step [ inl done ↦ none-some _ (sym (ap told_fault done.2.0)) | inr (fault, (declared, lose, is), same) ↦ not_given declared (same ∙ is) ];
+      closed = λ new step. none-some _ (ap told_fault step.0);
+      closed_lost = λ new step. none-some _ (ap told_fault step.0);
+      not_closed = λ new step. elim step [ inl done ↦ none-some _ (sym (ap told_fault done.0)) | inr out ↦ false≢true (ap is_memory out.0) ];
+      in_part = λ new step. part_of_one two_flying new refl step;
+      in_part_of_two = λ new step. elim step [
+        | inl (mid, (declared, lose, is), later) ↦ part_of_one mid new (none_there two_flying 1 declared mid second_is_none lose) later
+        | inr (fault, one, is) ↦ λ carried. none-some _ (ap told_fault is)
+      ];
+      whole = λ new step. elim step [ inl done ↦ λ none. none-some _ (sym (ap told_fault done.2.0)) | inr (fault, (declared, lose, is), same) ↦ lost_whole declared new lose (same ∙ is) ];
+    }
+
+pub not_alone : NotAlone
+not_alone = record { take = take_of_frames; frame = frame; frames = frames; tokens = told }
+
+-- Where memory isn't asked for, and how a payload doesn't end.
+
+last_came : set.contains (set.union set.empty (numbers 0 3)) 2 ≡ true
+last_came = contains-with_range set.empty 0 3 2 ∙ ap (λ b. b || true) (set.contains-empty _ 2)
+
+-- both halves are open
+both_open : {X Y U : Type 0} (x : X) (y : Y) → (◌≡◌ {A = Option X} (Some x) None ⊎ (U × ◌≡◌ {A = Option Y} (Some y) None)) → ⊥
+both_open x y (inl none) = none-some x (sym none)
+both_open x y (inr half) = none-some y (sym half.1)
+
+frames_of_memory : NoFrameRunsOut
+unfolding lookup
+frames_of_memory =
+    record {
+      plain = λ h. h;
+      plain_stops = λ h. h.1;
+      close = λ h. h;
+      names_none = λ new (m, after, stops). subst (λ ps. StopsAt new.sends new.acked (slice_get ps m)) none_named stops;
+      max_data = λ h. h;
+      max_streams = λ h. h;
+      data_blocked = λ h. h;
+      streams_blocked = λ h. h;
+      max_stream_data = λ h. both_open _ _ h.1;
+      reset = λ h. both_open _ _ h.1;
+      stop_sending = λ h. both_open _ _ h.1;
+      stream_blocked = λ h. both_open _ _ h.1;
+      one_half = λ h. elim h.1 [ inl none ↦ none-some _ (sym none) | inr sending ↦ false≢true (sym sending.0) ];
+      own = λ h. false≢true (sym h.0);
+      repeated = λ h. elim h [ inl closed ↦ both_open _ _ closed.1 | inr news ↦ both_ways _ news.some (came_whole 3) ];
+      after_reset = λ h. elim h [ inl closed ↦ both_open _ _ closed.1 | inr news ↦ none-some 7 (sym news.no_reset) ];
+      after_stop = λ h. elim h [ inl closed ↦ both_open _ _ closed.1 | inr news ↦ both_ways _ (news.apart refl 2 (omega arith) (omega arith)) last_came ];
+    }
+
+not_found : (l : SendLane) → lookup (only second_acked) 4 ≡ Some l → ⊥
+unfolding lookup
+not_found l at = none-some l at
+
+-- at an end with one open sending half
+pieces : NoPieceRunsOut
+pieces =
+    record {
+      past_last = λ h. h;
+      max_data = λ h. h;
+      max_streams = λ h. h;
+      reset = λ h. h;
+      data_blocked = λ h. h;
+      streams_blocked = λ h. h;
+      max_stream_data = λ h. none-some 5 (sym h ∙ fmap.get-insert nat_cmp_total fmap.empty 0 5 0);
+      stream_blocked = λ h. none-some 5 (sym h ∙ fmap.get-insert nat_cmp_total fmap.empty 0 5 0);
+      stop_sending = λ h. both_ways _ (h 1 (omega arith) (omega arith)) (set.contains-insert nat_cmp_total set.empty 1 1);
+      end_alone = λ (l, at, may). absurd (omega (arith, may.0));
+      beside = λ (l, at, may). both_ways _ (may.1 1 (omega arith) (omega arith)) (ap (λ (k : SendLane). set.contains k.acked 1) (only_open second_acked l 0 at) ∙ contains-numbers 1 2 1);
+      not_open = λ (l, at, may). not_found l at;
+    }
+
+ends_of_memory : NoOtherEnd
+ends_of_memory =
+    record {
+      above_kept = λ new h. both_ways _ (h.1 0 (omega arith) (omega arith)) (set.contains-insert nat_cmp_total set.empty 0 0);
+      below_kept = λ new h. both_ways _ (h.1 1 (omega arith) (omega arith)) (set.contains-insert nat_cmp_total set.empty 1 1);
+      asked = λ new h none. both_ways _ none (ap (λ (e : End). e.ack_due) h);
+      duplicate = λ new h. h;
+      other_closing = λ fault c new other h. other h.0;
+      still_open = λ fault c h. none-some _ (ap (λ (e : End). e.closed) h.1);
+    }
+
+pub not_refused : NotRefused
+not_refused = record { frames = frames_of_memory; pieces = pieces; ends = ends_of_memory }

@@ -214,16 +214,13 @@ none_stored m lawful reset q =
 -- the frame passes its checks, and leaves the half as it is
 pub data_again : (m : RecvLane) (offset : ℕ) (bytes : List ℕ) (fin : Bool) → IsLawful m → HasData m offset bytes fin
     → (check_stream m offset (length bytes) fin ≡ Ok (record { before = highest m; after = highest m })) × (check_bytes m offset bytes ≡ Ok tt) × (take_stream m offset bytes fin ≡ m)
-data_again m offset bytes fin lawful h = (passes, unchanged, stays)
+data_again m offset bytes fin lawful h = (passes, unchanged, (λ i. record m { arrived = arrived i; final_size = size i }))
   where
     n : ℕ
     n = length bytes
 
     whole : fin ≡ true → offset + n ≡ highest m
     whole is = sym (ap (λ f. unwrap_or f (end_of m.arrived.received)) (h.sized is))
-
-    same : highest_after m offset n fin ≡ highest m
-    same = same_highest m.final_size (highest m) (offset + n) n fin whole (data_inside m offset bytes fin lawful h)
 
     fine : breaks_known m.final_size (offset + n) n fin (highest m) ≡ false
     fine = not_broken m.final_size (offset + n) n fin (highest m) h.sized (λ s is some.
@@ -235,7 +232,7 @@ data_again m offset bytes fin lawful h = (passes, unchanged, stays)
     fits = let a = lawful.granted in let b = h.within in let c : max (highest m) (offset + n) ≤ m.limit = omega (arith, a, b) in grind (arith, nat_tests)
 
     passes : check_stream m offset n fin ≡ Ok (record { before = highest m; after = highest m })
-    passes = both_pass _ _ (record { before = highest m; after = highest_after m offset n fin }) fine fits ∙ ap (λ k. Ok (record { before = highest m; after = k })) same
+    passes = both_pass _ _ (record { before = highest m; after = highest_after m offset n fin }) fine fits ∙ ap (λ k. Ok (record { before = highest m; after = k })) (same_highest m.final_size (highest m) (offset + n) n fin whole (data_inside m offset bytes fin lawful h))
 
     unchanged : check_bytes m offset bytes ≡ Ok tt
     unchanged =
@@ -261,9 +258,6 @@ data_again m offset bytes fin lawful h = (passes, unchanged, stays)
         by_end : (b : Bool) → (b ≡ true → m.final_size ≡ Some (offset + n)) → cond b (Some (offset + n)) m.final_size ≡ m.final_size
         by_end true is = sym (is refl)
         by_end false is = refl
-
-    stays : take_stream m offset bytes fin ≡ m
-    stays = λ i. record m { arrived = arrived i; final_size = size i }
 
 -- Resets
 

@@ -22,7 +22,6 @@ use Rattle.qs_machine.specs.FrameStep.{frame_taken, item_taken, AckedPiece, with
 use Rattle.qs_machine.specs.Lawful.{Fills, frame_put}
 use Rattle.qs_machine.specs.Owner.{with_wanted}
 use Rattle.qs_machine.specs.Receiving.{AtEnd, RunsOut, Stops}
-use Rattle.qs_machine.specs.Making.{first_lost, losses}
 use Rattle.qs_machine.proofs.EveryCall.{stops_by}
 
 -- an end without its sending side
@@ -47,11 +46,6 @@ put_leaves f e = refl
 pub fills_leave : (old : End) (fs : List Seen) (e mid : End) → Fills old e fs mid → but_sending mid ≡ but_sending e
 fills_leave old [] e mid is = ap but_sending is
 fills_leave old (f ∷ fs) e mid (may, rest) = fills_leave old fs (frame_put f e) mid rest ∙ put_leaves f e
-
-pub losses_leave : (k : ℕ) (ps : List Piece) (e : End) → but_sending (losses k ps e) ≡ but_sending e
-unfolding losses
-losses_leave k [] e = refl
-losses_leave k (p ∷ ps) e = losses_leave k ps (first_lost k p e)
 
 -- an end without its streams and what it knows of its peer's limits
 abbrev pub but_streams : End → End

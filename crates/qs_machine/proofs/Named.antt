@@ -61,22 +61,6 @@ greatest_first f g k start (x ∷ xs) r (inr a) is out same none =
     let before : x < k = (let h = above (x + 1) xs r.1 k a in omega (arith, h)) in
     filter_then f g x xs (k ∷ []) (same x before) (greatest_first f g k (x + 1) xs r.1 a is out same (λ j gt b. none j gt (inr b)))
 
--- what lies low comes before what lies high
-filter_split : (f g h : ℕ → Bool) (start : ℕ) (xs : List ℕ) → Rises start xs → ((j : ℕ) → f j ≡ (h j || g j)) → ((i j : ℕ) → h i ≡ true → i ≤ j → g j ≡ false) → filter f xs ≡ filter g xs ++ filter h xs
-filter_split f g h start [] r either apart = refl
-filter_split f g h start (x ∷ xs) r either apart = by (h x) refl (filter_split f g h (x + 1) xs r.1 either apart)
-  where
-    by : (b : Bool) → h x ≡ b → filter f xs ≡ filter g xs ++ filter h xs → filter f (x ∷ xs) ≡ filter g (x ∷ xs) ++ filter h (x ∷ xs)
-    by true is behind =
-        let later : filter g xs ≡ [] = filter_none g xs (λ j a. (let le = above (x + 1) xs r.1 j a in apart x j is (omega (arith, le)))) in
-        let low : filter g (x ∷ xs) ≡ [] = ap (λ b. cond b (x ∷ filter g xs) (filter g xs)) (apart x x is (omega arith)) ∙ later in
-        let high : filter h (x ∷ xs) ≡ x ∷ filter h xs = ap (λ b. cond b (x ∷ filter h xs) (filter h xs)) is in
-        let all : filter f (x ∷ xs) ≡ x ∷ filter f xs = ap (λ b. cond b (x ∷ filter f xs) (filter f xs)) (either x ∙ ap (λ b. b || g x) is) in
-        all ∙ ap (λ ys. x ∷ ys) (behind ∙ ap (λ ys. ys ++ filter h xs) later) ∙ sym (ap (λ ys. ys ++ filter h (x ∷ xs)) low ∙ high)
-    by false is behind =
-        let high : filter h (x ∷ xs) ≡ filter h xs = ap (λ b. cond b (x ∷ filter h xs) (filter h xs)) is in
-        filter_then f g x xs (filter h xs) (either x ∙ ap (λ b. b || g x) is) behind ∙ ap (λ ys. filter g (x ∷ xs) ++ ys) (sym high)
-
 -- The keys of a map
 
 and_first : (a b : Bool) → T (a && b) → T a
@@ -136,10 +120,6 @@ module _ {X : Type 0} (m : fmap.FinMap nat_cmp X) where
   filter_first f g k there is out same none =
       ap reverse (greatest_first f g k 0 (fmap.keys m) (keys_rise m) (held k there) is out same (λ j gt a. none j gt (is_held j a)))
       ∙ reverse-append (filter g (fmap.keys m)) (k ∷ [])
-
-  -- From the highest down, those that h takes come before those that g takes, all of which lie below them.
-  pub numbers_split : (f g h : ℕ → Bool) → ((j : ℕ) → f j ≡ (h j || g j)) → ((i j : ℕ) → h i ≡ true → i ≤ j → g j ≡ false) → reverse (filter f (fmap.keys m)) ≡ reverse (filter h (fmap.keys m)) ++ reverse (filter g (fmap.keys m))
-  numbers_split f g h either apart = ap reverse (filter_split f g h 0 (fmap.keys m) (keys_rise m) either apart) ∙ reverse-append (filter g (fmap.keys m)) (filter h (fmap.keys m))
 
   -- nothing that f takes is held
   pub filter_nothing : (f : ℕ → Bool) → ((j : ℕ) → is_some (fmap.get m j) ≡ true → f j ≡ false) → reverse (filter f (fmap.keys m)) ≡ []
@@ -212,23 +192,6 @@ module _ {X : Type 0} (m n : fmap.FinMap nat_cmp X) (within : (j : ℕ) → is_s
   filter_within f g h same =
       filter_both f g (fmap.keys m) ∙ filter_held m (λ j. g j && f j) (λ j. is_some (fmap.get n j) && h j) same
       ∙ sym (filter_both h (λ j. is_some (fmap.get n j)) (fmap.keys m)) ∙ ap (filter h) keys_within
-
-filter_all : (xs : List ℕ) → filter (λ j. true) xs ≡ xs
-filter_all [] = refl
-filter_all (x ∷ xs) = ap (λ ys. x ∷ ys) (filter_all xs)
-
--- A filter finds the same in two maps, one of which holds no more than the other, and as much of what it looks for.
-pub filter_alike_in : {X : Type 0} (m n : fmap.FinMap nat_cmp X) (f : ℕ → Bool) → ((j : ℕ) → is_some (fmap.get n j) ≡ true → is_some (fmap.get m j) ≡ true) → ((j : ℕ) → f j ≡ true → is_some (fmap.get n j) ≡ is_some (fmap.get m j))
-    → filter f (fmap.keys m) ≡ filter f (fmap.keys n)
-filter_alike_in m n f within same = sym (filter_all (filter f (fmap.keys m))) ∙ filter_within m n within (λ j. true) f f (λ j is. go j is (f j) refl)
-  where
-    go : (j : ℕ) → is_some (fmap.get m j) ≡ true → (b : Bool) → f j ≡ b → (b && true) ≡ (is_some (fmap.get n j) && b)
-    go j is true e = sym (ap (λ c. c && true) (same j e ∙ is))
-    go j is false e = none (is_some (fmap.get n j))
-      where
-        none : (c : Bool) → false ≡ (c && false)
-        none true = refl
-        none false = refl
 
 -- Two filters, one after the other, and two others.
 pub filters_held : {X : Type 0} (m : fmap.FinMap nat_cmp X) (f g p q : ℕ → Bool) → ((j : ℕ) → is_some (fmap.get m j) ≡ true → (g j && f j) ≡ (q j && p j)) → filter f (filter g (fmap.keys m)) ≡ filter p (filter q (fmap.keys m))

@@ -1,13 +1,13 @@
 -- The lowest run of a set of numbers, and a set with one number more.
 use Rattle.std.proofs.Common.{◌≡◌, ℕ, ◌+◌, ◌<◌, ◌≤◌, ◌⊎◌, Bool, true, false, ◌||◌, List, [], ◌∷◌, refl, sym, ap, ◌∙◌, arith, inl, inr}
-use Rattle.std.specs.Prelude.{min, nat_eq}
+use Rattle.std.specs.Prelude.{min}
 use Rattle.std.specs.List.{list_any}
 use Rattle.std.specs.Ordering.{nat_cmp, eq_by_cmp}
 use Rattle.std.specs.Cmp.{nat_cmp_total, unsigned_tied}
 use Rattle.std.specs.FinSet as set
 use Rattle.std.proofs.lemmas.Bool.{both_ways, cases_lt, or_cases, or_left, or_right, eqb-true}
 use Rattle.std.proofs.lemmas.Bool.Decides.{nat_tests}
-use Rattle.qs_ranges.specs.Numbers.{NumberSet, numbers, is_within, missing_from, IsLeastFrom, IsRunFrom, contains-with_range, same_numbers}
+use Rattle.qs_ranges.specs.Numbers.{NumberSet, numbers, missing_from, IsLeastFrom, IsRunFrom, contains-with_range, same_numbers}
 use Rattle.qs_ranges.proofs.Sets.{missing_from-is, missing_from-of}
 use Rattle.qs_machine.specs.Recording.{least_of, least_in, lowest_end}
 use Rattle.qs_machine.proofs.Carried.{tied_itself}
@@ -90,14 +90,11 @@ pub lowest_end_is : (s : NumberSet) (run : ℕ × ℕ) → IsRunFrom s 0 run →
 unfolding lowest_end
 lowest_end_is s run h = ap (missing_from s) (least_member s run.0 h.starts) ∙ sym (missing_from-of s run.0 run.1 h.ends)
 
-one_number : (b : Bool) (k q : ℕ) → (b || is_within k (k + 1) q) ≡ (nat_eq q k || b)
-one_number b k q = grind (arith, nat_tests)
-
 -- a range of one number is that number
 pub insert_is_range : (s : NumberSet) (k : ℕ) → set.union s (numbers k (k + 1)) ≡ set.insert s k
 insert_is_range s k =
     same_numbers _ _ (λ q.
-    contains-with_range s k (k + 1) q ∙ one_number (set.contains s q) k q ∙ ap (λ b. b || set.contains s q) (sym (unsigned_tied q k)) ∙ sym (set.contains-insert nat_cmp_total s k q))
+    contains-with_range s k (k + 1) q ∙ (grind (arith, nat_tests)) ∙ ap (λ b. b || set.contains s q) (sym (unsigned_tied q k)) ∙ sym (set.contains-insert nat_cmp_total s k q))
 
 -- where each number of a list lies at a floor or above, so does the least one
 pub least_above : (floor : ℕ) (ks : List ℕ) → ((q : ℕ) → list_any (eq_by_cmp nat_cmp q) ks ≡ true → floor ≤ q) → (x : ℕ) → list_any (eq_by_cmp nat_cmp x) ks ≡ true → floor ≤ least_in ks

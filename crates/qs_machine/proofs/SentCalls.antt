@@ -1,6 +1,6 @@
 -- Every call leaves all outstanding data written.
 use Rattle.std.proofs.Common.{◌≡◌, ℕ, nat_eq, ◌++◌, ◌≤◌, Bool, true, false, not, ◌&&◌, List, [], ◌∷◌, take, Option, Some, None, is_some, refl, sym, ◌∙◌, subst, arith, inl, inr}
-use Rattle.std.specs.Prelude.{cond, Result, Ok, Err}
+use Rattle.std.specs.Prelude.{cond, Ok}
 use Rattle.std.proofs.lemmas.Option.{same_Some}
 use Rattle.std.proofs.lemmas.Bool.{cond_both}
 use Rattle.qs_wire.specs.declared.stream_id.Dir.TheVariants.{Uni}
@@ -17,8 +17,8 @@ use Rattle.qs_machine.specs.Lawful.{MayPut, frame_put, item_put, chunk_of, noted
 use Rattle.qs_machine.specs.Making.{first_lost}
 use Rattle.qs_machine.specs.EndStep.{Call, Answer, EndStep}
 use Rattle.qs_machine.specs.Raising.{limits_raised}
-use Rattle.qs_machine.specs.Setting.{Grant, StreamWindow}
-use Rattle.qs_machine.proofs.Raised.{kept_raised}
+use Rattle.qs_machine.specs.Setting.{Grant, StreamWindow, SendBuffer}
+use Rattle.qs_machine.proofs.EachHalf.{kept_raised}
 use Rattle.std.specs.FinMap as fmap
 use Rattle.qs_wire.specs.declared.stream_id.Role.{Role}
 use Rattle.qs_send.specs.Records.{Among, IsCarried}
@@ -35,7 +35,6 @@ use Rattle.qs_machine.proofs.EndsAfter.{written_stays, carried_without}
 use Rattle.qs_machine.proofs.LostSent.{lost_carried}
 use Rattle.qs_machine.proofs.Carried.{among_push}
 use Rattle.qs_machine.proofs.EveryCall.{Change, changed, Comes, relates, Wanted, Opened, Written, Finished, WasReset, Raised, WasSet, Took, Acked, Put, Numbered, Lost}
-use Rattle.qs_machine.specs.Setting.{SendBuffer}
 
 -- a call leaves all outstanding data written, where it was
 abbrev Keeps : End → End → Type 0
@@ -185,10 +184,7 @@ keeps_call old call answer new step = relates Keeps keeps_same keeps_twice old c
 
 -- Of a new end nothing is outstanding, and nothing lost.
 made_keeps : (r : Option SetupFault) (made e : End) → ((late : Bool) (p : Piece) → IsCarried (held late made) p → ⊥) → end_unless r made ≡ Ok e → SentWasWritten e
-made_keeps (Some fault) made e none is = absurd (err_is_not_ok fault e is)
-  where
-    err_is_not_ok : (f : SetupFault) (k : End) → ◌≡◌ {A = Result End SetupFault} (Err f) (Ok k) → ⊥
-    err_is_not_ok f k h = cc
+made_keeps (Some fault) made e none is = absurd (cc)
 made_keeps None made e none is = let same : made ≡ e = cc in subst SentWasWritten same (λ late p is. absurd (none late p is))
 
 nothing_held : (role : Role) (s : Settings) (t : Tuning) (l : PeerLimits) (late : Bool) (p : Piece) → IsCarried (held late (new_end role s t l)) p → ⊥

@@ -1,11 +1,10 @@
 -- As each call ends every limit is its own next one.
-use Rattle.std.proofs.Common.{◌≡◌, ℕ, cond, Option, Some, None, is_some, refl, sym, ap, ◌∙◌, subst, arith}
+use Rattle.std.proofs.Common.{◌≡◌, cond, Option, Some, None, is_some, refl, sym, ap, ◌∙◌, subst, arith}
 use Rattle.std.specs.Prelude.{Ok, option_map}
 use Rattle.std.proofs.lemmas.Bool.Decides.{nat_tests}
 use Rattle.std.proofs.lemmas.Option.{same_Some, none-some}
 use Rattle.qs_wire.specs.declared.stream_id.Role.{Role}
 use Rattle.qs_recv.specs.Lane.{RecvLane, taken, raise, next_limit}
-use Rattle.qs_recv.specs.declared.credit.Share.{Share}
 use Rattle.qs_calls.specs.declared.settings.Settings.{Settings}
 use Rattle.qs_calls.specs.declared.settings.Tuning.{Tuning}
 use Rattle.qs_calls.specs.declared.settings.PeerLimits.{PeerLimits}
@@ -15,14 +14,10 @@ use Rattle.qs_machine.specs.Ends.{End, new_end, wide_end_made}
 use Rattle.qs_machine.specs.Credit.{settle, all_taken}
 use Rattle.qs_machine.specs.EndStep.{Call, Answer, EndStep}
 use Rattle.qs_machine.specs.SettledLimits.{LimitsAreSettled}
-use Rattle.qs_machine.proofs.Bounds.{made_end, no_lane}
+use Rattle.qs_machine.proofs.Counts.{made_end, no_lane}
 use Rattle.qs_machine.proofs.EveryCall.{ends_by}
-use Rattle.qs_machine.proofs.ProcessedAgain.{next_twice, raise_twice}
+use Rattle.qs_machine.proofs.Again.{next_twice, raise_twice}
 use Rattle.qs_machine.proofs.TableLaws.{lookup_each, total_each}
-
--- Where nothing was taken of a window, the limit stays.
-next_first : (w : ℕ) (share : Share) → next_limit w 0 w share ≡ w
-next_first w share = grind (arith, nat_tests)
 
 none_taken : (role : Role) (s : Settings) (t : Tuning) (p : PeerLimits) → all_taken (new_end role s t p) ≡ 0
 unfolding total
@@ -31,7 +26,7 @@ none_taken role s t p = refl
 new_settled : (role : Role) (s : Settings) (t : Tuning) (p : PeerLimits) → LimitsAreSettled (new_end role s t p)
 new_settled role s t p =
     record {
-      connection = ap (λ k. next_limit s.conn_window k s.conn_window t.credit_step) (none_taken role s t p) ∙ next_first s.conn_window t.credit_step;
+      connection = ap (λ k. next_limit s.conn_window k s.conn_window t.credit_step) (none_taken role s t p) ∙ (grind (arith, nat_tests));
       streams = λ n l is. absurd (none-some l (sym (no_lane n) ∙ is));
     }
 

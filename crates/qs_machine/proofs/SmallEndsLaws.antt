@@ -16,20 +16,14 @@ none_in k x is = none-some x (sym (fmap.get-empty nat_cmp k) ∙ is)
 
 -- one packet with one piece carries it
 pub one_carried : (k : ℕ) (p : Piece) → IsCarried (fmap.insert fmap.empty k (p ∷ [])) p
-one_carried k p = (k, p ∷ [], fmap.get-insert nat_cmp_total fmap.empty k (p ∷ []) k ∙ ap (λ b. cond b (Some (p ∷ [])) (fmap.get {R = nat_cmp} fmap.empty k)) (itself k), inl refl)
-  where
-    itself : (k : ℕ) → eq_by_cmp nat_cmp k k ≡ true
-    itself k = unsigned_tied k k ∙ eq-eqb k k refl
+one_carried k p = (k, p ∷ [], fmap.get-insert nat_cmp_total fmap.empty k (p ∷ []) k ∙ ap (λ b. cond b (Some (p ∷ [])) (fmap.get {R = nat_cmp} fmap.empty k)) (unsigned_tied k k ∙ eq-eqb k k refl), inl refl)
 
 -- and no other one
 pub only_carried : (k : ℕ) (p q : Piece) → IsCarried (fmap.insert fmap.empty k (p ∷ [])) q → q ≡ p
 only_carried k p q (j, ps, is, among) = by_test (eq_by_cmp nat_cmp j k) (sym (fmap.get-insert nat_cmp_total fmap.empty k (p ∷ []) j) ∙ is)
   where
-    one_of : Among q (p ∷ []) → q ≡ p
-    one_of a = elim a [ inl is ↦ is | inr none ↦ absurd none ]
-
     by_test : (b : Bool) → cond b (Some (p ∷ [])) (fmap.get {R = nat_cmp} fmap.empty j) ≡ Some ps → q ≡ p
-    by_test true e = one_of (subst (Among q) (sym (same_Some (p ∷ []) ps e)) among)
+    by_test true e = elim (subst (Among q) (sym (same_Some (p ∷ []) ps e)) among) [ inl is ↦ is | inr none ↦ absurd none ]
     by_test false e = absurd (none_in j ps e)
 
 -- where one stream is open, what is found is its part

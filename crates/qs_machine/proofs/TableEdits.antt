@@ -14,7 +14,7 @@ use Rattle.qs_machine.specs.Verdicts.{or_new}
 use Rattle.qs_send.specs.declared.parts.SendFault.{SendFault}
 use Rattle.qs_send.specs.declared.parts.SendFault.TheVariants.{NoMemory}
 use Rattle.qs_send.specs.Lane.{Sending, accepted, refusal, after_write}
-use Rattle.qs_machine.proofs.Tallies.{tally_opened}
+use Rattle.qs_machine.proofs.Counts.{tally_opened}
 use Rattle.qs_machine.specs.Sums.{tables_of, tally_on, changed, no_sending, or_no_sending}
 
 pub or_new_is : (xs : List RecvLane) (i w : ℕ) (share : Share) → or_new (slice_get xs i) w share ≡ get_or xs i (new_lane w share)
@@ -29,11 +29,7 @@ on_ok (Err e) P Q f p = tt
 
 four : {Y : Type 0} (ls : List Y) → length ls ≡ 4 → (a : Y) × (b : Y) × (c : Y) × (d : Y) × (ls ≡ a ∷ b ∷ c ∷ d ∷ [])
 four (a ∷ b ∷ c ∷ d ∷ []) len = (a, b, c, d, refl)
-four [] len = absurd (omega (arith, len))
-four (a ∷ []) len = absurd (omega (arith, len))
-four (a ∷ b ∷ []) len = absurd (omega (arith, len))
-four (a ∷ b ∷ c ∷ []) len = absurd (omega (arith, len))
-four (a ∷ b ∷ c ∷ d ∷ e ∷ ls) len = absurd (omega (arith, len))
+four Y len = absurd (omega (arith, len))
 
 pub some_tested : {X : Type 0} (xs : List X) (i n : ℕ) → n ≡ length xs → nat_lt i n ≡ is_some (slice_get xs i)
 some_tested xs i n is = ap (nat_lt i) is ∙ tested xs i
@@ -85,9 +81,6 @@ module _ {X : Type 0} where
   some_within (x ∷ xs) zero is = omega arith
   some_within (x ∷ xs) (suc i) is = omega (arith, some_within xs i is)
 
-  open_there_at : (ls : List (List X)) (n k i : ℕ) (xs : List X) → length ls ≡ 4 → k ≡ n % 4 → i ≡ n / 4 → xs ≡ get_or ls k xs → is_some (lookup (tables_of ls) n) ≡ true → i < length xs
-  open_there_at ls n k i xs len kind index at is = some_within xs i (ap is_some (sym (lookup_is_at ls n k i xs len kind index at)) ∙ is)
-
   by_look : (t : Tables X) (n : ℕ) (xs : List X) (f : X → X) (o : Option X) → table t (n % 4) ≡ xs → with_table t (n % 4) xs ≡ t → with_table t (n % 4) (changed xs (n / 4) f o) ≡ updated t n f o
   unfolding update
   by_look t n xs f None is same = same
@@ -127,10 +120,6 @@ module _ {X : Type 0} where
   sum_four f t (suc zero) = omega arith
   sum_four f t (suc (suc zero)) = omega arith
   sum_four f t (suc (suc (suc k))) = omega arith
-
-  -- one type's sum is part of the whole
-  sum_le_at : (f : X → ℕ) (ls : List (List X)) (n k : ℕ) (xs : List X) → length ls ≡ 4 → k ≡ n % 4 → xs ≡ get_or ls k xs → sum_by f xs ≤ total f (tables_of ls)
-  sum_le_at f ls n k xs len kind at = subst (λ l. sum_by f l ≤ total f (tables_of ls)) (table_is_at ls n k xs len kind at) (sum_four f (tables_of ls) (n % 4))
 
   pub total_four : (f : X → ℕ) (ls : List (List X)) (k l m n : List X) → length ls ≡ 4
       → total f (tables_of ls) ≡ sum_by f (get_or ls 0 k) + sum_by f (get_or ls 1 l) + sum_by f (get_or ls 2 m) + sum_by f (get_or ls 3 n)
@@ -189,7 +178,7 @@ module _ {X : Type 0} where
   lookup_is ls n k i d len kind index = lookup_is_at ls n k i (get_or ls k d) len kind index (listed ls n k d len kind)
 
   pub open_there : (ls : List (List X)) (n k i : ℕ) (d : List X) → length ls ≡ 4 → k ≡ n % 4 → i ≡ n / 4 → is_some (lookup (tables_of ls) n) ≡ true → i < length (get_or ls k d)
-  open_there ls n k i d len kind index is = open_there_at ls n k i (get_or ls k d) len kind index (listed ls n k d len kind) is
+  open_there ls n k i d len kind index is = some_within (get_or ls k d) i (ap is_some (sym (lookup_is_at ls n k i (get_or ls k d) len kind index (listed ls n k d len kind))) ∙ is)
 
   pub updated_is : (ls : List (List X)) (n k i : ℕ) (d ys : List X) (f : X → X) → length ls ≡ 4 → k ≡ n % 4 → i ≡ n / 4 → ys ≡ changed (get_or ls k d) i f (slice_get (get_or ls k d) i)
       → tables_of (set ls k ys) ≡ updated (tables_of ls) n f (lookup (tables_of ls) n)
@@ -200,7 +189,7 @@ module _ {X : Type 0} where
   opened_is ls n k i d ys begin len kind index is = opened_is_at ls n k i (get_or ls k d) ys begin len kind index (listed ls n k d len kind) is
 
   pub sum_le : (f : X → ℕ) (ls : List (List X)) (n k : ℕ) (d : List X) → length ls ≡ 4 → k ≡ n % 4 → sum_by f (get_or ls k d) ≤ total f (tables_of ls)
-  sum_le f ls n k d len kind = sum_le_at f ls n k (get_or ls k d) len kind (listed ls n k d len kind)
+  sum_le f ls n k d len kind = subst (λ l. sum_by f l ≤ total f (tables_of ls)) (table_is_at ls n k (get_or ls k d) len kind (listed ls n k d len kind)) (sum_four f (tables_of ls) (n % 4))
 
 pub lane_is : (ls : List (List RecvLane)) (n k i : ℕ) (d : List RecvLane) (w : ℕ) (share : Share) → length ls ≡ 4 → k ≡ n % 4 → i ≡ n / 4 → or_new (lookup (tables_of ls) n) w share ≡ get_or (get_or ls k d) i (new_lane w share)
 lane_is ls n k i d w share len kind index = ap (λ o. or_new o w share) (lookup_is ls n k i d len kind index) ∙ or_new_is (get_or ls k d) i w share

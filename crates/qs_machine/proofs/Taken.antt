@@ -18,7 +18,7 @@ use Rattle.qs_machine.specs.Standing.{KeepsCredit, IsInCredit}
 use Rattle.qs_machine.specs.Sums.{tally_on}
 use Rattle.qs_machine.proofs.TableEdits.{opened_closed, same_tally}
 use Rattle.qs_machine.proofs.TableLaws.{open_at, total_open}
-use Rattle.qs_machine.proofs.FramesSound.{opened_lane, sound_frame, first_passed, second_passed}
+use Rattle.qs_machine.proofs.CallsSound.{opened_lane, sound_frame, first_passed, second_passed}
 
 sends_of : (e o : End) (a : Bool) → (cond a e o).sends ≡ cond a e.sends o.sends
 sends_of e o true = refl

@@ -89,50 +89,31 @@ tied_new m n limit buffer none =
       end_flies = λ clear fin un not. absurd (both_ways true (sym fin) refl);
     }
 
+-- what no clause speaks of may be anything
+tied_alike : {blocked confirmed : Bool} {limit buffer widest : ℕ} {stopped : Option ℕ} (m : Records) (n : ℕ) (s : Sending) → IsTied m n s
+    → IsTied m n (record s { lane = record s.lane { blocked_sent = blocked; reset_acked = confirmed; limit = limit; buffer = buffer; widest = widest; stopped = stopped } })
+tied_alike m n s t =
+    record {
+      id = t.id;
+      sent = λ c out. (let w = t.sent c out in record { offsets = w.offsets; end = w.end });
+      not_due = t.not_due;
+      flies = t.flies;
+      end_not_due = t.end_not_due;
+      end_flies = t.end_flies;
+    }
+
 module _ (m : Records) (n : ℕ) (s : Sending) (t : IsTied m n s) where
   pub tied_allow : (limit : ℕ) → IsTied m n (after_allow s limit)
-  tied_allow limit =
-      record {
-        id = t.id;
-        sent = λ c out. (let w = t.sent c out in record { offsets = w.offsets; end = w.end });
-        not_due = t.not_due;
-        flies = t.flies;
-        end_not_due = t.end_not_due;
-        end_flies = t.end_flies;
-      }
+  tied_allow limit = tied_alike m n s t
 
   pub tied_buffer : (size : ℕ) → IsTied m n (after_buffer s size)
-  tied_buffer size =
-      record {
-        id = t.id;
-        sent = λ c out. (let w = t.sent c out in record { offsets = w.offsets; end = w.end });
-        not_due = t.not_due;
-        flies = t.flies;
-        end_not_due = t.end_not_due;
-        end_flies = t.end_flies;
-      }
+  tied_buffer size = tied_alike m n s t
 
   pub tied_blocked : IsTied m n (after_blocked s)
-  tied_blocked =
-      record {
-        id = t.id;
-        sent = λ c out. (let w = t.sent c out in record { offsets = w.offsets; end = w.end });
-        not_due = t.not_due;
-        flies = t.flies;
-        end_not_due = t.end_not_due;
-        end_flies = t.end_flies;
-      }
+  tied_blocked = tied_alike m n s t
 
   pub tied_reset_acked : IsTied m n (after_reset_acked s)
-  tied_reset_acked =
-      record {
-        id = t.id;
-        sent = λ c out. (let w = t.sent c out in record { offsets = w.offsets; end = w.end });
-        not_due = t.not_due;
-        flies = t.flies;
-        end_not_due = t.end_not_due;
-        end_flies = t.end_flies;
-      }
+  tied_reset_acked = tied_alike m n s t
 
   pub tied_write : IsLawful s → (bytes : List ℕ) → IsTied m n (after_write s bytes)
   tied_write law bytes =
@@ -198,31 +179,14 @@ module _ (m : Records) (n : ℕ) (s : Sending) (t : IsTied m n s) where
         due = cond b s.due (record { offsets = set.empty; fin = false });
       })
   stopped_by code true = t
-  stopped_by code false =
-      let r = reset_by code false in
-      record {
-        id = r.id;
-        sent = λ c out. (let w = r.sent c out in record { offsets = w.offsets; end = w.end });
-        not_due = r.not_due;
-        flies = r.flies;
-        end_not_due = r.end_not_due;
-        end_flies = r.end_flies;
-      }
+  stopped_by code false = tied_alike m n _ (reset_by code false)
 
   pub tied_stopped : (code : ℕ) → IsTied m n (after_stopped s code)
   tied_stopped code = stopped_by code (is_some (reset_refusal s.lane))
 
   told_by : (code : ℕ) (b : Bool) → IsTied m n (record s { lane = cond b s.lane (record s.lane { stopped = first_code s.lane.stopped code }) })
   told_by code true = t
-  told_by code false =
-      record {
-        id = t.id;
-        sent = λ c out. (let w = t.sent c out in record { offsets = w.offsets; end = w.end });
-        not_due = t.not_due;
-        flies = t.flies;
-        end_not_due = t.end_not_due;
-        end_flies = t.end_flies;
-      }
+  told_by code false = tied_alike m n s t
 
   pub tied_told_stop : (code : ℕ) → IsTied m n (after_told s code)
   tied_told_stop code = told_by code (is_some (reset_refusal s.lane))
@@ -242,7 +206,7 @@ tied_sent m k n s c t law due =
           (let (d, out, low, high) = f in
           elim (carried_is m k (Data n c) (Data n d) out) [
             | inl before ↦ grind (arith, nat_tests, t.not_due q (d, before, low, high), contains-without_range s.due.offsets c.offset (c.offset + c.len) q)
-            | inr e ↦ (let same = same_chunk n n d c e in taken_out q (subst (λ (x : Chunk). x.offset ≤ q) same low) (subst (λ (x : Chunk). q < x.offset + x.len) same high))
+            | inr e ↦ (let same = same_chunk n n d c e in (grind (arith, nat_tests, (subst (λ (x : Chunk). x.offset ≤ q) same low), (subst (λ (x : Chunk). q < x.offset + x.len) same high), contains-without_range s.due.offsets c.offset (c.offset + c.len) q)))
           ]);
       flies = λ q clear below un not. flies_by q clear below un not (set.contains s.due.offsets q) refl;
       end_not_due = λ d out fin.
@@ -253,9 +217,6 @@ tied_sent m k n s c t law due =
       end_flies = λ clear fin un not. end_by clear fin un not c.fin refl;
     }
   where
-    taken_out : (q : ℕ) → c.offset ≤ q → q < c.offset + c.len → set.contains (after_sent s c).due.offsets q ≡ false
-    taken_out q low high = grind (arith, nat_tests, low, high, contains-without_range s.due.offsets c.offset (c.offset + c.len) q)
-
     flies_by : (q : ℕ) → s.lane.was_reset ≡ None → q < s.lane.written → set.contains s.lane.acked q ≡ false → set.contains (after_sent s c).due.offsets q ≡ false → (b : Bool) → set.contains s.due.offsets q ≡ b → CarriesOffset (with_piece m k (Data n c)) n q
     flies_by q clear below un not false is = (let f = t.flies q clear below un is in (f.0, carried_more m k (Data n c) (Data n f.0) f.1, f.2, f.3))
     flies_by q clear below un not true is = (
@@ -338,22 +299,19 @@ tied_lost m m' k n s c h apart t = by_reset s.lane.was_reset refl
     again : (q : ℕ) → set.contains (lost_due s.lane s.due c).offsets q ≡ (set.contains s.due.offsets q || (is_within c.offset (c.offset + c.len) q && not (set.contains s.lane.acked q)))
     again q = grind (arith, contains-either s.due.offsets (set.difference (numbers c.offset (c.offset + c.len)) s.lane.acked) q, contains-due (numbers c.offset (c.offset + c.len)) s.lane.acked q, contains-numbers c.offset (c.offset + c.len) q)
 
-    apart_from : (q : ℕ) (d : Chunk) → IsCarried m' (Data n d) → d.offset ≤ q → q < d.offset + d.len → is_within c.offset (c.offset + c.len) q ≡ false
-    apart_from q d out low high = apart_at c d (apart d out) q low high
-
     lost_open : IsTied m' n (record s { due = lost_due s.lane s.due c })
     lost_open =
         record {
           id = t.id;
           sent = λ d out. t.sent d (back d out);
-          not_due = λ q f. grind (arith, again q, t.not_due q (f.0, back f.0 f.1, f.2, f.3), apart_from q f.0 f.1 f.2 f.3);
+          not_due = λ q f. grind (arith, again q, t.not_due q (f.0, back f.0 f.1, f.2, f.3), (apart_at c f.0 (apart f.0 f.1) q f.2 f.3));
           flies = λ q clear below un not.
               (let f = t.flies q clear below un (grind (arith, again q, not)) in
               elim (carried_still m m' k (Data n c) h (Data n f.0) f.1) [
                 | inl e ↦ (let same = same_chunk n n f.0 c e in let low = subst (λ (x : Chunk). x.offset ≤ q) same f.2 in let high = subst (λ (x : Chunk). q < x.offset + x.len) same f.3 in absurd (grind (arith, nat_tests, again q, not, un, low, high)))
                 | inr still ↦ (f.0, still, f.2, f.3)
               ]);
-          end_not_due = λ d out fin. (let none = not_end d out fin in grind (arith, none, t.end_not_due d (back d out) fin));
+          end_not_due = λ d out fin. (let none = (other_end c d (apart d out) fin) in grind (arith, none, t.end_not_due d (back d out) fin));
           end_flies = λ clear fin un not.
               (let f = t.end_flies clear fin un (grind (arith, not)) in
               elim (carried_still m m' k (Data n c) h (Data n f.0) f.1) [
@@ -361,9 +319,6 @@ tied_lost m m' k n s c h apart t = by_reset s.lane.was_reset refl
                 | inr still ↦ (f.0, still, f.2)
               ]);
         }
-      where
-        not_end : (d : Chunk) → IsCarried m' (Data n d) → d.fin ≡ true → c.fin ≡ false
-        not_end d out fin = other_end c d (apart d out) fin
 
     lost_reset : (r : Reset) → s.lane.was_reset ≡ Some r → IsTied m' n s
     lost_reset r is =

@@ -85,12 +85,9 @@ ties_moved t m m' n s s' h there tied others apart of keeps =
           (grown (lanes_of t) (update (lanes_of t) n s'.lane) (grows_updated (lanes_of t) n s.lane s'.lane (lane_there t n s there) keeps) p (of p out));
     }
 
-same_itself : (m : Records) (n : ℕ) → CarriesSame m m n
-same_itself m n = record { to = λ c out. out; from = λ c out. out }
-
 -- the records stay
 pub ties_updated : (t : Tables Sending) (m : Records) (n : ℕ) (s s' : Sending) → AreTied t m → lookup t n ≡ Some s → IsTied m n s' → (is_some s.lane.was_reset ≡ true → is_some s'.lane.was_reset ≡ true) → AreTied (update t n s') m
-ties_updated t m n s s' h there tied keeps = ties_moved t m m n s s' h there tied (λ k ne. same_itself m k) h.apart h.of_open keeps
+ties_updated t m n s s' h there tied keeps = ties_moved t m m n s s' h there tied (λ k ne. (record { to = λ c out. out; from = λ c out. out })) h.apart h.of_open keeps
 
 -- Streams are opened, and closed again
 

@@ -1,53 +1,95 @@
--- A payload that is processed is its frames, and then its number.
-use Rattle.std.proofs.Common.{◌≡◌, ℕ, Bool, true, false, List, [], ◌∷◌, ◌++◌, inl, Option, None, Some, Ok, refl, sym, ap, ◌∙◌, subst, append-nil}
-use Rattle.std.specs.Prelude.{MatchBool, Result}
+-- A payload that is processed is its frames, and one with an ACK is tokens and frames; plain frames tell nothing, and an ACK alone is a packet.
+use Rattle.std.proofs.Common.{◌≡◌, ℕ, Bool, true, false, List, [], ◌∷◌, ◌++◌, inl, Option, None, Some, Ok, refl, sym, ap, ◌∙◌, subst, append-nil, ◌≤◌, ◌||◌, ◌⊎◌, length, Err, arith, inr, ◌&&◌, cond, map, is_some, nat_lt}
+use Rattle.std.specs.Prelude.{MatchBool, Result, flat_map, ◌==◌, max}
 use Rattle.std.specs.List.{AllByRecursion}
-use Rattle.std.proofs.lemmas.Bool.{false≢true}
-use Rattle.qs_wire.specs.Layout.{FrameValue, PlacedValue}
-use Rattle.qs_wire.specs.Grammar.{Fits, AreBytes}
-use Rattle.qs_wire.specs.Reading.{reading_of}
+use Rattle.std.proofs.lemmas.Bool.{false≢true, and_right, both_ways}
+use Rattle.qs_wire.specs.Layout.{FrameValue, PlacedValue, ack}
+use Rattle.qs_wire.specs.Grammar.{Fits, AreBytes, frames_of}
+use Rattle.qs_wire.specs.Reading.{reading_of, Reading}
 use Rattle.qs_wire.specs.declared.fault.WireFault.{WireFault}
 use Rattle.qs_wire.proofs.FaultAgain.{bytes_fit}
 use Rattle.qs_wire.proofs.FitLaws.{frames_fit}
 use Rattle.qs_calls.specs.declared.closing.Closing.{Closing}
 use Rattle.qs_calls.specs.declared.closing.Received.{Received}
-use Rattle.qs_calls.specs.declared.closing.Received.TheVariants.{Done, Duplicate, BelowFloor}
+use Rattle.qs_calls.specs.declared.closing.Received.TheVariants.{Done, Duplicate, BelowFloor, NoMemory}
 use Rattle.qs_calls.specs.declared.token.Taken.{Taken}
 use Rattle.qs_calls.specs.declared.token.Taken.TheVariants.{Took, Unchanged, NotOurs}
 use Rattle.qs_calls.specs.declared.token.TakeFault.{TakeFault}
-use Rattle.qs_machine.specs.Ends.{End}
-use Rattle.qs_machine.specs.Credit.{settle}
-use Rattle.qs_machine.specs.Seen.{Seen, Ack, Stream, Control, Close, Plain, seen, seen_all, any_asks}
-use Rattle.qs_machine.specs.Verdicts.{verdict}
-use Rattle.qs_machine.specs.FrameStep.{NoFault, frame_taken, frames_taken}
+use Rattle.qs_machine.specs.Ends.{End, is_own, is_own_by, is_uni, opens, opened_by_peer, on_send, on_recv}
+use Rattle.qs_machine.specs.Credit.{settle, ended, count_after, next_count}
+use Rattle.qs_machine.specs.Seen.{Seen, Ack, Stream, Control, Close, Plain, seen, seen_all, any_asks, asks_ack}
+use Rattle.qs_machine.specs.Verdicts.{verdict, item_verdict, state_fault_in, state_fault_out, or_else}
+use Rattle.qs_machine.specs.FrameStep.{NoFault, frame_taken, frames_taken, AckedPiece, acked_at, pieces_of, is_named, named_in, named, acks, item_taken}
 use Rattle.qs_machine.specs.Recording.{recorded}
-use Rattle.qs_machine.specs.Receiving.{ReceiveStep, ReceiveBy, Stops, EndsBy}
+use Rattle.qs_machine.specs.Receiving.{ReceiveStep, ReceiveBy, Stops, EndsBy, GoesOn, Takes, AtEnd}
 use Rattle.qs_machine.specs.Alone.{is_ours, TakesOne, TakesEach, TakeBy, TakeFrameStep, TakeFramesStep, TakeAllBy, of_both, after_one}
 use Rattle.qs_machine.specs.Changes.{changes}
-use Rattle.qs_machine.specs.Ways.{frames_in, IsNew, is_ack, HaveNoAck}
-use Rattle.qs_machine.proofs.Prefix.{takes_prefix, seen_in}
+use Rattle.qs_machine.specs.Ways.{frames_in, IsNew, is_ack, HaveNoAck, AreOthers, APayloadIsTokensAndFrames}
+use Rattle.qs_machine.proofs.Again.{takes_prefix, seen_in, count_fault, count_stays, own_stays, uni_stays, first_goes, one_more, all_left}
 use Rattle.qs_machine.proofs.EveryCall.{by_open}
 use Rattle.qs_machine.proofs.Changes.{frame_same, frame_differs}
+use Rattle.qs_calls.specs.declared.filling.Fill.{Fill}
+use Rattle.qs_calls.specs.declared.filling.Filled.{Filled}
+use Rattle.qs_calls.specs.declared.making.Made.{Made}
+use Rattle.qs_calls.specs.declared.making.MakeFault.{MakeFault}
+use Rattle.qs_machine.specs.Lawful.{Lawful, IsInTurn}
+use Rattle.qs_machine.specs.Making.{NamesMost, IsMade, MakeAt, IsAckMade, MakeAckAt, make_refusal}
+use Rattle.qs_calls.specs.declared.making.MakeFault.TheVariants as making
+use Rattle.qs_machine.specs.Filling.{FillAt}
+use Rattle.qs_machine.specs.Laws.{AnAckIsAPacket, AFillIsAPacket, made_as}
+use Rattle.std.specs.FinSet as set
+use Rattle.std.specs.FinMap as fmap
+use Rattle.std.specs.Ordering.{nat_cmp}
+use Rattle.qs_ranges.specs.Numbers.{numbers, missing_from}
+use Rattle.qs_ranges.proofs.Sets.{end_of-empty, missing_from-past, missing_from-with_later}
+use Rattle.qs_send.specs.Lane.{SendLane, unacked_from, acked_lane, broken_off, first_code, stop_taken, allow_lane}
+use Rattle.qs_send.specs.declared.parts.SendFault.{SendFault}
+use Rattle.qs_send.specs.declared.parts.SendFault.TheVariants.{Finished}
+use Rattle.qs_send.specs.declared.piece.Piece.{Piece}
+use Rattle.qs_send.specs.declared.piece.Piece.TheVariants.{Data}
+use Rattle.qs_machine.specs.Tables.{lookup, update, each}
+use Rattle.qs_machine.specs.SmallEnds.{chunk}
+use Rattle.qs_machine.specs.AckOrders.{AStopIsntMoved, end_flying, end_sent, stop, is_reset}
+use Rattle.qs_machine.proofs.Named.{filter_nothing}
+use Rattle.std.proofs.lemmas.Option.{none-some}
+use Rattle.qs_wire.specs.declared.stream_id.Dir.{Dir}
+use Rattle.qs_wire.specs.declared.stream_id.Dir.TheVariants.{Bidi, Uni}
+use Rattle.qs_recv.specs.Lane.{RecvLane, taken, raise, next_limit, take_stream, take_reset}
+use Rattle.qs_send.specs.declared.piece.Item.{Item}
+use Rattle.qs_send.specs.declared.piece.Item.TheVariants.{MaxStreamData, MaxStreams, ResetStream, StopSending, StreamDataBlocked}
+use Rattle.qs_machine.specs.Standing.{IsSound}
+use Rattle.qs_machine.specs.Repeats.{SentWasWritten}
+use Rattle.qs_machine.specs.SettledLimits.{LimitsAreSettled}
+use Rattle.qs_machine.proofs.TableLaws.{lookup_each}
+use Rattle.qs_machine.proofs.Leaves.{acks_leave, but_streams, frame_leaves}
+use Rattle.qs_machine.proofs.CallsSound.{sound_acks}
+use Rattle.qs_machine.proofs.Counts.{ended_grows}
+use Rattle.qs_machine.proofs.EndsAfter.{IsAfter, after_acks, named_written, sent_stays, lanes_stay, halves_stay}
+use Rattle.qs_machine.proofs.AckTokens.{same_tables, acks_moved, later_count, an_ack_may_be_told}
+use Rattle.qs_calls.specs.declared.closing.Closed.{Closed}
+use Rattle.qs_machine.specs.Plains.{IsPlain, DifferInPlain, PlainFramesTellNothing}
+
+-- A payload that is processed is its frames, and then its number.
 
 no_stop : (p : PlacedValue) (f : Seen) (e new : End) → Stops p f e (Ok Done) new → ⊥
 no_stop p (Close code) e new h = h
 no_stop p f e new h = h
 
 -- what ended so left no frame, and recorded the number
-all_left : (k : ℕ) (fault : Option WireFault) (asks : Bool) (left : List PlacedValue) (e new : End) → EndsBy k fault asks left e (Ok Done) new → (left ≡ []) × (fault ≡ None) × (new ≡ recorded k asks e)
-all_left k None asks [] e new h = (refl, refl, h)
-all_left k (Some fault) asks [] e new h = absurd h
-all_left k fault asks (p ∷ ps) e new h = absurd (no_stop p (seen p.frame) e new h)
+all_left_of_payload : (k : ℕ) (fault : Option WireFault) (asks : Bool) (left : List PlacedValue) (e new : End) → EndsBy k fault asks left e (Ok Done) new → (left ≡ []) × (fault ≡ None) × (new ≡ recorded k asks e)
+all_left_of_payload k None asks [] e new h = (refl, refl, h)
+all_left_of_payload k (Some fault) asks [] e new h = absurd h
+all_left_of_payload k fault asks (p ∷ ps) e new h = absurd (no_stop p (seen p.frame) e new h)
 
 pub payload_frames : (old new : End) (k : ℕ) (text : List ℕ) → IsNew old k → ReceiveStep old k text (Ok Done) new
     → NoFault old (seen_all (frames_in text)) × ((reading_of text).fault ≡ None) × (new ≡ recorded k (any_asks (seen_all (frames_in text))) (settle (frames_taken (seen_all (frames_in text)) old)))
 payload_frames old new k text fresh step =
     by_open _ k text old (Ok Done) new (subst (λ o. ReceiveBy o k text old (Ok Done) new) fresh.unclosed step)
-    (λ below same. absurd (not_below below))
-    (λ again same. absurd (not_again again))
+    (λ below same. absurd (false≢true (sym (ap is_done below))))
+    (λ again same. absurd (false≢true (sym (ap is_done again))))
     (λ high mid takes is. (
     let (taken, left, parts, fine, ends) = takes_prefix k (reading_of text).fault false old (reading_of text).left (Ok Done) mid takes in
-    let (none, faultless, kept) = all_left k (reading_of text).fault _ left _ mid ends in
+    let (none, faultless, kept) = all_left_of_payload k (reading_of text).fault _ left _ mid ends in
     let whole : (reading_of text).left ≡ taken = parts ∙ ap (λ x. taken ++ x) none ∙ append-nil taken in (
       subst (λ ps. NoFault old (seen_in ps)) (sym whole) fine,
       faultless,
@@ -58,12 +100,6 @@ payload_frames old new k text fresh step =
     is_done : Result Received Closing → Bool
     is_done (Ok Done) = true
     is_done r = false
-
-    not_below : ◌≡◌ {A = Result Received Closing} (Ok Done) (Ok BelowFloor) → ⊥
-    not_below same = false≢true (sym (ap is_done same))
-
-    not_again : ◌≡◌ {A = Result Received Closing} (Ok Done) (Ok Duplicate) → ⊥
-    not_again same = false≢true (sym (ap is_done same))
 
 -- Frames that are taken one after the other
 
@@ -154,3 +190,378 @@ frame_take old new k text f fresh bytes one ours step =
       subst (λ o. TakeBy o f old (Ok kind) (settle after)) (sym fresh.unclosed) (pick _ _ (is_ours (seen f)) ours took),
       is ∙ ap (λ fs. recorded k (any_asks (seen_all fs)) (settle (frames_taken (seen_all fs) old))) one ∙ ap (λ b. recorded k b (settle after)) (ours_ask (seen f) ours),
     )
+
+-- A payload with an ACK alone is a packet of a shorter room, and so is what is filled in.
+
+-- an ACK that is too long for a room is too long for a shorter one
+names_most : (old : End) (delay room less : ℕ) (frame : FrameValue) → less ≤ room → NamesMost old delay room frame → NamesMost old delay less frame
+names_most old delay room less (ack largest told ranges ecn) le (inl all) = inl all
+names_most old delay room less (ack largest told ranges ecn) le (inr next) =
+    inr (record { gap = next.gap; len = next.len; fits = next.fits; may = next.may; too_long = omega (arith, le, next.too_long) })
+names_most old delay room less frame le h = h
+
+ack_made : (old new : End) (first delay room : ℕ) (made : Made) (text : List ℕ) → IsAckMade old delay room made text new → IsMade old first delay (length text) made text new
+ack_made old new first delay room made text h =
+    record {
+      number = h.number;
+      len = h.len;
+      fits = omega arith;
+      frames = h.frame ∷ [];
+      asks = h.asks ∙ sym (ap (λ f. asks_ack f || false) h.is);
+      spells = h.spells;
+      mid = h.mid;
+      lawful = subst (λ f. Lawful old (f ∷ []) h.mid) (sym h.is) h.lawful;
+      acks = (names_most old delay room (length text) h.frame h.fits h.most, tt);
+      turn = (subst (IsInTurn first old) (sym h.is) tt, tt);
+      whole = λ left. absurd (omega (arith, left));
+      after = h.after;
+    }
+
+ack_at : (o : Option MakeFault) (old new : End) (first delay room : ℕ) (answer : Result (Option Made) MakeFault) (text : List ℕ) → MakeAckAt o old delay room answer text new →
+    MakeAt o old first delay (length text) answer text new ⊎ ((answer ≡ Ok None) × (text ≡ []) × (new ≡ old))
+ack_at (Some fault) old new first delay room answer text h = inl h
+ack_at None old new first delay room (Ok (Some made)) text h = inl (ack_made old new first delay room made text h)
+ack_at None old new first delay room (Ok None) text h = inr (refl, h.1, h.2)
+ack_at None old new first delay room (Err fault) text h = absurd h
+
+pub ack_packet : AnAckIsAPacket
+ack_packet old new first delay room answer text step = ack_at (make_refusal old) old new first delay room answer text step
+
+fill_at : (o : Option MakeFault) (old new : End) (want : Fill) (room : ℕ) (answer : Result (Option Filled) MakeFault) (text : List ℕ) → FillAt o old want room answer text new →
+    MakeAt o old want.first 0 (length text) (made_as answer) text new ⊎ (new ≡ old)
+fill_at (Some fault) old new want room answer text h = inr h.2
+fill_at None old new want room (Ok (Some filled)) text h = inl h.made
+fill_at None old new want room (Ok None) text h = inr h.2
+fill_at None old new want room (Err making.NoMemory) text h = inr h.2
+fill_at None old new want room (Err fault) text h = absurd h
+
+pub fill_packet : AFillIsAPacket
+fill_packet old new want room answer text step = fill_at (make_refusal old) old new want room answer text step
+
+-- An ACK and a STOP_SENDING don't change places.
+
+abbrev end_piece : Piece
+end_piece = Data 0 (chunk 0 0 true)
+
+abbrev one_packet : List (ℕ × List Piece)
+one_packet = (0, end_piece ∷ []) ∷ []
+
+pieces : pieces_of false end_flying.outstanding 0 ≡ acked_at false 0 end_piece ∷ []
+pieces = ap (λ x. elim x as (λ _. List AckedPiece) [ None ↦ [] | Some ps ↦ map (acked_at false 0) ps ]) (fmap.get-from_sorted nat_cmp one_packet 0 tt)
+
+-- nothing was lost
+none_late : named_in true fmap.empty ((0, 0) ∷ []) ≡ []
+none_late = ap (flat_map (pieces_of true fmap.empty)) (filter_nothing fmap.empty (is_named ((0, 0) ∷ [])) (λ j there. absurd (both_ways true (sym there ∙ ap is_some (fmap.get-empty nat_cmp j)) refl)))
+
+-- what the ACK takes
+taken_before : named end_flying ((0, 0) ∷ []) ≡ acked_at false 0 end_piece ∷ []
+taken_before = ap (λ qs. named_in false end_flying.outstanding ((0, 0) ∷ []) ++ qs) none_late ∙ rw (fmap.entries-from_sorted nat_cmp one_packet tt) (ap (λ ps. (ps ++ []) ++ []) pieces)
+
+-- with no byte written all is acknowledged
+whole : missing_from (set.union set.empty (numbers 0 0)) 0 ≡ 0
+whole = missing_from-with_later set.empty 0 0 0 (inr (omega arith)) ∙ missing_from-past set.empty 0 (omega (arith, end_of-empty))
+
+-- the half after a STOP_SENDING, by whether all of it was acknowledged
+abbrev stopped : Bool → SendLane → SendLane
+stopped all l = cond (is_some {T = SendFault} (cond all (Some Finished) None)) l (record (broken_off l 7) { stopped = first_code l.stopped 7 })
+
+pub order_stays : AStopIsntMoved
+unfolding frame_taken frames_taken lookup update acks
+order_stays =
+    record {
+      ack_first =
+          ap (λ ps. is_reset (frame_taken stop (acks ps end_flying))) taken_before
+          ∙ ap (λ k. is_some (stopped ((k == 0) && true) (acked_lane end_sent (chunk 0 0 true))).was_reset) whole;
+      stop_first = ap (λ ps. is_reset (acks ps (frame_taken stop end_flying))) taken_before ∙ ap (λ b. is_some (stopped b end_sent).was_reset) (and_right (unacked_from end_sent == 0) false refl);
+    }
+
+-- A payload with an ACK is the tokens of the ACK's packets, then its other frames, and then its number.
+
+-- Limits that are settled don't move
+
+unraised : (l : RecvLane) → (l.final_size ≡ None → next_limit l.limit (taken l) l.window l.share ≡ l.limit) → raise l ≡ l
+unraised l settled = ap (λ k. record l { limit = k }) (go l.final_size refl)
+  where
+    go : (o : Option ℕ) → l.final_size ≡ o → cond (is_some o) l.limit (next_limit l.limit (taken l) l.window l.share) ≡ l.limit
+    go None is = settled is
+    go (Some size) is = refl
+
+all_unraised : (e : End) → LimitsAreSettled e → each raise e.recvs ≡ e.recvs
+all_unraised e settled = same_tables _ _ (λ n. lookup_each raise e.recvs n ∙ go n (lookup e.recvs n) refl)
+  where
+    go : (n : ℕ) (o : Option RecvLane) → lookup e.recvs n ≡ o → elim o [ None ↦ None | Some l ↦ Some (raise l) ] ≡ o
+    go n None is = refl
+    go n (Some l) is = ap (λ k. Some k) (unraised l (settled.streams n l is))
+
+-- the end with other counts of granted streams
+abbrev counted : ℕ → ℕ → End → End
+counted b u e = record e { granted_bidi = b; granted_uni = u }
+
+-- only counts move
+only_counts : (e : End) → LimitsAreSettled e → settle e ≡ counted (next_count e Bidi) (next_count e Uni) e
+only_counts e settled = λ i. record e { recvs = all_unraised e settled i; granted = settled.connection i; granted_bidi = next_count e Bidi; granted_uni = next_count e Uni }
+
+-- Frames, where more streams are granted
+
+module _ (b u : ℕ) where
+  opened_counted : (n : ℕ) (e : End) → opened_by_peer n (counted b u e) ≡ counted b u (opened_by_peer n e)
+  opened_counted n e = go (is_own e n)
+    where
+      go : (c : Bool) → cond c (counted b u e) (opens n (counted b u e)) ≡ counted b u (cond c e (opens n e))
+      go true = refl
+      go false = refl
+
+  item_counted : (i : Item) (e : End) → item_taken i (counted b u e) ≡ counted b u (item_taken i e)
+  item_counted (MaxStreamData n m) e = ap (on_send n (λ l. allow_lane l m)) (opened_counted n e)
+  item_counted (MaxStreams Uni m) e = refl
+  item_counted (ResetStream n code size) e = ap (on_recv n (λ l. take_reset l code size)) (opened_counted n e)
+  item_counted (StopSending n code) e = ap (on_send n (λ l. stop_taken e.tuning.answers_stops l code)) (opened_counted n e)
+  item_counted (StreamDataBlocked n m) e = opened_counted n e
+  item_counted i e = refl
+
+  frame_counted : (f : Seen) (e : End) → frame_taken f (counted b u e) ≡ counted b u (frame_taken f e)
+  unfolding frame_taken
+  frame_counted (Ack largest ranges) e = acks_moved (named e ranges) e (counted b u e) ∙ ap (counted b u) (sym (acks_moved (named e ranges) e e))
+  frame_counted (Stream n offset bytes fin) e = ap (on_recv n (λ l. take_stream l offset bytes fin)) (opened_counted n e)
+  frame_counted (Control i) e = item_counted i e
+  frame_counted (Close code) e = refl
+  frame_counted (Plain asks) e = refl
+
+  frames_counted : (fs : List Seen) (e : End) → frames_taken fs (counted b u e) ≡ counted b u (frames_taken fs e)
+  unfolding frames_taken
+  frames_counted [] e = refl
+  frames_counted (f ∷ fs) e = ap (frames_taken fs) (frame_counted f e) ∙ frames_counted fs (frame_taken f e)
+
+  -- no fewer streams are granted so
+  record AreMore (e : End) : Type 0 where
+    bidi : e.granted_bidi ≤ b
+    uni : e.granted_uni ≤ u
+
+  in_counted : (n : ℕ) (e : End) → AreMore e → state_fault_in e n ≡ None → state_fault_in (counted b u e) n ≡ None
+  in_counted n e more h =
+      own_stays (is_own_by e.role n) (count_fault e.granted_bidi e.granted_uni n) (count_fault b u n) (lookup e.recvs n) (lookup e.recvs n) (λ is. is)
+      (count_stays e.granted_bidi e.granted_uni b u n more.bidi more.uni) h
+
+  out_counted : (n : ℕ) (e : End) → AreMore e → state_fault_out e n ≡ None → state_fault_out (counted b u e) n ≡ None
+  out_counted n e more h =
+      let few = count_fault e.granted_bidi e.granted_uni n in
+      let many = count_fault b u n in
+      own_stays (is_own_by e.role n) (cond (is_uni n) (Some 0x05) few) (cond (is_uni n) (Some 0x05) many) (lookup e.sends n) (lookup e.sends n) (λ is. is)
+      (uni_stays (is_uni n) few many (count_stays e.granted_bidi e.granted_uni b u n more.bidi more.uni)) h
+
+  or_none : (first now next : Option ℕ) → (first ≡ None → now ≡ None) → or_else first next ≡ None → or_else now next ≡ None
+  or_none None now next none h = subst (λ o. or_else o next ≡ None) (sym (none refl)) h
+  or_none (Some code) now next none h = absurd (none-some code (sym h))
+
+  item_fine : (i : Item) (e : End) → AreMore e → item_verdict e i ≡ None → item_verdict (counted b u e) i ≡ None
+  item_fine (MaxStreamData n m) e more h = out_counted n e more h
+  item_fine (ResetStream n code size) e more h = or_none (state_fault_in e n) (state_fault_in (counted b u e) n) _ (in_counted n e more) h
+  item_fine (StopSending n code) e more h = out_counted n e more h
+  item_fine (StreamDataBlocked n m) e more h = in_counted n e more h
+  item_fine i e more h = refl
+
+  goes_counted : (f : Seen) (e : End) → AreMore e → GoesOn e f → GoesOn (counted b u e) f
+  unfolding verdict
+  goes_counted (Ack largest ranges) e more h = h
+  goes_counted (Stream n offset bytes fin) e more h = or_none (state_fault_in e n) (state_fault_in (counted b u e) n) _ (in_counted n e more) h
+  goes_counted (Control i) e more h = item_fine i e more h
+  goes_counted (Close code) e more h = h
+  goes_counted (Plain asks) e more h = refl
+
+  still_more : (f : Seen) (e : End) → AreMore e → AreMore (frame_taken f e)
+  still_more f e more =
+      let same = ap (λ (x : End). x.granted_bidi) (frame_leaves f e) in
+      let alike = ap (λ (x : End). x.granted_uni) (frame_leaves f e) in
+      let bidi = more.bidi in
+      let uni = more.uni in
+      record { bidi = omega (arith, same, bidi); uni = omega (arith, alike, uni) }
+
+  fine_counted : (fs : List Seen) (e : End) → AreMore e → NoFault e fs → NoFault (counted b u e) fs
+  fine_counted [] e more h = tt
+  fine_counted (f ∷ fs) e more h =
+      let (goes, rest) = first_goes e f fs h in
+      one_more (counted b u e) f fs (goes_counted f e more goes) (subst (λ x. NoFault x fs) (sym (frame_counted f e)) (fine_counted fs (frame_taken f e) (still_more f e more) rest))
+
+frames_leave : (fs : List Seen) (e : End) → but_streams (frames_taken fs e) ≡ but_streams e
+unfolding frames_taken
+frames_leave [] e = refl
+frames_leave (f ∷ fs) e = frames_leave fs (frame_taken f e) ∙ frame_leaves f e
+
+-- Frames after a call, and frames in one call
+
+-- the counts move between the calls, and then as far as they would in one
+settle_later : (fs : List Seen) (e : End) → LimitsAreSettled e → ((d : Dir) → ended e d ≤ ended (frames_taken fs e) d) → settle (frames_taken fs (settle e)) ≡ settle (frames_taken fs e)
+settle_later fs e settled grows = ap (λ x. settle (frames_taken fs x)) (only_counts e settled) ∙ ap settle (frames_counted (next_count e Bidi) (next_count e Uni) fs e) ∙ (λ i. record (settle last) { granted_bidi = bidi i; granted_uni = uni i })
+  where
+    last : End
+    last = frames_taken fs e
+
+    -- the count to which so many ended streams bring the grant
+    bidi_by : ℕ → End → ℕ
+    bidi_by n x = max x.granted_bidi (count_after x.settings x.tuning Bidi x.present.grant_bidi n)
+
+    uni_by : ℕ → End → ℕ
+    uni_by n x = max x.granted_uni (count_after x.settings x.tuning Uni x.present.grant_uni n)
+
+    bidi : max (next_count e Bidi) (count_after last.settings last.tuning Bidi last.present.grant_bidi (ended last Bidi)) ≡ next_count last Bidi
+    bidi =
+        ap (λ k. max k (count_after last.settings last.tuning Bidi last.present.grant_bidi (ended last Bidi))) (ap (bidi_by (ended e Bidi)) (sym (frames_leave fs e)))
+        ∙ later_count last.settings last.tuning Bidi last.granted_bidi last.present.grant_bidi (ended e Bidi) (ended last Bidi) (grows Bidi)
+
+    uni : max (next_count e Uni) (count_after last.settings last.tuning Uni last.present.grant_uni (ended last Uni)) ≡ next_count last Uni
+    uni =
+        ap (λ k. max k (count_after last.settings last.tuning Uni last.present.grant_uni (ended last Uni))) (ap (uni_by (ended e Uni)) (sym (frames_leave fs e)))
+        ∙ later_count last.settings last.tuning Uni last.granted_uni last.present.grant_uni (ended e Uni) (ended last Uni) (grows Uni)
+
+-- what the frames have no fault at, they have none at once the counts moved
+fine_later : (fs : List Seen) (e : End) → LimitsAreSettled e → NoFault e fs → NoFault (settle e) fs
+fine_later fs e settled fine =
+    subst (λ x. NoFault x fs) (sym (only_counts e settled))
+    (fine_counted (next_count e Bidi) (next_count e Uni) fs e (record { bidi = omega arith; uni = omega arith }) fine)
+
+-- The payload
+
+first : (a b : Bool) → (a || b) ≡ false → a ≡ false
+first true b is = absurd (both_ways true is refl)
+first false b is = refl
+
+second : (a b : Bool) → (a || b) ≡ false → b ≡ false
+second true b is = absurd (both_ways true is refl)
+second false b is = is
+
+settled_acks : (e : End) (r : List (ℕ × ℕ)) → LimitsAreSettled e → LimitsAreSettled (acks (named e r) e)
+settled_acks e r settled = subst LimitsAreSettled (sym (acks_moved (named e r) e e)) (record { connection = settled.connection; streams = settled.streams })
+
+abbrev TakesAfter : End → List FrameValue → Taken → Type 0
+TakesAfter e fs one = TakesEach fs (settle e) (Ok one) (frames_taken (seen_all fs) (settle e)) × (settle (frames_taken (seen_all fs) (settle e)) ≡ settle (frames_taken (seen_all fs) e))
+
+-- frames that are handed in after their payload's ACK was told
+takes_after : (e : End) (fs : List FrameValue) → IsSound e → SentWasWritten e → LimitsAreSettled e → HaveNoAck fs → AllByRecursion Fits fs → NoFault e (seen_all fs) → (one : Taken) × TakesAfter e fs one
+takes_after e fs sound sent settled none fits fine =
+    let x = (all_left (seen_all fs) e sound sent fine).after in
+    let (one, each) = takes_each fs (settle e) none fits (fine_later (seen_all fs) e settled fine) in
+    (one, (each, settle_later (seen_all fs) e settled (λ d. ended_grows e (frames_taken (seen_all fs) e) x.role (lanes_stay _ _ x.recvs) (halves_stay _ _ x.sends) d)))
+
+-- frames of other kinds before them change nothing
+others_pass : (before fs : List FrameValue) (e : End) → AreOthers before → NoFault e (seen_all (before ++ fs)) → NoFault e (seen_all fs) × (frames_taken (seen_all (before ++ fs)) e ≡ frames_taken (seen_all fs) e)
+unfolding frames_taken
+others_pass [] fs e other fine = (fine, refl)
+others_pass (f ∷ before) fs e other fine =
+    let (later, same) = other_fine e (seen f) (seen_all (before ++ fs)) (second _ _ other.0) (first _ _ other.0) fine in
+    let (left, alike) = others_pass before fs e other.1 later in
+    (left, ap (frames_taken (seen_all (before ++ fs))) same ∙ alike)
+
+take_others : (before fs : List FrameValue) (e : End) (one : Taken) (new : End) → AreOthers before → TakesEach fs e (Ok one) new → TakesEach (before ++ fs) e (Ok one) new
+take_others [] fs e one new other takes = takes
+take_others (f ∷ before) fs e one new other takes = pass_by _ _ (is_ours (seen f)) (second _ _ other.0) (take_others before fs e one new other.1 takes)
+
+rest_fit : (before fs : List FrameValue) → AllByRecursion Fits (before ++ fs) → AllByRecursion Fits fs
+rest_fit [] fs fits = fits
+rest_fit (f ∷ before) fs fits = rest_fit before fs fits.1
+
+pub payload_tokens : APayloadIsTokensAndFrames
+unfolding frame_taken frames_taken
+payload_tokens old new k text before fs f largest ranges t ts fresh bytes sound sent settled whole other is none same may step =
+    let (fine, faultless, after) = payload_frames old new k text fresh step in
+    let (fine_then, passed) = others_pass before (f ∷ fs) old other (subst (λ gs. NoFault old (seen_all gs)) whole fine) in
+    let later : IsAfter old mid = after_acks (named old ranges) old (named_written old ranges sent) in
+    let fits = rest_fit before (f ∷ fs) (subst (λ gs. AllByRecursion Fits gs) whole (frames_fit text (bytes_fit text bytes))) in
+    let (one, (each, alike)) = takes_after mid fs (sound_acks (named old ranges) old sound.0, later.counts sound.1) (sent_stays old mid later sent) (settled_acks old ranges settled) none fits.1 (subst (λ g. NoFault old (g ∷ seen_all fs)) is fine_then).1 in
+    let last : End = frames_taken (seen_all fs) (settle mid) in
+    let from_ack : TakesEach (f ∷ fs) (settle mid) (Ok one) last = pass_by _ _ (is_ours (seen f)) (ap is_ours is) each in
+    let takes : TakesEach (frames_in text) (settle mid) (Ok one) last = subst (λ gs. TakesEach gs (settle mid) (Ok one) last) (sym whole) (take_others before (f ∷ fs) (settle mid) one last other from_ack) in
+    let unclosed : (settle mid).closed ≡ None = ap (λ (x : End). x.closed) (acks_leave (named old ranges) old) ∙ fresh.unclosed in
+    let effects : frames_taken (seen_all (frames_in text)) old ≡ frames_taken (seen_all fs) mid = ap (λ gs. frames_taken (seen_all gs) old) whole ∙ passed ∙ ap (λ g. frames_taken (g ∷ seen_all fs) old) is in (
+      settle mid,
+      one,
+      settle last,
+      an_ack_may_be_told old largest ranges t ts sent same may,
+      subst (λ o. TakeAllBy o (frames_in text) (settle mid) (Ok one) (settle last)) (sym unclosed) (last, takes, refl),
+      after ∙ ap (recorded k (any_asks (seen_all (frames_in text)))) (ap settle effects ∙ sym alike),
+    )
+  where
+    mid : End
+    mid = acks (named old ranges) old
+
+-- Plain frames change nothing but whether an ACK is due.
+
+-- a plain frame ends no processing
+no_stop_of_plain : (v : PlacedValue) (f : Seen) (e : End) (result : Result Received Closing) (mid : End) → IsPlain f → Stops v f e result mid → ⊥
+unfolding verdict
+no_stop_of_plain v (Plain asks) e (Ok NoMemory) mid is h = h.1.1
+no_stop_of_plain v (Plain asks) e (Err closing) mid is h = none-some closing.code h.0
+no_stop_of_plain v (Plain asks) e (Ok received) mid is h = h
+no_stop_of_plain v f e result mid is h = is
+
+same_end : (f : Seen) (e : End) → IsPlain f → frame_taken f e ≡ e
+unfolding frame_taken
+same_end (Plain asks) e is = refl
+same_end f e is = absurd is
+
+goes_on : (f : Seen) (e : End) → IsPlain f → GoesOn e f
+unfolding verdict
+goes_on (Plain asks) e is = refl
+goes_on f e is = absurd is
+
+abbrev ArePlain : List PlacedValue → Type 0
+ArePlain ps = AllByRecursion IsPlain (seen_all (frames_of ps))
+
+-- the ends are the same but for whether an ACK is due
+abbrev IsAlike : End → End → Type 0
+IsAlike mid bare = mid ≡ record bare { ack_due = mid.ack_due }
+
+module _ (k : ℕ) where
+  ends_alike : (asks other : Bool) (e : End) (result : Result Received Closing) (mid : End) → AtEnd k asks None e result mid → (bare : End) × AtEnd k other None e result bare × IsAlike mid bare
+  ends_alike asks other e (Ok Done) mid h = (recorded k other e, refl, subst (λ m. IsAlike m (recorded k other e)) (sym h) refl)
+  ends_alike asks other e (Ok NoMemory) mid h = (e, (refl, h.1), subst (λ m. IsAlike m e) (sym h.0) refl)
+  ends_alike asks other e result mid h = absurd h
+
+  -- after plain frames alone the end is as it was
+  passes : (ps : List PlacedValue) (asks : Bool) (e : End) (result : Result Received Closing) (mid : End) → ArePlain ps → Takes k None asks e ps result mid → (b : Bool) × AtEnd k b None e result mid
+  passes [] asks e result mid all h = (asks, h)
+  passes (p ∷ ps) asks e result mid all (inl stops) = absurd (no_stop_of_plain p (seen p.frame) e result mid all.0 stops)
+  passes (p ∷ ps) asks e result mid all (inr (goes, rest)) =
+      let more : Bool = asks || asks_ack (seen p.frame) in
+      passes ps more e result mid all.1 (subst (λ x. Takes k None more x ps result mid) (same_end (seen p.frame) e all.0) rest)
+
+  passed : (P : End → Type 0) (ps : List PlacedValue) (asks : Bool) (e : End) (result : Result Received Closing) → ArePlain ps → ((b : Bool) → (bare : End) × AtEnd k b None e result bare × P bare) → (bare : End) × Takes k None asks e ps result bare × P bare
+  passed P [] asks e result all ends = ends asks
+  passed P (p ∷ ps) asks e result all ends =
+      let more : Bool = asks || asks_ack (seen p.frame) in
+      let (bare, takes, holds) = passed P ps more e result all.1 ends in
+      (bare, inr (goes_on (seen p.frame) e all.0, subst (λ x. Takes k None more x ps result bare) (sym (same_end (seen p.frame) e all.0)) takes), holds)
+
+  takes_alike : (front behind others : List PlacedValue) (asks other : Bool) (e : End) (result : Result Received Closing) (mid : End) → ArePlain behind → ArePlain others →
+      Takes k None asks e (front ++ behind) result mid → (bare : End) × Takes k None other e (front ++ others) result bare × IsAlike mid bare
+  takes_alike [] behind others asks other e result mid plain plain_other h =
+      let (b, end) = passes behind asks e result mid plain h in
+      passed (IsAlike mid) others other e result plain_other (λ c. ends_alike b c e result mid end)
+  takes_alike (p ∷ front) behind others asks other e result mid plain plain_other (inl stops) = (mid, inl stops, refl)
+  takes_alike (p ∷ front) behind others asks other e result mid plain plain_other (inr (goes, rest)) =
+      let (bare, takes, same) = takes_alike front behind others (asks || asks_ack (seen p.frame)) (other || asks_ack (seen p.frame)) (frame_taken (seen p.frame) e) result mid plain plain_other rest in
+      (bare, inr (goes, takes), same)
+
+-- a payload of an open end that isn't known
+abbrev TakenBy : ℕ → Reading → End → Result Received Closing → End → Type 0
+TakenBy k r old result new = (mid : End) × Takes k r.fault false old r.left result mid × (new ≡ settle mid)
+
+abbrev OpenBy : (b c : Bool) → ℕ → Reading → End → Result Received Closing → End → Type 0
+OpenBy b c k r old result new = MatchBool b ((result ≡ Ok BelowFloor) × (new ≡ old)) (MatchBool c ((result ≡ Ok Duplicate) × (new ≡ old)) (TakenBy k r old result new))
+
+module _ (k : ℕ) (text other : List ℕ) (differ : DifferInPlain text other) (old : End) (result : Result Received Closing) (new : End) where
+  taken_alike : TakenBy k (reading_of text) old result new → (bare : End) × TakenBy k (reading_of other) old result bare × IsAlike new bare
+  taken_alike (mid, takes, is) =
+      let (bare, bare_takes, same) = takes_alike k differ.front differ.behind differ.others false false old result mid differ.plain differ.plain_other (subst (λ r. Takes k r.fault false old r.left result mid) differ.reads takes) in
+      (settle bare, (bare, subst (λ r. Takes k r.fault false old r.left result bare) (sym differ.reads_other) bare_takes, refl), subst (λ n. IsAlike n (settle bare)) (sym is) (ap settle same))
+
+  open_alike : (b c : Bool) → OpenBy b c k (reading_of text) old result new → (bare : End) × OpenBy b c k (reading_of other) old result bare × IsAlike new bare
+  open_alike true c h = (new, h, refl)
+  open_alike false true h = (new, h, refl)
+  open_alike false false h = taken_alike h
+
+  received_alike : (o : Option Closed) → ReceiveBy o k text old result new → (bare : End) × ReceiveBy o k other old result bare × IsAlike new bare
+  received_alike (Some closed) h = (new, h, refl)
+  received_alike None h = open_alike (nat_lt k old.floor) (set.contains old.done k) h
+
+pub plain_nothing : PlainFramesTellNothing
+plain_nothing old new k text other result differ step = received_alike k text other differ old result new old.closed step

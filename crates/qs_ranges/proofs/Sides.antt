@@ -1,15 +1,16 @@
 -- The runs of a set, two at most beside no block or those of blocks, and what edits of them make of the set.
-use Rattle.std.proofs.Common.{Result, Ok, Err, OnOk, OnErr, ◌≡◌, ℕ, ◌+◌, ◌-◌, ◌<◌, ◌≤◌, ◌^◌, Bool, true, false, not, ◌&&◌, [], ◌∷◌, ◌++◌, length, take, drop, min, max, All, refl, sym, ap, ◌∙◌, arith}
+use Rattle.std.proofs.Common.{Result, Ok, Err, OnOk, OnErr, ◌≡◌, ℕ, ◌+◌, ◌-◌, ◌<◌, ◌≤◌, ◌^◌, Bool, true, false, not, ◌&&◌, [], ◌∷◌, ◌++◌, length, take, drop, min, max, All, refl, sym, ap, ◌∙◌, subst, arith}
 use Rattle.std.specs.FinSet as set
 use Rattle.std.proofs.lemmas.List.Elements.{All-head, All-tail}
 use Rattle.std.proofs.lemmas.Bool.Decides.{nat_tests}
-use Rattle.qs_ranges.specs.Numbers.{NumberSet, numbers, is_within, contains-without_range, same_numbers, run_starts, AllBelow, MissesRange, ContainsRange}
+use Rattle.qs_ranges.specs.Numbers.{NumberSet, numbers, is_within, contains-without_range, same_numbers, run_starts, AllBelow, MissesRange, ContainsRange, end_of}
 use Rattle.qs_ranges.specs.Runs.{Runs, AreApart, AreApartFrom, AreRunsOf, IsSpan, has_number, set_of, start_at, end_at}
 use Rattle.qs_ranges.specs.declared.few.Few.{Few}
 use Rattle.qs_ranges.specs.declared.few.Few.TheVariants as few
-use Rattle.qs_ranges.specs.Blocks.{Blocks, all_runs, few_runs, runs_of, IsEdit, with_range, without_range}
+use Rattle.qs_ranges.specs.Blocks.{Blocks, all_runs, few_count, few_runs, runs_of, IsEdit, with_range, without_range}
 use Rattle.qs_ranges.proofs.Members.{contains-set_of, set_of-with_range, set_of-without_range}
 use Rattle.qs_ranges.proofs.Count.{len-run_starts}
+use Rattle.qs_ranges.proofs.Starts.{starts_below_end}
 use Rattle.qs_ranges.proofs.Edits.{inserted_over, misses_around, removed_nothing, removed_all, removed_end, removed_start}
 
 pub no_block : (bs : Blocks) (value : Few) → length bs ≡ 0 → runs_of bs value ≡ few_runs value
@@ -23,6 +24,13 @@ some_block (b ∷ bs) value some = refl
 pub many_value : (bs : Blocks) (n : ℕ) → runs_of bs (few.InBlocks n) ≡ all_runs bs
 many_value [] n = refl
 many_value (b ∷ bs) n = refl
+
+-- the numbers of a set without a block
+pub has_few : (bs : Blocks) (value few : Few) (n : ℕ) → length bs ≡ 0 → value ≡ few → set.contains (set_of (runs_of bs value)) n ≡ has_number (few_runs few) n
+has_few bs value few n none is = contains-set_of (runs_of bs value) n ∙ ap (λ runs. has_number runs n) (no_block bs value none ∙ ap few_runs is)
+
+pub apart_few : (bs : Blocks) (value few : Few) → length bs ≡ 0 → value ≡ few → AreApart (runs_of bs value) → AreApart (few_runs few)
+apart_few bs value few none is = subst AreApart (no_block bs value none ∙ ap few_runs is)
 
 -- the set after an insert, and what it misses where it was refused
 module _ (s : NumberSet) (old runs : Runs) (lo hi : ℕ) (of_old : set_of old ≡ s) (same : old ≡ runs) where
@@ -99,6 +107,12 @@ count_fits runs apart all = omega (arith, runs_fit 0 (2 ^ 62) runs apart all (om
 module _ (s : NumberSet) (bs : Blocks) (value : Few) (apart : AreApart (runs_of bs value)) (of_runs : set_of (runs_of bs value) ≡ s) where
   pub counted : set.len (run_starts s) ≡ length (runs_of bs value)
   counted = ap (λ u. set.len (run_starts u)) (sym of_runs) ∙ len-run_starts (runs_of bs value) apart
+
+  pub counted_few : (n : ℕ) → few_count value ≡ n → few_count value ≡ length (runs_of bs value) → (n ≡ set.len (run_starts s)) × (n ≤ end_of s)
+  counted_few n told is = let same = sym told ∙ is ∙ counted_back in (same, omega (arith, same, starts_below_end s))
+    where
+      counted_back : length (runs_of bs value) ≡ set.len (run_starts s)
+      counted_back = sym counted
 
   pub runs_are : (xs : Runs) → xs ≡ runs_of bs value → AreRunsOf s xs
   runs_are xs is = rw is record { apart = apart; members = λ n. ap (λ u. set.contains u n) (sym of_runs) ∙ contains-set_of (runs_of bs value) n }

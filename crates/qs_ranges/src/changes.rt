@@ -174,7 +174,7 @@ fn settle(few: &mut Few, blocks: &mut Vec<Block>, count: usize)
         return;
     }
     if blocks.len() > 1 {
-        each_has_runs(blocks);
+        learn_each_has_runs(blocks);
         return;
     }
     if let Some(runs) = few_of(&blocks[0]) {
@@ -184,7 +184,7 @@ fn settle(few: &mut Few, blocks: &mut Vec<Block>, count: usize)
 }
 
 // Each block has a run. It does nothing: a proof calls it for what it ensures.
-fn each_has_runs(blocks: &[Block])
+fn learn_each_has_runs(blocks: &[Block])
     requires { 1 < length blocks.now }
     ensures { 1 < length (all_runs blocks.now) }
 {

@@ -36,31 +36,12 @@ pub(crate) fn insert_few(
 {
     match *few {
         Few::InBlocks(_) => *few = Few::One((lo, hi)),
-        Few::One(run) => add_to_one(few, run, lo, hi),
+        Few::One(run) if run.1 < lo => *few = Few::Two(run, (lo, hi)),
+        Few::One(run) if hi < run.0 => *few = Few::Two((lo, hi), run),
+        Few::One(run) => *few = Few::One((run.0.min(lo), run.1.max(hi))),
         Few::Two(low, high) => return add_to_two(few, blocks, low, high, lo, hi),
     }
     Ok(())
-}
-
-// Adds a range to one run.
-fn add_to_one(few: &mut Few, run: (u64, u64), lo: u64, hi: u64)
-    requires nonempty { run.0 < run.1 }
-    requires bound { run.1 ≤ 2 ^ 62 }
-    requires some { lo < hi }
-    requires within { hi ≤ 2 ^ 62 }
-    ensures edit { IsEdit (few_runs few.new) (2 ^ 62) (with_range (run ∷ []) lo hi) }
-    ensures counted { few_count few.new ≡ length (few_runs few.new) }
-{
-    let (start, end) = run;
-    if end < lo {
-        *few = Few::Two(run, (lo, hi));
-        return;
-    }
-    if hi < start {
-        *few = Few::Two((lo, hi), run);
-        return;
-    }
-    *few = Few::One((start.min(lo), end.max(hi)));
 }
 
 // Adds a range to two runs.

@@ -24,7 +24,7 @@ ghost use Rattle.qs_ranges.specs.Blocks.{IsEdit, all_runs, runs_of, with_range, 
 use crate::block::Block;
 use crate::blocks::two_above;
 use crate::changes::{copy_runs, insert_many, remove_many};
-use crate::few::{Few, copy_few, count_few, few_above, few_above_two, insert_few, remove_few};
+use crate::few::{Few, copy_few, few_above, few_above_two, insert_few, remove_few};
 use std::alloc::{AllocError, AllocFailed, Global};
 use std::marker::Model;
 
@@ -151,7 +151,7 @@ impl RangeSet {
     pub fn drop_below(&mut self, n: u64)
         ensures { self.new ≡ set.difference self.old (numbers 0 n) }
     {
-        self.members_fit();
+        self.learn_members_fit();
         let _never = self.remove(0, n.min(1 << 62));
     }
 
@@ -174,7 +174,15 @@ impl RangeSet {
     pub fn has(&self, n: u64) -> bool
         ensures { result ≡ set.contains self.now n }
     {
-        matches!(self.run_above(n), Some((start, _)) if start <= n)
+        if !self.blocks.is_empty() {
+            return self.has_in_blocks(n);
+        }
+        match self.few {
+            Few::InBlocks(_) => false,
+            Few::One(run) => run.0 <= n && n < run.1,
+            Few::Two(_, high) if high.0 <= n => n < high.1,
+            Few::Two(low, _) => low.0 <= n && n < low.1,
+        }
     }
 
     /// Whether each number from `lo` on and below `hi` is a member, as it is of an empty range.
@@ -247,14 +255,24 @@ impl RangeSet {
         ensures value { result ≡ set.len (run_starts self.now) }
         ensures within { result ≤ end_of self.now }
     {
-        count_few(self.few)
+        match self.few {
+            Few::InBlocks(count) => count,
+            Few::One(_) => 1,
+            Few::Two(_, _) => 2,
+        }
     }
 
     /// Every member is below 2^62. It does nothing: a proof calls it for what it ensures.
-    pub fn members_fit(&self)
+    pub fn learn_members_fit(&self)
         ensures { AllBelow self.now (2 ^ 62) }
     {
         let _few = &self.few;
+    }
+
+    fn has_in_blocks(&self, n: u64) -> bool
+        ensures { result ≡ set.contains self.now n }
+    {
+        matches!(self.run_above(n), Some((start, _)) if start <= n)
     }
 
     // The first run that ends above `n`.

@@ -68,10 +68,6 @@ let_go_passed lane size end fin reset lawful h =
       ended = λ _ on. absurd (both_ways _ on (lawful.discards ∙ ap (λ b. b || is_some lane.stop_code) reset));
     }
 
--- the end, or a reset, is told where bytes are thrown away
-pub let_go_told : (lane : RecvLane) (size : ℕ) → (is_some lane.reset_code || is_some lane.stop_code) ≡ true → IsLawful lane → IsLetGo lane size → IsLetGo (record lane { told = true }) size
-let_go_told lane size off lawful h = let thrown = lawful.discards ∙ off in let_go_gone (record lane { told = true }) size thrown (h.gone thrown)
-
 -- nothing is stored once all of the stream was read
 pub none_left : (lane : RecvLane) → IsLawful lane → lane.final_size ≡ Some lane.arrived.read_count → map.len lane.arrived.stored ≡ 0
 none_left lane lawful all =
@@ -96,9 +92,6 @@ let_go_read lane size new room on more h =
       over = λ told. absurd (more (h.ended told on));
       ended = λ told _. absurd (more (h.ended told on));
     }
-
-pub let_go_raised : (lane : RecvLane) (size limit : ℕ) → IsLetGo lane size → IsLetGo (record lane { limit = limit }) size
-let_go_raised lane size limit h = record { gone = h.gone; over = h.over; ended = h.ended }
 
 -- whether what was read is all of the stream, as it is tested
 pub all_read : (f : Option ℕ) (n : ℕ) → at_final_size n f ≡ true → f ≡ Some n

@@ -29,9 +29,6 @@ module _ (l : RecvLane) (h : IsOver l) where
   whole : is_whole l ≡ true
   whole = ap (whole_to l.arrived.received) h.size ∙ ap (λ r. covers r 0 l.arrived.read_count) h.came ∙ covers-of (numbers 0 l.arrived.read_count) 0 l.arrived.read_count (known_below l.arrived.read_count 0 l.arrived.read_count (inr (omega arith)))
 
-  pub over_whole : is_whole l ≡ true
-  over_whole = whole
-
   pub over_read : (room : ℕ) → read_answer l room ≡ End
   over_read room =
       ap (λ r. answer_by r l room) h.no_reset
@@ -44,9 +41,6 @@ module _ (l : RecvLane) (h : IsOver l) where
 
   pub over_after_read : (room : ℕ) → after_read l room ≡ l
   over_after_read room = ap (λ r. after_answer r l room) (over_read room) ∙ ap (λ b. record l { told = b }) (sym h.told)
-
-  pub over_unreadable : is_readable l ≡ false
-  over_unreadable = ap (λ b. not b && tells_something (read_answer l 1)) h.told
 
   pub over_stream : (offset : ℕ) (bytes : List ℕ) (fin : Bool) → IsOk (check_stream l offset (length bytes) fin) → take_stream l offset bytes fin ≡ l
   over_stream offset bytes fin ok =

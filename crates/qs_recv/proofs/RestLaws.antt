@@ -155,15 +155,6 @@ wait_at_rest w n e limit room f (Some code) told not_whole more h = ap (λ b. co
 
 -- A raise
 
-pub at_rest_raised : (lane : RecvLane) (n e limit : ℕ) → record lane { limit = limit } ≡ raise lane → IsAtRest lane n e → IsAtRest (record lane { limit = limit }) n e
-at_rest_raised lane n e limit is h =
-    record {
-      lawful = subst IsLawful (sym is) (lawful_raise lane h.lawful);
-      stop_fits = h.stop_fits;
-      all_read = h.all_read;
-      ended = h.ended;
-    }
-
 -- A frame
 
 pub taken_at_rest : (w : ℕ × (ℕ × Share)) (n e e' limit offset : ℕ) (f r s : Option ℕ) (told : Bool) (bytes : List ℕ) (fin : Bool) → EndsAt (lane_at_rest w n e limit f r s told) offset bytes e'

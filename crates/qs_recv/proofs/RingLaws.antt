@@ -504,14 +504,6 @@ size_fits span window power least size two reaches near least_is size_is fits =
           ];
     }
 
--- some byte is new
-pub count_some : (r : NumberSet) (first n : ℕ) → set.contains r first ≡ false → 0 < n → 1 ≤ missing_count r first n
-count_some r first n missing some =
-    let e : n ≡ 1 + (n - 1) = omega (arith, some) in
-    let parts = ap (missing_count r first) e ∙ missing_parts r first 1 (n - 1) in
-    let one = missing_all r first 1 (λ q low high. (let same : q ≡ first = omega arith in ap (set.contains r) same ∙ missing)) in
-    omega (arith, parts, one)
-
 -- the end of what came, with a run of some more
 pub end_more : (r : NumberSet) (offset n end last : ℕ) → end ≡ end_of r → 0 < n → last ≡ max end (offset + n) → last ≡ end_of (with_run r offset n)
 end_more r offset n end last is some last_is = let ends = end_of-with_range r offset (offset + n) (omega arith) in omega (arith, is, last_is, ends)

@@ -18,10 +18,6 @@ use Rattle.std.proofs.lemmas.Bool.Decides.{nat_tests}
 use Rattle.qs_ranges.specs.Numbers.{NumberSet, is_within}
 use Rattle.qs_recv.specs.Ring.{IsFilled, IsNextRun, IsWritten}
 
--- one turn more, or several
-one_turn : (w a b : ℕ) → a < b → w * a + w ≤ w * b
-one_turn w a b h = let m : w * (a + 1) ≤ w * b = mul-le-mul_left w (omega arith) in omega arith
-
 two_turns : (w a b : ℕ) → a + 1 < b → w * a + w + w ≤ w * b
 two_turns w a b h = let m : w * (a + 2) ≤ w * b = mul-le-mul_left w (omega arith) in omega arith
 

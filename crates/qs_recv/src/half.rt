@@ -4,8 +4,8 @@ ghost use Rattle.std.specs.FinMap as map;
 ghost use Rattle.qs_ranges.specs.Numbers.{MAX_VARINT, MissesRange, covers};
 ghost use Rattle.qs_recv.specs.Lawful.{IsLawful};
 ghost use Rattle.qs_recv.specs.Sound.{CodeFits};
-ghost use Rattle.qs_recv.specs.News.{is_readable, tells_something};
-ghost use Rattle.qs_recv.specs.Lane.{new_lane, highest, highest_after, noted, taken, state, check_stream, check_bytes, take_stream, check_reset, take_reset, is_whole, breaks_final_size, read_answer, bytes_read, after_read, stop, stop_and_forget, raise, raise_answer, set_window, MAX_WINDOW};
+ghost use Rattle.qs_recv.specs.News.{is_readable};
+ghost use Rattle.qs_recv.specs.Lane.{new_lane, highest, highest_after, noted, taken, state, check_stream, check_bytes, take_stream, check_reset, take_reset, is_over, is_whole, breaks_final_size, read_answer, bytes_read, after_read, stop, stop_and_forget, raise, raise_answer, set_window, MAX_WINDOW};
 ghost use Rattle.qs_recv.specs.Changes.{stream_changes};
 ghost use Rattle.qs_recv.specs.Peek.{IsPeek};
 
@@ -38,6 +38,32 @@ pub enum RecvFault {
 pub struct Highest {
     pub before: u64,
     pub after: u64,
+}
+
+/// What is said of a STREAM frame: of its offsets and its end, with what it does to the highest offset; and of its bytes.
+#[derive(Debug, Clone, Copy, PartialEq, Eq, Drop)]
+pub struct Judged {
+    pub stream: Result<Highest, RecvFault>,
+    pub bytes: Result<(), RecvFault>,
+}
+
+/// What a half adds to the sums over all of them: the highest offset; what credit is paid back for, which is that after a reset or a
+/// stop, else the bytes read; how many bytes are stored; and how many runs the offsets make that came, of which none are kept after
+/// a reset, or once all came and nothing is to be told. And whether it was stopped, so that what comes counts as taken.
+#[derive(Debug, Clone, Copy, PartialEq, Eq, Drop)]
+pub struct Sizes {
+    pub spent: u64,
+    pub taken: u64,
+    pub stored: u64,
+    pub noted: u64,
+    pub is_stopped: bool,
+}
+
+/// Whether a read of one byte would tell something new, and whether the end or a reset was told.
+#[derive(Debug, Clone, Copy, PartialEq, Eq, Drop)]
+pub struct Standing {
+    pub is_readable: bool,
+    pub has_ended: bool,
 }
 
 /// What a reader is told: so many bytes were read, all data was read, the stream was reset with a code, or nothing is next.
@@ -188,6 +214,26 @@ impl<A: Assembly> RecvHalf<A> {
                 Ok(())
             }
             Parts::Live(live) => live.check_bytes(offset, bytes),
+        }
+    }
+
+    /// What is said of a STREAM frame: whether it may be taken, where the final size is tested before the credit, and whether its bytes
+    /// are those that are stored. A caller with credit of its own asks for that in between. It takes no memory.
+    pub fn judge(&self, offset: u64, bytes: &[u8], fin: bool) -> Judged
+        requires { offset + length bytes.now ≤ MAX_VARINT }
+        ensures stream { result.stream ≡ check_stream self.now offset (length bytes.now) fin }
+        ensures bytes { result.bytes ≡ check_bytes self.now offset bytes.now }
+        ensures in_range { IfOk result.stream (λ h. h.after ≤ MAX_VARINT) }
+    {
+        match &self.parts {
+            Parts::Resting(_) => Judged {
+                stream: self.check_stream(offset, bytes.len() as u64, fin),
+                bytes: self.check_bytes(offset, bytes),
+            },
+            Parts::Live(live) => Judged {
+                stream: live.check_stream(offset, bytes.len() as u64, fin),
+                bytes: live.check_bytes(offset, bytes),
+            },
         }
     }
 
@@ -343,59 +389,61 @@ impl<A: Assembly> RecvHalf<A> {
         }
     }
 
-    /// What holds of the half at all times.
-    pub fn is_lawful(&self)
-        ensures { IsLawful self.now }
+    /// What it adds to the sums over all halves.
+    pub fn sizes(&self) -> Sizes
+        ensures spent { result.spent ≡ highest self.now }
+        ensures taken { result.taken ≡ taken self.now }
+        ensures stored { result.stored ≡ map.len self.now.arrived.stored }
+        ensures noted { result.noted ≡ noted self.now }
+        ensures stopped { result.is_stopped ≡ is_some self.now.stop_code }
+        ensures small { result.spent ≤ MAX_VARINT }
+        ensures paid { result.stored + result.taken ≤ result.spent }
+        ensures few { result.noted ≤ result.spent }
+        ensures lawful { IsLawful self.now }
     {
         match &self.parts {
-            Parts::Resting(kept) => kept.rest().is_lawful(),
-            Parts::Live(live) => live.is_lawful(),
+            Parts::Resting(kept) => kept.rest().sizes(),
+            Parts::Live(live) => live.sizes(),
+        }
+    }
+
+    /// What holds of every half. It does nothing: a caller learns the clause.
+    pub fn learn_lawful(&self)
+        ensures { IsLawful self.now }
+    {
+        let _sizes = self.sizes();
+    }
+
+    /// Whether a read of one byte would tell something new: bytes, or an end or a reset that wasn't told yet; and whether either was.
+    /// Of a stopped half only the end and a reset are told (sections 2.2, 3.2 and 3.5).
+    pub fn standing(&self) -> Standing
+        ensures readable { result.is_readable ≡ is_readable self.now }
+        ensures ended { result.has_ended ≡ is_over self.now }
+    {
+        match &self.parts {
+            Parts::Resting(kept) => kept.rest().standing(),
+            Parts::Live(live) => live.standing(),
+        }
+    }
+
+    /// Whether the end or a reset was told: Data Read and Reset Read (section 3.2).
+    pub fn has_ended(&self) -> bool
+        ensures { result ≡ is_over self.now }
+    {
+        match &self.parts {
+            Parts::Resting(kept) => kept.rest().is_over(),
+            Parts::Live(live) => live.is_over(),
         }
     }
 
     /// The limit on the highest offset that was granted (section 4.1).
     pub fn limit(&self) -> u64
-        ensures { result ≡ self.now.limit }
+        ensures value { result ≡ self.now.limit }
+        ensures small { result ≤ MAX_VARINT }
     {
         match &self.parts {
             Parts::Resting(kept) => kept.rest().limit(),
             Parts::Live(live) => live.limit(),
-        }
-    }
-
-    /// What credit is paid back for: the final size after a reset, the highest offset after a stop, else the bytes read.
-    pub fn taken(&self) -> u64
-        ensures value { result ≡ taken self.now }
-        ensures in_range { result ≤ MAX_VARINT }
-        ensures within { result ≤ highest self.now }
-    {
-        match &self.parts {
-            Parts::Resting(kept) => kept.rest().taken(),
-            Parts::Live(live) => live.taken(),
-        }
-    }
-
-    /// The final size if known, else one more than the largest offset that came, or 0.
-    pub fn highest(&self) -> u64
-        ensures value { result ≡ highest self.now }
-        ensures in_range { result ≤ MAX_VARINT }
-    {
-        match &self.parts {
-            Parts::Resting(kept) => kept.rest().highest(),
-            Parts::Live(live) => live.highest(),
-        }
-    }
-
-    /// How many runs the offsets make that came: none where none did, else one, and one more for each gap between them. After a
-    /// reset, and once the reader was told the end, or would be told it had it not forgotten the stream, there are none: the half
-    /// keeps no offset then. It looks at no more than the first run.
-    pub fn noted(&self) -> u64
-        ensures value { result ≡ noted self.now }
-        ensures within { result ≤ highest self.now }
-    {
-        match &self.parts {
-            Parts::Resting(kept) => kept.rest().noted(),
-            Parts::Live(live) => live.noted(),
         }
     }
 
@@ -435,19 +483,8 @@ impl<A: Assembly> RecvHalf<A> {
         ensures { result ≡ is_readable self.now }
     {
         match &self.parts {
-            Parts::Resting(kept) => self.revived(&kept.rest()).is_readable(),
-            Parts::Live(live) => live.is_readable(),
-        }
-    }
-
-    /// How many bytes are stored and not read.
-    pub fn stored(&self) -> u64
-        ensures value { result ≡ map.len self.now.arrived.stored }
-        ensures within { result + taken self.now ≤ highest self.now }
-    {
-        match &self.parts {
-            Parts::Resting(kept) => kept.rest().stored(),
-            Parts::Live(live) => live.stored(),
+            Parts::Resting(kept) => kept.rest().standing().is_readable,
+            Parts::Live(live) => live.standing().is_readable,
         }
     }
 

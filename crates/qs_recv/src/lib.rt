@@ -16,5 +16,5 @@ mod window;
 
 pub use assembly::{Assembly, Peeking, Skipping};
 pub use credit::{Share, next_limit, step_of};
-pub use half::{Highest, Peek, Read, RecvFault, RecvHalf, RecvState};
+pub use half::{Highest, Judged, Peek, Read, RecvFault, RecvHalf, RecvState, Sizes, Standing};
 pub use ring_assembly::RingAssembly;

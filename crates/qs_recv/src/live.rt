@@ -4,14 +4,14 @@ ghost use Rattle.std.specs.FinMap as map;
 ghost use Rattle.qs_ranges.specs.Numbers.{MAX_VARINT, MissesRange, covers};
 ghost use Rattle.qs_recv.specs.Lawful.{IsLawful};
 ghost use Rattle.qs_recv.specs.Sound.{CodeFits};
-ghost use Rattle.qs_recv.specs.News.{is_readable, tells_something};
+ghost use Rattle.qs_recv.specs.News.{is_readable};
 ghost use Rattle.qs_recv.specs.Lane.{highest, highest_after, noted, taken, state, check_stream, check_bytes, take_stream, check_reset, take_reset, is_whole, is_over, at_final_size, breaks_final_size, read_answer, bytes_read, after_read, stop, stop_and_forget, raise, raise_answer, set_window, MAX_WINDOW};
 ghost use Rattle.qs_recv.specs.Changes.{stream_changes};
 ghost use Rattle.qs_recv.specs.Peek.{IsPeek};
 
 use crate::assembly::{Assembly, Peeking, Skipping};
 use crate::credit::{limit_with, next_limit};
-use crate::half::{Highest, Peek, Read, RecvFault, RecvState};
+use crate::half::{Highest, Peek, Read, RecvFault, RecvState, Sizes, Standing};
 use crate::rest::{Rest, given};
 use crate::window::Windows;
 use std::alloc::Global;
@@ -128,7 +128,11 @@ impl<A: Assembly> LiveHalf<A> {
             return Err(RecvFault::FinalSize);
         }
         let end = offset + len;
-        let before = self.highest();
+        let before = if self.is_sized {
+            self.size
+        } else {
+            self.received_end
+        };
         if before.max(end) > self.limit {
             return Err(RecvFault::StreamCredit);
         }
@@ -327,14 +331,67 @@ impl<A: Assembly> LiveHalf<A> {
         self.windows = Windows::new(widest, window, self.windows.share());
     }
 
-    pub(crate) fn is_lawful(&self)
-        ensures { IsLawful self.now }
+    pub(crate) fn sizes(&self) -> Sizes
+        ensures spent { result.spent ≡ highest self.now }
+        ensures taken { result.taken ≡ taken self.now }
+        ensures stored { result.stored ≡ map.len self.now.arrived.stored }
+        ensures noted { result.noted ≡ noted self.now }
+        ensures stopped { result.is_stopped ≡ is_some self.now.stop_code }
+        ensures small { result.spent ≤ MAX_VARINT }
+        ensures paid { map.len self.now.arrived.stored + taken self.now ≤ highest self.now }
+        ensures few { result.noted ≤ result.spent }
+        ensures lawful { IsLawful self.now }
     {
-        let _ = &self.assembly;
+        let spent = if self.is_sized {
+            self.size
+        } else {
+            self.received_end
+        };
+        let taken = if self.is_reset || self.is_stopped {
+            spent
+        } else {
+            self.read_count
+        };
+        let noted = if self.is_reset || (self.told && self.is_whole()) {
+            0
+        } else {
+            self.assembly.received().count() as u64
+        };
+        Sizes {
+            spent,
+            taken,
+            stored: self.assembly.stored(),
+            noted,
+            is_stopped: self.is_stopped,
+        }
+    }
+
+    pub(crate) fn standing(&self) -> Standing
+        ensures readable { result.is_readable ≡ is_readable self.now }
+        ensures ended { result.has_ended ≡ is_over self.now }
+    {
+        if self.told {
+            return Standing {
+                is_readable: false,
+                has_ended: self.is_reset || self.is_whole(),
+            };
+        }
+        let is_readable = if self.is_stopped && !self.is_reset {
+            self.is_whole()
+        } else {
+            self.is_reset
+                || (self.is_sized && self.read_count == self.size)
+                || self.assembly.received().has(self.read_count)
+        };
+        Standing {
+            is_readable,
+            has_ended: false,
+        }
     }
 
     pub(crate) fn limit(&self) -> u64
-        ensures { result ≡ self.now.limit }
+        ensures value { result ≡ self.now.limit }
+        ensures small { result ≤ MAX_VARINT }
     {
         self.limit
     }
@@ -355,37 +412,11 @@ impl<A: Assembly> LiveHalf<A> {
         ensures value { result ≡ highest self.now }
         ensures in_range { result ≤ MAX_VARINT }
     {
-        self.final_size().unwrap_or(self.received_end)
-    }
-
-    pub(crate) fn noted(&self) -> u64
-        ensures value { result ≡ noted self.now }
-        ensures within { result ≤ highest self.now }
-    {
-        self.is_lawful();
-        if self.is_reset {
-            return 0;
+        if self.is_sized {
+            self.size
+        } else {
+            self.received_end
         }
-        if self.told {
-            return self.noted_still();
-        }
-        self.assembly.received().count() as u64
-    }
-
-    // How many runs are noted of a half that wasn't reset and of which all was told: none once all came. It is seldom called, and apart so
-    // that the other is small.
-    #[inline(never)]
-    fn noted_still(&self) -> u64
-        requires told { self.now.told ≡ true }
-        requires open { self.now.reset_code ≡ None }
-        ensures value { result ≡ noted self.now }
-        ensures within { result ≤ highest self.now }
-    {
-        self.is_lawful();
-        if self.is_whole() {
-            return 0;
-        }
-        self.assembly.received().count() as u64
     }
 
     pub(crate) fn final_size(&self) -> Option<u64>
@@ -422,19 +453,6 @@ impl<A: Assembly> LiveHalf<A> {
         }
     }
 
-    pub(crate) fn is_readable(&self) -> bool
-        ensures { result ≡ is_readable self.now }
-    {
-        !self.told && self.tells_something()
-    }
-
-    pub(crate) fn stored(&self) -> u64
-        ensures value { result ≡ map.len self.now.arrived.stored }
-        ensures within { result + taken self.now ≤ highest self.now }
-    {
-        self.assembly.stored()
-    }
-
     pub(crate) fn held(&self) -> u64
         ensures room { map.len self.now.arrived.stored ≤ result }
         ensures bound { result ≤ max 4096 (4 * (highest self.now - taken self.now)) }
@@ -464,24 +482,8 @@ impl<A: Assembly> LiveHalf<A> {
         given(self.is_reset, self.reset)
     }
 
-    // Whether a read of one byte would tell something, be it new or not.
-    fn tells_something(&self) -> bool
-        ensures { result ≡ tells_something (read_answer self.now 1) }
-    {
-        if self.is_reset {
-            return true;
-        }
-        if self.is_stopped {
-            return self.is_whole();
-        }
-        if self.is_at_end() {
-            return true;
-        }
-        self.assembly.received().has(self.read_count)
-    }
-
-    // Whether the end was told, or a reset.
-    fn is_over(&self) -> bool
+    /// Whether the end was told, or a reset.
+    pub(crate) fn is_over(&self) -> bool
         ensures { result ≡ is_over self.now }
     {
         self.told && (self.is_reset || self.is_whole())
@@ -491,20 +493,15 @@ impl<A: Assembly> LiveHalf<A> {
     fn is_at_end(&self) -> bool
         ensures { result ≡ at_final_size self.now.arrived.read_count self.now.final_size }
     {
-        match self.final_size() {
-            Some(size) => self.read_count == size,
-            None => false,
-        }
+        self.is_sized && self.read_count == self.size
     }
 
-    // Whether the final size is known and every offset below it came.
+    // Whether the final size is known and every offset below it came. It is seldom called, and apart so that its callers are small.
+    #[inline(never)]
     fn is_whole(&self) -> bool
         ensures { result ≡ is_whole self.now }
     {
-        match self.final_size() {
-            Some(size) => self.assembly.received().covers(0, size),
-            None => false,
-        }
+        self.is_sized && self.assembly.received().covers(0, self.size)
     }
 
     // Whether a frame with len bytes at offset names another final size, or lies outside the known one.
@@ -513,10 +510,10 @@ impl<A: Assembly> LiveHalf<A> {
         ensures { result ≡ breaks_final_size self.now offset len fin }
     {
         let end = offset + len;
-        match self.final_size() {
-            Some(size) => (len > 0 && size < end) || (fin && end != size),
-            None => fin && end < self.highest(),
+        if self.is_sized {
+            return (len > 0 && self.size < end) || (fin && end != self.size);
         }
+        fin && end < self.received_end
     }
 }
 

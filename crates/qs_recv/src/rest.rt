@@ -5,11 +5,12 @@ ghost use Rattle.qs_ranges.specs.Numbers.{MAX_VARINT, MissesRange, covers};
 ghost use Rattle.qs_recv.specs.Lawful.{IsLawful};
 ghost use Rattle.qs_recv.specs.Rest.{EndsAt, IsAtRest, given};
 ghost use Rattle.qs_recv.specs.Peek.{IsPeek};
+ghost use Rattle.qs_recv.specs.News.{is_readable};
 ghost use Rattle.qs_recv.specs.Sound.{CodeFits};
 ghost use Rattle.qs_recv.specs.Lane.{new_lane, highest, highest_after, noted, taken, state, is_whole, is_over, check_stream, check_reset, take_stream, take_reset, read_answer, bytes_read, after_read, stop, stop_and_forget, raise, raise_answer, set_window, MAX_WINDOW};
 
 use crate::credit::{Share, limit_with, next_limit};
-use crate::half::{Peek, Read, RecvState};
+use crate::half::{Peek, Read, RecvState, Sizes, Standing};
 use crate::over::Over;
 use crate::window::Windows;
 use std::marker::Model;
@@ -231,15 +232,53 @@ impl Rest {
     }
 
     /// What holds of the half at all times.
-    pub(crate) fn is_lawful(&self)
+    pub(crate) fn learn_lawful(&self)
         ensures { IsLawful self.now }
     {
         let _ = &self.limit;
     }
 
+    pub(crate) fn sizes(&self) -> Sizes
+        ensures spent { result.spent ≡ highest self.now }
+        ensures taken { result.taken ≡ taken self.now }
+        ensures stored { result.stored ≡ map.len self.now.arrived.stored }
+        ensures noted { result.noted ≡ noted self.now }
+        ensures stopped { result.is_stopped ≡ is_some self.now.stop_code }
+        ensures small { result.spent ≤ MAX_VARINT }
+        ensures paid { result.stored + result.taken ≤ result.spent }
+        ensures few { result.noted ≤ result.spent }
+        ensures lawful { IsLawful self.now }
+    {
+        self.learn_lawful();
+        Sizes {
+            spent: self.highest(),
+            taken: self.taken(),
+            stored: self.stored(),
+            noted: self.noted(),
+            is_stopped: self.is_stopped,
+        }
+    }
+
+    pub(crate) fn standing(&self) -> Standing
+        ensures readable { result.is_readable ≡ is_readable self.now }
+        ensures ended { result.has_ended ≡ is_over self.now }
+    {
+        if self.told {
+            return Standing {
+                is_readable: false,
+                has_ended: self.is_over(),
+            };
+        }
+        Standing {
+            is_readable: self.is_reset || !matches!(self.peek(), Peek::Wait),
+            has_ended: false,
+        }
+    }
+
     /// The limit on the highest offset that was granted.
     pub(crate) fn limit(&self) -> u64
-        ensures { result ≡ self.now.limit }
+        ensures value { result ≡ self.now.limit }
+        ensures small { result ≤ MAX_VARINT }
     {
         self.limit
     }
@@ -391,8 +430,8 @@ impl Rest {
         (self.told && self.is_whole()) || self.is_reset
     }
 
-    // Whether the end was told, or a reset.
-    fn is_over(&self) -> bool
+    /// Whether the end was told, or a reset.
+    pub(crate) fn is_over(&self) -> bool
         ensures { result ≡ is_over self.now }
     {
         self.told && (self.is_reset || self.is_whole())

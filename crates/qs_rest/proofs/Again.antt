@@ -1,44 +1,39 @@
 -- Frames that were taken change nothing when they come again: what they did stays done, whatever comes between.
-use Rattle.std.proofs.Common.{◌≡◌, ℕ, Bool, true, false, not, ◌&&◌, List, [], ◌∷◌, ◌⊎◌, take, Some, None, Result, Ok, Err, is_some, refl, sym, ap, ◌∙◌, subst, inl, inr, MatchBool, if◌then◌else◌}
-use Rattle.std.proofs.lemmas.Option.{same_Some, none-some}
+use Rattle.std.proofs.Common.{◌≡◌, ℕ, Bool, true, false, not, ◌&&◌, List, [], ◌∷◌, ◌⊎◌, Some, None, Result, Ok, Err, is_some, refl, sym, ap, ◌∙◌, subst, inl, inr, MatchBool, if◌then◌else◌}
+use Rattle.std.proofs.lemmas.Option.{none-some}
 use Rattle.std.proofs.lemmas.Bool.{false≢true, cond_both, eq-eqb, and_from}
 use Rattle.std.specs.List.{AllByRecursion}
 use Rattle.qs_wire.specs.Layout.{FrameValue}
 use Rattle.qs_wire.specs.Grammar.{Fits}
 use Rattle.qs_wire.specs.declared.stream_id.Dir.TheVariants.{Bidi, Uni}
 use Rattle.qs_recv.specs.Lane.{RecvLane, raise}
-use Rattle.qs_send.specs.Lane.{SendLane, new_lane as new_send_lane, write_lane, finish_lane, buffer_lane, reset_lane, reset_refusal, sent_lane, blocked_lane, unacked_from, is_whole}
+use Rattle.qs_send.specs.Lane.{SendLane, reset_lane, reset_refusal, unacked_from, is_whole, stop_taken, broken_off, first_code}
 use Rattle.qs_send.specs.declared.piece.Item.TheVariants.{MaxData, MaxStreamData, MaxStreams, ResetStream, StopSending, DataBlocked, StreamDataBlocked, StreamsBlocked}
 use Rattle.qs_calls.specs.declared.token.Taken.{Taken}
 use Rattle.qs_calls.specs.declared.token.TakeFault.{TakeFault}
 use Rattle.qs_calls.specs.declared.token.TakeFault.TheVariants as faults
 use Rattle.qs_machine.specs.Tables.{lookup}
-use Rattle.qs_machine.specs.Ends.{End, on_send, opens, is_own, is_own_by, is_uni, first_send_limit}
+use Rattle.qs_machine.specs.Ends.{End, is_own, is_own_by, is_uni, first_send_limit}
 use Rattle.qs_machine.specs.Credit.{settle}
 use Rattle.qs_machine.specs.Seen.{Seen, Ack, Stream, Control, Close, Plain, seen, seen_all}
 use Rattle.qs_machine.specs.Verdicts.{verdict, state_fault_in}
-use Rattle.qs_machine.specs.FrameStep.{frame_taken, named, acks}
-use Rattle.qs_machine.specs.Lawful.{frame_put, chunk_of}
+use Rattle.qs_machine.specs.FrameStep.{frame_taken}
 use Rattle.qs_machine.specs.Receiving.{GoesOn}
 use Rattle.qs_machine.specs.Alone.{is_ours, TakesOne, TakesEach, after_one}
 use Rattle.qs_machine.specs.Standing.{IsSound, IsInCredit}
 use Rattle.qs_machine.specs.Repeats.{SentWasWritten}
 use Rattle.qs_machine.specs.EndStep.{Call, Answer, EndStep}
-use Rattle.qs_machine.specs.Setting.{Grant, SendBuffer, StreamWindow}
-use Rattle.qs_machine.proofs.EveryCall.{Change, changed, Comes, each_call, Wanted, Opened, Written, Finished, WasReset, Raised, WasSet, Took as WasTaken, Acked, Put}
-use Rattle.qs_machine.proofs.TablesAfter.{KeptIn, kept_same, kept_twice, kept_updated, kept_open, kept_each, still_open}
-use Rattle.qs_machine.proofs.Raised.{kept_raised}
-use Rattle.qs_machine.proofs.EndsAfter.{IsAfter, after_same, after_twice, after_frame, after_acks, all_take, named_written}
+use Rattle.qs_machine.proofs.TablesAfter.{KeptIn, kept_same, kept_each, still_open}
+use Rattle.qs_machine.proofs.EachHalf.{SendEdit, Resets, IsAsked, send_edited, sends_kept}
+use Rattle.qs_machine.proofs.EndsAfter.{IsAfter, after_same, after_twice, has_code}
 use Rattle.qs_machine.proofs.LanesAgain.{LaneAfter, lane_same, raise_after, HasData, data_stays, HasReset, reset_stays}
-use Rattle.qs_machine.proofs.CallsSound.{sound_change}
-use Rattle.qs_machine.proofs.SentCalls.{keeps_change}
 use Rattle.qs_machine.proofs.CallsCounts.{lanes_call}
 use Rattle.qs_machine.proofs.Again.{WasOpened, IsStopped, IsDone, frame_done, frame_again, one_left}
 use Rattle.qs_runs.specs.Pasts.{Past}
 use Rattle.qs_runs.specs.Invariant.{EndOk, SendOk, SendSlot}
 use Rattle.qs_runs.proofs.Taking.{or_else_none}
-use Rattle.qs_runs.proofs.Writing.{acked_written}
-use Rattle.qs_runs.proofs.Alone.{all_came, later_came, none_asked, took_effect}
+use Rattle.qs_runs.proofs.Changes.{acked_written}
+use Rattle.qs_runs.proofs.Receives.{all_came, later_came, none_asked, took_effect}
 use Rattle.qs_rest.specs.Invariant.{IsAllAcked, IsStopTaken, ItemTaken}
 use Rattle.qs_rest.proofs.Streams.{missing_is}
 
@@ -60,18 +55,6 @@ Keeps a b = (b.role ≡ a.role) × KeptIn CodeStays a.sends b.sends
 pub keeps_same : (e : End) → Keeps e e
 keeps_same e = (refl, kept_same CodeStays code_same e.sends)
 
-keeps_twice : (a b c : End) → Keeps a b → Keeps b c → Keeps a c
-keeps_twice a b c x y = (y.0 ∙ x.0, kept_twice CodeStays code_same code_twice a.sends b.sends c.sends x.1 y.1)
-
-keeps_send : (n : ℕ) (f : SendLane → SendLane) (e : End) → ((l : SendLane) → CodeStays l (f l)) → Keeps e (on_send n f e)
-keeps_send n f e kept = (refl, kept_updated CodeStays code_same e.sends n f (λ l at. kept l))
-
-keeps_opens : (n : ℕ) (e : End) → Keeps e (opens n e)
-keeps_opens n e = (
-  refl,
-  cond_both (is_uni n && not (is_own e n)) e.sends _ (KeptIn CodeStays e.sends) (λ _. kept_same CodeStays code_same e.sends) (λ _. kept_open CodeStays code_same e.sends n (λ m. new_send_lane m (first_send_limit e n) e.settings.send_buffer)),
-)
-
 keeps_after : (a b : End) → IsAfter a b → Keeps a b
 keeps_after a b after = (after.role, λ n l is. (let (m, there, h) = after.sends n l is in (m, there, h.stopped)))
 
@@ -79,38 +62,17 @@ code_reset : (code : ℕ) (l : SendLane) → CodeStays l (reset_lane l code)
 code_reset code l =
     cond_both (is_some (reset_refusal l)) l (record l { kept = []; was_reset = Some (record { code = code; size = if l.fin_sent then l.written else l.sent_end }) }) (CodeStays l) (λ _ is. is) (λ _ is. is)
 
-keeps_put : (f : Seen) (e : End) → Keeps e (frame_put f e)
-unfolding frame_put
-keeps_put (Stream n offset bytes fin) e = keeps_send n (λ l. sent_lane l (chunk_of offset bytes fin)) e (λ l is. is)
-keeps_put (Control (StreamDataBlocked n m)) e = keeps_send n blocked_lane e (λ l is. is)
-keeps_put f e = keeps_same e
+code_asked : (answers : Bool) (code : ℕ) (l : SendLane) → CodeStays l (stop_taken answers l code)
+code_asked true code l = cond_both (is_some (reset_refusal l)) l (record l { stopped = first_code l.stopped code }) (CodeStays l) (λ _ is. is) (λ _ is. has_code l.stopped code)
+code_asked false code l = cond_both (is_some (reset_refusal l)) l (record (broken_off l code) { stopped = first_code l.stopped code }) (CodeStays l) (λ _ is. is) (λ _ is. has_code l.stopped code)
 
-keeps_changed : (old : End) (call : Call) (c : Change) (e : End) → Comes old call e c → IsInCredit e → SentWasWritten e → Keeps e (changed c e)
-keeps_changed old call (Wanted Uni count) e comes sound sent = keeps_same e
-keeps_changed old call (Opened n) e comes sound sent = keeps_opens n e
-keeps_changed old call (Written n bytes l) e comes sound sent = keeps_send n (λ m. write_lane m bytes) e (λ m is. is)
-keeps_changed old call (Finished n) e comes sound sent = keeps_send n finish_lane e (λ l is. is)
-keeps_changed old call (WasReset n code) e comes sound sent = keeps_send n (λ m. reset_lane m code) e (code_reset code)
-keeps_changed old call (Raised p) e comes sound sent = (refl, kept_raised CodeStays code_same code_twice (λ limit l is. is) p e)
-keeps_changed old call (WasSet (SendBuffer n size)) e comes sound sent = keeps_send n (λ m. buffer_lane m size) e (λ l is. is)
-keeps_changed old call (WasTaken f) e comes sound sent = keeps_after e (frame_taken f e) (after_frame f e comes sound sent)
-keeps_changed old call (Acked count ranges) e comes sound sent =
-    keeps_after e (acks (take count (named e ranges)) e) (after_acks (take count (named e ranges)) e (all_take e.sends count (named e ranges) (named_written e ranges sent)))
-keeps_changed old call (Put f) e comes sound sent = keeps_put f e
-keeps_changed old call (WasSet (Grant Uni n)) e comes sound sent = keeps_same e
-keeps_changed old call (WasSet (StreamWindow n w)) e comes sound sent = keeps_same e
-keeps_changed old call c e comes sound sent = keeps_same e
+send_stays : (x : SendEdit) (l : SendLane) → CodeStays l (send_edited x l)
+send_stays (Resets code) l = code_reset code l
+send_stays (IsAsked answers code) l = code_asked answers code l
+send_stays x l = code_same l
 
-keeps_call : (old : End) → IsSound old → SentWasWritten old → (call : Call) (answer : Answer call) (new : End) → EndStep old call answer new → Keeps old new
-keeps_call old sound sent call answer new step =
-    each_call old call (λ e. IsInCredit e × SentWasWritten e × Keeps old e) (Keeps old) (record {
-      begins = (sound.0, sent, keeps_same old);
-      goes = λ c e comes h. (sound_change old call c e comes h.0, keeps_change old call c e comes h.1, keeps_twice old e (changed c e) h.2 (keeps_changed old call c e comes h.0 h.1));
-      stays = keeps_same old;
-      settles = λ e h. h.2;
-      loses = λ k p e is h. h;
-      claims = keeps_same old;
-    }) answer new step
+keeps_call : (old : End) (call : Call) (answer : Answer call) (new : End) → EndStep old call answer new → Keeps old new
+keeps_call old call answer new step = sends_kept CodeStays code_same code_twice send_stays old call answer new step
 
 -- What a frame did that was taken
 
@@ -143,7 +105,7 @@ module _ (a b : End) (keeps : Keeps a b) (recvs : KeptIn LaneAfter a.recvs b.rec
 
 -- every call keeps it
 pub call_still : (old : End) → IsSound old → SentWasWritten old → (call : Call) (answer : Answer call) (new : End) → EndStep old call answer new → (f : Seen) → StillDone old f → StillDone new f
-call_still old sound sent call answer new step = still_stays old new (keeps_call old sound sent call answer new step) (lanes_call old sound sent call answer new step)
+call_still old sound sent call answer new step = still_stays old new (keeps_call old call answer new step) (lanes_call old sound sent call answer new step)
 
 -- a call ends, and its number is recorded
 pub settled_still : (e : End) (f : Seen) → StillDone e f → StillDone (settle e) f

@@ -9,7 +9,7 @@ use Rattle.qs_calls.specs.declared.settings.Settings.{Settings}
 use Rattle.qs_calls.specs.declared.event.Side.{Side}
 use Rattle.qs_machine.specs.Ends.{is_uni, is_own_by, window_by, window}
 use Rattle.qs_machine.specs.Credit.{all_sent, all_taken}
-use Rattle.qs_machine.proofs.Sound.{WindowsFit, windows_fit}
+use Rattle.qs_machine.proofs.CallsSound.{WindowsFit, windows_fit}
 use Rattle.qs_runs.specs.Logs.{History, other, read, written}
 use Rattle.qs_runs.specs.Worlds.{World, end_of}
 use Rattle.qs_runs.specs.Pasts.{past}
@@ -17,12 +17,12 @@ use Rattle.qs_runs.specs.Clauses.{sending, receiving}
 use Rattle.qs_runs.specs.Invariant.{WorldOk, RecvSlot}
 use Rattle.qs_runs.proofs.Lists.{same_length_prefix}
 use Rattle.qs_runs.proofs.Runs.{run_keeps}
-use Rattle.qs_runs.proofs.Agrees.{prefix}
+use Rattle.qs_runs.proofs.Clauses.{prefix}
 use Rattle.qs_rest.specs.Invariant.{RestOk}
 use Rattle.qs_rest.specs.Rest.{AtRest}
 use Rattle.qs_rest.specs.Resting.{AtEachRest, OnceTold, KnowsFirstLimits, HasRoom, IsReadAtBoth, IsAhead, HasCreditAhead, AllIsDelivered}
-use Rattle.qs_rest.proofs.EveryRun.{every_run_keeps}
-use Rattle.qs_rest.proofs.Lanes.{full, ahead, all_or_limit, end_acked}
+use Rattle.qs_rest.proofs.Runs.{every_run_keeps}
+use Rattle.qs_rest.proofs.Telling.{full, ahead, all_or_limit, end_acked}
 use Rattle.qs_rest.proofs.Resting.{limits_known, window_known}
 use Rattle.qs_rest.proofs.Streams.{lawful, sender_ok, reader_ok, no_reset_known, acked_sent, end_sent, sent_alone, taken_sent, all_was_taken, is_read}
 

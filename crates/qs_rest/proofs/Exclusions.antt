@@ -22,13 +22,13 @@ use Rattle.qs_machine.specs.Ends.{End, recv_lane, window, is_uni, is_own, new_en
 use Rattle.qs_machine.specs.Due.{IsDue, IsEndDue, IsCurrent, Sendable}
 use Rattle.qs_machine.specs.Examples.{standard, client_of}
 use Rattle.qs_machine.specs.SmallEnds.{client_with, wrote, reset_half, finished, fresh, three_came}
-use Rattle.qs_machine.proofs.Bounds.{no_lane}
+use Rattle.qs_machine.proofs.Counts.{no_lane}
 use Rattle.qs_machine.proofs.SmallEndsLaws.{one_carried, only_open}
 use Rattle.qs_rest.specs.Rest.{TellsNoNews, HasMore, AtRest}
 use Rattle.qs_calls.specs.declared.event.Side.TheVariants.{A}
 use Rattle.qs_rest.specs.Resting.{IsLeftToOwner}
 use Rattle.qs_rest.specs.Exclusions.{reads_by, beside_server, answering, stopped, IsAtRest, IsNotAtRest, IsLeft, IsNotLeft, Exclusions}
-use Rattle.qs_rest.proofs.EveryRun.{no_half}
+use Rattle.qs_rest.proofs.Runs.{no_half}
 
 -- An end without a sending half, of which nothing is to be told, and whose readers neither stopped nor had a limit raised.
 pub record IsSilent (e : End) : Type 0 where

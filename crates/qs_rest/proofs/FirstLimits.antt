@@ -1,32 +1,24 @@
 -- An end that was told its peer's true limits knows them from then on.
-use Rattle.std.proofs.Common.{◌≡◌, ℕ, ◌≤◌, List, [], ◌∷◌, take, Result, Ok, inl, inr, refl, sym, ap, subst, arith, le_antisymm}
+use Rattle.std.proofs.Common.{◌≡◌, ◌≤◌, [], ◌∷◌, take, Ok, inl, inr, refl, sym, ap, subst, arith, le_antisymm}
 use Rattle.qs_wire.specs.declared.stream_id.Dir.TheVariants.{Uni}
 use Rattle.qs_calls.specs.Settings.{limits_of, default_tuning}
 use Rattle.qs_calls.specs.declared.settings.Settings.{Settings}
 use Rattle.qs_calls.specs.declared.settings.PeerLimits.{PeerLimits}
-use Rattle.qs_calls.specs.declared.closing.Closing.{Closing}
-use Rattle.qs_calls.specs.declared.closing.Received.{Received}
 use Rattle.qs_calls.specs.declared.event.Side.{Side}
 use Rattle.qs_calls.specs.declared.event.Side.TheVariants.{A}
-use Rattle.qs_calls.specs.declared.event.Act.{Act}
-use Rattle.qs_calls.specs.declared.event.Act.TheVariants as acts
-use Rattle.qs_calls.specs.declared.answer.Answer.{Answer}
-use Rattle.qs_calls.specs.declared.answer.Answer.TheVariants as answers
 use Rattle.qs_machine.specs.Ends.{End}
-use Rattle.qs_machine.specs.Receiving.{ReceiveStep}
 use Rattle.qs_machine.specs.Raising.{RaiseStep, raise_refusal, greater_limits}
-use Rattle.qs_machine.specs.Setting.{Grant, StreamWindow}
+use Rattle.qs_machine.specs.Setting.{Grant, StreamWindow, SendBuffer}
 use Rattle.qs_machine.specs.FrameStep.{named, acks, frame_taken}
 use Rattle.qs_machine.specs.Lawful.{frame_put}
-use Rattle.qs_machine.specs.EndStep.{Call, Answer as CallAnswer, EndStep, Consume, Receive, TakeFrame, TakeFrames, TokenAcked, TokenLost, MakeAck, FillIn, RaiseLimits, Set, StopAndForget, AcceptOf}
+use Rattle.qs_machine.specs.EndStep.{Call, Answer as CallAnswer, EndStep}
 use Rattle.qs_machine.proofs.Leaves.{acks_leave, put_leaves, frame_leaves}
 use Rattle.qs_machine.proofs.EveryCall.{Change, changed, Comes, relates, Wanted, Took, Acked, Put, Raised, WasSet}
-use Rattle.qs_runs.specs.Logs.{Happening, Did, MadeAck, FilledIn, ConsumedUpTo, AckedToken, LostToken, RaisedLimits, CameWith, CameAlone, History, happened, other, HasSet, Forgot, AcceptedOf}
-use Rattle.qs_machine.specs.Setting.{SendBuffer}
-use Rattle.qs_runs.specs.Worlds.{World, AreGranted, end_of, EventStep, WorldStep, Run}
+use Rattle.qs_runs.specs.Logs.{Happening, Did, RaisedLimits, History, happened, other}
+use Rattle.qs_runs.specs.Worlds.{World, AreGranted, end_of, WorldStep, Run}
 use Rattle.qs_runs.specs.Invariant.{WorldOk}
 use Rattle.qs_runs.proofs.Standing.{certain_cases}
-use Rattle.qs_runs.proofs.Granting.{own_call}
+use Rattle.qs_runs.proofs.Stays.{each_side}
 use Rattle.qs_runs.proofs.NewEnds.{first_world, made_first, made_wide}
 use Rattle.qs_runs.proofs.Runs.{two_sides, run_keeps, granted_limits, event_runs, settings_stay}
 use Rattle.qs_rest.specs.Resting.{KnowsFirstLimits, FirstLimitsStay, TakenInIsTold, EventRunsTell}
@@ -91,38 +83,8 @@ call_rises : (old : End) (call : Call) (answer : CallAnswer call) (new : End) �
 call_rises old call answer new step =
     relates (λ e f. Rises e.peer f.peer) (λ e. rises_same e.peer) (λ e f g x y. rises_twice e.peer f.peer g.peer x y) old call (change_rises old call) answer new step
 
-module _ (v w : World) (s : Side) where
-  abbrev RiseAt : Side → Type 0
-  RiseAt t = Rises (end_of v t).peer (end_of w t).peer
-
-  alone_rises : (call : Call) (answer : CallAnswer call) → EndStep (end_of v s) call answer (end_of w s) → end_of w (other s) ≡ end_of v (other s) → (t : Side) → RiseAt t
-  alone_rises call answer step same = two_sides RiseAt s (call_rises (end_of v s) call answer (end_of w s) step) (same_peer (end_of v (other s)) (end_of w (other s)) (ap (λ (x : End). x.peer) same))
-
-  there_rises : (call : Call) (answer : CallAnswer call) → EndStep (end_of v (other s)) call answer (end_of w (other s)) → end_of w s ≡ end_of v s → (t : Side) → RiseAt t
-  there_rises call answer step same = two_sides RiseAt s (same_peer (end_of v s) (end_of w s) (ap (λ (x : End). x.peer) same)) (call_rises (end_of v (other s)) call answer (end_of w (other s)) step)
-
-  comes_rises : (k : ℕ) (bytes : List ℕ) (result : Result Received Closing) → ReceiveStep (end_of v (other s)) k bytes result (end_of w (other s)) → end_of w s ≡ end_of v s → (t : Side) → RiseAt t
-  comes_rises k bytes result step same = there_rises (Receive k bytes) result step same
-
-  event_rises : (h : History) (act : Act) (answer : Answer) → EventStep h v s act answer w → (t : Side) → RiseAt t
-  event_rises h (acts.Deliver k) (answers.Deliver result) (text, is, step, same) = comes_rises k text result step same
-  event_rises h (acts.Deliver k) answer step = absurd step
-  event_rises h act answer step = (let (call, given, is, own) = own_call (end_of v s) (end_of w s) act answer step.0 in alone_rises call given is step.1)
-
 step_rises : (h : History) (v w : World) (x : Happening) → WorldStep h v x w → (t : Side) → Rises (end_of v t).peer (end_of w t).peer
-step_rises h v w (Did event answer) step = event_rises v w event.end h event.act answer step
-step_rises h v w (MadeAck s room result text) ((delay, step), same) = alone_rises v w s (MakeAck delay room) (result, text) step same
-step_rises h v w (FilledIn s want room result text) (step, same) = alone_rises v w s (FillIn want room) (result, text) step same
-step_rises h v w (ConsumedUpTo s n most result bytes) ((step, taken), same) = alone_rises v w s (Consume n most) result step same
-step_rises h v w (LostToken s token result) (step, same) = alone_rises v w s (TokenLost token) result step same
-step_rises h v w (AckedToken s token result) ((landed, step), same) = alone_rises v w s (TokenAcked token) result step same
-step_rises h v w (RaisedLimits s limits result) ((granted, step), same) = alone_rises v w s (RaiseLimits limits) result step same
-step_rises h v w (HasSet s setting result) (step, same) = alone_rises v w s (Set setting) result step same
-step_rises h v w (Forgot s n code result) (step, same) = alone_rises v w s (StopAndForget n code) result step same
-step_rises h v w (AcceptedOf s d result) (step, same) = alone_rises v w s (AcceptOf d) result step same
-step_rises h v w (CameWith s k bytes result) (text, is, differ, step, same) = comes_rises v w s k bytes result step same
-step_rises h v w (CameAlone s parts result) (fs, there, inl step, same) = there_rises v w s (TakeFrames fs) result step same
-step_rises h v w (CameAlone s parts result) (fs, there, inr (f, is, step), same) = there_rises v w s (TakeFrame f) result step same
+step_rises h v w x step = each_side (λ e f. Rises e.peer f.peer) (λ e. rises_same e.peer) v w (λ t call answer made. call_rises (end_of v t) call answer (end_of w t) made) h x step
 
 -- an end that was told limits no lower than the true ones of its peer
 told_true : (a b : Settings) (h : History) (v w : World) (x : Happening) → Run a b h v → WorldStep h v x w → (s : Side) → Rises (limits_of (end_of v (other s)).settings) (end_of w s).peer → KnowsFirstLimits w s

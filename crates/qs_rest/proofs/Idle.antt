@@ -13,7 +13,7 @@ use Rattle.qs_runs.proofs.Runs.{run_keeps}
 use Rattle.qs_rest.specs.Invariant.{ToldTrue}
 use Rattle.qs_rest.specs.Rest.{AtRest, IdleIsRest}
 use Rattle.qs_rest.proofs.Telling.{no_news}
-use Rattle.qs_rest.proofs.EveryRun.{every_run_keeps}
+use Rattle.qs_rest.proofs.Runs.{every_run_keeps}
 
 none_outstanding : (e : End) → IsNextOutstanding e.outstanding 0 None → (p : Piece) → IsOutstanding e p → ⊥
 none_outstanding e none p (k, ps, is, among) = true≢false (sym (ap is_some is) ∙ none k (omega arith))

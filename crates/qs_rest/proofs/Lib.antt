@@ -1,16 +1,10 @@
 pub mod ItemParts
-pub mod EachCall
-pub mod Stops
 pub mod Halves
 pub mod Moves
 pub mod Effects
-pub mod Payloads
 pub mod Telling
-pub mod Alone
 pub mod Runs
-pub mod EveryRun
 pub mod FirstLimits
-pub mod Lanes
 pub mod Resting
 pub mod Streams
 pub mod Delivered

@@ -5,7 +5,6 @@ use Rattle.std.proofs.lemmas.Option.{same_Some}
 use Rattle.std.proofs.lemmas.Bool.{cond_both, cases_lt}
 use Rattle.std.specs.List.{AllByRecursion}
 use Rattle.std.specs.FinMap as fmap
-use Rattle.qs_wire.specs.declared.stream_id.Dir.{Dir}
 use Rattle.qs_wire.specs.declared.stream_id.Dir.TheVariants.{Bidi, Uni}
 use Rattle.qs_ranges.specs.Numbers.{MAX_VARINT}
 use Rattle.qs_send.specs.Lane.{SendLane, new_lane as new_send_lane, refusal, write_lane, finish_lane, buffer_lane, reset_lane, stop_taken, sent_lane, blocked_lane, allow_lane, acked_lane, reset_acked_lane}
@@ -15,13 +14,10 @@ use Rattle.qs_send.specs.declared.piece.Piece.{Piece}
 use Rattle.qs_send.specs.declared.piece.Piece.TheVariants.{Data, Told}
 use Rattle.qs_machine.specs.Tables.{Tables, lookup, updated, open_to}
 use Rattle.qs_machine.specs.Ends.{End, AckedItems, on_send, is_own, is_uni, opens, opened_by_peer, first_send_limit}
-use Rattle.qs_machine.specs.Credit.{settle}
-use Rattle.qs_machine.specs.Setting.{Setting, ConnWindow, Grant, SendBuffer, with_setting, StreamWindow}
+use Rattle.qs_machine.specs.Setting.{Grant, SendBuffer, StreamWindow}
 use Rattle.qs_machine.specs.Seen.{Seen, Ack, Stream, Control, Close, Plain}
 use Rattle.qs_machine.specs.FrameStep.{AckedPiece, frame_taken, item_taken, piece_acked, item_acked, acks, without_piece, first_acked, named, greatest, or_zero}
-use Rattle.qs_machine.specs.Lawful.{Fills, frame_put, item_put, chunk_of}
-use Rattle.qs_machine.specs.Owner.{with_wanted}
-use Rattle.qs_machine.specs.Making.{losses, first_lost}
+use Rattle.qs_machine.specs.Lawful.{frame_put, item_put, chunk_of}
 use Rattle.qs_machine.proofs.TableLaws.{slots_updated, slots_opened}
 use Rattle.qs_machine.proofs.TablesAfter.{KeptIn, kept_same, kept_twice, kept_updated, kept_open}
 use Rattle.qs_runs.specs.Pasts.{Past}
@@ -29,7 +25,11 @@ use Rattle.qs_runs.proofs.Members.{insert-cases, get-inserted}
 use Rattle.qs_runs.proofs.Acking.{WasAcked}
 use Rattle.qs_rest.specs.Invariant.{WasTold, AckedTrue, HalfTrue}
 use Rattle.qs_rest.proofs.Halves.{Lasts, lasts_same, lasts_twice, write_lasts, finish_lasts, buffer_lasts, reset_lasts, stopped_lasts, sent_lasts, blocked_lasts, allow_lasts, acked_lasts, reset_acked_lasts, write_true, finish_true, buffer_true, reset_true, stopped_true, sent_true, blocked_true, allow_true, acked_true, reset_acked_true}
-use Rattle.qs_rest.proofs.EachCall.{Edits}
+use Rattle.qs_machine.specs.EndStep.{Call, Answer, EndStep}
+use Rattle.qs_machine.proofs.EveryCall.{Change, changed, Comes, HearsPeer, hears, relates, Wanted, Opened, Written, Finished, WasReset, Raised, WasSet, Took, Acked, Put}
+use Rattle.qs_calls.specs.declared.settings.PeerLimits.{PeerLimits}
+use Rattle.qs_calls.specs.declared.settings.Tuning.{Tuning}
+use Rattle.qs_wire.specs.declared.stream_id.Role.{Role}
 
 -- what holds of a sending half that is open
 abbrev pub SlotTrue : Past → ℕ → ℕ → Option SendLane → Type 0
@@ -40,8 +40,24 @@ SlotTrue p n first (Some l) = HalfTrue p n first l
 abbrev pub AllTrue : Past → End → Type 0
 AllTrue p e = (n : ℕ) → SlotTrue p n (first_send_limit e n) (lookup e.sends n)
 
--- What an end keeps, and what holds of it then.
-pub record Moved (p : Past) (old new : End) : Type 0 where
+-- What of an end its sending side is.
+pub record Outgoing : Type 0 where
+  pub role : Role
+  pub peer : PeerLimits
+  pub tuning : Tuning
+  pub known_data : ℕ
+  pub known_bidi : ℕ
+  pub known_uni : ℕ
+  pub sends : Tables SendLane
+  pub acked : AckedItems
+  pub first : ℕ → ℕ
+
+abbrev pub outgoing : End → Outgoing
+outgoing e =
+    record { role = e.role; peer = e.peer; tuning = e.tuning; known_data = e.known_data; known_bidi = e.known_bidi; known_uni = e.known_uni; sends = e.sends; acked = e.acked; first = first_send_limit e }
+
+-- What of it stays, and what holds of it then.
+pub record MovedTo (p : Past) (old new : Outgoing) : Type 0 where
   pub role : new.role ≡ old.role
   pub peer : new.peer ≡ old.peer
   pub tuning : new.tuning ≡ old.tuning
@@ -49,8 +65,11 @@ pub record Moved (p : Past) (old new : End) : Type 0 where
   pub bidi : old.known_bidi ≤ new.known_bidi
   pub uni : old.known_uni ≤ new.known_uni
   pub sends : KeptIn Lasts old.sends new.sends
-  pub halves : AllTrue p new
+  pub halves : (n : ℕ) → SlotTrue p n (new.first n) (lookup new.sends n)
   pub acked : AckedTrue p new.acked
+
+abbrev pub Moved : Past → End → End → Type 0
+Moved p old new = MovedTo p (outgoing old) (outgoing new)
 
 module _ (p : Past) where
   pub moved_twice : (a b c : End) → Moved p a b → Moved p b c → Moved p a c
@@ -140,66 +159,35 @@ module _ (p : Past) where
 
   put_moved : (f : Seen) (e : End) → AllTrue p e → AckedTrue p e.acked → Moved p e (frame_put f e)
   unfolding frame_put
-  put_moved (Ack largest ranges) e all acked = record { role = refl; peer = refl; tuning = refl; conn = omega arith; bidi = omega arith; uni = omega arith; sends = kept_all e.sends; halves = all; acked = acked }
+  put_moved (Ack largest ranges) e all acked = moved_same e all acked
   put_moved (Stream n offset bytes fin) e all acked =
-      let h = half_moved e n (λ l. sent_lane l (chunk_of offset bytes fin)) all acked (λ l is. sent_lasts l (chunk_of offset bytes fin)) (λ l is t. sent_true p n _ l t (chunk_of offset bytes fin)) in
-      record { role = refl; peer = refl; tuning = refl; conn = h.conn; bidi = h.bidi; uni = h.uni; sends = h.sends; halves = h.halves; acked = h.acked }
-  put_moved (Control i) e all acked =
-      let h = item_put_moved i e all acked in
-      record { role = h.role; peer = h.peer; tuning = h.tuning; conn = h.conn; bidi = h.bidi; uni = h.uni; sends = h.sends; halves = h.halves; acked = h.acked }
+      half_moved e n (λ l. sent_lane l (chunk_of offset bytes fin)) all acked (λ l is. sent_lasts l (chunk_of offset bytes fin)) (λ l is t. sent_true p n _ l t (chunk_of offset bytes fin))
+  put_moved (Control i) e all acked = item_put_moved i e all acked
   put_moved (Close code) e all acked = moved_same e all acked
   put_moved (Plain asks) e all acked = moved_same e all acked
 
-  fills_moved : (old e : End) (frames : List Seen) (mid : End) → AllTrue p e → AckedTrue p e.acked → Fills old e frames mid → Moved p e mid
-  fills_moved old e [] mid all acked is = subst (Moved p e) (sym is) (moved_same e all acked)
-  fills_moved old e (f ∷ fs) mid all acked fills =
-      let one = put_moved f e all acked in
-      moved_twice e (frame_put f e) mid one (fills_moved old (frame_put f e) fs mid one.halves one.acked fills.1)
+  -- Calls in which it hears nothing of its peer
 
-  losses_moved : (k : ℕ) (ps : List Piece) (e : End) → AllTrue p e → AckedTrue p e.acked → Moved p e (losses k ps e)
-  unfolding losses
-  losses_moved k [] e all acked = moved_same e all acked
-  losses_moved k (x ∷ ps) e all acked =
-      let h = losses_moved k ps (first_lost k x e) all acked in
-      record { role = h.role; peer = h.peer; tuning = h.tuning; conn = h.conn; bidi = h.bidi; uni = h.uni; sends = h.sends; halves = h.halves; acked = h.acked }
+  moved_change : (old : End) (call : Call) → (HearsPeer call → ⊥) → (c : Change) (e : End) → Comes old call e c → AllTrue p e → AckedTrue p e.acked → Moved p e (changed c e)
+  moved_change old call deaf (Wanted Uni count) e comes all acked = moved_same e all acked
+  moved_change old call deaf (Opened n) e comes all acked = opens_moved n e all acked
+  moved_change old call deaf (Written n bytes l) e comes all acked =
+      half_moved e n (λ m. write_lane m bytes) all acked (λ m there. write_lasts m bytes (subst (λ x. refusal x ≡ None) (same_Some l m (sym comes.0 ∙ there)) comes.1))
+      (λ m there h. write_true p n _ m h bytes (subst (λ (x : SendLane). length bytes ≤ MAX_VARINT - x.written) (same_Some l m (sym comes.0 ∙ there)) comes.2))
+  moved_change old call deaf (Finished n) e comes all acked = half_moved e n finish_lane all acked (λ l is. finish_lasts l) (λ l is h. finish_true p n _ l h)
+  moved_change old call deaf (WasReset n code) e comes all acked = half_moved e n (λ m. reset_lane m code) all acked (λ l is. reset_lasts code l) (λ l is h. reset_true p n _ l h code)
+  moved_change old call deaf (WasSet (SendBuffer n size)) e comes all acked = half_moved e n (λ m. buffer_lane m size) all acked (λ l is. buffer_lasts l size) (λ l is h. buffer_true p n _ l h size)
+  moved_change old call deaf (WasSet (Grant Uni n)) e comes all acked = moved_same e all acked
+  moved_change old call deaf (WasSet (StreamWindow n w)) e comes all acked = moved_same e all acked
+  moved_change old call deaf (Raised limits) e comes all acked = absurd (deaf (hears call comes))
+  moved_change old call deaf (Took f) e comes all acked = absurd (deaf comes.1)
+  moved_change old call deaf (Acked count ranges) e comes all acked = absurd (deaf comes)
+  moved_change old call deaf (Put f) e comes all acked = put_moved f e all acked
+  moved_change old call deaf c e comes all acked = moved_same e all acked
 
-  wanted_moved : (d : Dir) (count : ℕ) (e : End) → AllTrue p e → AckedTrue p e.acked → Moved p e (with_wanted d count e)
-  wanted_moved Bidi count e all acked = record { role = refl; peer = refl; tuning = refl; conn = omega arith; bidi = omega arith; uni = omega arith; sends = kept_all e.sends; halves = all; acked = acked }
-  wanted_moved Uni count e all acked = record { role = refl; peer = refl; tuning = refl; conn = omega arith; bidi = omega arith; uni = omega arith; sends = kept_all e.sends; halves = all; acked = acked }
-
-  -- what is set anew leaves what is known of the peer, and of sending halves all but a buffer
-  pub set_moved : (e : End) → AllTrue p e → AckedTrue p e.acked → (x : Setting) → Moved p e (settle (with_setting x e))
-  set_moved e all acked (ConnWindow w) = record { role = refl; peer = refl; tuning = refl; conn = omega arith; bidi = omega arith; uni = omega arith; sends = kept_all e.sends; halves = all; acked = acked }
-  set_moved e all acked (Grant Bidi n) = record { role = refl; peer = refl; tuning = refl; conn = omega arith; bidi = omega arith; uni = omega arith; sends = kept_all e.sends; halves = all; acked = acked }
-  set_moved e all acked (Grant Uni n) = record { role = refl; peer = refl; tuning = refl; conn = omega arith; bidi = omega arith; uni = omega arith; sends = kept_all e.sends; halves = all; acked = acked }
-  set_moved e all acked (StreamWindow n w) = record { role = refl; peer = refl; tuning = refl; conn = omega arith; bidi = omega arith; uni = omega arith; sends = kept_all e.sends; halves = all; acked = acked }
-  set_moved e all acked (SendBuffer n size) =
-      let h = half_moved e n (λ m. buffer_lane m size) all acked (λ l is. buffer_lasts l size) (λ l is h. buffer_true p n _ l h size) in
-      record { role = h.role; peer = h.peer; tuning = h.tuning; conn = h.conn; bidi = h.bidi; uni = h.uni; sends = h.sends; halves = h.halves; acked = h.acked }
-
-  -- each call of an owner
-  pub moved_edits : (old : End) → AllTrue p old → AckedTrue p old.acked → Edits (Moved p old) old
-  moved_edits old all acked =
-      record {
-        same = moved_same old all acked;
-        settles = λ mid h. record { role = h.role; peer = h.peer; tuning = h.tuning; conn = h.conn; bidi = h.bidi; uni = h.uni; sends = h.sends; halves = h.halves; acked = h.acked };
-        wants = λ d count. wanted_moved d count old all acked;
-        opened = λ n. opens_moved n old all acked;
-        accepts = λ bidi uni. record { role = refl; peer = refl; tuning = refl; conn = omega arith; bidi = omega arith; uni = omega arith; sends = kept_all old.sends; halves = all; acked = acked };
-        writes = λ n bytes l is fine few. half_moved old n (λ m. write_lane m bytes) all acked
-            (λ m there. write_lasts m bytes (subst (λ x. refusal x ≡ None) (same_Some l m (sym is ∙ there)) fine))
-            (λ m there h. write_true p n _ m h bytes (subst (λ (x : SendLane). length bytes ≤ MAX_VARINT - x.written) (same_Some l m (sym is ∙ there)) few));
-        finishes = λ n. half_moved old n finish_lane all acked (λ l is. finish_lasts l) (λ l is h. finish_true p n _ l h);
-        resets = λ n code. half_moved old n (λ m. reset_lane m code) all acked (λ l is. reset_lasts code l) (λ l is h. reset_true p n _ l h code);
-        stops = λ n code. record { role = refl; peer = refl; tuning = refl; conn = omega arith; bidi = omega arith; uni = omega arith; sends = kept_all old.sends; halves = all; acked = acked };
-        forgets = λ n code. record { role = refl; peer = refl; tuning = refl; conn = omega arith; bidi = omega arith; uni = omega arith; sends = kept_all old.sends; halves = all; acked = acked };
-        reads = λ n size. record { role = refl; peer = refl; tuning = refl; conn = omega arith; bidi = omega arith; uni = omega arith; sends = kept_all old.sends; halves = all; acked = acked };
-        reads_again = λ n first next. record { role = refl; peer = refl; tuning = refl; conn = omega arith; bidi = omega arith; uni = omega arith; sends = kept_all old.sends; halves = all; acked = acked };
-        fills = λ frames mid fills.
-            let h = fills_moved old old frames mid all acked fills in
-            record { role = h.role; peer = h.peer; tuning = h.tuning; conn = h.conn; bidi = h.bidi; uni = h.uni; sends = h.sends; halves = h.halves; acked = h.acked };
-        loses = λ k ps. losses_moved k ps old all acked;
-      }
+  pub moved_call : (old : End) (call : Call) → (HearsPeer call → ⊥) → AllTrue p old → AckedTrue p old.acked → (answer : Answer call) (new : End) → EndStep old call answer new → Moved p old new
+  moved_call old call deaf all acked answer new step =
+      relates (λ a b. AllTrue p a → AckedTrue p a.acked → Moved p a b) moved_same (λ a b c x y now told. (let m = x now told in moved_twice a b c m (y m.halves m.acked))) old call (moved_change old call deaf) answer new step all acked
 
   -- Acknowledgements
 
@@ -271,8 +259,7 @@ module _ (p : Past) where
   acks_moved (a ∷ pieces) e was all acked =
       let short = without_piece a.late a.number e in
       let one = piece_moved a short was.0 all acked in
-      let first : Moved p e (first_acked a e) = record { role = one.role; peer = one.peer; tuning = one.tuning; conn = one.conn; bidi = one.bidi; uni = one.uni; sends = one.sends; halves = one.halves; acked = one.acked } in
-      moved_twice e (first_acked a e) _ first (acks_moved pieces (first_acked a e) was.1 first.halves first.acked)
+      moved_twice e (first_acked a e) (acks pieces (first_acked a e)) one (acks_moved pieces (first_acked a e) was.1 one.halves one.acked)
 
   -- A frame that takes effect
 
@@ -280,16 +267,14 @@ module _ (p : Past) where
       → ((l : SendLane) → HalfTrue p n (first_send_limit (opened_by_peer n e) n) l → HalfTrue p n (first_send_limit (opened_by_peer n e) n) (f l)) → Moved p e (on_send n f (opened_by_peer n e))
   changed_moved n f e all acked lasts change =
       let one = opened_moved n e all acked in
-      moved_twice e (opened_by_peer n e) _ one (half_moved (opened_by_peer n e) n f one.halves one.acked (λ l is. lasts l) (λ l is. change l))
+      moved_twice e (opened_by_peer n e) (on_send n f (opened_by_peer n e)) one (half_moved (opened_by_peer n e) n f one.halves one.acked (λ l is. lasts l) (λ l is. change l))
 
   pub item_moved : (i : Item) (e : End) → AllTrue p e → AckedTrue p e.acked → Moved p e (item_taken i e)
   item_moved (MaxData m) e all acked = record { role = refl; peer = refl; tuning = refl; conn = omega arith; bidi = omega arith; uni = omega arith; sends = kept_all e.sends; halves = all; acked = acked }
   item_moved (MaxStreamData n m) e all acked = changed_moved n (λ l. allow_lane l m) e all acked (λ l. allow_lasts l m) (λ l h. allow_true p n _ l h m)
   item_moved (MaxStreams Bidi m) e all acked = record { role = refl; peer = refl; tuning = refl; conn = omega arith; bidi = omega arith; uni = omega arith; sends = kept_all e.sends; halves = all; acked = acked }
   item_moved (MaxStreams Uni m) e all acked = record { role = refl; peer = refl; tuning = refl; conn = omega arith; bidi = omega arith; uni = omega arith; sends = kept_all e.sends; halves = all; acked = acked }
-  item_moved (ResetStream n code size) e all acked =
-      let h = opened_moved n e all acked in
-      record { role = h.role; peer = h.peer; tuning = h.tuning; conn = h.conn; bidi = h.bidi; uni = h.uni; sends = h.sends; halves = h.halves; acked = h.acked }
+  item_moved (ResetStream n code size) e all acked = opened_moved n e all acked
   item_moved (StopSending n code) e all acked = changed_moved n (λ l. stop_taken e.tuning.answers_stops l code) e all acked (stopped_lasts e.tuning.answers_stops code) (λ l h. stopped_true p n _ l h e.tuning.answers_stops code)
   item_moved (DataBlocked m) e all acked = moved_same e all acked
   item_moved (StreamDataBlocked n m) e all acked = opened_moved n e all acked
@@ -298,9 +283,7 @@ module _ (p : Past) where
   pub frame_moved : (f : Seen) (e : End) → ((largest : ℕ) (ranges : List (ℕ × ℕ)) → f ≡ Ack largest ranges → AllByRecursion (WasAcked p) (named e ranges)) → AllTrue p e → AckedTrue p e.acked → Moved p e (frame_taken f e)
   unfolding frame_taken
   frame_moved (Ack largest ranges) e was all acked = acks_moved (named e ranges) e (was largest ranges refl) all acked
-  frame_moved (Stream n offset bytes fin) e was all acked =
-      let h = opened_moved n e all acked in
-      record { role = h.role; peer = h.peer; tuning = h.tuning; conn = h.conn; bidi = h.bidi; uni = h.uni; sends = h.sends; halves = h.halves; acked = h.acked }
+  frame_moved (Stream n offset bytes fin) e was all acked = opened_moved n e all acked
   frame_moved (Control i) e was all acked = item_moved i e all acked
   frame_moved (Close code) e was all acked = moved_same e all acked
   frame_moved (Plain asks) e was all acked = moved_same e all acked

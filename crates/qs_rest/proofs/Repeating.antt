@@ -30,11 +30,10 @@ use Rattle.qs_machine.specs.Standing.{IsSound}
 use Rattle.qs_machine.specs.Repeats.{SentWasWritten}
 use Rattle.qs_machine.specs.EndStep.{Call, Answer as CallAnswer, EndStep, Consume, Receive, TakeFrame, TakeFrames, TokenAcked, TokenLost, MakeAck, FillIn, RaiseLimits, Set, StopAndForget, AcceptOf}
 use Rattle.qs_machine.proofs.EveryCall.{by_open}
-use Rattle.qs_machine.proofs.Prefix.{seen_in, takes_prefix}
-use Rattle.qs_machine.proofs.Plains.{plain_nothing}
+use Rattle.qs_machine.proofs.Again.{seen_in, takes_prefix, all_done}
+use Rattle.qs_machine.proofs.Ways.{plain_nothing}
 use Rattle.qs_machine.proofs.TablesAfter.{kept_same}
 use Rattle.qs_machine.proofs.LanesAgain.{LaneAfter, lane_same}
-use Rattle.qs_machine.proofs.Again.{all_done}
 use Rattle.qs_runs.specs.Logs.{Part, Happening, Did, MadeAck, FilledIn, ConsumedUpTo, AckedToken, LostToken, RaisedLimits, CameWith, CameAlone, History, other, is_delivery, reads_of, is_done, is_taken, texts_of, payload, processed, took, own_calls, HasSet, Forgot, AcceptedOf}
 use Rattle.qs_runs.specs.Worlds.{World, end_of, OwnStep, EventStep, ComeAloneStep, WorldStep, Run}
 use Rattle.qs_runs.specs.Agree.{frames_in}
@@ -42,13 +41,10 @@ use Rattle.qs_runs.specs.Pasts.{Past, Packets, Tells, packets_of, past, seen_by,
 use Rattle.qs_runs.specs.Clauses.{HasArrived}
 use Rattle.qs_runs.specs.Invariant.{WorldOk}
 use Rattle.qs_runs.proofs.Past.{EachTaken-more, each_taken}
-use Rattle.qs_runs.proofs.Receives.{with_received}
+use Rattle.qs_runs.proofs.Receives.{with_received, with_took, AreHeldAt, held_told, held_holds, held_all, handed, taken_came, took_each}
 use Rattle.qs_runs.proofs.OwnMoves.{with_uses}
-use Rattle.qs_runs.proofs.Alone.{with_took, AreHeldAt, held_told, held_holds, held_all, handed, taken_came, took_each}
-use Rattle.qs_runs.proofs.Landing.{at_among}
-use Rattle.qs_runs.proofs.Parts.{parts_held, parts_fit}
+use Rattle.qs_runs.proofs.Histories.{at_among, parts_held, parts_fit, past_own, past_peer, past_sender, past_receiver, Makes, past_makes, past_peer_makes, makes_ack, makes_fill, makes_none, past_consumed, past_peer_consumed, past_raised, past_came, past_came_from, past_came_to, past_token, past_peer_token, did, theirs_mine, payload_seen, makes_set, makes_given, past_forgot}
 use Rattle.qs_runs.proofs.Lists.{All_at}
-use Rattle.qs_runs.proofs.Histories.{past_own, past_peer, past_sender, past_receiver, Makes, past_makes, past_peer_makes, makes_ack, makes_fill, makes_none, past_consumed, past_peer_consumed, past_raised, past_came, past_came_from, past_came_to, past_token, past_peer_token, did, theirs_mine, payload_seen, makes_set, makes_given, past_forgot}
 use Rattle.qs_runs.proofs.Granting.{own_call}
 use Rattle.qs_runs.proofs.Claims.{run_settled}
 use Rattle.qs_runs.proofs.Runs.{two_sides, run_keeps, is_open_end, ends_face, moved}
@@ -56,8 +52,7 @@ use Rattle.qs_runs.proofs.Unharmed.{told_fine}
 use Rattle.qs_rest.specs.Invariant.{ItemTaken}
 use Rattle.qs_rest.specs.Again.{FramesRepeat}
 use Rattle.qs_rest.proofs.Again.{StillDone, still_stays, keeps_same, call_still, settled_still, done_still, each_still, taken_again, each_again}
-use Rattle.qs_rest.proofs.Runs.{processed_or}
-use Rattle.qs_rest.proofs.EveryRun.{every_run_keeps}
+use Rattle.qs_rest.proofs.Runs.{processed_or, every_run_keeps}
 
 -- what holds of an end with this past
 abbrev Still : Past → End → Type 0
@@ -145,7 +140,7 @@ module _ (a b : Settings) (h : History) (v w : World) (s : Side) (ok : WorldOk a
 
   own_still : (act : Act) (answer : Answer) → is_delivery act ≡ false → OwnStep (end_of v s) act answer (end_of w s) → end_of w (other s) ≡ end_of v (other s) → AllStill (did s act answer)
   own_still act answer own step same =
-      let (call, given, calls, stands) = own_call (end_of v s) (end_of w s) act answer step in
+      let (call, given, calls, deaf) = own_call (end_of v s) (end_of w s) act answer step in
       both (did s act answer)
       (moved (λ p. Still p (end_of w s)) _ _ (past_own s act answer h own) (called s call given calls))
       (moved (λ p. Still p (end_of w (other s))) _ _ (past_peer s act answer h own) (made_there (seen_by act answer) same))

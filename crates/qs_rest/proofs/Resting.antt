@@ -21,14 +21,14 @@ use Rattle.qs_runs.specs.Worlds.{World, end_of}
 use Rattle.qs_runs.specs.Pasts.{past}
 use Rattle.qs_runs.specs.Clauses.{sending, receiving}
 use Rattle.qs_runs.specs.Invariant.{WorldOk}
-use Rattle.qs_runs.proofs.Landing.{confirmed_taken}
+use Rattle.qs_runs.proofs.Histories.{confirmed_taken}
 use Rattle.qs_runs.proofs.Runs.{run_keeps, opposite, known_counts}
 use Rattle.qs_runs.proofs.Clauses.{known_is_within_granted}
 use Rattle.qs_rest.specs.Invariant.{WasTold, ItemTaken, RestOk}
 use Rattle.qs_rest.specs.Rest.{AtRest}
 use Rattle.qs_rest.specs.Resting.{ItemsAreAcked, ToldIsTaken, AtEachRest, OnceTold, KnowsFirstLimits, KnowsItsLimits}
 use Rattle.qs_rest.proofs.ItemParts.{item_part}
-use Rattle.qs_rest.proofs.EveryRun.{every_run_keeps}
+use Rattle.qs_rest.proofs.Runs.{every_run_keeps}
 
 limit_by : (u b : Bool) (x y z : ℕ) → (if u then x else (if not b then y else z)) ≡ (if u then x else (if b then z else y))
 limit_by true b x y z = refl

@@ -1,7 +1,7 @@
 -- In every run each end keeps what holds of it beside the invariant of qs_runs.
-use Rattle.std.proofs.Common.{◌≡◌, ℕ, ◌≤◌, Bool, true, false, ◌==◌, ◌&&◌, List, [], ◌∷◌, map, take, ◌⊎◌, option_map, Option, Some, None, Result, Ok, Err, slice_get, refl, sym, ap, ◌∙◌, subst, arith, inl, inr, zero, suc, ◌+◌, ◌-◌}
+use Rattle.std.proofs.Common.{◌≡◌, ℕ, ◌≤◌, Bool, true, false, ◌==◌, ◌&&◌, List, [], ◌∷◌, map, take, ◌⊎◌, option_map, Option, Some, None, Result, Ok, Err, slice_get, refl, sym, ap, ◌∙◌, subst, arith, inl, inr, ◌/◌, ◌%◌, zero, suc, nat_cmp}
 use Rattle.std.specs.Prelude.{cond}
-use Rattle.std.proofs.lemmas.Bool.{eqb-true}
+use Rattle.std.proofs.lemmas.Bool.{eqb-true, false≢true}
 use Rattle.std.specs.List.{AllByRecursion}
 use Rattle.qs_wire.specs.Layout.{FrameValue}
 use Rattle.qs_wire.specs.Reading.{reading_of}
@@ -12,14 +12,11 @@ use Rattle.qs_calls.specs.declared.closing.Closing.{Closing}
 use Rattle.qs_calls.specs.declared.closing.Closed.{Closed}
 use Rattle.qs_calls.specs.declared.closing.Closer.{Closer}
 use Rattle.qs_calls.specs.declared.closing.Closer.TheVariants.{Us, Peer}
-use Rattle.qs_machine.specs.Receiving.{told_receive}
+use Rattle.qs_machine.specs.Receiving.{told_receive, ReceiveStep, ReceiveBy}
 use Rattle.qs_calls.specs.declared.closing.Closed.TheVariants.{ByUs, ByPeer}
 use Rattle.qs_calls.specs.declared.closing.Closed.TheVariants as closings
 use Rattle.qs_calls.specs.declared.closing.Received.{Received}
 use Rattle.qs_calls.specs.declared.closing.Received.TheVariants.{Duplicate, BelowFloor, PeerClosed}
-use Rattle.qs_calls.specs.declared.making.Made.{Made}
-use Rattle.qs_calls.specs.declared.making.LostFault.{LostFault}
-use Rattle.qs_calls.specs.declared.making.MakeFault.{MakeFault}
 use Rattle.qs_calls.specs.declared.reading.Consumed.{Consumed}
 use Rattle.qs_calls.specs.declared.uses.UseFault.{UseFault}
 use Rattle.qs_calls.specs.declared.token.Token.{Token}
@@ -28,64 +25,64 @@ use Rattle.qs_calls.specs.declared.token.TakeFault.{TakeFault}
 use Rattle.qs_calls.specs.declared.token.TokenFault.{TokenFault}
 use Rattle.qs_calls.specs.declared.settings.PeerLimits.{PeerLimits}
 use Rattle.qs_calls.specs.declared.settings.RaiseFault.{RaiseFault}
-use Rattle.qs_calls.specs.declared.settings.SetFault.{SetFault}
-use Rattle.qs_calls.specs.declared.uses.UseFault.{UseFault}
 use Rattle.qs_calls.specs.declared.event.Act.{Act}
 use Rattle.qs_calls.specs.declared.event.Act.TheVariants as acts
 use Rattle.qs_calls.specs.declared.answer.Answer.{Answer}
 use Rattle.qs_calls.specs.declared.answer.Answer.TheVariants as answers
-use Rattle.qs_machine.specs.Tables.{lookup}
-use Rattle.qs_machine.specs.Ends.{End, AckedItems, first_send_limit}
-use Rattle.qs_machine.specs.Receiving.{ReceiveStep, ReceiveBy}
+use Rattle.qs_machine.specs.Tables.{lookup, table, no_streams}
+use Rattle.qs_machine.specs.Ends.{End, AckedItems, first_send_limit, new_end, wide_end_made}
 use Rattle.qs_machine.specs.Credit.{settle}
-use Rattle.qs_machine.specs.Making.{MakeStep, LoseStep, make_refusal}
-use Rattle.qs_machine.specs.Owner.{ConsumeStep}
-use Rattle.qs_machine.proofs.CallsCounts.{sound_end}
-use Rattle.qs_machine.proofs.SentCalls.{keeps_call}
-use Rattle.qs_machine.specs.Alone.{token_refusal, TokenAckedStep, TokenLostStep, LosesEach}
+use Rattle.qs_machine.specs.Owner.{ConsumeStep, StopAndForgetStep}
+use Rattle.qs_machine.specs.Alone.{token_refusal, TokenAckedStep}
 use Rattle.qs_machine.specs.FrameStep.{AckedPiece, acks, named, frame_taken}
-use Rattle.qs_machine.proofs.Leaves.{acks_leave}
 use Rattle.qs_machine.specs.Raising.{RaiseStep, knows_limits, limits_raised, raise_refusal}
-use Rattle.qs_machine.specs.EndStep.{Call, Answer as CallAnswer, EndStep, Consume, Receive, TokenAcked, Make, Lose, RaiseLimits, Set, StopAndForget, AcceptOf}
-use Rattle.qs_machine.specs.Setting.{Setting, SetStep, set_refusal}
-use Rattle.qs_wire.specs.declared.stream_id.Dir.{Dir}
-use Rattle.qs_machine.specs.Owner.{AcceptOfStep, StopAndForgetStep}
-use Rattle.qs_calls.specs.declared.settings.SetFault.{SetFault}
+use Rattle.qs_machine.specs.EndStep.{Call, Answer as CallAnswer, EndStep, Consume, Receive, TokenAcked, RaiseLimits, StopAndForget, TakeFrame, TakeFrames, MakeAck, FillIn, TokenLost, Set, AcceptOf}
 use Rattle.qs_machine.specs.SettledLimits.{LimitsAreSettled}
-use Rattle.qs_machine.proofs.Raised.{kept_raised}
+use Rattle.qs_machine.proofs.EachHalf.{kept_raised}
 use Rattle.qs_machine.proofs.TablesAfter.{KeptIn}
-use Rattle.qs_machine.proofs.EveryCall.{by_open}
-use Rattle.qs_machine.proofs.SettledLimits.{calls_settle}
+use Rattle.qs_machine.proofs.EveryCall.{by_open, HearsPeer}
+use Rattle.qs_machine.proofs.SettledLimits.{calls_settle, new_ends_settled}
 use Rattle.qs_machine.proofs.CallsCounts.{settled_call}
-use Rattle.qs_runs.specs.Logs.{Part, is_done, was_told, is_in}
+use Rattle.qs_runs.specs.Logs.{Part, is_done, was_told, is_in, Happening, Did, MadeAck, FilledIn, ConsumedUpTo, AckedToken, LostToken, RaisedLimits, CameWith, CameAlone, History, other, is_delivery, reads_of, texts_of, payload, processed, took, own_calls, HasSet, Forgot, AcceptedOf}
 use Rattle.qs_runs.specs.Agree.{frames_in}
-use Rattle.qs_runs.specs.Worlds.{OwnStep, HandedIn}
-use Rattle.qs_runs.specs.Pasts.{Packets, Past, seen_by}
-use Rattle.qs_runs.specs.Invariant.{EndOk}
+use Rattle.qs_runs.specs.Worlds.{OwnStep, HandedIn, World, Begins, end_of, TakesBytes, DeliverStep, ComeWithStep, ComeAloneStep, EventStep, WorldStep}
+use Rattle.qs_runs.specs.Pasts.{Packets, Past, seen_by, packets_of, past}
+use Rattle.qs_runs.specs.Invariant.{EndOk, WorldOk}
 use Rattle.qs_runs.proofs.Lists.{All_take}
 use Rattle.qs_runs.proofs.Acking.{WasAcked}
-use Rattle.qs_runs.proofs.Alone.{with_took, with_token, AreHeldAt, held_told, held_holds, took_each, token_ok, token_pieces, or_cond}
-use Rattle.qs_runs.proofs.Packing.{Packs}
+use Rattle.qs_runs.proofs.Receives.{with_took, with_token, AreHeldAt, held_told, held_holds, took_each, token_ok, token_pieces, or_cond, with_received}
 use Rattle.qs_runs.proofs.Past.{Holds-more, Confirmed-more, EachTaken-more, each_taken}
-use Rattle.qs_runs.proofs.Changes.{AllGrow, all_grow_refl}
-use Rattle.qs_runs.proofs.Settling.{each_grows, raise_grows}
+use Rattle.qs_runs.proofs.Changes.{AllGrow, all_grow_refl, each_grows, raise_grows}
 use Rattle.qs_runs.proofs.Granting.{own_call}
 use Rattle.qs_machine.specs.Standing.{IsSound, CountsAreSettled}
 use Rattle.qs_machine.specs.Repeats.{SentWasWritten}
 use Rattle.qs_runs.proofs.Lasting.{call_grows}
-use Rattle.qs_runs.proofs.OwnMoves.{with_call, with_uses, with_packets}
-use Rattle.qs_runs.proofs.Raising.{allowed_at}
+use Rattle.qs_runs.proofs.OwnMoves.{with_call, with_uses, with_packets, allowed_at}
 use Rattle.qs_runs.proofs.Standing.{certain_cases}
 use Rattle.qs_runs.proofs.PeerMoves.{with_theirs}
-use Rattle.qs_runs.proofs.Receives.{with_received}
 use Rattle.qs_rest.specs.Invariant.{WasTold, AckedTrue, HalfTrue, ItemTaken, RestOk}
 use Rattle.qs_rest.proofs.Halves.{Lasts, lasts_same, lasts_twice, allow_lasts}
-use Rattle.qs_rest.proofs.EachCall.{each_own, consume_by, make_by, lose_by, forget_by, accept_of_by}
-use Rattle.qs_rest.proofs.Moves.{AllTrue, SlotTrue, Moved, moved_same, moved_edits, acks_moved, set_moved}
-use Rattle.qs_rest.proofs.Effects.{item_stays, items_stay}
-use Rattle.qs_rest.proofs.Telling.{AllTold, all_told, told_at, own_told, consume_told, packet_told, lost_told, told_settles, received_held, receive_told, handed_held, set_told, given_told, forget_told}
-use Rattle.qs_rest.proofs.Alone.{handed_came}
-use Rattle.qs_rest.proofs.Payloads.{After, takes, settled, not_done}
+use Rattle.qs_rest.proofs.Moves.{AllTrue, SlotTrue, Moved, moved_same, moved_call, acks_moved}
+use Rattle.qs_rest.proofs.Effects.{item_stays, items_stay, handed_came, After, takes, settled, not_done}
+use Rattle.qs_rest.proofs.Telling.{AllTold, all_told, told_at, told_call}
+use Rattle.std.proofs.lemmas.Option.{none-some}
+use Rattle.std.specs.Global.{Vec}
+use Rattle.std.specs.FinSet as set
+use Rattle.std.specs.FinMap as fmap
+use Rattle.qs_wire.specs.declared.stream_id.Role.{Role}
+use Rattle.qs_wire.specs.declared.stream_id.Role.TheVariants.{Client, Server}
+use Rattle.qs_calls.specs.declared.settings.Settings.{Settings}
+use Rattle.qs_calls.specs.declared.settings.Tuning.{Tuning}
+use Rattle.qs_calls.specs.declared.event.Side.{Side}
+use Rattle.qs_calls.specs.declared.event.Side.TheVariants.{A, B}
+use Rattle.qs_machine.proofs.Ways.{plain_nothing}
+use Rattle.qs_machine.proofs.Counts.{no_lane, new_ends_settled as new_counts_settled}
+use Rattle.qs_runs.proofs.Histories.{past_own, past_peer, past_sender, past_receiver, Makes, past_makes, past_peer_makes, makes_ack, makes_fill, makes_none, past_consumed, past_peer_consumed, past_raised, past_came, past_came_from, past_came_to, past_token, past_peer_token, did, theirs_mine, payload_seen, makes_set, makes_given, past_forgot, parts_held}
+use Rattle.qs_runs.proofs.NewEnds.{first_world, made_first, ends_made}
+use Rattle.qs_runs.proofs.Runs.{two_sides, run_keeps, is_open_end, moved}
+use Rattle.qs_rest.specs.Rest.{EveryRunKeeps}
+
+-- In every run each end keeps what holds of it beside the invariant of qs_runs.
 
 -- The past goes on
 
@@ -104,8 +101,8 @@ module _ (p q : Past) (more : (i : Item) → WasTold p i → WasTold q i) where
   half_more n first l h =
       record { first_limit = h.first_limit; small = h.small; reset_told = λ is. (let (code, size, told) = h.reset_told is in (code, size, more _ told)) }
 
-told_call : (p : Past) (act : Act) (answer : Answer) (i : Item) → WasTold p i → WasTold (with_call p act answer) i
-told_call p act answer i (k, holds, ack) = (k, Holds-more p.mine (seen_by act answer) k _ holds, ack)
+told_more : (p : Past) (act : Act) (answer : Answer) (i : Item) → WasTold p i → WasTold (with_call p act answer) i
+told_more p act answer i (k, holds, ack) = (k, Holds-more p.mine (seen_by act answer) k _ holds, ack)
 
 told_theirs : (p : Past) (packets : Packets) (i : Item) → WasTold p i → WasTold (with_theirs p packets) i
 told_theirs p packets i (k, holds, ack) = (k, holds, Confirmed-more p.theirs packets p.tokens k ack)
@@ -151,8 +148,8 @@ module _ (p : Past) (e new : End) (ok : RestOk p e) (m : Moved p e new) where
 
 -- a call that adds to the past only what was made, written or read
 module _ (p q : Past) (theirs : q.theirs ≡ p.theirs) (same : q.processed ≡ p.processed) (alone : q.took ≡ p.took) (more : (i : Item) → WasTold p i → WasTold q i) (e new : End) (sound : IsSound e) (sent : SentWasWritten e) (ok : RestOk p e) where
-  call_rests : (call : Call) (given : CallAnswer call) → EndStep e call given new → Moved p e new → AllTold new.recvs → RestOk q new
-  call_rests call given is m told =
+  call_rests : (call : Call) (given : CallAnswer call) → EndStep e call given new → Moved p e new → RestOk q new
+  call_rests call given is m =
       let grow = call_grows e new sound sent call given is in
       record {
         conn = known_conn p e new ok m;
@@ -160,7 +157,7 @@ module _ (p q : Past) (theirs : q.theirs ≡ p.theirs) (same : q.processed ≡ p
         uni = known_uni p e new ok m;
         sends = λ n l at. half_more p q more n _ l (slot_at p new m.halves n l at);
         acked = acked_more p q more new.acked m.acked;
-        told = told_at new told;
+        told = told_at new (told_call e sound sent (all_told e ok.told) call given new is);
         taken = record {
           packets = λ k done. (
               let (fs, there, all) = ok.taken.packets k (ap (λ d. d k) (sym same) ∙ done) in
@@ -175,10 +172,14 @@ module _ (p q : Past) (theirs : q.theirs ≡ p.theirs) (same : q.processed ≡ p
         counts = settled_call e call given new ok.counts is;
       }
 
+  -- and in which the end hears nothing of its peer
+  pub deaf_rests : (call : Call) → (HearsPeer call → ⊥) → (given : CallAnswer call) → EndStep e call given new → RestOk q new
+  deaf_rests call deaf given is = call_rests call given is (moved_call p e call deaf (slots p e ok) ok.acked given new is)
+
 pub own_rests : (p : Past) (e new : End) → IsSound e → SentWasWritten e → RestOk p e → (act : Act) (answer : Answer) → OwnStep e act answer new → RestOk (with_call p act answer) new
 own_rests p e new sound sent ok act answer step =
-    let (call, given, is, own) = own_call e new act answer step in
-    call_rests p (with_call p act answer) refl refl refl (told_call p act answer) e new sound sent ok call given is (each_own (Moved p e) e (moved_edits p e (slots p e ok) ok.acked) act answer new step) (own_told e new (all_told e ok.told) act answer step)
+    let (call, given, is, deaf) = own_call e new act answer step in
+    deaf_rests p (with_call p act answer) refl refl refl (told_more p act answer) e new sound sent ok call deaf given is
 
 -- bytes are taken without a copy: whatever reads count for that
 told_uses : (p : Past) (calls : List (Act × Answer)) (i : Item) → WasTold p i → WasTold (with_uses p calls) i
@@ -192,65 +193,19 @@ same_uses p (c ∷ calls) = same_uses p calls
 pub consume_rests : (p : Past) (calls : List (Act × Answer)) (e new : End) → IsSound e → SentWasWritten e → RestOk p e → (n most : ℕ) (result : Result Consumed UseFault) → ConsumeStep e n most result new → RestOk (with_uses p calls) new
 consume_rests p calls e new sound sent ok n most result step =
     let (theirs, processed, took) = same_uses p calls in
-    call_rests p (with_uses p calls) theirs processed took (told_uses p calls) e new sound sent ok (Consume n most) result step
-    (consume_by (Moved p e) e (moved_edits p e (slots p e ok) ok.acked) n most result new step) (consume_told e new (all_told e ok.told) n most result step)
+    deaf_rests p (with_uses p calls) theirs processed took (told_uses p calls) e new sound sent ok (Consume n most) (λ no. no) result step
 
 -- a stream is stopped and forgotten
 pub forget_rests : (p : Past) (e new : End) → IsSound e → SentWasWritten e → RestOk p e → (n code : ℕ) (result : Result (Unit {0}) UseFault) → StopAndForgetStep e n code result new → RestOk (with_call p (acts.Stop n code) (answers.Stop result)) new
 forget_rests p e new sound sent ok n code result step =
-    call_rests p (with_call p (acts.Stop n code) (answers.Stop result)) refl refl refl (told_call p (acts.Stop n code) (answers.Stop result)) e new sound sent ok (StopAndForget n code) result step
-    (forget_by (Moved p e) e (moved_edits p e (slots p e ok) ok.acked) n code result new step) (forget_told e new (all_told e ok.told) n code result step)
+    deaf_rests p (with_call p (acts.Stop n code) (answers.Stop result)) refl refl refl (told_more p (acts.Stop n code) (answers.Stop result)) e new sound sent ok (StopAndForget n code) (λ no. no) result step
 
 told_packets : (p : Past) (packets : Packets) (i : Item) → WasTold p i → WasTold (with_packets p packets) i
 told_packets p packets i (k, holds, ack) = (k, Holds-more p.mine packets k _ holds, ack)
 
-packet_rests : (p : Past) (packets : Packets) (e new : End) → IsSound e → SentWasWritten e → RestOk p e → (first delay room : ℕ) (result : Result (Option Made) MakeFault) (text : List ℕ) → MakeStep e first delay room result text new → RestOk (with_packets p packets) new
-packet_rests p packets e new sound sent ok first delay room result text step =
-    call_rests p (with_packets p packets) refl refl refl (told_packets p packets) e new sound sent ok (Make first delay room) (result, text) step
-    (make_by (Moved p e) e (moved_edits p e (slots p e ok) ok.acked) (make_refusal e) first delay room result text new step) (packet_told e new (all_told e ok.told) first delay room result text step)
-
--- nothing changes but the past
-pub same_rests : (p : Past) (packets : Packets) (e : End) → RestOk p e → RestOk (with_packets p packets) e
-same_rests p packets e ok =
-    record {
-      conn = ok.conn;
-      bidi = ok.bidi;
-      uni = ok.uni;
-      sends = λ n l at. half_more p (with_packets p packets) (told_packets p packets) n _ l (ok.sends n l at);
-      acked = acked_more p (with_packets p packets) (told_packets p packets) e.acked ok.acked;
-      told = ok.told;
-      taken = ok.taken;
-      limits = ok.limits;
-      counts = ok.counts;
-    }
-
--- An ACK alone, and what is filled in, is a packet of a shorter room, or nothing changes.
-pub packs_rest : (p : Past) (texts : List (List ℕ)) (e new : End) → IsSound e → SentWasWritten e → RestOk p e → Packs e texts new → RestOk (with_packets p (map frames_in texts)) new
-packs_rest p texts e new sound sent ok packs =
-    elim packs [
-      | inl x ↦ packet_rests p (map frames_in texts) e new sound sent ok x.first x.delay x.room x.answer x.text x.step
-      | inr none ↦ subst (RestOk (with_packets p (map frames_in texts))) (sym none.1) (same_rests p (map frames_in texts) e ok)
-    ]
-
-lose_rests : (p : Past) (e new : End) → IsSound e → SentWasWritten e → RestOk p e → (k : ℕ) (declared : Result (Unit {0}) LostFault) → LoseStep e k declared new → RestOk p new
-lose_rests p e new sound sent ok k declared lost =
-    call_rests p p refl refl refl (λ i told. told) e new sound sent ok (Lose k) declared lost
-    (lose_by (Moved p e) e (moved_edits p e (slots p e ok) ok.acked) k declared new lost) (lost_told e new (all_told e ok.told) k declared lost)
-
-lost_each_rests : (p : Past) (count first : ℕ) (e new : End) (result : Result (Unit {0}) TokenFault) → IsSound e → SentWasWritten e → RestOk p e → LosesEach count first e result new → RestOk p new
-lost_each_rests p zero first e new result sound sent ok step = subst (RestOk p) (sym step.1) ok
-lost_each_rests p (suc n) first e new result sound sent ok (inl (mid, (declared, lost, is), later)) =
-    let k = first + n in
-    lost_each_rests p n first mid new result (sound_end e (Lose k) declared mid sound lost) (keeps_call e (Lose k) declared mid lost sent) (lose_rests p e mid sound sent ok k declared lost) later
-lost_each_rests p (suc n) first e new result sound sent ok (inr (fault, (declared, lost, is), failed)) = lose_rests p e new sound sent ok (first + n) declared lost
-
--- a token's packets are declared lost
-pub lost_rests : (p : Past) (e new : End) → IsSound e → SentWasWritten e → RestOk p e → (token : Token) (result : Result (Unit {0}) TokenFault) → TokenLostStep e token result new → RestOk (with_packets p []) new
-lost_rests p e new sound sent ok token result step =
-    elim (certain_cases (token_refusal e token) e result new _ step) [
-      | inl (fault, is, same) ↦ subst (RestOk (with_packets p [])) (sym same) (same_rests p [] e ok)
-      | inr (allowed, lost) ↦ same_rests p [] new (lost_each_rests p ((token.number + 1) - token.first) token.first e new result sound sent ok lost)
-    ]
+-- the packets that it made, or none
+pub packets_rest : (p : Past) (texts : List (List ℕ)) (e new : End) → IsSound e → SentWasWritten e → RestOk p e → (call : Call) → (HearsPeer call → ⊥) → (given : CallAnswer call) → EndStep e call given new → RestOk (with_packets p (map frames_in texts)) new
+packets_rest p texts e new sound sent ok call deaf given step = deaf_rests p (with_packets p (map frames_in texts)) refl refl refl (told_packets p (map frames_in texts)) e new sound sent ok call deaf given step
 
 -- whether an ACK is due doesn't matter
 pub due_rests : (p : Past) (e : End) (due : Bool) → RestOk p e → RestOk p (record e { ack_due = due })
@@ -267,24 +222,6 @@ due_rests p e due ok =
       limits = record { connection = ok.limits.connection; streams = ok.limits.streams };
       counts = ok.counts;
     }
-
--- a window or a grant is set anew
-pub set_rests : (p : Past) (e new : End) → IsSound e → SentWasWritten e → RestOk p e → (x : Setting) (result : Result (Unit {0}) SetFault) → SetStep e x result new → RestOk (with_packets p []) new
-set_rests p e new sound sent ok x result step =
-    elim (certain_cases (set_refusal e x) e result new _ step) [
-      | inl (fault, is, same) ↦ subst (RestOk (with_packets p [])) (sym same) (same_rests p [] e ok)
-      | inr (allowed, (is, same)) ↦
-          same_rests p [] new
-          (call_rests p p refl refl refl (λ i told. told) e new sound sent ok (Set x) result step
-          (subst (Moved p e) (sym same) (set_moved p e (slots p e ok) ok.acked x)) (subst (λ (y : End). AllTold y.recvs) (sym same) (set_told e (all_told e ok.told) x)))
-    ]
-
--- a stream of one direction is given out
-pub given_rests : (p : Past) (e new : End) → IsSound e → SentWasWritten e → RestOk p e → (d : Dir) (result : Option ℕ) → AcceptOfStep e d result new → RestOk (with_packets p []) new
-given_rests p e new sound sent ok d result step =
-    same_rests p [] new
-    (call_rests p p refl refl refl (λ i told. told) e new sound sent ok (AcceptOf d) result step
-    (accept_of_by (Moved p e) e (moved_edits p e (slots p e ok) ok.acked) d result new step) (given_told e new (all_told e ok.told) d result step))
 
 -- Limits of the peer are taken in
 
@@ -312,7 +249,7 @@ module _ (p : Past) (e : End) (limits : PeerLimits) (ok : RestOk p e) where
         uni = omega (arith, ok.uni);
         sends = slots_raised;
         acked = ok.acked;
-        told = told_at settled (told_settles raised (all_told e ok.told));
+        told = told_at settled (subst (λ (x : End). AllTold x.recvs) is (told_call e sound sent (all_told e ok.told) (RaiseLimits limits) (Ok tt) new step));
         taken = each_taken p.theirs p.processed p.took (ItemTaken e) (ItemTaken settled) (item_stays e settled refl (omega arith) (omega arith) (omega arith) kept (subst (λ x. AllGrow e.recvs x.recvs) is grow)) ok.taken;
         limits = subst LimitsAreSettled is (calls_settle e (RaiseLimits limits) (Ok tt) new ok.limits step);
         counts = subst CountsAreSettled is (settled_call e (RaiseLimits limits) (Ok tt) new ok.counts step);
@@ -358,8 +295,8 @@ after_payload p e new k text result good ok is step = by_closed e.closed step
         settled p k (frames_in text) is e result mid new (each_grows raise mid.recvs raise_grows) at
         (takes p k (frames_in text) is e (reading_of text).left [] false (reading_of text).fault e result mid refl good same (all_grow_refl e.recvs) tt taken))
 
-pub receive_rests : (p : Past) (e new : End) (k : ℕ) (text : List ℕ) (result : Result Received Closing) → EndOk p e → RestOk p e → slice_get p.theirs k ≡ Some (frames_in text) → ReceiveStep e k text result new → RestOk (with_received p k result) new
-receive_rests p e new k text result good ok is step =
+pub receive_rests : (p : Past) (e new : End) (k : ℕ) (text : List ℕ) (result : Result Received Closing) → IsSound e → SentWasWritten e → EndOk p e → RestOk p e → slice_get p.theirs k ≡ Some (frames_in text) → ReceiveStep e k text result new → RestOk (with_received p k result) new
+receive_rests p e new k text result sound sent good ok is step =
     let a = after_payload p e new k text result good ok is step in
     let m : Moved p e new = a.moved in
     let q : Past = with_received p k result in
@@ -369,7 +306,7 @@ receive_rests p e new k text result good ok is step =
       uni = known_uni p e new ok m;
       sends = λ n l at. half_more p q (λ i told. told) n _ l (slot_at p new m.halves n l at);
       acked = acked_more p q (λ i told. told) new.acked m.acked;
-      told = told_at new (receive_told e new (received_held e new k text result step) a.grow (all_told e ok.told));
+      told = told_at new (told_call e sound sent (all_told e ok.told) (Receive k text) result new step);
       taken = record {
         packets = λ j done.
             elim (processed_or k j (is_done (answers.Deliver result)) (p.processed j) done) [
@@ -384,9 +321,9 @@ receive_rests p e new k text result good ok is step =
 
 -- Frames of the peer without their packets
 
-pub alone_rests : (p : Past) (e new : End) (parts : List Part) (fs : List FrameValue) (result : Result Taken TakeFault) → EndOk p e → e.closed ≡ None → RestOk p e → AreHeldAt p.theirs parts fs → HandedIn fs e result new →
+pub alone_rests : (p : Past) (e new : End) (parts : List Part) (fs : List FrameValue) (result : Result Taken TakeFault) → IsSound e → SentWasWritten e → EndOk p e → e.closed ≡ None → RestOk p e → AreHeldAt p.theirs parts fs → HandedIn fs e result new →
     (call : Call) (given : CallAnswer call) → EndStep e call given new → RestOk (with_took p parts result) new
-alone_rests p e new parts fs result good open_end ok held step call given called =
+alone_rests p e new parts fs result sound sent good open_end ok held step call given called =
     let c = handed_came p fs e result new good open_end (slots p e ok) ok.acked (held_told p.theirs parts fs held) step in
     let m : Moved p e new = c.moved in
     let q : Past = with_took p parts result in
@@ -396,7 +333,7 @@ alone_rests p e new parts fs result good open_end ok held step call given called
       uni = known_uni p e new ok m;
       sends = λ n l at. half_more p q (λ i told. told) n _ l (slot_at p new m.halves n l at);
       acked = acked_more p q (λ i told. told) new.acked m.acked;
-      told = told_at new (receive_told e new (handed_held e new fs result open_end step) c.grow (all_told e ok.told));
+      told = told_at new (told_call e sound sent (all_told e ok.told) call given new called);
       taken =
           took_each p parts result (ItemTaken new) (each_taken p.theirs p.processed p.took (ItemTaken e) (ItemTaken new) (item_stays e new m.tuning m.conn m.bidi m.uni m.sends c.grow) ok.taken)
           (λ k i among taken. held_holds (ItemTaken new) p.theirs parts fs held (c.done taken) k i among);
@@ -425,26 +362,167 @@ with_token_rests p t was e ok =
       counts = ok.counts;
     }
 
--- its pieces are acknowledged, and then the limits move
-module _ (p : Past) (e : End) (ok : RestOk p e) where
-  pieces_moved : (pieces : List AckedPiece) → AllByRecursion (WasAcked p) pieces → Moved p e (settle (acks pieces e)) × AllTold (settle (acks pieces e)).recvs
-  pieces_moved pieces all =
-      let m : Moved p e (acks pieces e) = acks_moved p pieces e all (slots p e ok) ok.acked in (
-        record { role = m.role; peer = m.peer; tuning = m.tuning; conn = m.conn; bidi = m.bidi; uni = m.uni; sends = m.sends; halves = m.halves; acked = m.acked },
-        told_settles (acks pieces e) (subst AllTold (sym (ap (λ (x : End). x.recvs) (acks_leave pieces e))) (all_told e ok.told)),
-      )
-
 pub token_rests : (p : Past) (e new : End) → IsSound e → SentWasWritten e → EndOk p e → RestOk p e → (token : Token) (result : Result (Unit {0}) TokenFault) → TokenAckedStep e token result new → RestOk (with_token p token (was_told result)) new
 unfolding frame_taken
 token_rests p e new sound sent good ok token result step =
     let q : Past = with_token p token true in
     let now : RestOk q e = with_token_rests p token true e ok in
     let all = token_pieces p token e (token_ok p token true e good) in
-    let by : (x : End) → Moved q e x × AllTold x.recvs → new ≡ x → RestOk q new =
-    λ x h same. call_rests q q refl refl refl (λ i told. told) e new sound sent now (TokenAcked token) result step (subst (Moved q e) (sym same) h.0) (subst (λ y. AllTold y.recvs) (sym same) h.1) in
+    let by : (pieces : List AckedPiece) → AllByRecursion (WasAcked q) pieces → new ≡ settle (acks pieces e) → RestOk q new =
+    λ pieces was same. call_rests q q refl refl refl (λ i told. told) e new sound sent now (TokenAcked token) result step (subst (Moved q e) (sym same) (acks_moved q pieces e was (slots q e now) now.acked)) in
     let told : was_told result ≡ true → RestOk q new → RestOk (with_token p token (was_told result)) new = λ is. subst (λ b. RestOk (with_token p token b) new) (sym is) in
+    let each : List AckedPiece = named e ((token.first, token.number) ∷ []) in
     elim (certain_cases (token_refusal e token) e result new _ step) [
       | inl (fault, is, same) ↦ subst (RestOk _) (sym same) (with_token_rests p token (was_told result) e ok)
-      | inr (allowed, inl (is, same)) ↦ told (ap was_told is) (by (settle (acks (named e ((token.first, token.number) ∷ [])) e)) (pieces_moved q e now (named e ((token.first, token.number) ∷ [])) all) same)
-      | inr (allowed, inr (is, mid, (m, h, asks), same)) ↦ told (ap was_told is) (by (settle (acks (take m (named e ((token.first, token.number) ∷ []))) e)) (pieces_moved q e now (take m (named e ((token.first, token.number) ∷ []))) (All_take _ m _ all)) (same ∙ ap settle h))
+      | inr (allowed, inl (is, same)) ↦ told (ap was_told is) (by each all same)
+      | inr (allowed, inr (is, mid, (m, h, asks), same)) ↦ told (ap was_told is) (by (take m each) (All_take _ m _ all) (same ∙ ap settle h))
     ]
+
+-- Every run keeps what a rest needs, of both ends.
+
+no_table : (k : ℕ) → table (no_streams {X = SendLane}) k ≡ []
+no_table zero = refl
+no_table (suc zero) = refl
+no_table (suc (suc zero)) = refl
+no_table (suc (suc (suc k))) = refl
+
+pub no_half : (n : ℕ) → lookup (no_streams {X = SendLane}) n ≡ None
+unfolding lookup
+no_half n = ap (λ xs. slice_get xs (n / 4)) (no_table (n % 4))
+
+first_rests : (role : Role) (s : Settings) (t : Tuning) (peer : PeerLimits) (p : Past) → ((k : ℕ) → p.processed k ≡ false) → ((k i : ℕ) → p.took k i ≡ false) → wide_end_made role s t peer ≡ Ok (new_end role s t peer) → RestOk p (new_end role s t peer)
+first_rests role s t peer p none alone made =
+    record {
+      conn = omega arith;
+      bidi = omega arith;
+      uni = omega arith;
+      sends = λ n l is. absurd (none-some l (sym (no_half n) ∙ is));
+      acked = record {
+        conn = λ m is. absurd (none-some m is);
+        streams = λ n m is. absurd (none-some m (sym (fmap.get-empty nat_cmp n) ∙ is));
+        bidi = λ m is. absurd (none-some m is);
+        uni = λ m is. absurd (none-some m is);
+        stops = λ n is. absurd (false≢true (sym (set.contains-empty nat_cmp n) ∙ is));
+      };
+      told = λ n l at. absurd (none-some l (sym (no_lane n) ∙ at));
+      taken = record { packets = λ k done. absurd (false≢true (sym (none k) ∙ done)); frames = λ k i took. absurd (false≢true (sym (alone k i) ∙ took)) };
+      limits = new_ends_settled role s t peer (new_end role s t peer) made;
+      counts = new_counts_settled role s t peer (new_end role s t peer) made;
+    }
+
+first_ends : (a b : Settings) (w : World) → Begins a b w → (s : Side) → RestOk (past s []) (end_of w s)
+unfolding own_calls packets_of processed took
+first_ends a b w begins s = subst (λ x. RestOk (past s []) (end_of x s)) (sym is) (two_sides (λ t. RestOk (past t []) (end_of (first_world a b begins.tuned_a begins.tuned_b begins.of_a begins.of_b) t)) A (first_rests Client a begins.tuned_a begins.of_b (past A []) (λ k. refl) (λ k i. refl) begun.0) (first_rests Server b begins.tuned_b begins.of_a (past B []) (λ k. refl) (λ k i. refl) begun.1) s)
+  where
+    is : w ≡ first_world a b begins.tuned_a begins.tuned_b begins.of_a begins.of_b
+    is = made_first a b begins.tuned_a begins.tuned_b begins.of_a begins.of_b w begins.begun
+
+    begun : (wide_end_made Client a begins.tuned_a begins.of_b ≡ Ok (new_end Client a begins.tuned_a begins.of_b)) × (wide_end_made Server b begins.tuned_b begins.of_a ≡ Ok (new_end Server b begins.tuned_b begins.of_a))
+    begun = ends_made a b begins.tuned_a begins.tuned_b begins.of_a begins.of_b (first_world a b begins.tuned_a begins.tuned_b begins.of_a begins.of_b) (begins.begun ∙ ap Ok (made_first a b begins.tuned_a begins.tuned_b begins.of_a begins.of_b w begins.begun))
+
+module _ (a b : Settings) (h : History) (v w : World) (s : Side) (ok : WorldOk a b h v) (rests : (t : Side) → RestOk (past t h) (end_of v t)) where
+  both : (x : Happening) → RestOk (past s (x ∷ h)) (end_of w s) → RestOk (past (other s) (x ∷ h)) (end_of w (other s)) → (t : Side) → RestOk (past t (x ∷ h)) (end_of w t)
+  both x own peer = two_sides (λ t. RestOk (past t (x ∷ h)) (end_of w t)) s own peer
+
+  -- the other end, where packets are made
+  made_there : (x : Happening) (texts : List (List ℕ)) → Makes s x texts → end_of w (other s) ≡ end_of v (other s) → RestOk (past (other s) (x ∷ h)) (end_of w (other s))
+  made_there x texts makes same =
+      moved (λ p. RestOk p (end_of w (other s))) _ _ (past_peer_makes s x texts h makes) (moved (RestOk _) _ _ same (peer_rests (past (other s) h) (map frames_in texts) (end_of v (other s)) (rests (other s))))
+
+  own_step : (act : Act) (answer : Answer) → is_delivery act ≡ false → OwnStep (end_of v s) act answer (end_of w s) → end_of w (other s) ≡ end_of v (other s) → (t : Side) → RestOk (past t (did s act answer ∷ h)) (end_of w t)
+  own_step act answer own step same =
+      both (did s act answer)
+      (moved (λ p. RestOk p (end_of w s)) _ _ (past_own s act answer h own) (own_rests (past s h) (end_of v s) (end_of w s) (ok.sound s) (ok.sent s) (rests s) act answer step))
+      (moved (λ p. RestOk p (end_of w (other s))) _ _ (past_peer s act answer h own) (moved (RestOk _) _ _ same (peer_rests (past (other s) h) (seen_by act answer) (end_of v (other s)) (rests (other s)))))
+
+  -- it makes a packet or none, and hears nothing of its peer
+  packet_step : (x : Happening) (texts : List (List ℕ)) → Makes s x texts → (call : Call) → (HearsPeer call → ⊥) → (given : CallAnswer call) → EndStep (end_of v s) call given (end_of w s) → end_of w (other s) ≡ end_of v (other s)
+      → (t : Side) → RestOk (past t (x ∷ h)) (end_of w t)
+  packet_step x texts makes call deaf given step same =
+      both x
+      (moved (λ p. RestOk p (end_of w s)) _ _ (past_makes s x texts h makes) (packets_rest (past s h) texts (end_of v s) (end_of w s) (ok.sound s) (ok.sent s) (rests s) call deaf given step))
+      (made_there x texts makes same)
+
+  -- bytes are taken without a copy
+  consumed_step : (n most : ℕ) (result : Result Consumed UseFault) (bytes : Vec ℕ) → TakesBytes (end_of v s) n most result bytes.items (end_of w s) → end_of w (other s) ≡ end_of v (other s) → (t : Side) → RestOk (past t (ConsumedUpTo s n most result bytes ∷ h)) (end_of w t)
+  consumed_step n most result bytes step same =
+      both (ConsumedUpTo s n most result bytes)
+      (moved (λ p. RestOk p (end_of w s)) _ _ (past_consumed s n most result bytes h) (consume_rests (past s h) (reads_of n most result bytes) (end_of v s) (end_of w s) (ok.sound s) (ok.sent s) (rests s) n most result step.0))
+      (moved (λ p. RestOk p (end_of w (other s))) _ _ (past_peer_consumed s n most result bytes h) (moved (RestOk _) _ _ same (rests (other s))))
+
+  raise_step : (limits : PeerLimits) (result : Result (Unit {0}) RaiseFault) → RaiseStep (end_of v s) limits result (end_of w s) → end_of w (other s) ≡ end_of v (other s) → (t : Side) → RestOk (past t (RaisedLimits s limits result ∷ h)) (end_of w t)
+  raise_step limits result step same =
+      both (RaisedLimits s limits result)
+      (moved (λ p. RestOk p (end_of w s)) _ _ (past_raised s s limits result h) (raise_rests (past s h) (end_of v s) (end_of w s) limits result (ok.sound s) (ok.sent s) (rests s) step))
+      (moved (λ p. RestOk p (end_of w (other s))) _ _ (past_raised (other s) s limits result h) (moved (RestOk _) _ _ same (rests (other s))))
+
+  -- a stream is stopped and forgotten
+  forget_step : (n code : ℕ) (result : Result (Unit {0}) UseFault) → StopAndForgetStep (end_of v s) n code result (end_of w s) → end_of w (other s) ≡ end_of v (other s) → (t : Side) → RestOk (past t (Forgot s n code result ∷ h)) (end_of w t)
+  forget_step n code result step same =
+      let act : Act = acts.Stop n code in
+      let answer : Answer = answers.Stop result in
+      both (Forgot s n code result)
+      (moved (λ p. RestOk p (end_of w s)) _ _ (past_forgot s s n code result h ∙ past_own s act answer h refl) (forget_rests (past s h) (end_of v s) (end_of w s) (ok.sound s) (ok.sent s) (rests s) n code result step))
+      (moved (λ p. RestOk p (end_of w (other s))) _ _ (past_forgot (other s) s n code result h ∙ past_peer s act answer h refl) (moved (RestOk _) _ _ same (peer_rests (past (other s) h) (seen_by act answer) (end_of v (other s)) (rests (other s)))))
+
+  received : (k : ℕ) (text : List ℕ) (result : Result Received Closing) (new : End) → payload s k h ≡ Some text → ReceiveStep (end_of v (other s)) k text result new → RestOk (past (other s) (did s (acts.Deliver k) (answers.Deliver result) ∷ h)) new
+  received k text result new is step =
+      let there = ap (λ x. slice_get x k) (theirs_mine s h) ∙ payload_seen s k h text is in
+      moved (λ p. RestOk p new) _ _ (past_receiver s k result h) (receive_rests (past (other s) h) (end_of v (other s)) new k text result (ok.sound (other s)) (ok.sent (other s)) (ok.ends (other s)) (rests (other s)) there step)
+
+  deliver_step : (k : ℕ) (answer : Answer) → DeliverStep h v s k answer w → (t : Side) → RestOk (past t (did s (acts.Deliver k) answer ∷ h)) (end_of w t)
+  deliver_step k (answers.Deliver result) (text, is, step, same) =
+      both (did s (acts.Deliver k) (answers.Deliver result))
+      (moved (λ p. RestOk p (end_of w s)) _ _ (past_sender s k (answers.Deliver result) h) (moved (RestOk _) _ _ same (rests s)))
+      (received k text result (end_of w (other s)) is step)
+  deliver_step k answer step = absurd step
+
+  -- plain frames come with it: the end is what it is without them, but for whether an ACK is due
+  came_step : (k : ℕ) (bytes : List ℕ) (result : Result Received Closing) → ComeWithStep h v s k bytes result w → (t : Side) → RestOk (past t (CameWith s k bytes result ∷ h)) (end_of w t)
+  came_step k bytes result (text, is, differ, step, same) =
+      let (bare, without, alike) = plain_nothing (end_of v (other s)) (end_of w (other s)) k bytes text result differ step in
+      both (CameWith s k bytes result)
+      (moved (λ p. RestOk p (end_of w s)) _ _ (past_came s s k bytes result h ∙ past_sender s k (answers.Deliver result) h) (moved (RestOk _) _ _ same (rests s)))
+      (moved (λ p. RestOk p (end_of w (other s))) _ _ (past_came (other s) s k bytes result h) (moved (RestOk _) _ _ alike (due_rests _ bare (end_of w (other s)).ack_due (received k text result bare is without))))
+
+  -- a token is acknowledged, whose packet landed
+  token_step : (token : Token) (result : Result (Unit {0}) TokenFault) → TokenAckedStep (end_of v s) token result (end_of w s) → end_of w (other s) ≡ end_of v (other s) → (t : Side) → RestOk (past t (AckedToken s token result ∷ h)) (end_of w t)
+  token_step token result step same =
+      both (AckedToken s token result)
+      (moved (λ p. RestOk p (end_of w s)) _ _ (past_token s token result h) (token_rests (past s h) (end_of v s) (end_of w s) (ok.sound s) (ok.sent s) (ok.ends s) (rests s) token result step))
+      (moved (λ p. RestOk p (end_of w (other s))) _ _ (past_peer_token s token result h) (moved (RestOk _) _ _ same (rests (other s))))
+
+  -- frames come without their packets
+  alone_step : (parts : List Part) (result : Result Taken TakeFault) → ComeAloneStep h v s parts result w → (t : Side) → RestOk (past t (CameAlone s parts result ∷ h)) (end_of w t)
+  alone_step parts result (fs, are, handed, same) =
+      both (CameAlone s parts result)
+      (moved (λ p. RestOk p (end_of w s)) _ _ (past_came_from s parts result h) (moved (RestOk _) _ _ same (rests s)))
+      (moved (λ p. RestOk p (end_of w (other s))) _ _ (past_came_to s parts result h) (elim handed [ inl several ↦ came (TakeFrames fs) result several | inr (f, this, one) ↦ came (TakeFrame f) result one ]))
+    where
+      came : (call : Call) (given : CallAnswer call) → EndStep (end_of v (other s)) call given (end_of w (other s)) → RestOk (with_took (past (other s) h) parts result) (end_of w (other s))
+      came call given step =
+          alone_rests (past (other s) h) (end_of v (other s)) (end_of w (other s)) parts fs result (ok.sound (other s)) (ok.sent (other s)) (ok.ends (other s)) (is_open_end a b h v ok (other s)) (rests (other s)) (parts_held h s parts fs are) handed call given step
+
+  event_step : (act : Act) (answer : Answer) → EventStep h v s act answer w → (t : Side) → RestOk (past t (did s act answer ∷ h)) (end_of w t)
+  event_step (acts.Deliver k) answer step = deliver_step k answer step
+  event_step act answer step = own_step act answer refl step.0 step.1
+
+step_rests : (a b : Settings) (h : History) (v w : World) (x : Happening) → WorldOk a b h v → ((t : Side) → RestOk (past t h) (end_of v t)) → WorldStep h v x w → (t : Side) → RestOk (past t (x ∷ h)) (end_of w t)
+step_rests a b h v w (Did event answer) ok rests step = event_step a b h v w event.end ok rests event.act answer step
+step_rests a b h v w (MadeAck s room result text) ok rests ((delay, step), same) =
+    packet_step a b h v w s ok rests _ (texts_of result text) (makes_ack s room result text) (MakeAck delay room) (λ no. no) (result, text) step same
+step_rests a b h v w (FilledIn s want room result text) ok rests (step, same) =
+    packet_step a b h v w s ok rests _ (texts_of result text) (makes_fill s want room result text) (FillIn want room) (λ no. no) (result, text) step same
+step_rests a b h v w (ConsumedUpTo s n most result bytes) ok rests (step, same) = consumed_step a b h v w s ok rests n most result bytes step same
+step_rests a b h v w (LostToken s token result) ok rests (step, same) = packet_step a b h v w s ok rests _ [] (makes_none s token result) (TokenLost token) (λ no. no) result step same
+step_rests a b h v w (AckedToken s token result) ok rests ((landed, step), same) = token_step a b h v w s ok rests token result step same
+step_rests a b h v w (RaisedLimits s limits result) ok rests ((granted, step), same) = raise_step a b h v w s ok rests limits result step same
+step_rests a b h v w (HasSet s setting result) ok rests (step, same) = packet_step a b h v w s ok rests _ [] (makes_set s setting result) (Set setting) (λ no. no) result step same
+step_rests a b h v w (Forgot s n code result) ok rests (step, same) = forget_step a b h v w s ok rests n code result step same
+step_rests a b h v w (AcceptedOf s d result) ok rests (step, same) = packet_step a b h v w s ok rests _ [] (makes_given s d result) (AcceptOf d) (λ no. no) result step same
+step_rests a b h v w (CameWith s k bytes result) ok rests step = came_step a b h v w s ok rests k bytes result step
+step_rests a b h v w (CameAlone s parts result) ok rests step = alone_step a b h v w s ok rests parts result step
+
+pub every_run_keeps : EveryRunKeeps
+every_run_keeps a b [] w begins = first_ends a b w begins
+every_run_keeps a b (x ∷ h) w (v, before, step) = step_rests a b h v w x (run_keeps a b h v before) (every_run_keeps a b h v before) step

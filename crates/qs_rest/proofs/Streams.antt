@@ -20,7 +20,7 @@ use Rattle.qs_machine.specs.Ends.{first_send_limit, window}
 use Rattle.qs_machine.specs.Credit.{spent, all_taken, all_stored, all_sent}
 use Rattle.qs_machine.specs.Standing.{HasLawfulLane}
 use Rattle.qs_machine.specs.Seen.{Stream, Control}
-use Rattle.qs_machine.proofs.Bounds.{stored_and_taken}
+use Rattle.qs_machine.proofs.Counts.{stored_and_taken}
 use Rattle.qs_machine.proofs.TableLaws.{value, total_le, total_both}
 use Rattle.qs_runs.specs.Logs.{History, other}
 use Rattle.qs_runs.specs.Worlds.{World, end_of}
@@ -28,15 +28,14 @@ use Rattle.qs_runs.specs.Pasts.{past, Tells}
 use Rattle.qs_runs.specs.Clauses.{CarriesAt, HasArrived, sending, receiving}
 use Rattle.qs_runs.specs.Invariant.{WorldOk, SendOk, SendSlot, RecvOk, RecvSlot, FrameTaken}
 use Rattle.qs_runs.proofs.Members.{end-le, below-end}
-use Rattle.qs_runs.proofs.Histories.{theirs_mine}
-use Rattle.qs_runs.proofs.Landing.{confirmed_taken}
+use Rattle.qs_runs.proofs.Histories.{theirs_mine, confirmed_taken}
 use Rattle.qs_runs.proofs.Runs.{run_keeps}
 use Rattle.qs_runs.proofs.Clauses.{received_is_below_sent, arrived_was_taken, acked_has_arrived, final_size_is_declared, reset_code_is_the_senders}
 use Rattle.qs_rest.specs.Invariant.{IsAllAcked, RestOk}
 use Rattle.qs_rest.specs.Rest.{TellsNoNews, AtRest}
 use Rattle.qs_rest.specs.Resting.{AtEachRest, CreditIsWhole, IsResetAtBoth, IsReadAtBoth, IsLeftToOwner, ResetsAreFinal}
-use Rattle.qs_rest.proofs.EveryRun.{every_run_keeps}
-use Rattle.qs_rest.proofs.Lanes.{caught_up, end_told, reset_told, sent_acked, end_acked}
+use Rattle.qs_rest.proofs.Runs.{every_run_keeps}
+use Rattle.qs_rest.proofs.Telling.{caught_up, end_told, reset_told, sent_acked, end_acked}
 use Rattle.qs_rest.proofs.Resting.{items_acked, taken as item_taken, taken_here}
 use Rattle.qs_rest.proofs.Effects.{some_of}
 

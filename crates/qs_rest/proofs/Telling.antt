@@ -1,60 +1,177 @@
--- What a reader was told of the end of a stream stands for good.
-use Rattle.std.proofs.Common.{◌≡◌, ℕ, Bool, true, false, ◌&&◌, ◌||◌, ◌==◌, List, [], ◌∷◌, length, ◌⊎◌, Option, Some, None, is_some, refl, sym, ap, ◌∙◌, subst, arith, inl, inr}
-use Rattle.std.specs.Prelude.{cond, option_map, not, MatchBool, Result, Ok, Err}
-use Rattle.std.proofs.lemmas.Option.{same_Some}
-use Rattle.std.proofs.lemmas.Bool.{and_parts, cond_both, eqb-true, true≢false, false≢true}
+-- What a reader was told stands, and a stopped half gives its credit back.
+use Rattle.std.proofs.Common.{◌≡◌, ℕ, ◌+◌, ◌<◌, ◌≤◌, ◌==◌, ◌&&◌, ◌||◌, min, nat_le, nat_lt, Bool, true, false, ◌⊎◌, Option, Some, None, is_some, unwrap_or, refl, sym, ap, ◌∙◌, arith, inl, inr, List, length, take, subst}
+use Rattle.std.specs.Prelude.{cond, option_map, not}
+use Rattle.std.proofs.lemmas.Bool.{cases_lt, eqb-true, true≢false, false≢true, and_parts, cond_both}
 use Rattle.std.proofs.lemmas.Bool.Decides.{nat_tests}
 use Rattle.std.specs.FinSet as set
-use Rattle.qs_wire.specs.Layout.{FrameValue, PlacedValue}
-use Rattle.qs_wire.specs.Reading.{reading_of}
-use Rattle.qs_wire.specs.declared.fault.WireFault.{WireFault}
+use Rattle.qs_ranges.specs.Numbers.{MAX_VARINT, end_of}
+use Rattle.qs_ranges.proofs.Sets.{covers-is}
+use Rattle.qs_recv.specs.Lane.{RecvLane, highest, taken, step, next_limit, is_whole, whole_to, read_answer, at_final_size, new_lane as new_recv_lane, take_stream, take_reset, answer_by, after_answer, after_read, stop, stop_and_forget, is_over, raise, set_window}
+use Rattle.qs_recv.specs.declared.credit.Share.{Share}
+use Rattle.qs_recv.specs.Lawful.{IsLawful}
+use Rattle.qs_recv.proofs.LawfulLaws.{taken_within}
+use Rattle.qs_send.specs.Lane.{SendLane}
+use Rattle.qs_send.specs.declared.piece.Piece.TheVariants.{Data}
+use Rattle.qs_machine.specs.Ends.{End, send_lane, on_recv, is_own, is_uni, opens, opened_by_peer, window}
+use Rattle.qs_machine.specs.Credit.{all_sent, settle}
+use Rattle.qs_machine.specs.Due.{IsDue, IsEndDue}
+use Rattle.qs_rest.specs.Rest.{TellsNoNews, AtRest}
+use Rattle.qs_rest.specs.Resting.{IsAhead}
+use Rattle.std.proofs.lemmas.Option.{same_Some}
 use Rattle.qs_recv.specs.Assembled.{discard, front_of, put, forget}
 use Rattle.qs_recv.specs.News.{is_readable, tells_something}
-use Rattle.qs_recv.specs.Lane.{RecvLane, new_lane as new_recv_lane, is_whole, at_final_size, take_stream, take_reset, read_answer, answer_by, after_answer, after_read, stop, stop_and_forget, is_over, raise, set_window}
-use Rattle.qs_recv.specs.declared.credit.Share.{Share}
 use Rattle.qs_recv.specs.declared.half.Read.{Read}
 use Rattle.qs_recv.specs.declared.half.Read.TheVariants as reads
 use Rattle.qs_send.specs.declared.piece.Item.{Item}
 use Rattle.qs_send.specs.declared.piece.Item.TheVariants.{MaxData, MaxStreamData, MaxStreams, ResetStream, StopSending, DataBlocked, StreamDataBlocked, StreamsBlocked}
-use Rattle.qs_calls.specs.declared.making.Made.{Made}
-use Rattle.qs_calls.specs.declared.making.MakeFault.{MakeFault}
-use Rattle.qs_calls.specs.declared.making.LostFault.{LostFault}
-use Rattle.qs_calls.specs.declared.reading.Consumed.{Consumed}
-use Rattle.qs_calls.specs.declared.uses.UseFault.{UseFault}
-use Rattle.qs_machine.specs.Making.{MakeStep, LoseStep, make_refusal}
-use Rattle.qs_machine.specs.Owner.{ConsumeStep}
-use Rattle.qs_calls.specs.declared.closing.Closing.{Closing}
-use Rattle.qs_calls.specs.declared.closing.Received.{Received}
-use Rattle.qs_calls.specs.declared.closing.Closed.{Closed}
-use Rattle.qs_calls.specs.declared.token.Taken.{Taken}
-use Rattle.qs_calls.specs.declared.token.Taken.TheVariants as taken
-use Rattle.qs_calls.specs.declared.token.TakeFault.{TakeFault}
-use Rattle.qs_calls.specs.declared.token.TakeFault.TheVariants as faults
-use Rattle.qs_calls.specs.declared.uses.UseFault.{UseFault}
-use Rattle.qs_calls.specs.declared.event.Act.{Act}
-use Rattle.qs_calls.specs.declared.answer.Answer.{Answer}
 use Rattle.qs_machine.specs.Tables.{Tables, lookup, updated, open_to}
-use Rattle.qs_wire.specs.declared.stream_id.Dir.{Dir}
 use Rattle.qs_wire.specs.declared.stream_id.Dir.TheVariants.{Bidi, Uni}
-use Rattle.qs_machine.specs.Ends.{End, on_recv, is_own, is_uni, opens, opened_by_peer, window}
-use Rattle.qs_machine.specs.Setting.{Setting, ConnWindow, Grant, SendBuffer, with_setting, StreamWindow}
-use Rattle.qs_machine.specs.Credit.{settle}
-use Rattle.qs_machine.specs.Seen.{Seen, Ack, Stream, Control, Close, Plain, seen, asks_ack}
+use Rattle.qs_machine.specs.Setting.{Grant, SendBuffer, StreamWindow}
+use Rattle.qs_machine.specs.Seen.{Seen, Ack, Stream, Control, Close, Plain}
 use Rattle.qs_machine.specs.FrameStep.{frame_taken, item_taken, named}
-use Rattle.qs_machine.specs.Owner.{AcceptOfStep, StopAndForgetStep}
-use Rattle.qs_machine.specs.Receiving.{Takes, ReceiveBy, ReceiveStep}
 use Rattle.qs_machine.proofs.TableLaws.{slots_updated, slots_opened, slots_each}
-use Rattle.qs_machine.specs.Alone.{is_ours, TakesOne, TakesEach, after_one}
-use Rattle.qs_runs.specs.Worlds.{OwnStep, HandedIn}
-use Rattle.qs_runs.proofs.Alone.{handed, none_asked}
-use Rattle.qs_runs.proofs.Changes.{Grows, AllGrow}
-use Rattle.qs_machine.proofs.EveryCall.{by_open, closed_same}
-use Rattle.qs_machine.proofs.Leaves.{acks_leave, fills_leave, losses_leave, wanted_leaves, stops_leave, end_leaves}
 use Rattle.qs_rest.specs.Invariant.{IsToldOf, ToldTrue}
-use Rattle.qs_rest.specs.Rest.{TellsNoNews}
-use Rattle.qs_rest.proofs.EachCall.{consume_by, make_by, lose_by, Edits, each_own, forget_by, accept_of_by}
-use Rattle.qs_calls.specs.declared.settings.SetFault.{SetFault}
-use Rattle.qs_machine.specs.Setting.{Setting, SetStep}
+use Rattle.qs_machine.specs.EndStep.{Call, Answer, EndStep}
+use Rattle.qs_machine.specs.Standing.{IsSound, IsInCredit}
+use Rattle.qs_machine.specs.Repeats.{SentWasWritten}
+use Rattle.qs_machine.proofs.EveryCall.{Change, changed, Comes, Wanted, Opened, Stopped, Forgotten, WasRead, WasSet, Took, Acked, Put, Settled}
+use Rattle.qs_machine.proofs.Leaves.{acks_leave, put_leaves}
+use Rattle.qs_machine.proofs.TablesAfter.{KeptIn}
+use Rattle.qs_machine.proofs.LanesAgain.{LaneAfter}
+use Rattle.qs_machine.proofs.CallsCounts.{moves_change, relates_sound}
+use Rattle.qs_rest.specs.Laws.{StopsGiveBack}
+use Rattle.qs_machine.proofs.EachHalf.{RecvEdit, Stops, Forgets, Reads, IsReset, recv_edited, recvs_kept}
+
+-- Halves of a stream of ends at rest, each by itself.
+
+-- a window's limit that is its own next one with all of it taken is the greatest
+pub full : (l w : ℕ) (share : Share) → 1 ≤ w → next_limit l l w share ≡ l → MAX_VARINT ≤ l
+full l w share some is = elim (cases_lt l MAX_VARINT) [ inl lt ↦ absurd (go _ refl lt is) | inr le ↦ le ]
+  where
+    go : (b : Bool) → (nat_le (l + step share w) (min MAX_VARINT (l + w)) || (min MAX_VARINT (l + w) == MAX_VARINT && nat_lt l (min MAX_VARINT (l + w)))) ≡ b → l < MAX_VARINT →
+        cond b (min MAX_VARINT (l + w)) l ≡ l → ⊥
+    go true e lt same = omega arith
+    go false e lt same = grind (arith, nat_tests)
+
+-- of a limit that is its own next one less than a step was taken, or it is the greatest
+pub ahead : (l t w : ℕ) (share : Share) → next_limit l t w share ≡ l → IsAhead t l w share
+ahead l t w share is = elim (cases_lt l MAX_VARINT) [ inl lt ↦ inl (go _ refl lt is) | inr le ↦ inr le ]
+  where
+    go : (b : Bool) → (nat_le (l + step share w) (min MAX_VARINT (t + w)) || (min MAX_VARINT (t + w) == MAX_VARINT && nat_lt l (min MAX_VARINT (t + w)))) ≡ b → l < MAX_VARINT →
+        cond b (min MAX_VARINT (t + w)) l ≡ l → t + w < l + step share w
+    go true e lt same = grind (arith, nat_tests)
+    go false e lt same = grind (arith, nat_tests)
+
+-- The receiving half
+
+module _ (r : RecvLane) (lawful : IsLawful r) (rest : TellsNoNews (read_answer r 1) r) where
+  -- a reset was told
+  pub reset_told : (code : ℕ) → r.reset_code ≡ Some code → r.told ≡ true
+  reset_told code is = rw is at rest
+
+  -- a reader that neither knows a reset nor stopped has read up to the final size, or to an offset that didn't come
+  open_reader : r.reset_code ≡ None → r.stop_code ≡ None → ((r.final_size ≡ Some r.arrived.read_count) × (r.told ≡ true)) ⊎ (set.contains r.arrived.received r.arrived.read_count ≡ false)
+  open_reader no_reset no_stop = go (at_final_size r.arrived.read_count r.final_size) (set.contains r.arrived.received r.arrived.read_count) refl refl
+    where
+      sized : (o : Option ℕ) (k : ℕ) → at_final_size k o ≡ true → o ≡ Some k
+      sized None k e = absurd (false≢true e)
+      sized (Some size) k e = ap Some (sym (eqb-true k size e))
+
+      go : (a b : Bool) → at_final_size r.arrived.read_count r.final_size ≡ a → set.contains r.arrived.received r.arrived.read_count ≡ b →
+          ((r.final_size ≡ Some r.arrived.read_count) × (r.told ≡ true)) ⊎ (set.contains r.arrived.received r.arrived.read_count ≡ false)
+      go true b ea eb = inl (sized r.final_size r.arrived.read_count ea, rw (no_reset, no_stop, ea) at rest)
+      go false true ea eb = absurd (rw (no_reset, no_stop, ea, eb) at rest)
+      go false false ea eb = inr eb
+
+  -- where all came, or a reset is known, all was taken
+  pub caught_up : ((q : ℕ) → q < highest r → set.contains r.arrived.received q ≡ true) ⊎ (is_some r.reset_code ≡ true) → taken r ≡ highest r
+  caught_up came = go r.reset_code r.stop_code refl refl
+    where
+      all : r.reset_code ≡ None → (q : ℕ) → q < highest r → set.contains r.arrived.received q ≡ true
+      all none = elim came [ inl here ↦ here | inr is ↦ absurd (true≢false (sym is ∙ ap is_some none)) ]
+
+      read : r.reset_code ≡ None → r.stop_code ≡ None → r.arrived.read_count ≤ highest r → r.arrived.read_count ≡ highest r
+      read none open_half within =
+          elim (open_reader none open_half) [
+            | inl at_end ↦ sym (ap (λ o. unwrap_or o (end_of r.arrived.received)) at_end.0)
+            | inr gap ↦ elim (cases_lt r.arrived.read_count (highest r)) [
+              | inl lt ↦ absurd (true≢false (sym (all none r.arrived.read_count lt) ∙ gap))
+              | inr le ↦ omega arith
+            ]
+          ]
+
+      go : (x y : Option ℕ) → r.reset_code ≡ x → r.stop_code ≡ y → taken r ≡ highest r
+      go (Some code) y ex ey = rw ex refl
+      go None (Some code) ex ey = rw (ex, ey) refl
+      go None None ex ey =
+          let same : taken r ≡ r.arrived.read_count = rw (ex, ey) refl in
+          same ∙ read ex ey (omega (arith, same, taken_within r lawful))
+
+  -- where all came and no reset is known, the end was told
+  pub end_told : r.reset_code ≡ None → is_whole r ≡ true → r.told ≡ true
+  end_told none whole = go r.stop_code refl
+    where
+      all : (o : Option ℕ) → whole_to r.arrived.received o ≡ true → (q : ℕ) → q < unwrap_or o (end_of r.arrived.received) → set.contains r.arrived.received q ≡ true
+      all None e q lt = absurd (false≢true e)
+      all (Some size) e q lt = covers-is r.arrived.received 0 size e q (omega arith) lt
+
+      sized : (o : Option ℕ) → r.final_size ≡ o → whole_to r.arrived.received o ≡ true → taken r ≡ unwrap_or o (end_of r.arrived.received) → r.arrived.read_count ≡ taken r → at_final_size r.arrived.read_count o ≡ true
+      sized None e whole same read = absurd (false≢true whole)
+      sized (Some size) e whole same read = grind (arith, nat_tests)
+
+      go : (x : Option ℕ) → r.stop_code ≡ x → r.told ≡ true
+      go (Some code) e = rw (none, e, whole) at rest
+      go None e =
+          let read : taken r ≡ r.arrived.read_count = rw (none, e) refl in
+          let at_end : at_final_size r.arrived.read_count r.final_size ≡ true = sized r.final_size refl whole (caught_up (inl (all r.final_size whole))) (sym read) in
+          rw (none, e, at_end) at rest
+
+-- The sending half
+
+module _ (e : End) (rest : AtRest e) (n : ℕ) (l : SendLane) (at : send_lane e n ≡ Some l) (no_reset : l.was_reset ≡ None) where
+  due_or_acked : (q : ℕ) → q < l.written → (set.contains l.acked q ≡ true) ⊎ IsDue e n l q
+  due_or_acked q lt = go (set.contains l.acked q) refl
+    where
+      go : (b : Bool) → set.contains l.acked q ≡ b → (set.contains l.acked q ≡ true) ⊎ IsDue e n l q
+      go true is = inl is
+      go false is = inr (record { no_reset = no_reset; written = lt; not_acked = is; not_sent = λ (c, flies, low, high). rest.landed (Data n c) flies })
+
+  -- what was sent is acknowledged
+  pub sent_acked : l.sent_end ≤ l.written → l.sent_end ≤ l.limit → (q : ℕ) → q < l.sent_end → set.contains l.acked q ≡ true
+  sent_acked written limit q lt =
+      elim (due_or_acked q (omega arith)) [
+        | inl acked ↦ acked
+        | inr due ↦ absurd (rest.quiet (inr (n, (l, at, inl (q, due, omega arith, inl lt)))))
+      ]
+
+  -- all was sent, or a limit is used up
+  pub all_or_limit : ((q : ℕ) → set.contains l.acked q ≡ true → q < l.sent_end) → (l.written ≤ l.sent_end) ⊎ ((l.sent_end < l.written) × (l.limit ≤ l.sent_end)) ⊎ (e.known_data ≤ all_sent e)
+  all_or_limit below =
+      elim (cases_lt l.sent_end l.written) [
+        | inr whole ↦ inl whole
+        | inl more ↦ elim (cases_lt l.sent_end l.limit) [
+          | inr blocked ↦ inr (inl (more, blocked))
+          | inl room ↦ elim (cases_lt (all_sent e) e.known_data) [
+            | inr blocked ↦ inr (inr blocked)
+            | inl credit ↦ elim (due_or_acked l.sent_end more) [
+              | inl acked ↦ (let lt : l.sent_end < l.sent_end = below l.sent_end acked in absurd (omega arith))
+              | inr due ↦ absurd (rest.quiet (inr (n, (l, at, inl (l.sent_end, due, room, inr (refl, credit))))))
+            ]
+          ]
+        ]
+      ]
+
+  -- an end that was asked for is acknowledged once all was sent
+  pub end_acked : l.finished ≡ true → l.sent_end ≡ l.written → l.fin_acked ≡ true
+  end_acked finished whole = go l.fin_acked refl
+    where
+      go : (b : Bool) → l.fin_acked ≡ b → l.fin_acked ≡ true
+      go true is = is
+      go false is =
+          let due : IsEndDue e n l = record { no_reset = no_reset; finished = finished; not_acked = is; not_sent = λ offset len flies. rest.landed _ flies } in
+          absurd (rest.quiet (inr (n, (l, at, inr (due, whole)))))
+
+-- What a reader was told of the end of a stream stands for good.
 
 -- One half
 
@@ -129,8 +246,8 @@ stop_told code l h = go (is_some l.stop_code || is_over l)
     go true told = h told
     go false told = inr (inl refl)
 
-forget_told_of : (code : ℕ) (l : RecvLane) → ToldTrue l → ToldTrue (stop_and_forget l code)
-forget_told_of code l h told = go (is_some l.stop_code) (is_over l) refl refl
+forget_told : (code : ℕ) (l : RecvLane) → ToldTrue l → ToldTrue (stop_and_forget l code)
+forget_told code l h told = go (is_some l.stop_code) (is_over l) refl refl
   where
     go : (a o : Bool) → is_some l.stop_code ≡ a → is_over l ≡ o → IsToldOf (record (cond (a || o) l (record l { arrived = discard l.arrived; stop_code = Some code })) { told = true })
     go true o ea eo = inr (inl ea)
@@ -146,25 +263,21 @@ answer_told size l h = go (read_answer l size) refl
     go (reads.Reset code) is told = reset_stands size code l is
     go reads.Wait is told = h told
 
--- the second half is the first as a payload leaves it
+-- the second half is the first as a frame leaves it
 pub record Held (l m : RecvLane) : Type 0 where
   pub told : l.told ≡ true
   pub stopped : is_some l.stop_code ≡ true → is_some m.stop_code ≡ true
   pub read : m.arrived.read_count ≡ l.arrived.read_count
 
-held_told : (l m : RecvLane) → Grows l m → Held l m → ToldTrue l → IsToldOf m
+held_told : (l m : RecvLane) → LaneAfter l m → Held l m → ToldTrue l → IsToldOf m
 held_told l m g h old =
     elim (old h.told) [
-      | inl reset ↦ inl (stays m.reset_code refl reset)
+      | inl reset ↦ inl (g.reset reset)
       | inr more ↦ elim more [
         | inl stopped ↦ inr (inl (h.stopped stopped))
-        | inr at_end ↦ inr (inr (g.final l.arrived.read_count at_end ∙ ap Some (sym h.read)))
+        | inr at_end ↦ inr (inr (g.size l.arrived.read_count at_end ∙ ap Some (sym h.read)))
       ]
     ]
-  where
-    stays : (o : Option ℕ) → m.reset_code ≡ o → is_some l.reset_code ≡ true → is_some m.reset_code ≡ true
-    stays (Some code) is known = ap is_some is
-    stays None is known = absurd (false≢true (sym (ap is_some (g.reset is)) ∙ known))
 
 -- The halves of an end
 
@@ -197,60 +310,14 @@ told_opens n e all =
     cond_both (is_uni n && is_own e n) e.recvs (open_to e.recvs n (λ m. new_recv_lane (window e n) e.tuning.credit_step)) AllTold (λ _. all)
     (λ _. slots_opened (λ m o. ToldSlot o) e.recvs n (λ m. new_recv_lane (window e n) e.tuning.credit_step) all (λ m none kind. new_told (window e n) e.tuning.credit_step))
 
-pub told_settles : (e : End) → AllTold e.recvs → AllTold (settle e).recvs
+told_settles : (e : End) → AllTold e.recvs → AllTold (settle e).recvs
 told_settles e all = slots_each (λ m o. ToldSlot o) raise e.recvs (λ m. go (lookup e.recvs m) (all m))
   where
     go : (o : Option RecvLane) → ToldSlot o → ToldSlot (option_map raise o)
     go None h = tt
     go (Some l) h = h
 
--- what is set anew leaves the receiving halves, but for a window, and what is told of them
-pub set_told : (e : End) → AllTold e.recvs → (x : Setting) → AllTold (settle (with_setting x e)).recvs
-set_told e all (ConnWindow w) = told_settles (with_setting (ConnWindow w) e) all
-set_told e all (Grant Bidi n) = told_settles (with_setting (Grant Bidi n) e) all
-set_told e all (Grant Uni n) = told_settles (with_setting (Grant Uni n) e) all
-set_told e all (SendBuffer n size) = told_settles (with_setting (SendBuffer n size) e) all
-set_told e all (StreamWindow n w) = told_settles (with_setting (StreamWindow n w) e) (told_updated e.recvs n (λ l. set_window l w) all (λ l was. was))
-
-told_edits : (old : End) → AllTold old.recvs → Edits (λ new. AllTold new.recvs) old
-told_edits old all =
-    record {
-      same = all;
-      settles = λ mid h. told_settles mid h;
-      wants = λ d count. subst AllTold (sym (wanted_leaves d count old)) all;
-      opened = λ n. told_opens n old all;
-      accepts = λ bidi uni. all;
-      writes = λ n bytes l is fine few. all;
-      finishes = λ n. all;
-      resets = λ n code. all;
-      stops = λ n code. told_updated old.recvs n (λ m. stop m code) all (stop_told code);
-      forgets = λ n code. told_updated old.recvs n (λ m. stop_and_forget m code) all (forget_told_of code);
-      reads = λ n size. told_updated old.recvs n (λ m. after_read m size) all (answer_told size);
-      reads_again = λ n first next.
-          told_updated (on_recv n (λ m. after_read m first) old).recvs n (λ m. after_read m next) (told_updated old.recvs n (λ m. after_read m first) all (answer_told first)) (answer_told next);
-      fills = λ frames mid fills. subst AllTold (sym (ap (λ (x : End). x.recvs) (fills_leave old frames old mid fills))) all;
-      loses = λ k ps. subst AllTold (sym (ap (λ (x : End). x.recvs) (losses_leave k ps old))) all;
-    }
-
-pub own_told : (old new : End) → AllTold old.recvs → (act : Act) (answer : Answer) → OwnStep old act answer new → AllTold new.recvs
-own_told old new all act answer step = each_own (λ mid. AllTold mid.recvs) old (told_edits old all) act answer new step
-
-pub consume_told : (old new : End) → AllTold old.recvs → (n most : ℕ) (answer : Result Consumed UseFault) → ConsumeStep old n most answer new → AllTold new.recvs
-consume_told old new all n most answer step = consume_by (λ mid. AllTold mid.recvs) old (told_edits old all) n most answer new step
-
-pub given_told : (old new : End) → AllTold old.recvs → (d : Dir) (answer : Option ℕ) → AcceptOfStep old d answer new → AllTold new.recvs
-given_told old new all d answer step = accept_of_by (λ mid. AllTold mid.recvs) old (told_edits old all) d answer new step
-
-pub forget_told : (old new : End) → AllTold old.recvs → (n code : ℕ) (answer : Result (Unit {0}) UseFault) → StopAndForgetStep old n code answer new → AllTold new.recvs
-forget_told old new all n code answer step = forget_by (λ mid. AllTold mid.recvs) old (told_edits old all) n code answer new step
-
-pub packet_told : (old new : End) → AllTold old.recvs → (first delay room : ℕ) (answer : Result (Option Made) MakeFault) (text : List ℕ) → MakeStep old first delay room answer text new → AllTold new.recvs
-packet_told old new all first delay room answer text step = make_by (λ mid. AllTold mid.recvs) old (told_edits old all) (make_refusal old) first delay room answer text new step
-
-pub lost_told : (old new : End) → AllTold old.recvs → (k : ℕ) (answer : Result (Unit {0}) LostFault) → LoseStep old k answer new → AllTold new.recvs
-lost_told old new all k answer step = lose_by (λ mid. AllTold mid.recvs) old (told_edits old all) k answer new step
-
--- What a payload leaves: a half whose reader was told is one of before
+-- What a frame leaves: a half whose reader was told is one of before
 
 abbrev HeldSlot : Tables RecvLane → ℕ → Option RecvLane → Type 0
 HeldSlot t n None = Unit {0}
@@ -330,67 +397,36 @@ module _ (t : Tables RecvLane) where
   held_frame (Close code) e all = all
   held_frame (Plain asks) e all = all
 
-  held_takes : (number : ℕ) (fault : Option WireFault) (asks : Bool) (e : End) (ps : List PlacedValue) (result : Result Received Closing) (new : End) → Takes number fault asks e ps result new → AllHeld t e.recvs → AllHeld t new.recvs
-  held_takes number fault asks e [] result new takes all = held_equal e.recvs new.recvs (end_leaves number asks fault e result new takes) all
-  held_takes number fault asks e (p ∷ ps) result new (inl ends) all = held_equal e.recvs new.recvs (stops_leave p (seen p.frame) e result new ends) all
-  held_takes number fault asks e (p ∷ ps) result new (inr (goes, rest)) all =
-      held_takes number fault (asks || asks_ack (seen p.frame)) (frame_taken (seen p.frame) e) ps result new rest (held_frame (seen p.frame) e all)
-
-  held_one : (f : FrameValue) (e : End) (result : Result Taken TakeFault) (new : End) → is_ours (seen f) ≡ true → TakesOne e f result new → AllHeld t e.recvs → AllHeld t new.recvs
-  held_one f e (Ok taken.Took) new ours h all = held_equal (frame_taken (seen f) e).recvs new.recvs (ap (λ (x : End). x.recvs) h.1) (held_frame (seen f) e all)
-  held_one f e (Ok taken.Unchanged) new ours h all = held_equal e.recvs new.recvs (ap (λ (x : End). x.recvs) h.2) all
-  held_one f e (Ok taken.NotOurs) new ours h all = absurd h
-  held_one f e (Err faults.NoMemory) new ours h all = held_equal e.recvs new.recvs (ap (λ (x : End). x.recvs) (none_asked e new (seen f) ours h.1)) all
-  held_one f e (Err (faults.Closing closing)) new ours h all = held_equal e.recvs new.recvs (ap (λ (x : End). x.recvs) h.2) all
-  held_one f e (Err (faults.PeerClosed code)) new ours h all = absurd h
-
-  held_each : (fs : List FrameValue) (e : End) (result : Result Taken TakeFault) (new : End) → TakesEach fs e result new → AllHeld t e.recvs → AllHeld t new.recvs
-  held_each [] e result new h all = held_equal e.recvs new.recvs (ap (λ (x : End). x.recvs) h.1) all
-  held_each (f ∷ fs) e result new h all = by (is_ours (seen f)) refl h (λ mid r takes now. held_each fs mid r new takes now)
-    where
-      by : (b : Bool) → is_ours (seen f) ≡ b → MatchBool b (((mid : End) × (one : Taken) × (later : Result Taken TakeFault) × TakesOne e f (Ok one) mid × TakesEach fs mid later new × (result ≡ after_one one later)) ⊎ ((fault : TakeFault) × TakesOne e f (Err fault) new × (result ≡ Err fault))) (TakesEach fs e result new)
-          → ((mid : End) (r : Result Taken TakeFault) → TakesEach fs mid r new → AllHeld t mid.recvs → AllHeld t new.recvs) → AllHeld t new.recvs
-      by true ours (inl (mid, one, later, takes, more, is)) goes = goes mid later more (held_one f e (Ok one) mid ours takes all)
-      by true ours (inr (fault, one, is)) goes = held_one f e (Err fault) new ours one all
-      by false other more goes = goes e result more all
-
-  held_settles : (e : End) → AllHeld t e.recvs → AllHeld t (settle e).recvs
-  held_settles e all = slots_each (HeldSlot t) raise e.recvs (λ m. go m (lookup e.recvs m) (all m))
-    where
-      go : (m : ℕ) (o : Option RecvLane) → HeldSlot t m o → HeldSlot t m (option_map raise o)
-      go m None h = tt
-      go m (Some l) h = held_more m l (raise l) (record { told = refl; stopped = refl; read = refl }) h
-
-pub received_held : (old new : End) (k : ℕ) (text : List ℕ) (result : Result Received Closing) → ReceiveStep old k text result new → AllHeld old.recvs new.recvs
-received_held old new k text result step = by_closed old.closed step
+frame_told : (f : Seen) (e : End) → KeptIn LaneAfter e.recvs (frame_taken f e).recvs → AllTold e.recvs → AllTold (frame_taken f e).recvs
+frame_told f e kept all n = go (lookup (frame_taken f e).recvs n) refl (held_frame e.recvs f e (held_same e.recvs) n)
   where
-    same : new ≡ old → AllHeld old.recvs new.recvs
-    same is = subst (λ x. AllHeld old.recvs x.recvs) (sym is) (held_same old.recvs)
-
-    by_closed : (c : Option Closed) → ReceiveBy c k text old result new → AllHeld old.recvs new.recvs
-    by_closed (Some closed) step = same (closed_same closed old result new step)
-    by_closed None step =
-        by_open (AllHeld old.recvs new.recvs) k text old result new step (λ low is. same is) (λ again is. same is) (λ high mid taken after.
-        subst (λ x. AllHeld old.recvs x.recvs) (sym after)
-        (held_settles old.recvs mid (held_takes old.recvs k (reading_of text).fault false old (reading_of text).left result mid taken (held_same old.recvs))))
-
-pub handed_held : (old new : End) (fs : List FrameValue) (result : Result Taken TakeFault) → old.closed ≡ None → HandedIn fs old result new → AllHeld old.recvs new.recvs
-handed_held old new fs result open_end step =
-    elim (handed old fs result new open_end step) [
-      | inl (mid, takes, after) ↦ subst (λ x. AllHeld old.recvs x.recvs) (sym after) (held_settles old.recvs mid (held_each old.recvs fs old result mid takes (held_same old.recvs)))
-      | inr (is, same) ↦ subst (λ x. AllHeld old.recvs x.recvs) (sym same) (held_same old.recvs)
-    ]
-
-pub receive_told : (old new : End) → AllHeld old.recvs new.recvs → AllGrow old.recvs new.recvs → AllTold old.recvs → AllTold new.recvs
-receive_told old new held grow all n = go (lookup new.recvs n) refl (held n)
-  where
-    go : (o : Option RecvLane) → lookup new.recvs n ≡ o → HeldSlot old.recvs n o → ToldSlot o
+    go : (o : Option RecvLane) → lookup (frame_taken f e).recvs n ≡ o → HeldSlot e.recvs n o → ToldSlot o
     go None is h = tt
     go (Some m) is h = λ told.
-        let (l, was, kept) = h told in
-        let (x, there, g) = grow n l was in
-        let same : x ≡ m = same_Some x m (sym there ∙ is) in
-        held_told l m (subst (Grows l) same g) kept (subst ToldSlot was (all n))
+        let (l, was, held) = h told in
+        let (x, there, a) = kept n l was in
+        held_told l m (subst (LaneAfter l) (same_Some x m (sym there ∙ is)) a) held (subst ToldSlot was (all n))
+
+-- Every call
+
+told_change : (old : End) (call : Call) (c : Change) (e : End) → Comes old call e c → IsInCredit e → SentWasWritten e → AllTold e.recvs → AllTold (changed c e).recvs
+told_change old call (Wanted Uni count) e comes sound sent all = all
+told_change old call (Opened n) e comes sound sent all = told_opens n e all
+told_change old call (Stopped n code) e comes sound sent all = told_updated e.recvs n (λ m. stop m code) all (stop_told code)
+told_change old call (Forgotten n code) e comes sound sent all = told_updated e.recvs n (λ m. stop_and_forget m code) all (forget_told code)
+told_change old call (WasRead n size) e comes sound sent all = told_updated e.recvs n (λ m. after_read m size) all (answer_told size)
+told_change old call (WasSet (SendBuffer n size)) e comes sound sent all = all
+told_change old call (WasSet (Grant Uni n)) e comes sound sent all = all
+told_change old call (WasSet (StreamWindow n w)) e comes sound sent all = told_updated e.recvs n (λ l. set_window l w) all (λ l was. was)
+told_change old call (Took f) e comes sound sent all = frame_told f e (moves_change old call (Took f) e comes sound sent).1 all
+told_change old call (Acked count ranges) e comes sound sent all = subst AllTold (sym (ap (λ (x : End). x.recvs) (acks_leave (take count (named e ranges)) e))) all
+told_change old call (Put f) e comes sound sent all = subst AllTold (sym (ap (λ (x : End). x.recvs) (put_leaves f e))) all
+told_change old call Settled e comes sound sent all = told_settles e all
+told_change old call c e comes sound sent all = all
+
+pub told_call : (old : End) → IsSound old → SentWasWritten old → AllTold old.recvs → (call : Call) (answer : Answer call) (new : End) → EndStep old call answer new → AllTold new.recvs
+told_call old sound sent all call answer new step =
+    relates_sound (λ a b. AllTold a.recvs → AllTold b.recvs) (λ e h. h) (λ a b c f g h. g (f h)) old sound sent call (told_change old call) answer new step all
 
 -- A reader of an end that nothing waits for was told all
 
@@ -406,3 +442,55 @@ no_news l true_of quiet = go l.told (read_answer l 1) refl refl
     go false reads.End et er = absurd (false≢true (sym quiet ∙ ap (λ x. not l.told && tells_something x) er ∙ ap (λ x. not x && true) et))
     go false (reads.Reset code) et er = absurd (false≢true (sym quiet ∙ ap (λ x. not l.told && tells_something x) er ∙ ap (λ x. not x && true) et))
     go false reads.Wait et er = tt
+
+-- A half whose reader stopped stays so, and has taken all that came.
+
+-- the code of a stop stays
+abbrev StopStays : RecvLane → RecvLane → Type 0
+StopStays l m = (code : ℕ) → l.stop_code ≡ Some code → m.stop_code ≡ Some code
+
+stays_same : (l : RecvLane) → StopStays l l
+stays_same l code is = is
+
+-- One half
+
+stop_stays : (code : ℕ) (l : RecvLane) → StopStays l (stop l code)
+stop_stays code l = go (is_some l.stop_code) (is_over l) refl
+  where
+    go : (b o : Bool) → is_some l.stop_code ≡ b → StopStays l (cond (b || o) l (record l { arrived = discard l.arrived; stop_code = Some code }))
+    go true o is = stays_same l
+    go false true is = stays_same l
+    go false false is = λ c there. absurd (cc (is, there))
+
+reset_stays : (code size : ℕ) (l : RecvLane) → StopStays l (take_reset l code size)
+reset_stays code size l =
+    cond_both (is_some l.reset_code || is_whole l) l (record l { arrived = forget l.arrived; final_size = Some size; reset_code = Some code }) (StopStays l) (λ _. stays_same l) (λ _ c is. is)
+
+answer_stays : (answer : Read) (size : ℕ) (l : RecvLane) → StopStays l (after_answer answer l size)
+answer_stays (reads.Bytes n) size l = λ c is. is
+answer_stays reads.End size l = λ c is. is
+answer_stays (reads.Reset code) size l = λ c is. is
+answer_stays reads.Wait size l = λ c is. is
+
+recv_stays : (x : RecvEdit) (l : RecvLane) → StopStays l (recv_edited x l)
+recv_stays (Stops code) l = stop_stays code l
+recv_stays (Forgets code) l = stop_stays code l
+recv_stays (Reads size) l = answer_stays (read_answer l size) size l
+recv_stays (IsReset code size) l = reset_stays code size l
+recv_stays x l = λ c is. is
+
+-- what a stopped half has taken
+pub stopped_taken : (l : RecvLane) (code : ℕ) → l.stop_code ≡ Some code → taken l ≡ highest l
+stopped_taken l code is = go (is_some l.reset_code)
+  where
+    stopped : is_some l.stop_code ≡ true
+    stopped = ap is_some is
+
+    go : (b : Bool) → cond (b || is_some l.stop_code) (highest l) l.arrived.read_count ≡ highest l
+    go true = refl
+    go false = rw stopped refl
+
+pub give_back : StopsGiveBack
+give_back old call answer new n code l step is stopped =
+    let (m, there, stays) = recvs_kept StopStays stays_same (λ l m k r s c at. s c (r c at)) recv_stays old call answer new step n l is in
+    (m, there, stays code stopped, stopped_taken m code (stays code stopped))

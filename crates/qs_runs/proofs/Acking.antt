@@ -1,5 +1,5 @@
 -- A sending half that is allowed more, reset and acknowledged; and what an ACK does to an end.
-use Rattle.std.proofs.Common.{◌≡◌, ℕ, ◌+◌, ◌-◌, ◌≤◌, max, Bool, true, false, List, [], ◌∷◌, drop, map, flat_map, Option, Some, None, is_some, refl, sym, ap, ◌∙◌, subst, arith, inl, inr, if◌then◌else◌, drop-drop}
+use Rattle.std.proofs.Common.{◌≡◌, ℕ, ◌+◌, ◌-◌, ◌≤◌, max, Bool, true, false, List, [], ◌∷◌, drop, map, flat_map, length, Option, Some, None, is_some, refl, sym, ap, ◌∙◌, subst, arith, inl, inr, if◌then◌else◌, drop-drop}
 use Rattle.std.proofs.lemmas.Option.{none-some, same_Some}
 use Rattle.std.proofs.lemmas.Bool.{or_cases, true≢false, cases_lt}
 use Rattle.std.specs.FinMap as fmap
@@ -16,15 +16,13 @@ use Rattle.qs_send.specs.declared.piece.Piece.{Piece}
 use Rattle.qs_send.specs.declared.piece.Piece.TheVariants.{Data, Told}
 use Rattle.qs_machine.specs.Ends.{End, AckedItems, Records, LostPackets, lost_less, first_send_limit}
 use Rattle.qs_machine.specs.Seen.{Control}
-use Rattle.qs_send.specs.Records.{without_first}
+use Rattle.qs_send.specs.Records.{without_first, Among}
 use Rattle.qs_machine.specs.FrameStep.{AckedPiece, acked_at, piece_acked, item_acked, acks, without_piece, named, named_in, acked_numbers, is_named, pieces_of}
-use Rattle.qs_send.specs.Records.{Among}
 use Rattle.qs_runs.proofs.Lists.{All_append, All_filter, All_reverse}
 use Rattle.qs_runs.proofs.Members.{run-cases, run-old, get-inserted, get-removed}
-use Rattle.qs_runs.proofs.Base.{missing-more}
+use Rattle.qs_runs.proofs.Changes.{missing-more, send_kept, send_alike, send_same}
 use Rattle.qs_runs.specs.Pasts.{Past, PieceOf, Tells, WasConfirmed}
-use Rattle.qs_runs.specs.Invariant.{EndOk, SendOk, StoodIn}
-use Rattle.qs_runs.proofs.Changes.{send_kept}
+use Rattle.qs_runs.specs.Invariant.{EndHas, EndOk, SendOk, StoodIn}
 
 -- One half
 
@@ -38,23 +36,10 @@ not_reset l e = go l.was_reset refl
 
 module _ (p : Past) (n limit : ℕ) (l : SendLane) (h : SendOk p n limit l) where
   pub allow_ok : (m : ℕ) → Tells p.theirs (Control (MaxStreamData n m)) → SendOk p n limit (allow_lane l m)
-  allow_ok m t =
-      record {
-        count = h.count;
-        kept = h.kept;
-        sent_written = h.sent_written;
-        sent_limit = omega (arith, h.sent_limit);
-        end = h.end;
-        reset_size = h.reset_size;
-        told = h.told;
-        told_reset = h.told_reset;
-        acked = h.acked;
-        end_acked = h.end_acked;
-        limit_told = elim (cases_lt l.limit m) [
-          | inl lt ↦ (let e : max l.limit m ≡ m = omega arith in inr (rw e t))
-          | inr ge ↦ (let e : max l.limit m ≡ l.limit = omega arith in rw e h.limit_told)
-        ];
-      }
+  allow_ok m t = send_alike h (λ is. is) (λ k ack. ack) (omega (arith, h.sent_limit)) (elim (cases_lt l.limit m) [
+    | inl lt ↦ (let e : max l.limit m ≡ m = omega arith in inr (rw e t))
+    | inr ge ↦ (let e : max l.limit m ≡ l.limit = omega arith in rw e h.limit_told)
+  ])
 
   size_is_end : (b : Bool) → l.fin_sent ≡ b → (if b then l.written else l.sent_end) ≡ l.sent_end
   size_is_end true e = sym (h.end e).1
@@ -86,38 +71,11 @@ module _ (p : Past) (n limit : ℕ) (l : SendLane) (h : SendOk p n limit l) wher
   -- the code of a STOP_SENDING is kept beside what is true of a half (RFC 9000, section 3.5)
   stopped_by : (code : ℕ) (b : Bool) → is_some (reset_refusal l) ≡ b → SendOk p n limit (if b then l else record (broken_off l code) { stopped = first_code l.stopped code })
   stopped_by code true refused = h
-  stopped_by code false allowed =
-      let r = reset_by code false allowed in
-      record {
-        count = r.count;
-        kept = r.kept;
-        sent_written = r.sent_written;
-        sent_limit = r.sent_limit;
-        end = r.end;
-        reset_size = r.reset_size;
-        told = r.told;
-        told_reset = r.told_reset;
-        acked = r.acked;
-        end_acked = r.end_acked;
-        limit_told = r.limit_told;
-      }
+  stopped_by code false allowed = send_same (reset_by code false allowed)
 
   told_by : (code : ℕ) (b : Bool) → SendOk p n limit (if b then l else record l { stopped = first_code l.stopped code })
   told_by code true = h
-  told_by code false =
-      record {
-        count = h.count;
-        kept = h.kept;
-        sent_written = h.sent_written;
-        sent_limit = h.sent_limit;
-        end = h.end;
-        reset_size = h.reset_size;
-        told = h.told;
-        told_reset = h.told_reset;
-        acked = h.acked;
-        end_acked = h.end_acked;
-        limit_told = h.limit_told;
-      }
+  told_by code false = send_same h
 
   -- a STOP_SENDING resets it, or is told (RFC 9000, section 3.5)
   pub stopped_ok : (answers : Bool) (code : ℕ) → SendOk p n limit (stop_taken answers l code)
@@ -171,20 +129,7 @@ module _ (p : Past) (n limit : ℕ) (l : SendLane) (h : SendOk p n limit l) wher
 
   -- the mark that the reset was acknowledged is in no clause
   pub reset_acked_ok : SendOk p n limit (reset_acked_lane l)
-  reset_acked_ok =
-      record {
-        count = h.count;
-        kept = h.kept;
-        sent_written = h.sent_written;
-        sent_limit = h.sent_limit;
-        end = h.end;
-        reset_size = h.reset_size;
-        told = h.told;
-        told_reset = h.told_reset;
-        acked = h.acked;
-        end_acked = h.end_acked;
-        limit_told = h.limit_told;
-      }
+  reset_acked_ok = send_same h
 
 -- An end
 
@@ -207,13 +152,14 @@ module _ (p : Past) where
   pub one_less_ok : (m : Records) (k : ℕ) → StoodIn p.mine m → StoodIn p.mine (without_first m k (fmap.get m k))
   one_less_ok m k stood = without_first_ok m k stood (fmap.get m k) refl
 
-  pub with_records : (e : End) (m : Records) (l : LostPackets) → EndOk p e → StoodIn p.mine m → StoodIn p.mine l.pieces → EndOk p (record e { outstanding = m; lost = l })
-  with_records e m l ok records lost_records =
+  -- fields that the invariant doesn't speak of may change, and records by what they hold
+  pub with_records : {sent : ℕ} (e : End) (next : ℕ) (m : Records) (l : LostPackets) → EndHas p e sent → next ≡ length p.mine → StoodIn p.mine m → StoodIn p.mine l.pieces → EndHas p (record e { next = next; outstanding = m; lost = l }) sent
+  with_records e next m l ok count records lost_records =
       record {
         sends = ok.sends;
         recvs = ok.recvs;
         packets = record {
-          count = ok.packets.count;
+          count = count;
           records = records;
           lost_records = lost_records;
           acks_told = ok.packets.acks_told;
@@ -228,8 +174,8 @@ module _ (p : Past) where
       }
 
   without_piece_ok : (late : Bool) (k : ℕ) (e : End) → EndOk p e → EndOk p (without_piece late k e)
-  without_piece_ok true k e ok = with_records e e.outstanding (lost_less k e.lost) ok ok.packets.records (one_less_ok e.lost.pieces k ok.packets.lost_records)
-  without_piece_ok false k e ok = with_records e (without_first e.outstanding k (fmap.get e.outstanding k)) e.lost ok (one_less_ok e.outstanding k ok.packets.records) ok.packets.lost_records
+  without_piece_ok true k e ok = with_records e e.next e.outstanding (lost_less k e.lost) ok ok.packets.count ok.packets.records (one_less_ok e.lost.pieces k ok.packets.lost_records)
+  without_piece_ok false k e ok = with_records e e.next (without_first e.outstanding k (fmap.get e.outstanding k)) e.lost ok ok.packets.count (one_less_ok e.outstanding k ok.packets.records) ok.packets.lost_records
 
   -- the values acknowledged are in no clause
   with_items : (e : End) (items : AckedItems) → EndOk p e → EndOk p (record e { acked = items })

@@ -12,7 +12,7 @@ use Rattle.qs_machine.specs.Seen.{Seen, Stream}
 use Rattle.qs_machine.specs.Alone.{is_ours}
 use Rattle.qs_runs.specs.Agree.{IsPrefixOf}
 use Rattle.qs_runs.proofs.Lists.{prefix_by_place, same_length_prefix}
-use Rattle.qs_runs.proofs.Base.{before-missing}
+use Rattle.qs_runs.proofs.Changes.{before-missing}
 use Rattle.qs_runs.specs.Pasts.{Past, Holds, TellsByte, TellsEnd, TellsReset, WasConfirmed}
 use Rattle.qs_runs.specs.Invariant.{SendOk, SendSlot, RecvOk, RecvSlot, FrameTaken}
 
@@ -105,13 +105,10 @@ module _ (p q : Past) (n limit window : ℕ) (from : q.theirs ≡ p.mine) (f : E
   no_reset_known : (l : SendLane) (r : RecvLane) → SendOk p n limit l → l.was_reset ≡ None → recv_lane f n ≡ Some r → r.reset_code ≡ None
   no_reset_known l r h none is = go r.reset_code refl
     where
-      ok : RecvOk q n window r
-      ok = rw is at recvs
-
       go : (o : Option ℕ) → r.reset_code ≡ o → r.reset_code ≡ None
       go None e = e
       go (Some code) e =
-          let (size, final, t) = ok.reset code e in
+          let (size, final, t) = (rw is at recvs).reset code e in
           absurd (none-some _ (sym none ∙ h.told_reset code size (subst (λ x. TellsReset x n code size) from t)))
 
   pub received_agrees : (l : SendLane) → SendOk p n limit l → state l ≡ DataRecvd →

@@ -1,19 +1,92 @@
--- One half of a stream changes, and what that leaves of the invariant.
-use Rattle.std.proofs.Common.{◌≡◌, ℕ, Bool, true, List, [], ◌∷◌, Option, Some, None, is_some, refl, sym, ap, ◌∙◌, subst, arith, inl, inr}
-use Rattle.std.proofs.lemmas.Option.{same_Some}
-use Rattle.std.proofs.lemmas.Bool.{cases_eq}
-use Rattle.std.specs.List.{AllByRecursion}
+-- One half of an end is changed, and the invariant of the end stays: by reads, writes, and limits that move.
+use Rattle.std.proofs.Common.{◌≡◌, ℕ, ◌<◌, ◌≤◌, max, true, arith, Bool, List, [], ◌∷◌, Option, Some, None, is_some, refl, sym, ap, ◌∙◌, subst, inl, inr, ◌⊎◌, false, option_map, if◌then◌else◌, ◌≢◌, ◌+◌, ◌-◌, ◌++◌, length, nat_cmp, ◌==◌, length-append, append-nil}
 use Rattle.std.specs.FinSet as set
-use Rattle.qs_recv.specs.Lane.{RecvLane}
-use Rattle.qs_send.specs.Lane.{SendLane}
-use Rattle.qs_send.specs.declared.piece.Item.TheVariants.{ResetStream}
-use Rattle.qs_machine.specs.Tables.{Tables, lookup, update, updated}
-use Rattle.qs_machine.specs.Ends.{End, first_send_limit, window, on_send}
+use Rattle.qs_ranges.specs.Numbers.{NumberSet, missing_from, end_of}
+use Rattle.qs_ranges.proofs.Sets.{missing_from-is, missing_from-le, missing_from-more}
+use Rattle.qs_runs.proofs.Members.{end-le, get-front, get-kept}
+use Rattle.std.proofs.lemmas.Option.{same_Some, none-some}
+use Rattle.std.proofs.lemmas.Bool.{cases_eq, true≢false, false≢true, eqb-true, eq-eqb, ne_eqb}
+use Rattle.std.specs.List.{AllByRecursion}
+use Rattle.qs_recv.specs.Lane.{RecvLane, raise, next_limit, taken, set_window, read_answer, after_answer}
+use Rattle.qs_send.specs.Lane.{SendLane, write_lane, unacked_from, refusal}
+use Rattle.qs_send.specs.declared.piece.Item.TheVariants.{MaxStreamData, ResetStream}
+use Rattle.qs_machine.specs.Tables.{Tables, lookup, update, updated, each}
+use Rattle.qs_machine.specs.Ends.{End, first_send_limit, window, on_send, on_recv, End as Endpoint}
 use Rattle.qs_machine.specs.Seen.{Seen, Stream, Control}
-use Rattle.qs_runs.specs.Pasts.{Past}
+use Rattle.qs_runs.specs.Pasts.{Past, Packets, Tells, TellsEnd, WasConfirmed}
 use Rattle.qs_runs.proofs.Past.{each_taken}
-use Rattle.qs_runs.specs.Invariant.{EndOk, SendOk, SendSlot, RecvOk, RecvSlot, FrameTaken, StreamTaken, TakenOk, OpenOk, is_open}
-use Rattle.qs_machine.proofs.TableLaws.{lookup_same, lookup_other, slots_updated, total_update}
+use Rattle.qs_runs.specs.Invariant.{EndOk, EndHas, CreditTrue, SendOk, SendSlot, RecvOk, RecvSlot, FrameTaken, StreamTaken, TakenOk, OpenOk, is_open, RecvTrue, SendTrue}
+use Rattle.qs_machine.proofs.TableLaws.{lookup_same, lookup_other, slots_updated, total_update, lookup_each, slots_each}
+use Rattle.qs_recv.specs.declared.credit.Share.{Share}
+use Rattle.qs_machine.specs.Credit.{settle, all_sent, all_taken}
+use Rattle.qs_recv.proofs.LawfulLaws.{under_grows}
+use Rattle.qs_machine.proofs.Rising.{next_limit_grows}
+use Rattle.std.specs.FinMap as fmap
+use Rattle.qs_recv.specs.Assembled.{front_of, discard}
+use Rattle.qs_recv.specs.declared.half.Read.TheVariants as reads
+use Rattle.qs_runs.proofs.Lists.{slice_get-joined, slice_get-append, drop-joined}
+use Rattle.qs_send.specs.declared.parts.SendFault.TheVariants as sends
+use Rattle.qs_send.specs.declared.parts.Reset.{Reset}
+
+-- The lowest offset of a sending half that isn't acknowledged.
+
+-- each number before the first that is missing is a member
+pub before-missing : (s : NumberSet) (q : ℕ) → q < missing_from s 0 → set.contains s q ≡ true
+before-missing s q lt = (missing_from-is s 0).all_before q (omega arith) lt
+
+-- it is no higher than a number above all members
+pub missing-le : (s : NumberSet) (b : ℕ) → ((q : ℕ) → set.contains s q ≡ true → q < b) → missing_from s 0 ≤ b
+missing-le s b all =
+    let top : missing_from s 0 ≤ max 0 (end_of s) = missing_from-le s 0 in
+    let low : end_of s ≤ b = end-le s b all in
+    omega arith
+
+-- with more members it is no lower
+pub missing-more : (s t : NumberSet) → ((q : ℕ) → set.contains s q ≡ true → set.contains t q ≡ true) → missing_from s 0 ≤ missing_from t 0
+missing-more s t all = missing_from-more s t 0 all
+
+-- The past of the peer grows, a limit moves, an end is asked for, and what no clause speaks of may be anything.
+pub send_alike : {mine theirs more : Packets} {tokens told : ℕ → Bool} {all : List ℕ} {n first limit top buffer widest : ℕ} {finished blocked confirmed : Bool} {stopped : Option ℕ} {l : SendLane} → SendTrue mine theirs tokens all n first l →
+    (l.finished ≡ true → finished ≡ true) → ((k : ℕ) → WasConfirmed theirs tokens k → WasConfirmed more told k) → l.sent_end ≤ top → (top ≤ limit) ⊎ Tells more (Control (MaxStreamData n top)) →
+    SendTrue mine more told all n limit (record l { limit = top; buffer = buffer; widest = widest; finished = finished; blocked_sent = blocked; reset_acked = confirmed; stopped = stopped })
+send_alike h asked confirms below known =
+    record {
+      count = h.count;
+      kept = h.kept;
+      sent_written = h.sent_written;
+      sent_limit = below;
+      end = λ is. (asked (h.end is).0, (h.end is).1);
+      reset_size = h.reset_size;
+      told = h.told;
+      told_reset = h.told_reset;
+      acked = λ q is. (let (k, offset, bytes, fin, holds, low, high, ack) = h.acked q is in (k, offset, bytes, fin, holds, low, high, confirms k ack));
+      end_acked = λ is. (let (k, offset, bytes, holds, ack) = h.end_acked is in (k, offset, bytes, holds, confirms k ack));
+      limit_told = known;
+    }
+
+-- what no clause speaks of
+pub send_same : {mine theirs : Packets} {tokens : ℕ → Bool} {all : List ℕ} {n limit buffer widest : ℕ} {blocked confirmed : Bool} {stopped : Option ℕ} {l : SendLane} → SendTrue mine theirs tokens all n limit l →
+    SendTrue mine theirs tokens all n limit (record l { buffer = buffer; widest = widest; blocked_sent = blocked; reset_acked = confirmed; stopped = stopped })
+send_same h = send_alike h (λ is. is) (λ k ack. ack) h.sent_limit h.limit_told
+
+-- A limit rises, an end is given, and what no clause speaks of may be anything.
+pub recv_alike : {mine theirs : Packets} {given : List ℕ} {stopped ended was told : Bool} {n w top window widest : ℕ} {share : Share} {l : RecvLane} → RecvTrue mine theirs given stopped ended n w l → l.limit ≤ top →
+    (was ≡ true → (size : ℕ) × (l.arrived.read_count ≡ size) × (l.final_size ≡ Some size) × TellsEnd theirs n size) → RecvTrue mine theirs given stopped was n w (record l { arrived = record l.arrived { window = widest }; told = told; limit = top; window = window; share = share })
+recv_alike h rises is_end =
+    record {
+      received = h.received;
+      stored = h.stored;
+      count = h.count;
+      gave = h.gave;
+      final = h.final;
+      reset = h.reset;
+      not_stopped = h.not_stopped;
+      ended = is_end;
+      window_granted = omega (arith, rises, h.window_granted);
+      limit_told = λ limit t. omega (arith, rises, h.limit_told limit t);
+    }
+
+-- One half of a stream changes, and what that leaves of the invariant.
 
 -- What a receiving half never takes back.
 pub record Grows (l m : RecvLane) : Type 0 where
@@ -31,12 +104,8 @@ AllGrow t u = (n : ℕ) (l : RecvLane) → lookup t n ≡ Some l → (m : RecvLa
 pub all_grow_refl : (t : Tables RecvLane) → AllGrow t t
 all_grow_refl t n l is = (l, is, Grows_refl l)
 
-stream_stays : (l m : RecvLane) (offset : ℕ) (bytes : List ℕ) (fin : Bool) → Grows l m → StreamTaken l offset bytes fin → StreamTaken m offset bytes fin
-stream_stays l m offset bytes fin g t =
-    record { offsets = λ none q low high. g.received q (t.offsets (g.reset none) q low high); end = λ is. g.final _ (t.end is) }
-
 pub frame_stays : (t u : Tables RecvLane) → AllGrow t u → (f : Seen) → FrameTaken t f → FrameTaken u f
-frame_stays t u grow (Stream n offset bytes fin) (l, is, taken) = (let (m, there, g) = grow n l is in (m, there, stream_stays l m offset bytes fin g taken))
+frame_stays t u grow (Stream n offset bytes fin) (l, is, taken) = (let (m, there, g) = grow n l is in (m, there, (record { offsets = λ none q low high. g.received q (taken.offsets (g.reset none) q low high); end = λ is. g.final _ (taken.end is) })))
 frame_stays t u grow (Control (ResetStream n code size)) (l, is, final) = (let (m, there, g) = grow n l is in (m, there, g.final size final))
 frame_stays t u grow f h = tt
 
@@ -65,33 +134,53 @@ grows_update t n l m is g j x there =
       | inr ne ↦ (x, lookup_other t n j m ne ∙ there, Grows_refl x)
     ]
 
-module _ (p : Past) (e : End) (n : ℕ) (ok : EndOk p e) where
-  pub recv_changed : (l m : RecvLane) → lookup e.recvs n ≡ Some l → RecvOk p n (window e n) m → Grows l m → EndOk p (record e { recvs = update e.recvs n m })
-  recv_changed l m is this g =
+pub without_sum : (p : Past) (e : End) (sent less : ℕ) → EndHas p e sent → less ≤ e.known_data → EndHas p e less
+without_sum p e sent less ok le =
+    record {
+      sends = ok.sends;
+      recvs = ok.recvs;
+      packets = ok.packets;
+      taken = ok.taken;
+      streams = ok.streams;
+      credit = record { sent_known = le; known_told = ok.credit.known_told; window_granted = ok.credit.window_granted; granted_told = ok.credit.granted_told };
+    }
+
+pub lane_changed : (p : Past) (e : End) (sent n : ℕ) (l m : SendLane) → EndHas p e sent → lookup e.sends n ≡ Some l → SendTrue p.mine p.theirs p.tokens (p.bytes n) n (first_send_limit e n) m → EndHas p (record e { sends = update e.sends n m }) sent
+lane_changed p e sent n l m ok is this =
+    record {
+      sends = slots_updated (λ j o. SendSlot p j (first_send_limit e j) o) e.sends n l m is (λ j ne. ok.sends j) this;
+      recvs = ok.recvs;
+      packets = ok.packets;
+      taken = ok.taken;
+      credit = ok.credit;
+      streams = subst (λ s. OpenOk p e.role e.peer.streams_bidi e.peer.streams_uni e.known_bidi e.known_uni s (is_open e.recvs)) (sym (open_update e.sends n l m is)) ok.streams;
+    }
+
+-- what the past says of one receiving half changes, and the half
+module _ (p : Past) (e : Endpoint) (n : ℕ) (ok : EndOk p e) where
+  pub recv_view : (given : ℕ → List ℕ) (stopped ended : ℕ → Bool) (l m : RecvLane) → ((j : ℕ) → j ≢ n → (given j ≡ p.gave j) × (stopped j ≡ p.stopped j) × (ended j ≡ p.ended j)) → lookup e.recvs n ≡ Some l →
+      RecvTrue p.mine p.theirs (given n) (stopped n) (ended n) n (window e n) m → Grows l m → EndOk (record p { gave = given; stopped = stopped; ended = ended }) (record e { recvs = update e.recvs n m })
+  recv_view given stopped ended l m same is this g =
       record {
         sends = ok.sends;
-        recvs = slots_updated (λ j o. RecvSlot p j (window e j) o) e.recvs n l m is (λ j ne. ok.recvs j) this;
+        recvs = slots_updated (λ j o. RecvSlot (record p { gave = given; stopped = stopped; ended = ended }) j (window e j) o) e.recvs n l m is (λ j ne. other j (same j ne) (lookup e.recvs j) (ok.recvs j)) this;
         packets = ok.packets;
         taken = taken_stays p e.recvs _ (grows_update e.recvs n l m is g) ok.taken;
         credit = ok.credit;
         streams = subst (λ r. OpenOk p e.role e.peer.streams_bidi e.peer.streams_uni e.known_bidi e.known_uni (is_open e.sends) r) (sym (open_update e.recvs n l m is)) ok.streams;
       }
+    where
+      other : (j : ℕ) → (given j ≡ p.gave j) × (stopped j ≡ p.stopped j) × (ended j ≡ p.ended j) → (o : Option RecvLane) → RecvSlot p j (window e j) o → RecvSlot (record p { gave = given; stopped = stopped; ended = ended }) j (window e j) o
+      other j (a, b, c) None h = record { no_bytes = a ∙ h.no_bytes; no_end = c ∙ h.no_end; not_stopped = b ∙ h.not_stopped; no_limit = h.no_limit; no_stop = h.no_stop }
+      other j (a, b, c) (Some x) h = rw (a, b, c) h
+
+module _ (p : Past) (e : End) (n : ℕ) (ok : EndOk p e) where
+  pub recv_changed : (l m : RecvLane) → lookup e.recvs n ≡ Some l → RecvOk p n (window e n) m → Grows l m → EndOk p (record e { recvs = update e.recvs n m })
+  recv_changed l m is this g = recv_view p e n ok p.gave p.stopped p.ended l m (λ j ne. (refl, refl, refl)) is this g
 
   pub send_changed : (l m : SendLane) → lookup e.sends n ≡ Some l → SendOk p n (first_send_limit e n) m → m.sent_end ≡ l.sent_end → EndOk p (record e { sends = update e.sends n m })
   send_changed l m is this same =
-      record {
-        sends = slots_updated (λ j o. SendSlot p j (first_send_limit e j) o) e.sends n l m is (λ j ne. ok.sends j) this;
-        recvs = ok.recvs;
-        packets = ok.packets;
-        taken = ok.taken;
-        credit = record {
-          sent_known = omega (arith, total_update (λ x. x.sent_end) e.sends n l m is, ok.credit.sent_known);
-          known_told = ok.credit.known_told;
-          window_granted = ok.credit.window_granted;
-          granted_told = ok.credit.granted_told;
-        };
-        streams = subst (λ s. OpenOk p e.role e.peer.streams_bidi e.peer.streams_uni e.known_bidi e.known_uni s (is_open e.recvs)) (sym (open_update e.sends n l m is)) ok.streams;
-      }
+      without_sum p (record e { sends = update e.sends n m }) (all_sent e) (all_sent (record e { sends = update e.sends n m })) (lane_changed p e (all_sent e) n l m ok is this) (omega (arith, total_update (λ x. x.sent_end) e.sends n l m is, ok.credit.sent_known))
 
   pub send_kept : (f : SendLane → SendLane) → ((l : SendLane) → lookup e.sends n ≡ Some l → SendOk p n (first_send_limit e n) l → SendOk p n (first_send_limit e n) (f l) × ((f l).sent_end ≡ l.sent_end)) → EndOk p (on_send n f e)
   send_kept f keeps = go (lookup e.sends n) refl (ok.sends n)
@@ -105,3 +194,219 @@ grow_trans t u v a b n l is =
     let (m, there, g) = a n l is in
     let (k, at, h) = b n m there in
     (k, at, record { received = λ q old. h.received q (g.received q old); final = λ size old. h.final size (g.final size old); reset = λ none. g.reset (h.reset none) })
+
+-- As a call ends the limits rise, and so they do under another window.
+
+pub granted_more : {mine theirs : Packets} {sent known granted first window : ℕ} (more : ℕ) → CreditTrue mine theirs sent known granted first window → granted ≤ more → CreditTrue mine theirs sent known more first window
+granted_more more h le = record { sent_known = h.sent_known; known_told = h.known_told; window_granted = omega (arith, le, h.window_granted); granted_told = λ limit t. omega (arith, le, h.granted_told limit t) }
+
+pub raise_grows : (l : RecvLane) → Grows l (raise l)
+raise_grows l = record { received = λ q h. h; final = λ s h. h; reset = λ h. h }
+
+pub each_grows : (f : RecvLane → RecvLane) (t : Tables RecvLane) → ((l : RecvLane) → Grows l (f l)) → AllGrow t (each f t)
+each_grows f t grows n l is = (f l, lookup_each f t n ∙ ap (option_map f) is, grows l)
+
+some_mapped : {X : Type 0} (g : X → X) (o : Option X) → is_some (option_map g o) ≡ is_some o
+some_mapped g None = refl
+some_mapped g (Some x) = refl
+
+module _ (p : Past) (e : End) (ok : EndOk p e) where
+  slot_raised : (n : ℕ) (o : Option RecvLane) → RecvSlot p n (window e n) o → RecvSlot p n (window e n) (option_map raise o)
+  slot_raised n None h = h
+  slot_raised n (Some l) h = recv_alike h (rises (is_some l.final_size)) h.ended
+    where
+      rises : (b : Bool) → l.limit ≤ (if b then l.limit else next_limit l.limit (taken l) l.window l.share)
+      rises true = omega arith
+      rises false = next_limit_grows l.limit (taken l) l.window l.share
+
+  pub settle_grows : AllGrow e.recvs (settle e).recvs
+  settle_grows = each_grows raise e.recvs raise_grows
+
+  pub settle_ok : EndOk p (settle e)
+  settle_ok =
+      record {
+        sends = ok.sends;
+        recvs = slots_each (λ n o. RecvSlot p n (window e n) o) raise e.recvs (λ n. slot_raised n (lookup e.recvs n) (ok.recvs n));
+        packets = ok.packets;
+        taken = taken_stays p e.recvs _ settle_grows ok.taken;
+        credit = granted_more _ ok.credit (next_limit_grows e.granted (all_taken e) e.present.conn_window e.tuning.credit_step);
+        streams = subst (λ r. OpenOk p e.role e.peer.streams_bidi e.peer.streams_uni e.known_bidi e.known_uni (is_open e.sends) r) (sym (λ i n. (ap is_some (lookup_each raise e.recvs n) ∙ some_mapped raise (lookup e.recvs n)) i)) ok.streams;
+      }
+
+-- Another window of a stream moves its limit alone, and that no lower
+
+pub window_ok : (p : Past) (e : End) (n w : ℕ) → EndOk p e → EndOk p (on_recv n (λ l. set_window l w) e)
+window_ok p e n w ok = go (lookup e.recvs n) refl (ok.recvs n)
+  where
+    go : (o : Option RecvLane) → lookup e.recvs n ≡ o → RecvSlot p n (window e n) o → EndOk p (record e { recvs = updated e.recvs n (λ l. set_window l w) o })
+    go None is h = ok
+    go (Some l) is h = recv_changed p e n ok l (set_window l w) is (recv_alike h (under_grows l w) h.ended) (record { received = λ q old. old; final = λ size old. old; reset = λ none. none })
+
+-- A receiving half that is read and stopped.
+
+-- `read` answers bytes: the half wasn't read to its end
+pub not_at_end : (l : RecvLane) (size count : ℕ) → read_answer l size ≡ reads.Bytes count → (end : ℕ) → l.final_size ≡ Some end → l.arrived.read_count ≢ end
+not_at_end l size count is end final same = go l.reset_code l.stop_code refl refl
+  where
+    stopped : (b : Bool) → (if b then reads.End else reads.Wait) ≡ reads.Bytes count → ⊥
+    stopped true e = cc
+    stopped false e = cc
+
+    more : (b : Bool) → b ≡ true → (if b then reads.End else (if set.contains l.arrived.received l.arrived.read_count then reads.Bytes (length (front_of l.arrived size)) else reads.Wait)) ≡ reads.Bytes count → ⊥
+    more true eb e = cc
+    more false eb e = absurd (false≢true eb)
+
+    go : (r s : Option ℕ) → l.reset_code ≡ r → l.stop_code ≡ s → ⊥
+    go (Some c) s er es = absurd (cc (rw er at is))
+    go None (Some c) er es = stopped _ (rw (er, es) at is)
+    go None None er es = more (l.arrived.read_count == end) (eq-eqb l.arrived.read_count end same) (rw (er, es, final) at is)
+
+-- `read` answers End to a reader that didn't stop: the final size is known by FIN, and all was read
+pub read_end : (l : RecvLane) (size : ℕ) → read_answer l size ≡ reads.End → l.stop_code ≡ None → (end : ℕ) × (l.final_size ≡ Some end) × (l.arrived.read_count ≡ end) × (l.reset_code ≡ None)
+read_end l size is none = go l.reset_code l.final_size refl refl
+  where
+    more : (b : Bool) → (if b then reads.Bytes (length (front_of l.arrived size)) else reads.Wait) ≡ reads.End → ⊥
+    more true e = cc
+    more false e = cc
+
+    part : (end : ℕ) → l.reset_code ≡ None → l.final_size ≡ Some end → (b : Bool) → (l.arrived.read_count == end) ≡ b →
+        (if b then reads.End else (if set.contains l.arrived.received l.arrived.read_count then reads.Bytes (length (front_of l.arrived size)) else reads.Wait)) ≡ reads.End →
+        (end : ℕ) × (l.final_size ≡ Some end) × (l.arrived.read_count ≡ end) × (l.reset_code ≡ None)
+    part end er ef true eb h = (end, ef, eqb-true l.arrived.read_count end eb, er)
+    part end er ef false eb h = absurd (more _ h)
+
+    go : (r f : Option ℕ) → l.reset_code ≡ r → l.final_size ≡ f → (end : ℕ) × (l.final_size ≡ Some end) × (l.arrived.read_count ≡ end) × (l.reset_code ≡ None)
+    go (Some c) f er ef = absurd (cc (rw er at is))
+    go None (Some end) er ef = part end er ef _ refl (rw (er, none, ef) at is)
+    go None None er ef = absurd (more _ (rw (er, none, ef) at is))
+
+pub told_grows : (l m : RecvLane) → Grows l m → Grows l (record m { told = true })
+told_grows l m g = record { received = g.received; final = g.final; reset = g.reset }
+
+module _ (p : Past) (n w : ℕ) (l : RecvLane) (h : RecvOk p n w l) where
+  pub read_bytes_ok : (size count : ℕ) → ((end : ℕ) → l.final_size ≡ Some end → l.arrived.read_count ≢ end) →
+      RecvTrue p.mine p.theirs (p.gave n ++ front_of l.arrived size) (p.stopped n) (p.ended n) n w (after_answer (reads.Bytes count) l size)
+  read_bytes_ok size count more =
+      record {
+        received = h.received;
+        stored = λ q b is. h.stored q b (get-kept l.arrived.stored (l.arrived.read_count + length (front_of l.arrived size)) q b is);
+        count = omega (arith, length-append (p.gave n) (front_of l.arrived size), h.count);
+        gave = λ q b is. elim (slice_get-joined (p.gave n) (front_of l.arrived size) q b is) [
+          | inl old ↦ h.gave q b old
+          | inr new ↦ (
+              let there = get-front l.arrived.stored l.arrived.read_count size (q - length (p.gave n)) b new.1 in
+              let same : l.arrived.read_count + (q - length (p.gave n)) ≡ q = omega (arith, h.count, new.0) in
+              h.stored q b (subst (λ x. fmap.get l.arrived.stored x ≡ Some b) same there))
+        ];
+        final = h.final;
+        reset = h.reset;
+        not_stopped = h.not_stopped;
+        ended = λ is. (let (size, read, final, t) = h.ended is in absurd (more size final read));
+        window_granted = h.window_granted;
+        limit_told = h.limit_told;
+      }
+
+  pub read_told_ok : (ended : Bool) → (ended ≡ true → (size : ℕ) × (l.arrived.read_count ≡ size) × (l.final_size ≡ Some size) × TellsEnd p.theirs n size) → RecvTrue p.mine p.theirs (p.gave n) (p.stopped n) ended n w (record l { told = true })
+  read_told_ok ended is_end = recv_alike h (omega arith) is_end
+
+  pub end_by_fin : (size : ℕ) → read_answer l size ≡ reads.End → l.stop_code ≡ None → (end : ℕ) × (l.arrived.read_count ≡ end) × (l.final_size ≡ Some end) × TellsEnd p.theirs n end
+  end_by_fin size is none =
+      let (end, final, read, no_reset) = read_end l size is none in
+      (end, read, final, elim (h.final end final) [ inl t ↦ t | inr t ↦ absurd (none-some t.0 (sym no_reset ∙ t.1)) ])
+
+  pub stop_ok : (code : ℕ) (b : Bool) → RecvTrue p.mine p.theirs (p.gave n) true (p.ended n) n w (if b then l else record l { arrived = discard l.arrived; stop_code = Some code })
+  stop_ok code true =
+      record {
+        received = h.received;
+        stored = h.stored;
+        count = h.count;
+        gave = h.gave;
+        final = h.final;
+        reset = h.reset;
+        not_stopped = λ is. absurd (true≢false is);
+        ended = h.ended;
+        window_granted = h.window_granted;
+        limit_told = h.limit_told;
+      }
+  stop_ok code false =
+      record {
+        received = h.received;
+        stored = λ q b is. absurd (none-some b (sym (fmap.get-empty nat_cmp q) ∙ is));
+        count = h.count;
+        gave = h.gave;
+        final = h.final;
+        reset = h.reset;
+        not_stopped = λ is. absurd (true≢false is);
+        ended = h.ended;
+        window_granted = h.window_granted;
+        limit_told = h.limit_told;
+      }
+
+  pub stop_grows : (code : ℕ) (b : Bool) → Grows l (if b then l else record l { arrived = discard l.arrived; stop_code = Some code })
+  stop_grows code true = Grows_refl l
+  stop_grows code false = record { received = λ q is. is; final = λ size is. is; reset = λ none. none }
+
+-- A sending half that is written to and finished.
+
+-- what a half that may be written says
+pub write_allowed : (l : SendLane) → refusal l ≡ None → (l.was_reset ≡ None) × (l.finished ≡ false)
+write_allowed l is = go l.was_reset refl l.finished refl
+  where
+    go : (o : Option Reset) → l.was_reset ≡ o → (b : Bool) → l.finished ≡ b → (l.was_reset ≡ None) × (l.finished ≡ false)
+    go (Some r) reset b end = absurd (none-some sends.WasReset (sym (rw reset at is)))
+    go None reset true end = absurd (none-some sends.Finished (sym (rw (reset, end) at is)))
+    go None reset false end = (reset, end)
+
+-- an acknowledged offset was written
+pub acked_written : (mine theirs : Packets) (tokens : ℕ → Bool) (all : List ℕ) (n limit : ℕ) (l : SendLane) → SendTrue mine theirs tokens all n limit l → (q : ℕ) → set.contains l.acked q ≡ true → q < l.written
+acked_written mine theirs tokens all n limit l h q is =
+    let (k, offset, bytes, fin, holds, low, high, ack) = h.acked q is in
+    let below : offset + length bytes ≤ l.sent_end = (h.told offset bytes fin (k, holds)).below in
+    let written : l.sent_end ≤ l.written = h.sent_written in
+    omega arith
+
+-- what is written after an end that wasn't asked for
+pub write_ok : (mine theirs : Packets) (tokens : ℕ → Bool) (all bytes : List ℕ) (n limit : ℕ) (l : SendLane) → SendTrue mine theirs tokens all n limit l → l.was_reset ≡ None → l.finished ≡ false → SendTrue mine theirs tokens (all ++ bytes) n limit (write_lane l bytes)
+write_ok mine theirs tokens all bytes n limit l h none open_end =
+    let not_sent : l.fin_sent ≡ true → ⊥ = λ is. true≢false (sym (h.end is).0 ∙ open_end) in
+    let low : unacked_from l ≤ l.written = missing-le l.acked l.written (acked_written mine theirs tokens all n limit l h) in
+    record {
+      count = omega (arith, length-append all bytes, h.count);
+      kept = λ _. ap (λ x. x ++ bytes) (h.kept none) ∙ sym (drop-joined (unacked_from l) all bytes (omega (arith, h.count)));
+      sent_written = omega (arith, h.sent_written);
+      sent_limit = h.sent_limit;
+      end = λ is. absurd (not_sent is);
+      reset_size = λ r is. absurd (none-some r (sym none ∙ is));
+      told = λ offset bs fin t. (let c = h.told offset bs fin t in record { same = λ i b at. slice_get-append all bytes (offset + i) b (c.same i b at); below = c.below; end = λ is. absurd (not_sent (c.end is).0) });
+      told_reset = h.told_reset;
+      acked = h.acked;
+      end_acked = h.end_acked;
+      limit_told = h.limit_told;
+    }
+
+-- bytes are written to one stream
+abbrev pub with_bytes : Past → ℕ → List ℕ → Past
+with_bytes p n bytes = record p { bytes = λ m. p.bytes m ++ (if m == n then bytes else []) }
+
+module _ (p : Past) (e : End) (n : ℕ) (ok : EndOk p e) where
+  other_slot : (bytes : List ℕ) (m : ℕ) → m ≢ n → (o : Option SendLane) → SendSlot p m (first_send_limit e m) o → SendSlot (with_bytes p n bytes) m (first_send_limit e m) o
+  other_slot bytes m ne None h =
+      let same : p.bytes m ++ (if m == n then bytes else []) ≡ p.bytes m = (rw (ne_eqb m n ne) (append-nil (p.bytes m))) in
+      record { no_bytes = same ∙ h.no_bytes; no_stream = h.no_stream; no_reset = h.no_reset; no_blocked = h.no_blocked }
+  other_slot bytes m ne (Some l) h =
+      let same : p.bytes m ++ (if m == n then bytes else []) ≡ p.bytes m = (rw (ne_eqb m n ne) (append-nil (p.bytes m))) in
+      subst (λ x. SendTrue p.mine p.theirs p.tokens x m (first_send_limit e m) l) (sym same) h
+
+  pub wrote_ok : (bytes : List ℕ) (l : SendLane) → lookup e.sends n ≡ Some l → l.was_reset ≡ None → l.finished ≡ false → EndOk (with_bytes p n bytes) (record e { sends = update e.sends n (write_lane l bytes) })
+  wrote_ok bytes l is none open_end =
+      let this = write_ok p.mine p.theirs p.tokens (p.bytes n) bytes n (first_send_limit e n) l (subst (SendSlot p n (first_send_limit e n)) is (ok.sends n)) none open_end in
+      without_sum (with_bytes p n bytes) (record e { sends = update e.sends n (write_lane l bytes) }) (all_sent e) (all_sent (record e { sends = update e.sends n (write_lane l bytes) })) (record {
+        sends = slots_updated (λ m o. SendSlot (with_bytes p n bytes) m (first_send_limit e m) o) e.sends n l (write_lane l bytes) is
+            (λ m ne. other_slot bytes m ne (lookup e.sends m) (ok.sends m))
+            (subst (λ b. SendTrue p.mine p.theirs p.tokens (p.bytes n ++ (if b then bytes else [])) n (first_send_limit e n) (write_lane l bytes)) (sym (eq-eqb n n refl)) this);
+        recvs = ok.recvs;
+        packets = ok.packets;
+        taken = ok.taken;
+        credit = ok.credit;
+        streams = subst (λ s. OpenOk p e.role e.peer.streams_bidi e.peer.streams_uni e.known_bidi e.known_uni s (is_open e.recvs)) (sym (open_update e.sends n l (write_lane l bytes) is)) ok.streams;
+      }) (omega (arith, total_update (λ x. x.sent_end) e.sends n l (write_lane l bytes) is, ok.credit.sent_known))

@@ -1,5 +1,5 @@
 -- What comes of a packet of a claimed number.
-use Rattle.std.proofs.Common.{◌≡◌, ℕ, ◌+◌, Bool, true, false, List, [], ◌∷◌, ◌++◌, ◌⊎◌, length, Option, Some, None, Result, Ok, Err, slice_get, refl, sym, ap, ◌∙◌, subst, inl, inr}
+use Rattle.std.proofs.Common.{◌≡◌, ℕ, ◌+◌, true, false, List, [], ◌∷◌, ◌++◌, ◌⊎◌, length, Option, Some, None, Result, Ok, Err, slice_get, refl, sym, ap, ◌∙◌, subst, inl, inr}
 use Rattle.std.proofs.lemmas.Option.{none-some}
 use Rattle.std.proofs.lemmas.List.{length-map}
 use Rattle.qs_wire.specs.Layout.{PlacedValue}
@@ -18,9 +18,7 @@ use Rattle.qs_calls.specs.declared.closing.Received.TheVariants.{Done, Duplicate
 use Rattle.qs_calls.specs.declared.making.MakeFault.{MakeFault}
 use Rattle.qs_calls.specs.declared.event.Side.{Side}
 use Rattle.qs_calls.specs.declared.event.Side.TheVariants.{A}
-use Rattle.qs_calls.specs.declared.event.Act.{Act}
 use Rattle.qs_calls.specs.declared.event.Act.TheVariants as acts
-use Rattle.qs_calls.specs.declared.answer.Answer.{Answer}
 use Rattle.qs_calls.specs.declared.answer.Answer.TheVariants as answers
 use Rattle.qs_machine.specs.Tables.{each}
 use Rattle.qs_machine.specs.Ends.{End, new_end, wide_end_made}
@@ -31,22 +29,22 @@ use Rattle.qs_machine.specs.FrameStep.{frame_taken}
 use Rattle.qs_machine.specs.Recording.{recorded}
 use Rattle.qs_machine.specs.Receiving.{ReceiveStep, ReceiveBy, Takes, Stops, GoesOn, AtEnd}
 use Rattle.qs_machine.specs.Making.{ClaimStep, claim_refusal, first_lost}
-use Rattle.qs_machine.specs.EndStep.{Call, Answer as CallAnswer, EndStep, Consume, Receive, TakeFrame, TakeFrames, TokenAcked, TokenLost, MakeAck, FillIn, RaiseLimits, Set, StopAndForget, AcceptOf}
+use Rattle.qs_machine.specs.EndStep.{Call, Answer as CallAnswer, EndStep}
 use Rattle.qs_machine.specs.Repeats.{OnlyRecords}
-use Rattle.qs_machine.proofs.Bounds.{new_ends_settled as new_counts_settled}
+use Rattle.qs_machine.proofs.Counts.{new_ends_settled as new_counts_settled}
 use Rattle.qs_machine.proofs.EveryCall.{ends_by, by_open}
-use Rattle.qs_machine.proofs.ProcessedAgain.{settle_twice}
+use Rattle.qs_machine.proofs.Again.{settle_twice}
 use Rattle.qs_machine.proofs.SettledLimits.{new_ends_settled}
-use Rattle.qs_machine.proofs.Plains.{plain_nothing}
-use Rattle.qs_runs.specs.Logs.{Happening, Did, MadeAck, FilledIn, ConsumedUpTo, AckedToken, LostToken, RaisedLimits, CameWith, CameAlone, History, other, made, payload, ping_text, HasSet, Forgot, AcceptedOf}
-use Rattle.qs_runs.specs.Worlds.{World, end_of, Begins, EventStep, WorldStep, Run}
+use Rattle.qs_machine.proofs.Ways.{plain_nothing}
+use Rattle.qs_runs.specs.Logs.{CameWith, History, other, made, payload, ping_text}
+use Rattle.qs_runs.specs.Worlds.{World, end_of, Begins, WorldStep, Run}
 use Rattle.qs_runs.specs.Agree.{frames_in}
 use Rattle.qs_runs.specs.Invariant.{WorldOk}
 use Rattle.qs_runs.specs.Claims.{claimed, came, ChangesNumbers, ClaimsAlwaysTellNothing}
 use Rattle.qs_runs.proofs.Lists.{slice_get-last}
 use Rattle.qs_runs.proofs.Standing.{certain_cases}
 use Rattle.qs_runs.proofs.Wire.{ping_seen, ping_faultless}
-use Rattle.qs_runs.proofs.Granting.{own_call}
+use Rattle.qs_runs.proofs.Stays.{each_side}
 use Rattle.qs_runs.proofs.Histories.{seen_made, made_own}
 use Rattle.qs_runs.proofs.NewEnds.{first_world, made_first, ends_made}
 use Rattle.qs_runs.proofs.Runs.{two_sides, run_keeps, is_open_end}
@@ -70,44 +68,10 @@ first_settled a b w begins s =
     let begun = ends_made a b begins.tuned_a begins.tuned_b begins.of_a begins.of_b (first_world a b begins.tuned_a begins.tuned_b begins.of_a begins.of_b) (begins.begun ∙ ap Ok is) in
     subst (λ x. settle (end_of x s) ≡ end_of x s) (sym is) (two_sides (λ t. settle (end_of (first_world a b begins.tuned_a begins.tuned_b begins.of_a begins.of_b) t) ≡ end_of (first_world a b begins.tuned_a begins.tuned_b begins.of_a begins.of_b) t) A (begun_settled Client a begins.tuned_a begins.of_b begun.0) (begun_settled Server b begins.tuned_b begins.of_a begun.1) s)
 
-same_settled : (e new : End) → new ≡ e → settle e ≡ e → settle new ≡ new
-same_settled e new is h = subst (λ x. settle x ≡ x) (sym is) h
-
-module _ (h : History) (v w : World) (s : Side) (settled : (t : Side) → settle (end_of v t) ≡ end_of v t) where
-  alone_settled : (call : Call) (answer : CallAnswer call) → EndStep (end_of v s) call answer (end_of w s) → end_of w (other s) ≡ end_of v (other s) → (t : Side) → settle (end_of w t) ≡ end_of w t
-  alone_settled call answer step same =
-      two_sides (λ t. settle (end_of w t) ≡ end_of w t) s (call_settled (end_of v s) call answer (end_of w s) (settled s) step) (same_settled (end_of v (other s)) (end_of w (other s)) same (settled (other s)))
-
-  there_settled : (call : Call) (answer : CallAnswer call) → EndStep (end_of v (other s)) call answer (end_of w (other s)) → end_of w s ≡ end_of v s → (t : Side) → settle (end_of w t) ≡ end_of w t
-  there_settled call answer step same =
-      two_sides (λ t. settle (end_of w t) ≡ end_of w t) s (same_settled (end_of v s) (end_of w s) same (settled s)) (call_settled (end_of v (other s)) call answer (end_of w (other s)) (settled (other s)) step)
-
-  comes_settled : (k : ℕ) (bytes : List ℕ) (result : Result Received Closing) → ReceiveStep (end_of v (other s)) k bytes result (end_of w (other s)) → end_of w s ≡ end_of v s → (t : Side) → settle (end_of w t) ≡ end_of w t
-  comes_settled k bytes result step same = there_settled (Receive k bytes) result step same
-
-  event_settled : (act : Act) (answer : Answer) → EventStep h v s act answer w → (t : Side) → settle (end_of w t) ≡ end_of w t
-  event_settled (acts.Deliver k) (answers.Deliver result) (text, is, step, same) = comes_settled k text result step same
-  event_settled (acts.Deliver k) answer step = absurd step
-  event_settled act answer step = (let (call, given, is, own) = own_call (end_of v s) (end_of w s) act answer step.0 in alone_settled call given is step.1)
-
-step_settled : (h : History) (v w : World) → ((t : Side) → settle (end_of v t) ≡ end_of v t) → (x : Happening) → WorldStep h v x w → (t : Side) → settle (end_of w t) ≡ end_of w t
-step_settled h v w settled (Did event answer) step = event_settled h v w event.end settled event.act answer step
-step_settled h v w settled (MadeAck s room result text) ((delay, step), same) = alone_settled h v w s settled (MakeAck delay room) (result, text) step same
-step_settled h v w settled (FilledIn s want room result text) (step, same) = alone_settled h v w s settled (FillIn want room) (result, text) step same
-step_settled h v w settled (ConsumedUpTo s n most result bytes) ((step, taken), same) = alone_settled h v w s settled (Consume n most) result step same
-step_settled h v w settled (LostToken s token result) (step, same) = alone_settled h v w s settled (TokenLost token) result step same
-step_settled h v w settled (AckedToken s token result) ((landed, step), same) = alone_settled h v w s settled (TokenAcked token) result step same
-step_settled h v w settled (RaisedLimits s limits result) ((granted, step), same) = alone_settled h v w s settled (RaiseLimits limits) result step same
-step_settled h v w settled (HasSet s setting result) (step, same) = alone_settled h v w s settled (Set setting) result step same
-step_settled h v w settled (Forgot s n code result) (step, same) = alone_settled h v w s settled (StopAndForget n code) result step same
-step_settled h v w settled (AcceptedOf s d result) (step, same) = alone_settled h v w s settled (AcceptOf d) result step same
-step_settled h v w settled (CameWith s k bytes result) (text, is, differ, step, same) = comes_settled h v w s settled k bytes result step same
-step_settled h v w settled (CameAlone s parts result) (fs, there, inl step, same) = there_settled h v w s settled (TakeFrames fs) result step same
-step_settled h v w settled (CameAlone s parts result) (fs, there, inr (f, is, step), same) = there_settled h v w s settled (TakeFrame f) result step same
-
 pub run_settled : (a b : Settings) (h : History) (w : World) → Run a b h w → (s : Side) → settle (end_of w s) ≡ end_of w s
-run_settled a b [] w begins = first_settled a b w begins
-run_settled a b (x ∷ h) w (v, before, step) = step_settled h v w (run_settled a b h v before) x step
+run_settled a b [] w begins s = first_settled a b w begins s
+run_settled a b (x ∷ h) w (v, before, step) s =
+    each_side (λ e f. settle e ≡ e → settle f ≡ f) (λ e is. is) v w (λ t call answer made is. call_settled (end_of v t) call answer (end_of w t) is made) h x step s (run_settled a b h v before s)
 
 -- A PING comes
 
@@ -147,9 +111,6 @@ records_numbers k (Ok Done) old new is = subst (ChangesNumbers old) (sym is) ref
 records_numbers k (Ok received) old new is = subst (ChangesNumbers old) (sym is) refl
 records_numbers k (Err closing) old new is = absurd is
 
-due_numbers : (old new : End) (due : Bool) → ChangesNumbers old new → ChangesNumbers old (record new { ack_due = due })
-due_numbers old new due is = ap (λ (e : End). record e { ack_due = due }) is
-
 -- A number is claimed
 
 abbrev number_in : Result ℕ MakeFault → ℕ
@@ -158,14 +119,11 @@ number_in (Err fault) = 0
 
 -- it is that of the next packet
 module _ (a b : Settings) (h : History) (v : World) (s : Side) (ok : WorldOk a b h v) where
-  made_so_far : (end_of v s).next ≡ length (made s h)
-  made_so_far = (ok.ends s).packets.count ∙ ap length (seen_made s h) ∙ length-map (made s h) frames_in
-
   claimed_is : (number : ℕ) (new : End) → ClaimStep (end_of v s) (Ok number) new → number ≡ length (made s h)
   claimed_is number new step =
       elim (certain_cases (claim_refusal (end_of v s)) (end_of v s) (Ok number) new _ step) [
         | inl (fault, is, same) ↦ absurd (cc is)
-        | inr (allowed, (is, same)) ↦ ap number_in is ∙ made_so_far
+        | inr (allowed, (is, same)) ↦ ap number_in is ∙ ((ok.ends s).packets.count ∙ ap length (seen_made s h) ∙ length-map (made s h) frames_in)
       ]
 
   claimed_ping : (number : ℕ) (new : End) → ClaimStep (end_of v s) (Ok number) new → payload s number (claimed s number ∷ h) ≡ Some ping_text
@@ -173,9 +131,6 @@ module _ (a b : Settings) (h : History) (v : World) (s : Side) (ok : WorldOk a b
       ap (λ ts. slice_get ts number) (made_own s acts.Claim (answers.Claim (Ok number)) h)
       ∙ ap (slice_get (made s h ++ ping_text ∷ [])) (claimed_is number new step)
       ∙ slice_get-last (made s h) ping_text
-
-text_is : (s : Side) (k : ℕ) (h : History) (text : List ℕ) → payload s k h ≡ Some ping_text → payload s k h ≡ Some text → text ≡ ping_text
-text_is s k h text ping is = cc (sym is ∙ ping)
 
 pub claims_tell_nothing : ClaimsAlwaysTellNothing
 claims_tell_nothing a b h v w s number run =
@@ -189,7 +144,7 @@ claims_tell_nothing a b h v w s number run =
     ping_recorded : (new : End) (text : List ℕ) (result : Result Received Closing) → payload s number h ≡ Some ping_text → payload s number h ≡ Some text → ReceiveStep (end_of v (other s)) number text result new → OnlyRecords number true result (end_of v (other s)) new
     ping_recorded new text result ping is step =
         ping_received number (end_of v (other s)) new result (is_open_end a b h v (run_keeps a b h v run) (other s)) (run_settled a b h v run (other s))
-        (subst (λ t. ReceiveStep (end_of v (other s)) number t result new) (text_is s number h text ping is) step)
+        (subst (λ t. ReceiveStep (end_of v (other s)) number t result new) (cc (sym is ∙ ping)) step)
 
     records : (result : Result Received Closing) → payload s number h ≡ Some ping_text → WorldStep h v (came s number result) w → OnlyRecords number true result (end_of v (other s)) (end_of w (other s))
     records result ping (text, is, step, same) = ping_recorded (end_of w (other s)) text result ping is step
@@ -197,4 +152,4 @@ claims_tell_nothing a b h v w s number run =
     others : (bytes : List ℕ) (result : Result Received Closing) → payload s number h ≡ Some ping_text → WorldStep h v (CameWith s number bytes result) w → ChangesNumbers (end_of v (other s)) (end_of w (other s))
     others bytes result ping (text, is, differ, step, same) =
         let (bare, received, alike) = plain_nothing (end_of v (other s)) (end_of w (other s)) number bytes text result differ step in
-        subst (ChangesNumbers (end_of v (other s))) (sym alike) (due_numbers (end_of v (other s)) bare (end_of w (other s)).ack_due (records_numbers number result (end_of v (other s)) bare (ping_recorded bare text result ping is received)))
+        subst (ChangesNumbers (end_of v (other s))) (sym alike) (ap (λ (e : End). record e { ack_due = (end_of w (other s)).ack_due }) (records_numbers number result (end_of v (other s)) bare (ping_recorded bare text result ping is received)))

@@ -1,12 +1,12 @@
 -- Each clause of what agrees excludes something.
-use Rattle.std.proofs.Common.{◌≡◌, ℕ, zero, suc, ◌+◌, ◌<◌, ◌≤◌, List, [], ◌∷◌, ◌++◌, ◌⊎◌, inl, inr, length, take, drop, nat_le, Bool, true, false, cond, ◌&&◌, ◌==◌, Option, Some, None, is_some, option_map, Result, Ok, Err, slice_get, slice_index_or, refl, sym, ap, ◌∙◌, arith, subst, not, nat_eq, nat_lt}
+use Rattle.std.proofs.Common.{◌≡◌, ℕ, zero, suc, ◌+◌, ◌≤◌, List, [], ◌∷◌, ◌++◌, ◌⊎◌, inl, inr, length, take, drop, nat_le, Bool, true, false, cond, ◌&&◌, ◌==◌, Option, Some, None, is_some, option_map, Result, Ok, Err, slice_get, slice_index_or, refl, sym, ap, ◌∙◌, arith, subst, not, nat_eq, nat_lt}
 use Rattle.std.specs.Global.{Vec}
 use Rattle.std.specs.Prelude.{MatchBool}
 use Rattle.std.specs.FinSet as set
 use Rattle.std.proofs.lemmas.Option.{same_Some, none-some}
 use Rattle.std.proofs.lemmas.Bool.{both_ways, false≢true}
 use Rattle.std.proofs.lemmas.Bool.Decides.{nat_tests}
-use Rattle.qs_ranges.specs.Numbers.{contains-numbers, numbers, is_within}
+use Rattle.qs_ranges.specs.Numbers.{contains-numbers, numbers}
 use Rattle.qs_ranges.proofs.Sets.{end_of-empty, missing_from-of}
 use Rattle.qs_wire.specs.declared.stream_id.Dir.{Dir}
 use Rattle.qs_recv.specs.Lane.{RecvLane, stop_and_forget}
@@ -86,11 +86,8 @@ all_acked =
     sym (missing_from-of (numbers 0 3) 0 3 (record {
       from = omega arith;
       missing = contains-numbers 0 3 3;
-      all_before = λ q low high. contains-numbers 0 3 q ∙ inside q high;
+      all_before = λ q low high. contains-numbers 0 3 q ∙ (grind (arith, nat_tests));
     }))
-  where
-    inside : (q : ℕ) → q < 3 → is_within 0 3 q ≡ true
-    inside q lt = grind (arith, nat_tests)
 
 received : state acknowledged ≡ DataRecvd
 received = ap (λ n. cond ((n == 3) && true) DataRecvd DataSent) all_acked
@@ -100,13 +97,10 @@ unfolding own_calls lookup
 whole bytes is =
     record {
       unopened = λ h. (let (r, at, size, all) = h acknowledged refl received in none-some r at);
-      offset = λ h. (let (r, at, size, all) = h acknowledged refl received in both_ways _ (contains-numbers 0 1 1) (ap (λ (k : RecvLane). set.contains k.arrived.received 1) (same_Some first_of_three r at) ∙ all 1 (omega (arith, three))));
+      offset = λ h. (let (r, at, size, all) = h acknowledged refl received in both_ways _ (contains-numbers 0 1 1) (ap (λ (k : RecvLane). set.contains k.arrived.received 1) (same_Some first_of_three r at) ∙ all 1 (omega (arith, (ap (λ bs. length (take 3 bs)) is)))));
       unsized = λ h. (let (r, at, size, all) = h acknowledged refl received in none-some _ (ap (λ (k : RecvLane). k.final_size) (same_Some _ r at) ∙ size));
       other_size = λ h. (let (r, at, size, all) = h acknowledged refl received in let e : 3 ≡ 2 = same_Some _ _ (ap (λ (k : RecvLane). k.final_size) (same_Some _ r at) ∙ size) ∙ ap (λ bs. length (take 2 bs)) is in omega arith);
     }
-  where
-    three : length (take 3 bytes.items) ≡ 3
-    three = ap (λ bs. length (take 3 bs)) is
 
 final_sizes : SizesDiffer
 unfolding lookup
@@ -139,11 +133,8 @@ news =
       end = λ old. (let (l, at, known) = old.1 refl in known (ap (λ (k : RecvLane). k.final_size) (sym (same_Some fresh l at))));
       reset = λ (l, at, known). known (ap (λ (k : RecvLane). k.final_size) (sym (same_Some fresh l at)));
       nothing = (λ q low high. absurd (omega (arith, low, high)), λ set. absurd (false≢true set));
-      came = (λ q low high. (first_of_three, refl, contains-numbers 0 1 q ∙ first q high), λ set. absurd (false≢true set));
+      came = (λ q low high. (first_of_three, refl, contains-numbers 0 1 q ∙ (grind (arith, nat_tests))), λ set. absurd (false≢true set));
     }
-  where
-    first : (q : ℕ) → q < 1 → is_within 0 1 q ≡ true
-    first q lt = grind (arith, nat_tests)
 
 nothing_spent : spent (server_with fresh) ≡ 0
 unfolding total
@@ -152,11 +143,8 @@ nothing_spent = rw end_of-empty refl
 repeats : (bytes text none : Vec ℕ) → RepeatsSpend bytes text none
 unfolding made processed reading_from total
 repeats bytes text none =
-    record { again = λ agrees. again agrees; old_news = λ is agrees. news is agrees; again_with = λ agrees. again agrees; old_news_with = λ is agrees. news is agrees; old_news_alone = λ agrees. spends (agrees [] tt tt) }
+    record { again = λ agrees. again agrees; old_news = λ is agrees. news is agrees; again_with = λ agrees. again agrees; old_news_with = λ is agrees. news is agrees; old_news_alone = λ agrees. ((let f : ◌≡◌ {A = ℕ} 3 0 = (agrees [] tt tt) ∙ nothing_spent in omega (arith, f))) }
   where
-    spends : ◌≡◌ {A = ℕ} 3 (spent (server_with fresh)) → ⊥
-    spends e = (let f : ◌≡◌ {A = ℕ} 3 0 = e ∙ nothing_spent in omega (arith, f))
-
     again : RepeatAgrees (story bytes text none) (both (client_of standard) (server standard)) (both (client_of standard) (server_with fresh)) B 0 → ⊥
     again agrees = (let e : ◌≡◌ {A = ℕ} 1 0 = ap (λ (x : End). length x.recvs.client_bidi) (agrees.again refl) in omega (arith, e))
 
@@ -358,9 +346,6 @@ abbrev value_of : FrameValue → ℕ
 value_of (max_data m) = m
 value_of f = 0
 
-five_is_six : Some (max_data 5) ≡ Some (max_data 6) → ⊥
-five_is_six e = (let n : ◌≡◌ {A = ℕ} 5 6 = ap value_of (same_Some (max_data 5) (max_data 6) e) in omega arith)
-
 -- what comes of a frame that was taken, and of another behind it
 one_came : (e : End) (f : FrameValue) (one later : Taken) (mid : End) → TakesOne e f (Ok one) mid → is_taken (Ok (of_both one later)) ≡ true
 one_came e f Took later mid h = refl
@@ -393,7 +378,7 @@ frames text is =
       unmade_later = λ v w r (fs, are, came, same). later fs are;
       not_in_it = λ v w r (fs, are, came, same). outside fs are;
       sender = λ v w r (fs, are, came, same) changed. changed same;
-      another = λ ((bytes, there, at), are). five_is_six (subst (λ gs. slice_get gs 0 ≡ Some (max_data 6)) (read bytes there) at);
+      another = λ ((bytes, there, at), are). ((let n : ◌≡◌ {A = ℕ} 5 6 = ap value_of (same_Some (max_data 5) (max_data 6) (subst (λ gs. slice_get gs 0 ≡ Some (max_data 6)) (read bytes there) at)) in omega arith));
       fewer = λ are. are.1;
       more = λ are. are.1;
       several = two_taken;

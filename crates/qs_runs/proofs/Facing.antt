@@ -22,9 +22,8 @@ use Rattle.qs_machine.proofs.EveryCall.{no_fault_there, by_open}
 use Rattle.qs_runs.specs.Worlds.{AreGranted}
 use Rattle.qs_runs.specs.Agree.{frames_in}
 use Rattle.qs_runs.specs.Pasts.{Past, Tells}
-use Rattle.qs_runs.specs.Invariant.{EndOk}
+use Rattle.qs_runs.specs.Invariant.{EndOk, standing}
 use Rattle.qs_runs.proofs.Unharmed.{Facing, told_fine}
-use Rattle.qs_runs.specs.Invariant.{standing}
 use Rattle.qs_machine.proofs.Leaves.{acks_leave, frame_leaves}
 use Rattle.qs_runs.proofs.Standing.{standing_at}
 use Rattle.qs_runs.proofs.Frames.{Effect, frame_keeps}

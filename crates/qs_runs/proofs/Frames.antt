@@ -1,25 +1,325 @@
--- A frame that the peer made and that has no fault keeps the invariant, and takes effect for good.
-use Rattle.std.proofs.Common.{◌≡◌, ℕ, ◌≤◌, ◌<◌, ◌/◌, max, Bool, List, ◌⊎◌, length, Option, Some, None, is_some, is_none, true, false, if◌then◌else◌, ◌||◌, refl, sym, subst, arith, inl, inr, ap}
-use Rattle.std.proofs.lemmas.Bool.{cases_lt, true≢false, false≢true, and_right}
+-- Streams open, and a frame of the peer takes effect: the invariant of an end stays.
+use Rattle.std.proofs.Common.{◌≡◌, ℕ, ◌%◌, ◌≤◌, Bool, true, false, not, ◌&&◌, ◌⊎◌, length, drop, Some, is_some, refl, sym, ap, ◌∙◌, subst, arith, inl, inr, if◌then◌else◌, nat_cmp, ◌+◌, ◌*◌, ◌/◌, ◌<◌, ◌==◌, nat_le, max, List, Option, None, is_none, ◌||◌}
+use Rattle.std.proofs.lemmas.Option.{none-some, same_Some}
+use Rattle.std.proofs.lemmas.Bool.{true≢false, false≢true, and_cases, not-false, and_left, and_right, cases_lt}
+use Rattle.std.specs.FinSet as set
+use Rattle.std.specs.FinMap as fmap
+use Rattle.qs_recv.specs.Lane.{RecvLane, new_lane as new_recv_lane, take_stream, take_reset, is_whole, check_stream, check_reset}
+use Rattle.qs_recv.specs.declared.credit.Share.{Share}
+use Rattle.qs_send.specs.Lane.{SendLane, unacked_from, new_lane as new_send_lane, allow_lane, stop_taken}
+use Rattle.qs_machine.specs.Tables.{Tables, lookup, open_to, total, updated}
+use Rattle.qs_machine.specs.Ends.{End, is_own, is_own_by, is_uni, first_send_limit, window, opens, role_bit, opened_by_peer}
+use Rattle.qs_machine.specs.Credit.{all_sent}
+use Rattle.qs_machine.specs.Seen.{Seen, Ack, Stream, Control, Close, Plain}
+use Rattle.qs_machine.specs.Verdicts.{lane_of, or_new, verdict, item_verdict, credit_fault, state_fault_in}
+use Rattle.qs_runs.specs.Pasts.{Past, Packets, Tells, Names, IsNamed}
+use Rattle.qs_runs.specs.Invariant.{EndOk, SendOk, SendSlot, NotSent, RecvOk, RecvSlot, NotReceived, CreditOk, OpenOk, OpenTrue, is_open, FrameTaken}
+use Rattle.qs_runs.proofs.Lists.{drop-none}
+use Rattle.qs_machine.proofs.TableLaws.{lookup_open, slots_opened, total_open, open_lower, open_at, lookup_same}
+use Rattle.qs_runs.proofs.Changes.{AllGrow, Grows_refl, all_grow_refl, taken_stays, grow_trans, grows_update, recv_changed, send_kept}
+use Rattle.qs_wire.specs.declared.stream_id.Role.{Role}
+use Rattle.qs_wire.specs.declared.stream_id.Role.TheVariants.{Client, Server}
+use Rattle.qs_wire.specs.declared.stream_id.Dir.{Dir}
 use Rattle.qs_wire.specs.declared.stream_id.Dir.TheVariants.{Bidi, Uni}
-use Rattle.qs_recv.specs.Lane.{RecvLane, take_stream, take_reset, is_whole, check_stream, check_reset}
-use Rattle.qs_send.specs.Lane.{allow_lane, stop_taken}
+use Rattle.qs_machine.specs.Due.{known_count}
+use Rattle.qs_machine.specs.Owner.{own_type, opened_count, next_stream}
 use Rattle.qs_send.specs.declared.piece.Item.{Item}
 use Rattle.qs_send.specs.declared.piece.Item.TheVariants.{MaxData, MaxStreamData, MaxStreams, ResetStream, StopSending, DataBlocked, StreamDataBlocked, StreamsBlocked}
-use Rattle.qs_machine.specs.Tables.{lookup, updated, open_to}
-use Rattle.qs_machine.specs.Ends.{End, is_own, is_uni, opens, opened_by_peer, window}
-use Rattle.qs_machine.specs.Seen.{Seen, Ack, Stream, Control, Close, Plain}
-use Rattle.qs_machine.specs.Verdicts.{verdict, item_verdict, credit_fault, lane_of, state_fault_in}
 use Rattle.qs_machine.specs.FrameStep.{named, frame_taken, item_taken}
 use Rattle.qs_machine.proofs.Leaves.{acks_leave}
-use Rattle.qs_machine.proofs.TableLaws.{lookup_same, open_at}
-use Rattle.qs_machine.proofs.FramesSound.{no_fault}
-use Rattle.qs_runs.specs.Pasts.{Past, Tells}
-use Rattle.qs_runs.specs.Invariant.{EndOk, RecvOk, RecvSlot, FrameTaken}
-use Rattle.qs_runs.proofs.Changes.{AllGrow, all_grow_refl, grow_trans, grows_update, recv_changed, send_kept}
-use Rattle.qs_runs.proofs.Opening.{new_recvs, named_by, opened_ok, opened_grows, lane_opened}
+use Rattle.qs_machine.proofs.CallsSound.{no_fault}
 use Rattle.qs_runs.proofs.Taking.{or_else_none, stream_passed, fin_fits, reset_fits, take_stream_ok, take_stream_grows, take_stream_taken, take_reset_ok, take_reset_grows, take_reset_taken}
 use Rattle.qs_runs.proofs.Acking.{allow_ok, stopped_ok, stopped_end, acks_ok, named_pieces_ok}
+
+-- Streams open.
+
+-- A half that was never used is a new one.
+new_send_ok : (p : Past) (n id limit buffer : ℕ) → NotSent p n → SendOk p n limit (new_send_lane id limit buffer)
+new_send_ok p n id limit buffer h =
+    record {
+      count = ap length h.no_bytes;
+      kept = λ _. sym (ap (drop (unacked_from (new_send_lane id limit buffer))) h.no_bytes ∙ drop-none (unacked_from (new_send_lane id limit buffer)));
+      sent_written = omega arith;
+      sent_limit = omega arith;
+      end = λ is. absurd (false≢true is);
+      reset_size = λ r is. absurd (none-some r is);
+      told = λ offset bytes fin t. absurd (h.no_stream offset bytes fin t);
+      told_reset = λ code size t. absurd (h.no_reset code size t);
+      acked = λ q is. absurd (false≢true (sym (set.contains-empty nat_cmp q) ∙ is));
+      end_acked = λ is. absurd (false≢true is);
+      limit_told = inl (omega arith);
+    }
+
+new_recv_ok : (p : Past) (n window : ℕ) (share : Share) → NotReceived p n → RecvOk p n window (new_recv_lane window share)
+new_recv_ok p n window share h =
+    record {
+      received = λ q is. absurd (false≢true (sym (set.contains-empty nat_cmp q) ∙ is));
+      stored = λ q b is. absurd (none-some b (sym (fmap.get-empty nat_cmp q) ∙ is));
+      count = ap length h.no_bytes;
+      gave = λ q b is. absurd (none-some b (rw h.no_bytes at is));
+      final = λ size is. absurd (none-some size is);
+      reset = λ code is. absurd (none-some code is);
+      not_stopped = λ is. refl;
+      ended = λ is. absurd (false≢true (sym h.no_end ∙ is));
+      window_granted = omega arith;
+      limit_told = λ limit t. absurd (h.no_limit limit t);
+    }
+
+-- the halves that begin
+abbrev pub new_sends : End → ℕ → ℕ → SendLane
+new_sends e n m = new_send_lane m (first_send_limit e n) e.settings.send_buffer
+
+abbrev pub new_recvs : End → ℕ → ℕ → RecvLane
+new_recvs e n m = new_recv_lane (window e n) e.tuning.credit_step
+
+module _ (e : End) where
+  same_limit : (n m : ℕ) → m % 4 ≡ n % 4 → first_send_limit e m ≡ first_send_limit e n
+  same_limit n m kind = rw kind refl
+
+  same_window : (n m : ℕ) → m % 4 ≡ n % 4 → window e m ≡ window e n
+  same_window n m kind = rw kind refl
+
+opened_grow : (t : Tables RecvLane) (n : ℕ) (begin : ℕ → RecvLane) → AllGrow t (open_to t n begin)
+opened_grow t n begin m l is =
+    elim (lookup_open t n m begin) [
+      | inl same ↦ (l, same ∙ is, Grows_refl l)
+      | inr new ↦ absurd (none-some l (sym new.0 ∙ is))
+    ]
+
+module _ (p : Past) (e : End) (n : ℕ) (ok : EndOk p e) where
+  sends_opened : (b : Bool) → (m : ℕ) → SendSlot p m (first_send_limit e m) (lookup (if b then e.sends else open_to e.sends n (new_sends e n)) m)
+  sends_opened true = ok.sends
+  sends_opened false =
+      slots_opened (λ m o. SendSlot p m (first_send_limit e m) o) e.sends n (new_sends e n) ok.sends
+      (λ m h kind. subst (λ limit. SendOk p m (first_send_limit e m) (new_send_lane m limit e.settings.send_buffer)) (same_limit e n m kind) (new_send_ok p m m (first_send_limit e m) e.settings.send_buffer h))
+
+  recvs_opened : (b : Bool) → (m : ℕ) → RecvSlot p m (window e m) (lookup (if b then e.recvs else open_to e.recvs n (new_recvs e n)) m)
+  recvs_opened true = ok.recvs
+  recvs_opened false =
+      slots_opened (λ m o. RecvSlot p m (window e m) o) e.recvs n (new_recvs e n) ok.recvs
+      (λ m h kind. subst (λ limit. RecvOk p m (window e m) (new_recv_lane limit e.tuning.credit_step)) (same_window e n m kind) (new_recv_ok p m (window e m) e.tuning.credit_step h))
+
+  pub grow_by : (b : Bool) → AllGrow e.recvs (if b then e.recvs else open_to e.recvs n (new_recvs e n))
+  grow_by true m l is = (l, is, Grows_refl l)
+  grow_by false m l is = opened_grow e.recvs n (new_recvs e n) m l is
+
+  sent_by : (b : Bool) → total (λ l. l.sent_end) (if b then e.sends else open_to e.sends n (new_sends e n)) ≡ all_sent e
+  sent_by true = refl
+  sent_by false = total_open (λ l. l.sent_end) e.sends n (new_sends e n) (λ i. refl)
+
+  -- what is left to show of opening is which streams are open then
+  pub opens_ok : OpenOk p e.role e.peer.streams_bidi e.peer.streams_uni e.known_bidi e.known_uni (is_open (opens n e).sends) (is_open (opens n e).recvs) → EndOk p (opens n e)
+  opens_ok streams =
+      record {
+        sends = sends_opened _;
+        recvs = recvs_opened _;
+        packets = ok.packets;
+        taken = taken_stays p e.recvs _ (grow_by _) ok.taken;
+        credit = subst (λ s. CreditOk p s e.known_data e.granted e.peer.max_data e.settings.conn_window) (sym (sent_by (is_uni n && not (is_own e n)))) ok.credit;
+        streams = streams;
+      }
+
+  -- which streams are open once n is
+  open_cases : {X : Type 0} (t : Tables X) (x : ℕ → X) (m : ℕ) → is_open (open_to t n x) m ≡ true → (is_open t m ≡ true) ⊎ ((m % 4 ≡ n % 4) × (m ≤ n))
+  open_cases t x m is =
+      elim (lookup_open t n m x) [
+        | inl same ↦ inl (sym (ap is_some same) ∙ is)
+        | inr new ↦ inr (new.1, new.2)
+      ]
+
+  still_open : {X : Type 0} (t : Tables X) (x : ℕ → X) (m : ℕ) → is_open t m ≡ true → is_open (open_to t n x) m ≡ true
+  still_open t x m is =
+      elim (lookup_open t n m x) [
+        | inl same ↦ ap is_some same ∙ is
+        | inr new ↦ ap is_some new.3
+      ]
+
+  cases_by : {X : Type 0} (t : Tables X) (x : ℕ → X) (b : Bool) (m : ℕ) → is_open (if b then t else open_to t n x) m ≡ true → (is_open t m ≡ true) ⊎ ((b ≡ false) × (m % 4 ≡ n % 4) × (m ≤ n))
+  cases_by t x true m is = inl is
+  cases_by t x false m is = elim (open_cases t x m is) [ inl old ↦ inl old | inr new ↦ inr (refl, new.0, new.1) ]
+
+  still_by : {X : Type 0} (t : Tables X) (x : ℕ → X) (b : Bool) (m : ℕ) → is_open t m ≡ true → is_open (if b then t else open_to t n x) m ≡ true
+  still_by t x true m is = is
+  still_by t x false m is = still_open t x m is
+
+  same_own : (m : ℕ) → m % 4 ≡ n % 4 → is_own_by e.role m ≡ is_own_by e.role n
+  same_own m kind = rw kind refl
+
+  same_uni : (m : ℕ) → m % 4 ≡ n % 4 → is_uni m ≡ is_uni n
+  same_uni m kind = rw kind refl
+
+  named_lower : (m : ℕ) → m % 4 ≡ n % 4 → m ≤ n → IsNamed p.theirs n → IsNamed p.theirs m
+  named_lower m kind le (f, k, t, names, same, up) = (f, k, t, names, same ∙ sym kind, omega arith)
+
+  bidi_then : is_own e n ≡ false → (is_uni n && not (is_own e n)) ≡ false → is_uni n ≡ false
+  bidi_then theirs b =
+      elim (and_cases _ _ b) [
+        | inl bidi ↦ bidi
+        | inr own ↦ absurd (true≢false (sym (not-false _ own) ∙ theirs))
+      ]
+
+  -- a frame of the peer opens a stream of its own
+  pub named_ok : IsNamed p.theirs n → is_own e n ≡ false → EndOk p (opens n e)
+  named_ok named theirs =
+      opens_ok (record {
+        own_send = λ m is own.
+            elim (cases_by e.sends _ _ m is) [
+              | inl old ↦ ok.streams.own_send m old own
+              | inr new ↦ absurd (true≢false (sym own ∙ same_own m new.1 ∙ theirs))
+            ];
+        own_recv = λ m is own.
+            elim (cases_by e.recvs _ _ m is) [
+              | inl old ↦ (let (bidi, sends) = ok.streams.own_recv m old own in (bidi, still_by e.sends _ _ m sends))
+              | inr new ↦ absurd (true≢false (sym own ∙ same_own m new.1 ∙ theirs))
+            ];
+        own_both = λ m is own bidi.
+            elim (cases_by e.sends _ _ m is) [
+              | inl old ↦ still_by e.recvs _ _ m (ok.streams.own_both m old own bidi)
+              | inr new ↦ absurd (true≢false (sym own ∙ same_own m new.1 ∙ theirs))
+            ];
+        their_send = λ m is other.
+            elim (cases_by e.sends _ _ m is) [
+              | inl old ↦ ok.streams.their_send m old other
+              | inr new ↦ (same_uni m new.1 ∙ bidi_then theirs new.0, named_lower m new.1 new.2 named)
+            ];
+        their_recv = λ m is other.
+            elim (cases_by e.recvs _ _ m is) [
+              | inl old ↦ ok.streams.their_recv m old other
+              | inr new ↦ named_lower m new.1 new.2 named
+            ];
+        bidi_told = ok.streams.bidi_told;
+        uni_told = ok.streams.uni_told;
+      })
+
+-- A frame of the peer
+
+module _ (p : Past) where
+  pub named_by : (f : Seen) (n : ℕ) → Tells p.theirs f → Names f n → IsNamed p.theirs n
+  named_by f n t names = (f, n, t, names, refl, omega arith)
+
+  pub opened_ok : (e : End) (n : ℕ) → EndOk p e → IsNamed p.theirs n → (b : Bool) → is_own e n ≡ b → EndOk p (if b then e else opens n e)
+  opened_ok e n ok named true own = ok
+  opened_ok e n ok named false own = named_ok p e n ok named own
+
+  pub opened_grows : (e : End) (n : ℕ) → EndOk p e → (b : Bool) → AllGrow e.recvs (if b then e else opens n e).recvs
+  opened_grows e n ok true = all_grow_refl e.recvs
+  opened_grows e n ok false = grow_by p e n ok _
+
+-- the receiving half is then the one that a verdict looks at
+pub lane_opened : (e : End) (n : ℕ) (r : RecvLane) (b : Bool) → is_own e n ≡ b → lookup (if b then e else opens n e).recvs n ≡ Some r → lane_of e n ≡ r
+lane_opened e n r true own is = rw is refl
+lane_opened e n r false own is = by _ is
+  where
+    by : (b : Bool) → lookup (if b then e.recvs else open_to e.recvs n (new_recvs e n)) n ≡ Some r → or_new (lookup e.recvs n) (window e n) e.tuning.credit_step ≡ r
+    by true is = rw is refl
+    by false is =
+        elim (lookup_open e.recvs n n (new_recvs e n)) [
+          | inl same ↦ rw (sym same ∙ is) refl
+          | inr new ↦ rw new.0 (same_Some _ r (sym new.3 ∙ is))
+        ]
+
+-- An end opens a stream of its own.
+
+abbrev kind_by : Role → Dir → ℕ
+kind_by r Bidi = role_bit r
+kind_by r Uni = 2 + role_bit r
+
+-- the numbers of an end's own streams
+kinds : (r : Role) (d : Dir) (c : ℕ) → ((c * 4 + kind_by r d) % 4 ≡ kind_by r d) × ((c * 4 + kind_by r d) / 4 ≡ c)
+kinds Client Bidi c = (omega arith, omega arith)
+kinds Client Uni c = (omega arith, omega arith)
+kinds Server Bidi c = (omega arith, omega arith)
+kinds Server Uni c = (omega arith, omega arith)
+
+kind_is_own : (r : Role) (d : Dir) → (kind_by r d % 2 == role_bit r) ≡ true
+kind_is_own Client Bidi = refl
+kind_is_own Client Uni = refl
+kind_is_own Server Bidi = refl
+kind_is_own Server Uni = refl
+
+abbrev is_uni_dir : Dir → Bool
+is_uni_dir Bidi = false
+is_uni_dir Uni = true
+
+kind_is_uni : (r : Role) (d : Dir) → nat_le 2 (kind_by r d) ≡ is_uni_dir d
+kind_is_uni Client Bidi = refl
+kind_is_uni Client Uni = refl
+kind_is_uni Server Bidi = refl
+kind_is_uni Server Uni = refl
+
+pub next_own : (e : End) (d : Dir) → is_own e (next_stream e d) ≡ true
+next_own e Bidi = rw ((kinds e.role Bidi (opened_count e (own_type e Bidi))).0) (kind_is_own e.role Bidi)
+next_own e Uni = rw ((kinds e.role Uni (opened_count e (own_type e Uni))).0) (kind_is_own e.role Uni)
+
+count_below : (r : Role) (d : Dir) (c uni bidi : ℕ) → c < (if is_uni_dir d then uni else bidi) → (c * 4 + kind_by r d) / 4 < (if nat_le 2 ((c * 4 + kind_by r d) % 4) then uni else bidi)
+count_below r d c uni bidi lt = rw ((kinds r d c).1, (kinds r d c).0, kind_is_uni r d) lt
+
+-- the next stream is below the peer's count
+pub next_below : (e : End) (d : Dir) → opened_count e (own_type e d) < known_count e d → next_stream e d / 4 < (if is_uni (next_stream e d) then e.known_uni else e.known_bidi)
+next_below e Bidi lt = count_below e.role Bidi (opened_count e (own_type e Bidi)) e.known_uni e.known_bidi lt
+next_below e Uni lt = count_below e.role Uni (opened_count e (own_type e Uni)) e.known_uni e.known_bidi lt
+
+module _ (p : Past) (e : End) (n : ℕ) (ok : EndOk p e) (own : is_own e n ≡ true) (below : n / 4 < (if is_uni n then e.known_uni else e.known_bidi)) where
+  own_cases : {X : Type 0} (t : Tables X) (begin : ℕ → X) (b : Bool) (m : ℕ) → is_open (if b then t else open_to t n begin) m ≡ true → (is_open t m ≡ true) ⊎ ((b ≡ false) × (m % 4 ≡ n % 4) × (m ≤ n))
+  own_cases t begin true m is = inl is
+  own_cases t begin false m is =
+      elim (lookup_open t n m begin) [
+        | inl same ↦ inl (sym (ap is_some same) ∙ is)
+        | inr new ↦ inr (refl, new.1, new.2)
+      ]
+
+  still : {X : Type 0} (t : Tables X) (begin : ℕ → X) (b : Bool) (m : ℕ) → is_open t m ≡ true → is_open (if b then t else open_to t n begin) m ≡ true
+  still t begin true m is = is
+  still t begin false m is =
+      elim (lookup_open t n m begin) [
+        | inl same ↦ ap is_some same ∙ is
+        | inr new ↦ ap is_some new.3
+      ]
+
+  newly : {X : Type 0} (t : Tables X) (begin : ℕ → X) (b : Bool) (m : ℕ) → b ≡ false → m % 4 ≡ n % 4 → m ≤ n → is_open (if b then t else open_to t n begin) m ≡ true
+  newly t begin true m is kind le = absurd (true≢false is)
+  newly t begin false m is kind le = open_lower (open_to t n begin) m n (sym kind) le (open_at t n begin)
+
+  kind_own : (m : ℕ) → m % 4 ≡ n % 4 → is_own_by e.role m ≡ true
+  kind_own m kind = rw kind own
+
+  own_goes : (is_uni n && not (is_own e n)) ≡ false
+  own_goes = rw own (and_right _ _ refl)
+
+  bidi_if : (is_uni n && is_own e n) ≡ false → is_uni n ≡ false
+  bidi_if b = elim (and_cases _ _ b) [ inl bidi ↦ bidi | inr no_own ↦ absurd (true≢false (sym own ∙ no_own)) ]
+
+  below_same : (m : ℕ) → m % 4 ≡ n % 4 → m ≤ n → m / 4 < (if is_uni m then e.known_uni else e.known_bidi)
+  below_same m kind le = rw kind (omega (arith, below))
+
+  pub own_opened : EndOk p (opens n e)
+  own_opened =
+      opens_ok p e n ok (record {
+        own_send = λ m is o. elim (own_cases e.sends _ _ m is) [
+          | inl old ↦ ok.streams.own_send m old o
+          | inr new ↦ below_same m new.1 new.2
+        ];
+        own_recv = λ m is o. elim (own_cases e.recvs _ _ m is) [
+          | inl old ↦ (let (bidi, sends) = ok.streams.own_recv m old o in (bidi, still e.sends _ _ m sends))
+          | inr new ↦ (ap (λ k. nat_le 2 k) new.1 ∙ bidi_if new.0, newly e.sends _ _ m own_goes new.1 new.2)
+        ];
+        own_both = λ m is o bidi. elim (own_cases e.sends _ _ m is) [
+          | inl old ↦ still e.recvs _ _ m (ok.streams.own_both m old o bidi)
+          | inr new ↦ newly e.recvs _ _ m (and_left _ _ (sym (ap (λ k. nat_le 2 k) new.1) ∙ bidi)) new.1 new.2
+        ];
+        their_send = λ m is o. elim (own_cases e.sends _ _ m is) [
+          | inl old ↦ ok.streams.their_send m old o
+          | inr new ↦ absurd (true≢false (sym (kind_own m new.1) ∙ o))
+        ];
+        their_recv = λ m is o. elim (own_cases e.recvs _ _ m is) [
+          | inl old ↦ ok.streams.their_recv m old o
+          | inr new ↦ absurd (true≢false (sym (kind_own m new.1) ∙ o))
+        ];
+        bidi_told = ok.streams.bidi_told;
+        uni_told = ok.streams.uni_told;
+      })
+
+-- A frame that the peer made and that has no fault keeps the invariant, and takes effect for good.
 
 -- What a frame that takes effect leaves: the invariant, every half grown, and the frame's own effect for good.
 pub record Effect (p : Past) (old new : End) (f : Seen) : Type 0 where
@@ -30,6 +330,20 @@ pub record Effect (p : Past) (old new : End) (f : Seen) : Type 0 where
 below_max : (n uni bidi uni' bidi' : ℕ) (b : Bool) → n / 4 < (if b then uni else bidi) → uni ≤ uni' → bidi ≤ bidi' → n / 4 < (if b then uni' else bidi')
 below_max n uni bidi uni' bidi' true h a b = omega (arith, h)
 below_max n uni bidi uni' bidi' false h a b = omega (arith, h)
+
+-- Known counts that rise leave all of it, and where each is from is given anew.
+pub open_known : {theirs : Packets} {role : Role} {a b bidi uni : ℕ} {sends recvs : ℕ → Bool} (first_bidi first_uni more_bidi more_uni : ℕ) → OpenTrue theirs role a b bidi uni sends recvs → bidi ≤ more_bidi → uni ≤ more_uni →
+    (more_bidi ≤ first_bidi) ⊎ Tells theirs (Control (MaxStreams Bidi more_bidi)) → (more_uni ≤ first_uni) ⊎ Tells theirs (Control (MaxStreams Uni more_uni)) → OpenTrue theirs role first_bidi first_uni more_bidi more_uni sends recvs
+open_known first_bidi first_uni more_bidi more_uni h le_bidi le_uni told_bidi told_uni =
+    record {
+      own_send = λ n is own. below_max n _ _ more_uni more_bidi (is_uni n) (h.own_send n is own) le_uni le_bidi;
+      own_recv = h.own_recv;
+      own_both = h.own_both;
+      their_send = h.their_send;
+      their_recv = h.their_recv;
+      bidi_told = told_bidi;
+      uni_told = told_uni;
+    }
 
 module _ (p : Past) where
   stream_taken : (old e : End) (n offset : ℕ) (bytes : List ℕ) (fin : Bool) (o : Option RecvLane) → lookup e.recvs n ≡ o → is_some o ≡ true → ((r : RecvLane) → o ≡ Some r → lane_of old n ≡ r) → EndOk p e → Tells p.theirs (Stream n offset bytes fin) →
@@ -116,15 +430,7 @@ module _ (p : Past) where
           packets = ok.packets;
           taken = ok.taken;
           credit = ok.credit;
-          streams = record {
-            own_send = λ n is own. below_max n e.known_uni e.known_bidi e.known_uni (max e.known_bidi m) (is_uni n) (ok.streams.own_send n is own) (omega arith) (omega arith);
-            own_recv = ok.streams.own_recv;
-            own_both = ok.streams.own_both;
-            their_send = ok.streams.their_send;
-            their_recv = ok.streams.their_recv;
-            bidi_told = told_max e.known_bidi e.peer.streams_bidi m (λ x. Control (MaxStreams Bidi x)) ok.streams.bidi_told t;
-            uni_told = ok.streams.uni_told;
-          };
+          streams = open_known e.peer.streams_bidi e.peer.streams_uni (max e.known_bidi m) e.known_uni ok.streams (omega arith) (omega arith) (told_max e.known_bidi e.peer.streams_bidi m (λ x. Control (MaxStreams Bidi x)) ok.streams.bidi_told t) ok.streams.uni_told;
         };
         grow = all_grow_refl e.recvs;
         taken = tt;
@@ -137,15 +443,7 @@ module _ (p : Past) where
           packets = ok.packets;
           taken = ok.taken;
           credit = ok.credit;
-          streams = record {
-            own_send = λ n is own. below_max n e.known_uni e.known_bidi (max e.known_uni m) e.known_bidi (is_uni n) (ok.streams.own_send n is own) (omega arith) (omega arith);
-            own_recv = ok.streams.own_recv;
-            own_both = ok.streams.own_both;
-            their_send = ok.streams.their_send;
-            their_recv = ok.streams.their_recv;
-            bidi_told = ok.streams.bidi_told;
-            uni_told = told_max e.known_uni e.peer.streams_uni m (λ x. Control (MaxStreams Uni x)) ok.streams.uni_told t;
-          };
+          streams = open_known e.peer.streams_bidi e.peer.streams_uni e.known_bidi (max e.known_uni m) ok.streams (omega arith) (omega arith) ok.streams.bidi_told (told_max e.known_uni e.peer.streams_uni m (λ x. Control (MaxStreams Uni x)) ok.streams.uni_told t);
         };
         grow = all_grow_refl e.recvs;
         taken = tt;

@@ -20,7 +20,7 @@ use Rattle.qs_machine.specs.Lawful.{MayPut, Fills, frame_put}
 use Rattle.qs_machine.specs.Making.{MakeStep, MakeAt, make_refusal, IsMade}
 use Rattle.qs_machine.specs.EndStep.{Call, Answer as CallAnswer, EndStep, Open, Accept, Write, Finish, Reset, Stop, ReadUpTo, Make, Lose, Claim}
 use Rattle.qs_machine.specs.Standing.{CountsRise}
-use Rattle.qs_machine.proofs.EveryCall.{MovesStanding}
+use Rattle.qs_machine.proofs.EveryCall.{HearsPeer}
 use Rattle.qs_runs.specs.Logs.{texts_of}
 use Rattle.qs_runs.specs.Worlds.{OwnStep, AreGranted}
 use Rattle.qs_runs.specs.Agree.{frames_in}
@@ -29,8 +29,8 @@ use Rattle.qs_runs.specs.Invariant.{EndOk, CountsTrue, CountsOk}
 use Rattle.qs_runs.proofs.NewEnds.{tells_nothing}
 use Rattle.qs_runs.proofs.Wire.{text_seen, ping_seen}
 
--- what an owner does is a call of the end that leaves what stands
-pub own_call : (e new : End) (act : Act) (answer : Answer) → OwnStep e act answer new → (call : Call) × (given : CallAnswer call) × EndStep e call given new × (MovesStanding call → ⊥)
+-- what an owner does is a call of the end in which it hears nothing of its peer
+pub own_call : (e new : End) (act : Act) (answer : Answer) → OwnStep e act answer new → (call : Call) × (given : CallAnswer call) × EndStep e call given new × (HearsPeer call → ⊥)
 own_call e new (acts.OpenStream dir) (answers.OpenStream r) step = (Open dir, r, step, λ no. no)
 own_call e new acts.Accept (answers.Accept r) step = (Accept, r, step, λ no. no)
 own_call e new (acts.Write n bytes) (answers.Write r) step = (Write n bytes.items, r, step, λ no. no)

@@ -1,10 +1,9 @@
--- What an end lived through, as its history tells.
-use Rattle.std.proofs.Common.{◌≡◌, ℕ, zero, suc, Bool, true, false, ◌&&◌, List, [], ◌∷◌, ◌++◌, map, Option, Some, None, Result, Ok, Err, slice_get, refl, sym, ap, ◌∙◌, if◌then◌else◌, append-nil}
+-- What one thing more does to the pasts of both ends, and what landed.
+use Rattle.std.proofs.Common.{◌≡◌, ℕ, zero, suc, Bool, true, false, ◌&&◌, List, [], ◌∷◌, ◌++◌, map, Option, Some, None, Result, Ok, Err, slice_get, refl, sym, ap, ◌∙◌, if◌then◌else◌, append-nil, option_map, subst, inl, inr, is_some, nat_lt, nat_eq, not, nat_le}
 use Rattle.std.specs.Global.{Vec}
 use Rattle.std.proofs.lemmas.List.{map-append}
 use Rattle.std.proofs.lemmas.Option.{none-some, same_Some, slice_get-map}
 use Rattle.std.specs.List.{AllByRecursion}
-use Rattle.std.proofs.Common.{option_map}
 use Rattle.qs_recv.specs.declared.half.Read.TheVariants as reads
 use Rattle.qs_wire.specs.declared.stream_id.Dir.{Dir}
 use Rattle.qs_calls.specs.declared.closing.Closing.{Closing}
@@ -21,8 +20,6 @@ use Rattle.qs_calls.specs.declared.settings.PeerLimits.{PeerLimits}
 use Rattle.qs_calls.specs.declared.settings.SetFault.{SetFault}
 use Rattle.qs_machine.specs.Setting.{Setting}
 use Rattle.qs_calls.specs.declared.settings.RaiseFault.{RaiseFault}
-use Rattle.qs_calls.specs.declared.settings.SetFault.{SetFault}
-use Rattle.qs_machine.specs.Setting.{Setting}
 use Rattle.qs_calls.specs.declared.making.Made.{Made}
 use Rattle.qs_calls.specs.declared.making.MakeFault.{MakeFault}
 use Rattle.qs_machine.specs.Ends.{End}
@@ -34,17 +31,28 @@ use Rattle.qs_calls.specs.declared.event.Act.TheVariants as acts
 use Rattle.qs_calls.specs.declared.event.Event.{Event}
 use Rattle.qs_calls.specs.declared.answer.Answer.{Answer}
 use Rattle.qs_calls.specs.declared.answer.Answer.TheVariants as answers
-use Rattle.qs_runs.specs.Logs.{Part, Happening, Did, MadeAck, FilledIn, ConsumedUpTo, AckedToken, LostToken, RaisedLimits, CameWith, CameAlone, History, other, own_of, end_read, reads_of, own_calls, is_delivery, delivers, is_done, takes_in, processed, takes_frame, took, tells_acked, was_acked, texts_of, made, made_by, made_now, payload, was_told, HasSet, Forgot, AcceptedOf}
-use Rattle.qs_calls.specs.declared.uses.UseFault.{UseFault}
-use Rattle.qs_runs.specs.Worlds.{OwnStep}
+use Rattle.qs_runs.specs.Logs.{Part, Happening, Did, MadeAck, FilledIn, ConsumedUpTo, AckedToken, LostToken, RaisedLimits, CameWith, CameAlone, History, other, own_of, end_read, reads_of, own_calls, is_delivery, delivers, is_done, takes_in, processed, takes_frame, took, tells_acked, was_acked, texts_of, made, made_by, made_now, payload, was_told, HasSet, Forgot, AcceptedOf, IsFrameOf, AreFramesOf, same_side, HasLanded, is_in}
+use Rattle.qs_runs.specs.Worlds.{OwnStep, World, WorldStep, end_of}
 use Rattle.qs_runs.specs.Agree.{frames_in}
-use Rattle.qs_runs.specs.Invariant.{HasNoFault}
-use Rattle.qs_runs.specs.Pasts.{seen_by, packets_of, past_of, past}
+use Rattle.qs_runs.specs.Invariant.{HasNoFault, WorldOk}
+use Rattle.qs_runs.specs.Pasts.{seen_by, packets_of, past_of, past, HoldsAt, Packets, Holds, WasConfirmed, EachTaken, Landed}
 use Rattle.qs_runs.proofs.OwnMoves.{with_call, with_uses, with_packets}
 use Rattle.qs_runs.proofs.PeerMoves.{with_theirs}
-use Rattle.qs_runs.proofs.Receives.{with_received}
-use Rattle.qs_runs.proofs.Alone.{with_took, with_token}
+use Rattle.qs_runs.proofs.Receives.{with_received, with_took, with_token, AreHeldAt, or_cond}
 use Rattle.qs_runs.proofs.Wire.{text_faultless, text_fits, ping_faultless, ping_fits}
+use Rattle.qs_wire.specs.Layout.{FrameValue}
+use Rattle.qs_wire.specs.Grammar.{Fits, frames_of}
+use Rattle.qs_wire.specs.Reading.{reading_of}
+use Rattle.qs_machine.specs.Seen.{seen, Seen}
+use Rattle.std.proofs.lemmas.Bool.{false≢true, and_parts, eqb-true}
+use Rattle.qs_send.specs.Records.{Among}
+use Rattle.qs_calls.specs.declared.settings.Settings.{Settings}
+use Rattle.qs_calls.specs.declared.token.TokenFault.TheVariants as tokens
+use Rattle.qs_machine.specs.Owner.{Certain, first_refusal, refuse_if}
+use Rattle.qs_machine.specs.Alone.{is_ours, TokenAckedStep}
+use Rattle.qs_runs.proofs.Lists.{All_at, slice_get-append}
+
+-- What an end lived through, as its history tells.
 
 -- the event of a side
 abbrev pub does : Side → Act → Event
@@ -271,3 +279,149 @@ pub own_faultless : (e : End) (act : Act) (answer : Answer) (new : End) → OwnS
 own_faultless e (acts.Make room) (answers.Make r text) new (first, delay, step) = packet_faultless e first delay room r text.items new step
 own_faultless e acts.Claim (answers.Claim (Ok number)) new step = ((ping_faultless, ping_fits), tt)
 own_faultless e act answer new step = tt
+
+-- Frames of one end's packets as the other end's past has them.
+
+module _ (h : History) (s : Side) where
+  part_held : (part : Part) (f : FrameValue) → IsFrameOf h s part f → HoldsAt (past (other s) h).theirs part.number part.place (seen f)
+  part_held part f (text, is, at) = (
+    frames_in text,
+    ap (λ ps. slice_get ps part.number) (theirs_mine s h) ∙ payload_seen s part.number h text is,
+    slice_get-map seen (frames_of (reading_of text).left) part.place ∙ ap (option_map seen) at,
+  )
+
+  pub parts_held : (parts : List Part) (fs : List FrameValue) → AreFramesOf h s parts fs → AreHeldAt (past (other s) h).theirs parts fs
+  parts_held [] [] are = tt
+  parts_held [] (f ∷ fs) are = absurd are
+  parts_held (part ∷ parts) [] are = absurd are
+  parts_held (part ∷ parts) (f ∷ fs) (is, are) = (part_held part f is, parts_held parts fs are)
+
+  -- each has a text
+  pub parts_fit : AreFaultless (made s h) → (parts : List Part) (fs : List FrameValue) → AreFramesOf h s parts fs → AllByRecursion Fits fs
+  parts_fit texts [] [] are = tt
+  parts_fit texts [] (f ∷ fs) are = absurd are
+  parts_fit texts (part ∷ parts) [] are = absurd are
+  parts_fit texts (part ∷ parts) (f ∷ fs) ((text, is, at), are) = (found (frames_of (reading_of text).left) part.place (faultless_at (made s h) part.number text texts is).1 at, parts_fit texts parts fs are)
+    where
+      found : (all : List FrameValue) (i : ℕ) → AllByRecursion Fits all → slice_get all i ≡ Some f → Fits f
+      found [] i fit at = absurd (none-some f at)
+      found (v ∷ all) zero fit at = subst Fits (same_Some v f at) fit.0
+      found (v ∷ all) (suc i) fit at = found all i fit.1 at
+
+  -- they are the only ones
+  pub parts_same : (parts : List Part) (fs gs : List FrameValue) → AreFramesOf h s parts fs → AreFramesOf h s parts gs → fs ≡ gs
+  parts_same [] [] [] x y = refl
+  parts_same [] [] (g ∷ gs) x y = absurd y
+  parts_same [] (f ∷ fs) gs x y = absurd x
+  parts_same (part ∷ parts) [] gs x y = absurd x
+  parts_same (part ∷ parts) (f ∷ fs) [] x y = absurd y
+  parts_same (part ∷ parts) (f ∷ fs) (g ∷ gs) ((text, is, at), x) ((t, there, found), y) =
+      let text_same : text ≡ t = same_Some text t (sym is ∙ there) in
+      let one : f ≡ g = same_Some f g (sym at ∙ ap (λ bs. slice_get (frames_of (reading_of bs).left) part.place) text_same ∙ found) in
+      let more : fs ≡ gs = parts_same parts fs gs x y in
+      λ j. one j ∷ more j
+
+-- What a token told landed, and what landed took effect.
+
+-- A frame and its place
+
+pub among_at : (fs : List Seen) (f : Seen) → Among f fs → (i : ℕ) × (slice_get fs i ≡ Some f)
+among_at [] f a = absurd a
+among_at (g ∷ fs) f (inl is) = (0, ap Some (sym is))
+among_at (g ∷ fs) f (inr a) = (let (i, at) = among_at fs f a in (suc i, at))
+
+pub at_among : (fs : List Seen) (i : ℕ) (f : Seen) → slice_get fs i ≡ Some f → Among f fs
+at_among [] i f at = absurd (none-some f at)
+at_among (g ∷ fs) zero f at = inl (sym (same_Some g f at))
+at_among (g ∷ fs) (suc i) f at = inr (at_among fs i f at)
+
+pub mapped_some : {X Y : Type 0} (f : X → Y) (o : Option X) (y : Y) → option_map f o ≡ Some y → (x : X) × (o ≡ Some x) × (f x ≡ y)
+mapped_some f None y e = absurd (none-some y e)
+mapped_some f (Some x) y e = (x, refl, same_Some (f x) y e)
+
+-- What landed stays so
+
+pub still_landed : (h : History) (x : Happening) (s : Side) (k : ℕ) → HasLanded h s k → HasLanded (x ∷ h) s k
+unfolding made processed took
+still_landed h x s k (inl done) = inl (or_cond (takes_in (other s) k x) (processed (other s) k h) done)
+still_landed h x s k (inr (text, is, all)) =
+    inr (text, slice_get-append (made s h) (made_now s x) k text is, λ i f at ours. or_cond (takes_frame (other s) k i x) (took (other s) k i h) (all i f at ours))
+
+same_sides : (s t : Side) → same_side s t ≡ true → t ≡ s
+same_sides A A is = refl
+same_sides A B is = absurd (false≢true is)
+same_sides B A is = absurd (false≢true is)
+same_sides B B is = refl
+
+-- the end took the token, so it is of its epoch
+told_is_own : (e new : End) (t : Token) (result : Result (Unit {0}) TokenFault) → TokenAckedStep e t result new → was_told result ≡ true → t.epoch ≡ e.tuning.epoch
+told_is_own e new t result step told = eqb-true t.epoch e.tuning.epoch (go _ (is_some e.closed) (nat_eq t.epoch e.tuning.epoch) (nat_le t.first t.number && nat_lt t.number e.next) step)
+  where
+    go : (E : Type 0) (closed own made : Bool) → Certain (first_refusal (refuse_if closed tokens.Closed) (refuse_if (not (own && made)) tokens.NotGiven)) e result new E → own ≡ true
+    go E true own made h = absurd (false≢true (sym (ap was_told h.0) ∙ told))
+    go E false false made h = absurd (false≢true (sym (ap was_told h.0) ∙ told))
+    go E false true made h = refl
+
+-- what a token tells landed before
+landed_before : (h : History) (v w : World) (x : Happening) → WorldStep h v x w → (s : Side) (k : ℕ) → tells_acked s k x ≡ true → HasLanded h s k
+landed_before h v w (AckedToken end token result) ((landed, step), same) s k is =
+    let (here, both) = and_parts (same_side s end) (was_told result && is_in token k) is in
+    let (told, among) = and_parts (was_told result) (is_in token k) both in
+    subst (λ t. HasLanded h t k) (same_sides s end here) (landed (told_is_own (end_of v end) (end_of w end) token result step told) k among)
+landed_before h v w (Did event answer) step s k is = absurd (false≢true is)
+landed_before h v w (MadeAck end room result text) step s k is = absurd (false≢true is)
+landed_before h v w (FilledIn end want room result text) step s k is = absurd (false≢true is)
+landed_before h v w (ConsumedUpTo end n most result bytes) step s k is = absurd (false≢true is)
+landed_before h v w (LostToken end token result) step s k is = absurd (false≢true is)
+landed_before h v w (RaisedLimits end limits result) step s k is = absurd (false≢true is)
+landed_before h v w (HasSet end setting result) step s k is = absurd (false≢true is)
+landed_before h v w (Forgot end n code result) step s k is = absurd (false≢true is)
+landed_before h v w (AcceptedOf end d result) step s k is = absurd (false≢true is)
+landed_before h v w (CameWith end number bytes result) step s k is = absurd (false≢true is)
+landed_before h v w (CameAlone end parts result) step s k is = absurd (false≢true is)
+
+pub step_lands : (h : History) (v w : World) (x : Happening) → WorldStep h v x w → ((s : Side) (k : ℕ) → was_acked s k h ≡ true → HasLanded h s k) → (s : Side) (k : ℕ) → was_acked s k (x ∷ h) ≡ true → HasLanded (x ∷ h) s k
+unfolding was_acked
+step_lands h v w x step before s k is = still_landed h x s k (by (tells_acked s k x) refl is)
+  where
+    by : (b : Bool) → tells_acked s k x ≡ b → (if b then true else was_acked s k h) ≡ true → HasLanded h s k
+    by true now is = landed_before h v w x step s k now
+    by false now is = before s k is
+
+-- What landed took effect
+
+pub landed_taken : (theirs : Packets) (processed : ℕ → Bool) (took : ℕ → ℕ → Bool) (P : Seen → Type 0) → EachTaken theirs processed took P → (k : ℕ) → Landed theirs processed took k →
+    (fs : List Seen) (f : Seen) → slice_get theirs k ≡ Some fs → Among f fs → is_ours f ≡ true → P f
+landed_taken theirs processed took P each k (inl done) fs f is a ours =
+    let (gs, there, all) = each.packets k done in
+    All_at P fs f (subst (AllByRecursion P) (same_Some gs fs (sym there ∙ is)) all) a
+landed_taken theirs processed took P each k (inr (gs, there, all)) fs f is a ours =
+    let same : gs ≡ fs = same_Some gs fs (sym there ∙ is) in
+    let (i, at) = among_at fs f a in
+    let (g, (hs, found, has_it), holds) = each.frames k i (all i f (subst (λ xs. slice_get xs i ≡ Some f) (sym same) at) ours) in
+    let alike : hs ≡ fs = same_Some hs fs (sym found ∙ is) in
+    subst P (same_Some g f (sym (subst (λ xs. slice_get xs i ≡ Some g) alike has_it) ∙ at)) holds
+
+-- what a history tells of a packet a past does
+pub landed_past : (h : History) (s : Side) (k : ℕ) → HasLanded h s k → Landed (past (other s) h).theirs (past (other s) h).processed (past (other s) h).took k
+landed_past h s k (inl done) = inl done
+landed_past h s k (inr (text, is, all)) =
+    inr (
+      frames_in text,
+      ap (λ ps. slice_get ps k) (theirs_mine s h) ∙ payload_seen s k h text is,
+      λ i f at ours. (
+          let (v, there, same) = mapped_some seen (slice_get (frames_of (reading_of text).left) i) f (sym (slice_get-map seen (frames_of (reading_of text).left) i) ∙ at) in
+          all i v there (subst (λ x. is_ours x ≡ true) (sym same) ours)),
+    )
+
+module _ (a b : Settings) (h : History) (w : World) (ok : WorldOk a b h w) (s : Side) where
+  -- a packet that was confirmed landed
+  pub confirmed_landed : (k : ℕ) → WasConfirmed (past s h).theirs (past s h).tokens k → Landed (past (other s) h).theirs (past (other s) h).processed (past (other s) h).took k
+  confirmed_landed k (inl (largest, ranges, t, named)) = inl (((ok.ends (other s)).packets.acks_told largest ranges t).names_processed k named)
+  confirmed_landed k (inr told) = landed_past h s k (ok.confirmed s k told)
+
+  -- so what holds of each frame that was taken holds of each that it has
+  pub confirmed_taken : (P : Seen → Type 0) → EachTaken (past (other s) h).theirs (past (other s) h).processed (past (other s) h).took P →
+      (k : ℕ) (f : Seen) → Holds (past s h).mine k f → WasConfirmed (past s h).theirs (past s h).tokens k → is_ours f ≡ true → P f
+  confirmed_taken P each k f (fs, is, a) confirmed ours =
+      landed_taken (past (other s) h).theirs (past (other s) h).processed (past (other s) h).took P each k (confirmed_landed k confirmed) fs f (ap (λ ps. slice_get ps k) (theirs_mine s h) ∙ is) a ours

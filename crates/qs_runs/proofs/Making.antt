@@ -12,7 +12,7 @@ use Rattle.qs_send.specs.declared.piece.Item.TheVariants.{MaxData, MaxStreamData
 use Rattle.qs_send.specs.declared.piece.Piece.{Piece}
 use Rattle.qs_send.specs.declared.piece.Piece.TheVariants.{Data, Told}
 use Rattle.qs_machine.specs.Tables.{lookup, update, updated}
-use Rattle.qs_machine.specs.Ends.{End, Records, first_send_limit, window, on_send}
+use Rattle.qs_machine.specs.Ends.{End, first_send_limit, window, on_send}
 use Rattle.qs_machine.specs.Credit.{settle, all_sent}
 use Rattle.qs_machine.specs.Seen.{Seen, Ack, Stream, Control, Close, Plain}
 use Rattle.qs_send.specs.Records.{Among}
@@ -20,13 +20,12 @@ use Rattle.qs_machine.specs.Due.{IsCurrent}
 use Rattle.qs_machine.specs.Lawful.{MayPut, MayCarry, Fills, Lawful, frame_put, item_put, noted, pieces_so_far, chunk_of}
 use Rattle.qs_runs.proofs.Lists.{slice_get-append, slice_get-push, slice_get-last, slice_get-take, slice_get-drop, Among_push, Among_left, Among_last}
 use Rattle.qs_runs.proofs.Members.{get-inserted}
-use Rattle.qs_runs.proofs.Base.{before-missing}
+use Rattle.qs_runs.proofs.Acking.{with_records}
+use Rattle.qs_runs.proofs.Changes.{before-missing, settle_ok, send_same, lane_changed, without_sum}
 use Rattle.qs_machine.proofs.Leaves.{put_leaves, fills_leave}
-use Rattle.qs_machine.proofs.TableLaws.{slots_updated, lookup_same}
+use Rattle.qs_machine.proofs.TableLaws.{lookup_same}
 use Rattle.qs_runs.specs.Pasts.{Packets, Past, PieceOf, Holds, Tells}
-use Rattle.qs_runs.specs.Invariant.{EndHas, EndOk, SendTrue, SendSlot, RecvSlot, ChunkTrue, AckTrue, IsMade, OpenOk, StoodIn, is_open}
-use Rattle.qs_runs.proofs.Changes.{open_update}
-use Rattle.qs_runs.proofs.Settling.{settle_ok}
+use Rattle.qs_runs.specs.Invariant.{EndHas, EndOk, SendTrue, SendSlot, RecvSlot, ChunkTrue, AckTrue, IsMade}
 
 -- The frame is true of the end.
 abbrev pub FrameTrue : Past → End → Seen → Type 0
@@ -46,8 +45,6 @@ FrameTrue p e (Plain asks) = asks ≡ true
 true_is_made : (p : Past) (e : End) (f : Seen) → FrameTrue p e f → IsMade f
 true_is_made p e (Close c) t = absurd t
 true_is_made p e (Plain asks) t = t
-true_is_made p e (Control (MaxData m)) t = tt
-true_is_made p e (Control (MaxStreams d m)) t = tt
 true_is_made p e f t = tt
 
 -- More was sent: what holds still does, and what is told is told before or is the frame.
@@ -206,55 +203,6 @@ module _ (mine theirs : Packets) (tokens : ℕ → Bool) (all : List ℕ) (n lim
         end = λ is. (or_right _ _ is, (let e : c.offset + length bytes ≡ c.offset + c.len = ap (λ x. c.offset + x) count in e ∙ (end is).1));
       }
 
--- Fields that the invariant doesn't speak of may change, and records by what they hold.
-records_changed : (p : Past) (e : End) (sent next : ℕ) (m : Records) → EndHas p e sent → next ≡ length p.mine →
-    StoodIn p.mine m → EndHas p (record e { outstanding = m; next = next }) sent
-records_changed p e sent next m ok count records =
-    record {
-      sends = ok.sends;
-      recvs = ok.recvs;
-      taken = ok.taken;
-      credit = ok.credit;
-      streams = ok.streams;
-      packets = record {
-        count = count;
-        records = records;
-        lost_records = ok.packets.lost_records;
-        acks_told = ok.packets.acks_told;
-        kinds = ok.packets.kinds;
-        is_done = ok.packets.is_done;
-        above = ok.packets.above;
-        kept = ok.packets.kept;
-      };
-    }
-
-lane_changed : (p : Past) (e : End) (sent n : ℕ) (l m : SendLane) → EndHas p e sent → lookup e.sends n ≡ Some l → SendTrue p.mine p.theirs p.tokens (p.bytes n) n (first_send_limit e n) m → EndHas p (record e { sends = update e.sends n m }) sent
-lane_changed p e sent n l m ok is this =
-    record {
-      sends = slots_updated (λ j o. SendSlot p j (first_send_limit e j) o) e.sends n l m is (λ j ne. ok.sends j) this;
-      recvs = ok.recvs;
-      packets = ok.packets;
-      taken = ok.taken;
-      credit = ok.credit;
-      streams = subst (λ s. OpenOk p e.role e.peer.streams_bidi e.peer.streams_uni e.known_bidi e.known_uni s (is_open e.recvs)) (sym (open_update e.sends n l m is)) ok.streams;
-    }
-
-blocked_ok : (mine theirs : Packets) (tokens : ℕ → Bool) (all : List ℕ) (n limit : ℕ) (l : SendLane) → SendTrue mine theirs tokens all n limit l → SendTrue mine theirs tokens all n limit (blocked_lane l)
-blocked_ok mine theirs tokens all n limit l h =
-    record {
-      count = h.count;
-      kept = h.kept;
-      sent_written = h.sent_written;
-      sent_limit = h.sent_limit;
-      end = h.end;
-      reset_size = h.reset_size;
-      told = h.told;
-      told_reset = h.told_reset;
-      acked = h.acked;
-      end_acked = h.end_acked;
-      limit_told = h.limit_told;
-    }
-
 -- the end, with the packet that is being made counted
 abbrev pub counted : End → End
 counted e = record e { next = e.next + 1 }
@@ -264,14 +212,14 @@ module _ (p : Past) (pre : List Seen) where
   note_ok : (e : End) (f : Seen) (x : Piece) → e.next ≡ length p.mine → EndHas (with_packet p (pre ++ f ∷ [])) (counted e) 0 → PieceOf (p.mine ++ (pre ++ f ∷ []) ∷ []) (length p.mine) x →
       EndHas (with_packet p (pre ++ f ∷ [])) (counted (noted x e)) 0
   note_ok e f x at ok piece =
-      records_changed _ (counted e) 0 (e.next + 1) _ ok ok.packets.count (λ j ps y there a.
+      with_records _ (counted e) (e.next + 1) _ e.lost ok ok.packets.count (λ j ps y there a.
       elim (get-inserted e.outstanding e.next (pieces_so_far e e.next ++ x ∷ []) j ps there) [
         | inl old ↦ ok.packets.records j ps y old a
         | inr new ↦ elim (Among_push (pieces_so_far e e.next) x y (subst (Among y) (sym new.1) a)) [
           | inl before ↦ subst (λ k. PieceOf (p.mine ++ (pre ++ f ∷ []) ∷ []) k y) (sym new.0) (so_far y (fmap.get e.outstanding e.next) refl before)
           | inr same ↦ subst (λ k. PieceOf (p.mine ++ (pre ++ f ∷ []) ∷ []) k y) (sym (new.0 ∙ at)) (subst (PieceOf (p.mine ++ (pre ++ f ∷ []) ∷ []) (length p.mine)) (sym same) piece)
         ]
-      ])
+      ]) ok.packets.lost_records
     where
       so_far : (y : Piece) (o : Option (List Piece)) → fmap.get e.outstanding e.next ≡ o → Among y (elim o [ None ↦ [] | Some ps ↦ ps ]) → PieceOf (p.mine ++ (pre ++ f ∷ []) ∷ []) e.next y
       so_far y None is a = absurd a
@@ -302,7 +250,7 @@ module _ (p : Past) (pre : List Seen) where
     where
       go : (o : Option SendLane) → lookup e.sends n ≡ o → EndHas (with_packet p pre) (counted (record e { sends = updated e.sends n blocked_lane o })) 0
       go None is = ok
-      go (Some l) is = lane_changed _ (counted e) 0 n l (blocked_lane l) ok is (blocked_ok _ _ _ _ n _ l (subst (SendSlot (with_packet p pre) n (first_send_limit e n)) is (ok.sends n)))
+      go (Some l) is = lane_changed _ (counted e) 0 n l (blocked_lane l) ok is (send_same (subst (SendSlot (with_packet p pre) n (first_send_limit e n)) is (ok.sends n)))
   item_marked e i ok = ok
 
 frame_put_next : (f : Seen) (e : End) → (frame_put f e).next ≡ e.next
@@ -346,17 +294,6 @@ module _ (p : Past) (old : End) (kept : (k : ℕ) → set.contains old.done k �
 
   fills_next : (fs : List Seen) (e mid : End) → Fills old e fs mid → mid.next ≡ e.next
   fills_next fs e mid fills = ap (λ (x : End). x.next) (fills_leave old fs e mid fills)
-
-without_sum : (p : Past) (e : End) (sent less : ℕ) → EndHas p e sent → less ≤ e.known_data → EndHas p e less
-without_sum p e sent less ok le =
-    record {
-      sends = ok.sends;
-      recvs = ok.recvs;
-      packets = ok.packets;
-      taken = ok.taken;
-      streams = ok.streams;
-      credit = record { sent_known = le; known_told = ok.credit.known_told; window_granted = ok.credit.window_granted; granted_told = ok.credit.granted_told };
-    }
 
 empty_down : (ms : Packets) (g : Seen) → Tells (ms ++ [] ∷ []) g → Tells ms g
 empty_down ms g (k, (fs, at, a)) =

@@ -1,7 +1,7 @@
 -- What sets and maps have at each number after a change.
-use Rattle.std.proofs.Common.{◌≡◌, ℕ, zero, suc, ◌+◌, ◌-◌, ◌<◌, ◌≤◌, Bool, true, false, not, List, [], ◌∷◌, ◌⊎◌, Option, Some, None, slice_get, refl, sym, ap, ◌∙◌, arith, inl, inr, cond, add-zero, nat_cmp, nat_le, if◌then◌else◌}
+use Rattle.std.proofs.Common.{◌≡◌, ℕ, zero, suc, ◌+◌, ◌-◌, ◌<◌, ◌≤◌, Bool, true, false, List, [], ◌∷◌, ◌⊎◌, Option, Some, None, slice_get, refl, sym, ap, ◌∙◌, arith, inl, inr, cond, add-zero, nat_cmp, nat_le, if◌then◌else◌}
 use Rattle.std.proofs.lemmas.Option.{none-some, same_Some}
-use Rattle.std.proofs.lemmas.Bool.{or_cases, or_left, or_right, and_parts, and_from, eqb-true, eq-eqb}
+use Rattle.std.proofs.lemmas.Bool.{or_cases, or_left, or_right, and_parts, and_from, eqb-true}
 use Rattle.std.proofs.lemmas.Bool.Decides.{nat_tests}
 use Rattle.std.specs.FinSet as set
 use Rattle.std.specs.FinMap as fmap
@@ -10,15 +10,13 @@ use Rattle.std.specs.Cmp.{nat_cmp_total, unsigned_tied}
 use Rattle.std.specs.Ordering.{eq_by_cmp}
 use Rattle.qs_ranges.specs.Numbers.{NumberSet, numbers, is_within, contains-with_range, contains-without_range, end_of}
 use Rattle.qs_ranges.proofs.Sets.{below-end_of, end_of-le}
+use Rattle.qs_machine.proofs.Carried.{tied_itself}
 use Rattle.qs_recv.specs.Assembled.{store, front, front_from, keep_from}
 
 -- Sets of numbers
 
 tied : (q k : ℕ) → eq_by_cmp nat_cmp q k ≡ true → q ≡ k
 tied q k e = eqb-true q k (sym (unsigned_tied q k) ∙ e)
-
-pub tied_itself : (k : ℕ) → eq_by_cmp nat_cmp k k ≡ true
-tied_itself k = unsigned_tied k k ∙ eq-eqb k k refl
 
 pub insert-cases : (s : NumberSet) (k q : ℕ) → set.contains (set.insert s k) q ≡ true → (q ≡ k) ⊎ (set.contains s q ≡ true)
 insert-cases s k q h = elim (or_cases _ _ (sym (set.contains-insert nat_cmp_total s k q) ∙ h)) [ inl e ↦ inl (tied q k e) | inr e ↦ inr e ]
@@ -29,15 +27,12 @@ insert-old s k q h = set.contains-insert nat_cmp_total s k q ∙ or_right _ _ h
 pub insert-new : (s : NumberSet) (k : ℕ) → set.contains (set.insert s k) k ≡ true
 insert-new s k = set.contains-insert nat_cmp_total s k k ∙ or_left _ _ (tied_itself k)
 
-within-bounds : (lo hi q : ℕ) → is_within lo hi q ≡ true → (lo ≤ q) × (q < hi)
-within-bounds lo hi q e = (grind (arith, nat_tests), grind (arith, nat_tests))
-
 bounds-within : (lo hi q : ℕ) → lo ≤ q → q < hi → is_within lo hi q ≡ true
 bounds-within lo hi q low high = grind (arith, nat_tests)
 
 -- a member of a set with a run more: an old one, or one of the run
 pub run-cases : (s : NumberSet) (lo hi q : ℕ) → set.contains (set.union s (numbers lo hi)) q ≡ true → (set.contains s q ≡ true) ⊎ ((lo ≤ q) × (q < hi))
-run-cases s lo hi q h = elim (or_cases _ _ (sym (contains-with_range s lo hi q) ∙ h)) [ inl old ↦ inl old | inr new ↦ inr (within-bounds lo hi q new) ]
+run-cases s lo hi q h = elim (or_cases _ _ (sym (contains-with_range s lo hi q) ∙ h)) [ inl old ↦ inl old | inr new ↦ inr ((grind (arith, nat_tests), grind (arith, nat_tests))) ]
 
 pub run-old : (s : NumberSet) (lo hi q : ℕ) → set.contains s q ≡ true → set.contains (set.union s (numbers lo hi)) q ≡ true
 run-old s lo hi q h = contains-with_range s lo hi q ∙ or_left _ _ h
@@ -47,16 +42,10 @@ run-new s lo hi q low high = contains-with_range s lo hi q ∙ or_right _ _ (bou
 
 -- a member of a set without the numbers below one
 pub cut-cases : (s : NumberSet) (hi q : ℕ) → set.contains (set.difference s (numbers 0 hi)) q ≡ true → (set.contains s q ≡ true) × (hi ≤ q)
-cut-cases s hi q h = (let parts = and_parts _ _ (sym (contains-without_range s 0 hi q) ∙ h) in (parts.0, go parts.1))
-  where
-    go : not (is_within 0 hi q) ≡ true → hi ≤ q
-    go e = grind (arith, nat_tests)
+cut-cases s hi q h = (let parts = and_parts _ _ (sym (contains-without_range s 0 hi q) ∙ h) in (parts.0, (grind (arith, parts.1, nat_tests))))
 
 pub cut-kept : (s : NumberSet) (hi q : ℕ) → set.contains s q ≡ true → hi ≤ q → set.contains (set.difference s (numbers 0 hi)) q ≡ true
-cut-kept s hi q h le = contains-without_range s 0 hi q ∙ and_from _ _ h go
-  where
-    go : not (is_within 0 hi q) ≡ true
-    go = grind (arith, nat_tests)
+cut-kept s hi q h le = contains-without_range s 0 hi q ∙ and_from _ _ h (grind (arith, nat_tests))
 
 pub below-end : (s : NumberSet) (q : ℕ) → set.contains s q ≡ true → q < end_of s
 below-end = below-end_of

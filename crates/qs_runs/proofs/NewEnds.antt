@@ -16,7 +16,7 @@ use Rattle.qs_calls.specs.Settings.{limits_of, wide_setup_fault, default_tuning}
 use Rattle.qs_machine.specs.Tables.{total, no_streams}
 use Rattle.qs_machine.specs.Ends.{End, first_send_limit, window, new_end, end_made, wide_end_made, end_unless}
 use Rattle.qs_machine.specs.Seen.{Seen}
-use Rattle.qs_machine.proofs.Bounds.{new_ends_wide}
+use Rattle.qs_machine.proofs.Counts.{new_ends_wide}
 use Rattle.qs_machine.proofs.Ties.{nowhere}
 use Rattle.qs_runs.specs.Worlds.{World, AreGranted, Begins, begun_with, world_made, both_made}
 use Rattle.qs_runs.specs.Pasts.{Packets, Past, Tells}

@@ -1,7 +1,18 @@
--- Each call of its owner keeps the invariant of an end.
-use Rattle.std.proofs.Common.{◌≡◌, ◌≢◌, ℕ, ◌+◌, ◌*◌, Bool, true, false, not, ◌&&◌, ◌||◌, List, [], ◌∷◌, ◌++◌, map, length, take, Option, Some, None, Result, Ok, Err, is_some, refl, sym, ap, ◌∙◌, subst, inl, inr, if◌then◌else◌, ◌==◌, append-nil, MatchBool, nat_le, zero, suc, ◌-◌}
-use Rattle.std.proofs.lemmas.Option.{none-some}
-use Rattle.std.proofs.lemmas.Bool.{eq-eqb, ne_eqb, leb-false}
+-- Each call of its owner keeps the invariant of an end, and so do limits that are taken in.
+use Rattle.std.proofs.Common.{◌≡◌, ℕ, Bool, true, false, List, [], ◌∷◌, ◌++◌, length, Option, Some, None, refl, sym, subst, inl, inr, leb, if◌then◌else◌, ◌≢◌, ◌+◌, ◌*◌, not, ◌&&◌, ◌||◌, map, take, Result, Ok, Err, is_some, ap, ◌∙◌, ◌==◌, append-nil, MatchBool, nat_le, zero, suc, ◌-◌, arith, ◌/◌, ◌%◌, ◌≤◌, max, ◌⊎◌, option_map}
+use Rattle.std.specs.FinMap as fmap
+use Rattle.qs_send.specs.Records.{Among, without_first}
+use Rattle.qs_send.specs.LostRecords.{MOST_LOST, with_piece, with_number, without_oldest}
+use Rattle.qs_send.specs.declared.piece.Piece.{Piece}
+use Rattle.qs_machine.specs.Ends.{End, Records, LostPackets, lost_with, on_send, on_recv, send_lane, first_send_limit, window, is_uni, is_own}
+use Rattle.qs_machine.specs.Making.{first_lost, losses, MakeStep, MakeAt, make_refusal, IsMade, LoseStep, lose_refusal, ClaimStep, claim_refusal}
+use Rattle.qs_runs.specs.Pasts.{Past, PieceOf, Packets, seen_by, TellsEnd, Tells}
+use Rattle.qs_runs.specs.Invariant.{EndOk, StoodIn, RecvTrue, RecvSlot, RecvOk, SendOk, SendSlot, OpenOk, is_open}
+use Rattle.qs_runs.proofs.Lists.{Among_push, Among_take}
+use Rattle.qs_runs.proofs.Members.{get-inserted, get-removed}
+use Rattle.qs_runs.proofs.Acking.{one_less_ok, with_records, reset_ok, reset_end}
+use Rattle.std.proofs.lemmas.Option.{none-some, slice_get-map}
+use Rattle.std.proofs.lemmas.Bool.{eq-eqb, ne_eqb, leb-false, cases_lt}
 use Rattle.std.specs.Global.{Vec}
 use Rattle.qs_wire.specs.declared.stream_id.Dir.{Dir}
 use Rattle.qs_wire.specs.declared.stream_id.Dir.TheVariants.{Bidi, Uni}
@@ -9,7 +20,7 @@ use Rattle.qs_recv.specs.Assembled.{front, front_of}
 use Rattle.qs_recv.specs.Lane.{RecvLane, read_answer, bytes_of, bytes_read, after_answer, after_read, stop, stop_and_forget, is_over}
 use Rattle.qs_recv.specs.declared.half.Read.{Read}
 use Rattle.qs_recv.specs.declared.half.Read.TheVariants as reads
-use Rattle.qs_send.specs.Lane.{SendLane, refusal, reset_refusal, write_lane, finish_lane, reset_lane, buffer_lane}
+use Rattle.qs_send.specs.Lane.{SendLane, refusal, reset_refusal, write_lane, finish_lane, reset_lane, buffer_lane, allow_lane}
 use Rattle.qs_send.specs.declared.parts.SendFault.{SendFault}
 use Rattle.qs_calls.specs.declared.making.Made.{Made}
 use Rattle.qs_calls.specs.declared.making.MakeFault.{MakeFault}
@@ -18,19 +29,15 @@ use Rattle.qs_calls.specs.declared.making.LostFault.{LostFault}
 use Rattle.qs_calls.specs.declared.reading.Consumed.{Consumed}
 use Rattle.qs_calls.specs.declared.token.Token.{Token}
 use Rattle.qs_calls.specs.declared.token.TokenFault.{TokenFault}
-use Rattle.qs_calls.specs.declared.settings.SetFault.{SetFault}
 use Rattle.qs_calls.specs.declared.uses.OpenFault.{OpenFault}
 use Rattle.qs_calls.specs.declared.uses.OpenFault.TheVariants as opening
 use Rattle.qs_calls.specs.declared.uses.UseFault.{UseFault}
 use Rattle.qs_calls.specs.declared.uses.UseFault.TheVariants.{NoMemory, Closed}
-use Rattle.qs_machine.specs.Tables.{lookup, update, updated}
-use Rattle.qs_machine.specs.Ends.{End, on_send, on_recv, send_lane, first_send_limit, window}
-use Rattle.qs_machine.specs.Credit.{settle}
-use Rattle.qs_machine.specs.Seen.{Seen, seen_all}
+use Rattle.qs_machine.specs.Tables.{lookup, update, updated, Tables, table}
+use Rattle.qs_machine.specs.Credit.{settle, all_taken, all_sent}
+use Rattle.qs_machine.specs.Seen.{Seen, seen_all, Control}
 use Rattle.qs_machine.specs.Due.{known_count}
 use Rattle.qs_machine.specs.Owner.{first_refusal, refuse_if, send_refusal, recv_refusal, is_read_no_more, half_refusal, no_half, opened_count, own_type, peer_type, with_wanted, OpenStep, IsBlocked, IsOpened, AcceptStep, AcceptOfStep, GivesNone, GivesBidi, GivesUni, AcceptOpen, AcceptOpenOf, WriteStep, FinishStep, ResetStep, StopStep, ReadStep, ReadBy, next_stream, accepted_by, consumed, is_end as is_told_end, Certain, StopAndForgetStep}
-use Rattle.qs_machine.specs.Making.{MakeStep, MakeAt, make_refusal, IsMade, LoseStep, lose_refusal, ClaimStep, claim_refusal}
-use Rattle.qs_machine.specs.Setting.{Setting, SendBuffer, SetStep, set_refusal}
 use Rattle.qs_machine.specs.Alone.{token_refusal, TokenLostStep, LosesEach}
 use Rattle.qs_calls.specs.declared.event.Act.{Act}
 use Rattle.qs_calls.specs.declared.event.Act.TheVariants as acts
@@ -39,31 +46,59 @@ use Rattle.qs_calls.specs.declared.answer.Answer.TheVariants as answers
 use Rattle.qs_runs.specs.Logs.{texts_of, wrote_by, read_by, end_read, reads_of, is_stop, is_end}
 use Rattle.qs_runs.specs.Worlds.{OwnStep, AreTaken, TakesBytes}
 use Rattle.qs_runs.specs.Agree.{frames_in}
-use Rattle.qs_machine.proofs.TableLaws.{lookup_same}
-use Rattle.qs_runs.proofs.Lists.{Among_take}
-use Rattle.qs_runs.specs.Pasts.{Packets, seen_by, Past, TellsEnd}
-use Rattle.qs_runs.specs.Invariant.{EndOk, RecvTrue, RecvSlot, RecvOk}
-use Rattle.qs_runs.proofs.Changes.{Grows, Grows_refl, send_kept}
-use Rattle.qs_runs.proofs.Settling.{settle_ok}
-use Rattle.qs_runs.proofs.Acking.{reset_ok, reset_end}
-use Rattle.qs_runs.proofs.Losing.{losses_ok}
+use Rattle.qs_machine.proofs.TableLaws.{lookup_same, value, with_same, with_other, lookup_in, total_le}
+use Rattle.qs_runs.proofs.Changes.{Grows, Grows_refl, send_alike, send_same, recv_alike, granted_more, send_kept, settle_ok, window_ok, write_allowed, wrote_ok, with_bytes, not_at_end, end_by_fin, read_bytes_ok, read_told_ok, told_grows, stop_ok, stop_grows, recv_view}
 use Rattle.qs_runs.proofs.Making.{made_ok, claimed_ok}
 use Rattle.qs_runs.proofs.Standing.{certain_cases, uncertain_cases}
 use Rattle.qs_runs.proofs.Wire.{text_seen, ping_seen}
-use Rattle.qs_runs.proofs.Writing.{write_allowed, finish_ok, wrote_ok, with_bytes, buffer_ok}
-use Rattle.qs_runs.proofs.Reading.{not_at_end, end_by_fin, read_bytes_ok, read_told_ok, told_true, told_grows, stop_ok, stop_grows, recv_view}
-use Rattle.qs_runs.proofs.OwnStreams.{next_own, next_below, own_opened}
+use Rattle.qs_runs.proofs.Frames.{open_known, next_own, next_below, own_opened}
+use Rattle.qs_calls.specs.declared.settings.SetFault.{SetFault}
+use Rattle.qs_machine.specs.Setting.{Setting, ConnWindow, Grant, SendBuffer, SetStep, set_refusal, with_setting, StreamWindow}
+use Rattle.qs_machine.proofs.Rising.{window_grows}
+use Rattle.qs_send.specs.declared.piece.Item.TheVariants.{MaxData, MaxStreamData, MaxStreams}
+use Rattle.qs_calls.specs.declared.settings.PeerLimits.{PeerLimits}
+use Rattle.qs_calls.specs.declared.settings.RaiseFault.{RaiseFault}
+use Rattle.qs_machine.specs.Raising.{knows_limits, type_allowed, with_allowed, limits_raised, raise_refusal, RaiseStep}
 
--- what an end lived through, with one more call
-abbrev pub with_call : Past → Act → Answer → Past
-with_call p act answer =
-    record p {
-      mine = p.mine ++ seen_by act answer;
-      bytes = λ n. p.bytes n ++ wrote_by n act answer;
-      gave = λ n. p.gave n ++ read_by n act answer;
-      stopped = λ n. if is_stop n act answer then true else p.stopped n;
-      ended = λ n. if is_end n act answer && not (p.stopped n) then true else p.ended n;
-    }
+-- Pieces of a packet that are lost: each stood in that packet, and stands in its lost record now.
+
+module _ (p : Past) (k : ℕ) where
+  with_piece_ok : (m : Records) (x : Piece) → StoodIn p.mine m → PieceOf p.mine k x → (o : Option (List Piece)) → fmap.get m k ≡ o → StoodIn p.mine (with_piece m k x o)
+  with_piece_ok m x stood this None is j ps piece there a =
+      elim (get-inserted m k (x ∷ []) j ps there) [
+        | inl old ↦ stood j ps piece old a
+        | inr new ↦ elim (subst (Among piece) (sym new.1) a) [ inl same ↦ subst (λ i. PieceOf p.mine i piece) (sym new.0) (subst (PieceOf p.mine k) (sym same) this) | inr none ↦ absurd none ]
+      ]
+  with_piece_ok m x stood this (Some qs) is j ps piece there a =
+      elim (get-inserted m k (qs ++ x ∷ []) j ps there) [
+        | inl old ↦ stood j ps piece old a
+        | inr new ↦ elim (Among_push qs x piece (subst (Among piece) (sym new.1) a)) [
+          | inl before ↦ stood j qs piece (rw new.0 is) before
+          | inr same ↦ subst (λ i. PieceOf p.mine i piece) (sym new.0) (subst (PieceOf p.mine k) (sym same) this)
+        ]
+      ]
+
+  without_oldest_ok : (m : Records) (order : List ℕ) → StoodIn p.mine m → StoodIn p.mine (without_oldest m order)
+  without_oldest_ok m [] stood = stood
+  without_oldest_ok m (i ∷ order) stood = go (leb MOST_LOST (length order))
+    where
+      go : (b : Bool) → StoodIn p.mine (if b then fmap.remove m i else m)
+      go true j ps piece there a = stood j ps piece (get-removed m i j ps there) a
+      go false j ps piece there a = stood j ps piece there a
+
+  lost_with_ok : (l : LostPackets) (x : Piece) → StoodIn p.mine l.pieces → PieceOf p.mine k x → StoodIn p.mine (lost_with k x l).pieces
+  lost_with_ok l x stood this = without_oldest_ok _ (with_number l.order k (fmap.contains_key l.pieces k)) (with_piece_ok l.pieces x stood this (fmap.get l.pieces k) refl)
+
+  first_lost_ok : (x : Piece) (e : End) → PieceOf p.mine k x → EndOk p e → EndOk p (first_lost k x e)
+  first_lost_ok x e this ok =
+      with_records p e e.next (without_first e.outstanding k (fmap.get e.outstanding k)) (lost_with k x e.lost) ok ok.packets.count (one_less_ok p e.outstanding k ok.packets.records) (lost_with_ok e.lost x ok.packets.lost_records this)
+
+  pub losses_ok : (ps : List Piece) (e : End) → ((x : Piece) → Among x ps → PieceOf p.mine k x) → EndOk p e → EndOk p (losses k ps e)
+  unfolding losses
+  losses_ok [] e all ok = ok
+  losses_ok (x ∷ ps) e all ok = losses_ok ps (first_lost k x e) (λ y a. all y (inr a)) (first_lost_ok x e (all x (inl refl)) ok)
+
+-- Each call of its owner keeps the invariant of an end.
 
 -- what it lived through, with these packets made
 abbrev pub with_packets : Past → Packets → Past
@@ -79,7 +114,11 @@ with_use p act answer =
       ended = λ n. if is_end n act answer && not (p.stopped n) then true else p.ended n;
     }
 
--- and with these, the newest first
+-- and with one more call
+abbrev pub with_call : Past → Act → Answer → Past
+with_call p act answer = record (with_use p act answer) { mine = p.mine ++ seen_by act answer }
+
+-- with such calls, the newest first
 abbrev pub with_uses : Past → List (Act × Answer) → Past
 with_uses p [] = p
 with_uses p (c ∷ cs) = with_use (with_uses p cs) c.0 c.1
@@ -100,16 +139,12 @@ with_read p n reads.Wait given = p
 quiet : (p : Past) (act : Act) (answer : Answer) → seen_by act answer ≡ [] → ((n : ℕ) → wrote_by n act answer ≡ []) → ((n : ℕ) → read_by n act answer ≡ []) →
     ((n : ℕ) → is_stop n act answer ≡ false) → ((n : ℕ) → is_end n act answer ≡ false) → with_call p act answer ≡ p
 quiet p act answer a b c d f =
-    λ i. record {
+    λ i. record p {
       mine = (ap (λ x. p.mine ++ x) a ∙ append-nil p.mine) i;
-      theirs = p.theirs;
       bytes = λ n. (ap (λ x. p.bytes n ++ x) (b n) ∙ append-nil (p.bytes n)) i;
       gave = λ n. (ap (λ x. p.gave n ++ x) (c n) ∙ append-nil (p.gave n)) i;
       stopped = λ n. ap (λ x. if x then true else p.stopped n) (d n) i;
       ended = λ n. ap (λ x. if x && not (p.stopped n) then true else p.ended n) (f n) i;
-      processed = p.processed;
-      took = p.took;
-      tokens = p.tokens;
     }
 
 -- a read is what it gave and told
@@ -118,9 +153,6 @@ read_use p n size (reads.Bytes count) bytes = λ i. record p { bytes = λ m. app
 read_use p n size reads.End bytes = λ i. record p { bytes = λ m. append-nil (p.bytes m) i; gave = λ m. append-nil (p.gave m) i; ended = λ m. if m == n && not (p.stopped m) then true else p.ended m }
 read_use p n size (reads.Reset code) bytes = λ i. record p { bytes = λ m. append-nil (p.bytes m) i; gave = λ m. append-nil (p.gave m) i }
 read_use p n size reads.Wait bytes = λ i. record p { bytes = λ m. append-nil (p.bytes m) i; gave = λ m. append-nil (p.gave m) i }
-
-read_call : (p : Past) (n size : ℕ) (a : Read) (bytes : Vec ℕ) → with_call p (acts.ReadUpTo n size) (answers.ReadUpTo (Ok a) bytes) ≡ with_read p n a bytes.items
-read_call p n size a bytes = (λ i. record (with_use p (acts.ReadUpTo n size) (answers.ReadUpTo (Ok a) bytes)) { mine = append-nil p.mine i }) ∙ read_use p n size a bytes
 
 -- What speaks against a call
 
@@ -131,10 +163,6 @@ no_refusal (Some r) b e = absurd (none-some r (sym e))
 no_half_refusal : (o : Option SendFault) → half_refusal o ≡ None → o ≡ None
 no_half_refusal None e = refl
 no_half_refusal (Some fault) e = absurd (none-some _ (sym e))
-
--- what the half itself says is nothing, where there is a half
-send_says : (e : End) (n : ℕ) (says : SendLane → Option SendFault) → send_refusal e n says ≡ None → (l : SendLane) → lookup e.sends n ≡ Some l → says l ≡ None
-send_says e n says is l there = no_half_refusal (says l) (no_refusal (refuse_if (is_some e.closed) Closed) (half_refusal (says l)) (rw there at is)).1
 
 -- fields of which the invariant doesn't speak
 rest_ok : (p : Past) (e : End) (ab au : ℕ) (wb wu : Option ℕ) → EndOk p e → EndOk p (record e { accepted_bidi = ab; accepted_uni = au; wanted_bidi = wb; wanted_uni = wu })
@@ -226,7 +254,7 @@ module _ (p : Past) (e new : End) (ok : EndOk p e) where
             (quiet_moves (acts.Write n bytes) (answers.Write (Err fault)) (quiet p (acts.Write n bytes) (answers.Write (Err fault)) refl (λ m. refl) (λ m. refl) (λ m. refl) (λ m. refl)) (ended_by p e new same ok))
         | inr (allowed, (l, there, (is, same))) ↦ (
             let count : ℕ = accepted_by e l (length bytes.items) in
-            let (none, open_end) = write_allowed l (send_says e n refusal allowed l there) in
+            let (none, open_end) = write_allowed l (no_half_refusal (refusal l) (no_refusal (refuse_if (is_some e.closed) Closed) (half_refusal (refusal l)) (rw there at allowed)).1) in
             let moved = settle_ok _ _ (wrote_ok p e n ok (take count bytes.items) l there none open_end) in
             let e_same : record e { sends = update e.sends n (write_lane l (take count bytes.items)) } ≡ on_send n (λ m. write_lane m (take count bytes.items)) e = ap (λ o. record e { sends = updated e.sends n (λ m. write_lane m (take count bytes.items)) o }) (sym there) in
             subst (λ a. EndOk (with_call p (acts.Write n bytes) (answers.Write a)) new) (sym is)
@@ -238,7 +266,7 @@ module _ (p : Past) (e new : End) (ok : EndOk p e) where
   finish_moves n answer step =
       elim (certain_cases (send_refusal e n refusal) e answer new _ step) [
         | inl (fault, is, same) ↦ ended_by p e new same ok
-        | inr (allowed, (is, same)) ↦ ended_by p _ new same (settle_ok p _ (send_kept p e n ok finish_lane (λ l there h. (finish_ok p.mine p.theirs p.tokens (p.bytes n) n (first_send_limit e n) l h, refl))))
+        | inr (allowed, (is, same)) ↦ ended_by p _ new same (settle_ok p _ (send_kept p e n ok finish_lane (λ l there h. (send_alike h (λ is. refl) (λ k ack. ack) h.sent_limit h.limit_told, refl))))
       ]
 
   reset_moves : (n code : ℕ) (answer : Result (Unit {0}) UseFault) → ResetStep e n code answer new → EndOk p new
@@ -292,7 +320,7 @@ module _ (p : Past) (e new : End) (ok : EndOk p e) where
   pub forget_moves : (n code : ℕ) (answer : Result (Unit {0}) UseFault) → StopAndForgetStep e n code answer new → EndOk (with_call p (acts.Stop n code) (answers.Stop answer)) new
   forget_moves n code answer step =
       stops_by n code (λ m. stop_and_forget m code) answer step (λ l h. (
-        told_true _ _ _ _ _ _ _ _ (stop_ok p n (window e n) l h code (is_some l.stop_code || is_over l)),
+        (let stopped = stop_ok p n (window e n) l h code (is_some l.stop_code || is_over l) in recv_alike stopped (omega arith) stopped.ended),
         told_grows l _ (stop_grows p n (window e n) l h code (is_some l.stop_code || is_over l)),
       ))
 
@@ -344,7 +372,7 @@ module _ (p : Past) (e new : End) (ok : EndOk p e) where
           (quiet_moves (acts.ReadUpTo n size) (answers.ReadUpTo (Err fault) bytes) (quiet p (acts.ReadUpTo n size) (answers.ReadUpTo (Err fault) bytes) refl (λ m. refl) (λ m. refl) (λ m. refl) (λ m. refl)) (ended_by p e new same ok))
       by None (l, there, is, given, same) =
           subst (λ a. EndOk (with_call p (acts.ReadUpTo n size) (answers.ReadUpTo a bytes)) new) (sym is)
-          (subst (λ q. EndOk q new) (ap (with_read p n (read_answer l size)) (sym given) ∙ sym (read_call p n size (read_answer l size) bytes))
+          (subst (λ q. EndOk q new) (ap (with_read p n (read_answer l size)) (sym given) ∙ sym ((λ i. record (with_use p (acts.ReadUpTo n size) (answers.ReadUpTo (Ok (read_answer l size)) bytes)) { mine = append-nil p.mine i }) ∙ read_use p n size (read_answer l size) bytes))
           (ended_by _ _ new same (settle_ok _ _ (half_read n size l there (read_answer l size) refl))))
 
   -- Packets
@@ -422,15 +450,12 @@ module _ (p : Past) (e new : End) (ok : EndOk p e) (n most : ℕ) (bytes : Vec �
       once : RecvLane → Past
       once l = with_use p (acts.ReadUpTo n most) (answers.ReadUpTo (Ok (read_answer l most)) bytes)
 
-      half_there : (l : RecvLane) → lookup e.recvs n ≡ Some l → lookup (on_recv n (λ m. after_read m most) e).recvs n ≡ Some (after_read l most)
-      half_there l there = ap (λ o. lookup (updated e.recvs n (λ m. after_read m most) o) n) there ∙ lookup_same e.recvs n l (after_read l most) there
-
       both : (l : RecvLane) → lookup e.recvs n ≡ Some l → bytes.items ≡ bytes_read l most → new ≡ settle (on_recv n (λ m. after_read m 0) (on_recv n (λ m. after_read m most) e)) → Ended (Ok (consumed l most))
       both l there given same =
           let first : EndOk (once l) (on_recv n (λ m. after_read m most) e) =
           subst (λ x. EndOk x (on_recv n (λ m. after_read m most) e)) (ap (with_read p n (read_answer l most)) (sym given) ∙ sym (read_use p n most (read_answer l most) bytes)) (half_read p e new ok n most l there (read_answer l most) refl) in
           let last : Read = read_answer (after_read l most) 0 in
-          ended_by _ _ new same (settle_ok _ _ (second last (half_read (once l) (on_recv n (λ m. after_read m most) e) new first n 0 (after_read l most) (half_there l there) last refl)))
+          ended_by _ _ new same (settle_ok _ _ (second last (half_read (once l) (on_recv n (λ m. after_read m most) e) new first n 0 (after_read l most) (ap (λ o. lookup (updated e.recvs n (λ m. after_read m most) o) n) there ∙ lookup_same e.recvs n l (after_read l most) there) last refl)))
         where
           after : End
           after = on_recv n (λ m. after_read m 0) (on_recv n (λ m. after_read m most) e)
@@ -466,3 +491,137 @@ own_moves p e new (acts.Make room) (answers.Make r text) ok (first, delay, step)
 own_moves p e new (acts.Lose k) (answers.Lose r) ok step = quiet_moves p e new ok (acts.Lose k) (answers.Lose r) (quiet p (acts.Lose k) (answers.Lose r) refl (λ m. refl) (λ m. refl) (λ m. refl) (λ m. refl)) (lose_moves p e new ok k r step)
 own_moves p e new acts.Claim (answers.Claim r) ok step = claim_moves p e new ok r step
 own_moves p e new act answer ok step = absurd step
+
+-- What holds of an end in a run holds of it once windows, a buffer or a grant were set anew.
+
+set_ok : (p : Past) (e : End) (x : Setting) → EndOk p e → EndOk p (with_setting x e)
+set_ok p e (ConnWindow w) ok =
+    record {
+      sends = ok.sends;
+      recvs = ok.recvs;
+      packets = ok.packets;
+      taken = ok.taken;
+      credit = granted_more _ ok.credit (window_grows e.present.conn_window e.granted (all_taken e) w);
+      streams = ok.streams;
+    }
+set_ok p e (Grant Bidi n) ok = record { sends = ok.sends; recvs = ok.recvs; packets = ok.packets; taken = ok.taken; credit = ok.credit; streams = ok.streams }
+set_ok p e (Grant Uni n) ok = record { sends = ok.sends; recvs = ok.recvs; packets = ok.packets; taken = ok.taken; credit = ok.credit; streams = ok.streams }
+set_ok p e (SendBuffer n size) ok = send_kept p e n ok (λ m. buffer_lane m size) (λ l there h. (send_same h, refl))
+set_ok p e (StreamWindow n w) ok = window_ok p e n w ok
+
+pub set_moves : (p : Past) (e new : End) (x : Setting) (answer : Result (Unit {0}) SetFault) → EndOk p e → SetStep e x answer new → EndOk p new
+set_moves p e new x answer ok step =
+    elim (certain_cases (set_refusal e x) e answer new _ step) [
+      | inl (fault, is, same) ↦ ended_by p e new same ok
+      | inr (allowed, (is, same)) ↦ ended_by p _ new same (settle_ok p _ (set_ok p e x ok))
+    ]
+
+-- Limits of the peer that rise keep the invariant of an end.
+
+-- The halves of a type
+
+module _ (t : Tables SendLane) (k limit n : ℕ) where
+  type_at : n % 4 ≡ k % 4 → lookup (type_allowed (k % 4) limit t) n ≡ option_map (λ (l : SendLane). allow_lane l limit) (lookup t n)
+  type_at e =
+      with_same t k n _ e ∙ slice_get-map (λ (l : SendLane). allow_lane l limit) (table t (k % 4)) (n / 4) ∙ ap (option_map (λ (l : SendLane). allow_lane l limit)) (sym (lookup_in t k n e))
+
+  type_beside : (n % 4 ≡ k % 4 → ⊥) → lookup (type_allowed (k % 4) limit t) n ≡ lookup t n
+  type_beside ne = with_other t k n _ ne
+
+module _ (e : End) (n : ℕ) where
+  abbrev t0 : Tables SendLane
+  t0 = type_allowed 0 (first_send_limit e 0) e.sends
+
+  abbrev t1 : Tables SendLane
+  t1 = type_allowed 1 (first_send_limit e 1) t0
+
+  abbrev t2 : Tables SendLane
+  t2 = type_allowed 2 (first_send_limit e 2) t1
+
+  -- the half of each stream may send what one may that opens now
+  allowed_by : (r : ℕ) → n % 4 ≡ r → lookup (with_allowed e).sends n ≡ option_map (λ (l : SendLane). allow_lane l (first_send_limit e n)) (lookup e.sends n)
+  allowed_by zero is =
+      type_beside t2 3 (first_send_limit e 3) n (λ x. omega (arith, x, is)) ∙ type_beside t1 2 (first_send_limit e 2) n (λ x. omega (arith, x, is)) ∙ type_beside t0 1 (first_send_limit e 1) n (λ x. omega (arith, x, is))
+      ∙ type_at e.sends 0 (first_send_limit e 0) n is ∙ rw is refl
+  allowed_by (suc zero) is =
+      type_beside t2 3 (first_send_limit e 3) n (λ x. omega (arith, x, is)) ∙ type_beside t1 2 (first_send_limit e 2) n (λ x. omega (arith, x, is)) ∙ type_at t0 1 (first_send_limit e 1) n is
+      ∙ ap (option_map (λ (l : SendLane). allow_lane l (first_send_limit e 1))) (type_beside e.sends 0 (first_send_limit e 0) n (λ x. omega (arith, x, is))) ∙ rw is refl
+  allowed_by (suc (suc zero)) is =
+      type_beside t2 3 (first_send_limit e 3) n (λ x. omega (arith, x, is)) ∙ type_at t1 2 (first_send_limit e 2) n is
+      ∙ ap (option_map (λ (l : SendLane). allow_lane l (first_send_limit e 2))) (type_beside t0 1 (first_send_limit e 1) n (λ x. omega (arith, x, is)) ∙ type_beside e.sends 0 (first_send_limit e 0) n (λ x. omega (arith, x, is))) ∙ rw is refl
+  allowed_by (suc (suc (suc zero))) is =
+      type_at t2 3 (first_send_limit e 3) n is
+      ∙ ap (option_map (λ (l : SendLane). allow_lane l (first_send_limit e 3))) (type_beside t1 2 (first_send_limit e 2) n (λ x. omega (arith, x, is)) ∙ type_beside t0 1 (first_send_limit e 1) n (λ x. omega (arith, x, is)) ∙ type_beside e.sends 0 (first_send_limit e 0) n (λ x. omega (arith, x, is))) ∙ rw is refl
+  allowed_by (suc (suc (suc (suc r)))) is = absurd (omega (arith, is))
+
+  pub allowed_at : lookup (with_allowed e).sends n ≡ option_map (λ (l : SendLane). allow_lane l (first_send_limit e n)) (lookup e.sends n)
+  allowed_at = allowed_by (n % 4) refl
+
+some_allowed : (f : SendLane → SendLane) (o : Option SendLane) → is_some (option_map f o) ≡ is_some o
+some_allowed f None = refl
+some_allowed f (Some l) = refl
+
+sent_allowed : (limit : ℕ) (o : Option SendLane) → value (λ l. l.sent_end) (option_map (λ (l : SendLane). allow_lane l limit) o) ≤ value (λ l. l.sent_end) o
+sent_allowed limit None = omega arith
+sent_allowed limit (Some l) = omega arith
+
+-- The invariant
+
+module _ (p : Past) (e : End) (q : PeerLimits) (ok : EndOk p e) where
+  abbrev knows : End
+  knows = knows_limits q e
+
+  first_rises : (u o : Bool) → (if u then e.peer.uni else (if o then e.peer.bidi_remote else e.peer.bidi_local)) ≤ (if u then max e.peer.uni q.uni else (if o then max e.peer.bidi_remote q.bidi_remote else max e.peer.bidi_local q.bidi_local))
+  first_rises true o = omega arith
+  first_rises false true = omega arith
+  first_rises false false = omega arith
+
+  -- what is known is at most the first limit, or was told
+  told_raised : (known first more : ℕ) (f : ℕ → Seen) → (known ≤ first) ⊎ Tells p.theirs (f known) → (max known more ≤ max first more) ⊎ Tells p.theirs (f (max known more))
+  told_raised known first more f (inl le) = inl (omega (arith, le))
+  told_raised known first more f (inr told) =
+      elim (cases_lt known more) [
+        | inl lt ↦ inl (omega (arith, lt))
+        | inr ge ↦ (let same : known ≡ max known more = omega (arith, ge) in inr (subst (λ x. Tells p.theirs (f x)) same told))
+      ]
+
+  half_allowed : (n first more : ℕ) (l : SendLane) → first ≤ more → SendOk p n first l → SendOk p n more (allow_lane l more)
+  half_allowed n first more l rises h = send_alike h (λ is. is) (λ k ack. ack) (omega (arith, h.sent_limit)) (elim h.limit_told [
+    | inl le ↦ inl (omega (arith, le, rises))
+    | inr told ↦ elim (cases_lt l.limit more) [
+      | inl lt ↦ inl (omega (arith, lt))
+      | inr ge ↦ (let same : l.limit ≡ max l.limit more = omega (arith, ge) in inr (subst (λ x. Tells p.theirs (Control (MaxStreamData n x))) same told))
+    ]
+  ])
+
+  slot_allowed : (n : ℕ) (o : Option SendLane) → SendSlot p n (first_send_limit e n) o → SendSlot p n (first_send_limit knows n) (option_map (λ (l : SendLane). allow_lane l (first_send_limit knows n)) o)
+  slot_allowed n None h = h
+  slot_allowed n (Some l) h = half_allowed n (first_send_limit e n) (first_send_limit knows n) l (first_rises (is_uni n) (is_own e n)) h
+
+  open_raised : is_open (limits_raised q e).sends ≡ is_open e.sends
+  open_raised = λ i n. (ap is_some (allowed_at knows n) ∙ some_allowed _ (lookup e.sends n)) i
+
+  pub raise_ok : EndOk p (limits_raised q e)
+  raise_ok =
+      record {
+        sends = λ n. subst (SendSlot p n (first_send_limit knows n)) (sym (allowed_at knows n)) (slot_allowed n (lookup e.sends n) (ok.sends n));
+        recvs = ok.recvs;
+        packets = ok.packets;
+        taken = ok.taken;
+        credit = record {
+          sent_known = omega (arith, (total_le (λ l. l.sent_end) (λ l. l.sent_end) (limits_raised q e).sends e.sends (λ n. subst (λ o. value (λ l. l.sent_end) o ≤ value (λ l. l.sent_end) (lookup e.sends n)) (sym (allowed_at knows n)) (sent_allowed (first_send_limit knows n) (lookup e.sends n)))), ok.credit.sent_known);
+          known_told = told_raised e.known_data e.peer.max_data q.max_data (λ x. Control (MaxData x)) ok.credit.known_told;
+          window_granted = ok.credit.window_granted;
+          granted_told = ok.credit.granted_told;
+        };
+        streams = subst (λ s. OpenOk p e.role (max e.peer.streams_bidi q.streams_bidi) (max e.peer.streams_uni q.streams_uni) (max e.known_bidi q.streams_bidi) (max e.known_uni q.streams_uni) s (is_open e.recvs)) (sym open_raised) (open_known _ _ _ _ ok.streams (omega arith) (omega arith)
+            (told_raised e.known_bidi e.peer.streams_bidi q.streams_bidi (λ x. Control (MaxStreams Bidi x)) ok.streams.bidi_told)
+            (told_raised e.known_uni e.peer.streams_uni q.streams_uni (λ x. Control (MaxStreams Uni x)) ok.streams.uni_told));
+      }
+
+pub raise_moves : (p : Past) (e new : End) (q : PeerLimits) (answer : Result (Unit {0}) RaiseFault) → EndOk p e → RaiseStep e q answer new → EndOk p new
+raise_moves p e new q answer ok step =
+    elim (certain_cases (raise_refusal e q) e answer new _ step) [
+      | inl (fault, is, same) ↦ ended_by p e new same ok
+      | inr (allowed, (is, same)) ↦ ended_by p _ new same (settle_ok p _ (raise_ok p e q ok))
+    ]

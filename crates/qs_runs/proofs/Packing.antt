@@ -8,7 +8,7 @@ use Rattle.qs_calls.specs.declared.making.MakeFault.TheVariants as making
 use Rattle.qs_machine.specs.Ends.{End}
 use Rattle.qs_machine.specs.Making.{MakeStep, MakeAt, MakeAckStep, make_refusal}
 use Rattle.qs_machine.specs.Filling.{FillStep, FillAt, as_made}
-use Rattle.qs_machine.proofs.AckPackets.{ack_packet}
+use Rattle.qs_machine.proofs.Ways.{ack_packet}
 use Rattle.qs_runs.specs.Logs.{texts_of}
 use Rattle.qs_runs.specs.Agree.{frames_in}
 use Rattle.qs_runs.specs.Pasts.{Past}

@@ -5,6 +5,7 @@ use Rattle.qs_send.specs.Lane.{SendLane}
 use Rattle.qs_machine.specs.Tables.{lookup}
 use Rattle.qs_machine.specs.Ends.{End, first_send_limit, window}
 use Rattle.qs_runs.specs.Pasts.{Packets, Past}
+use Rattle.qs_runs.proofs.Changes.{send_alike}
 use Rattle.qs_runs.proofs.Past.{Tells-more, TellsOffset-more, TellsByte-more, TellsEnd-more, Confirmed-more, EachTaken-more, IsNamed-more}
 use Rattle.qs_runs.specs.Invariant.{EndOk, SendSlot, RecvSlot}
 
@@ -13,24 +14,11 @@ with_theirs p more = record p { theirs = p.theirs ++ more }
 
 module _ (p : Past) (more : Packets) where
   send_slot : (n limit : ℕ) (o : Option SendLane) → SendSlot p n limit o → SendSlot (with_theirs p more) n limit o
-  send_slot n limit None h = record { no_bytes = h.no_bytes; no_stream = h.no_stream; no_reset = h.no_reset; no_blocked = h.no_blocked }
-  send_slot n limit (Some l) h =
-      record {
-        count = h.count;
-        kept = h.kept;
-        sent_written = h.sent_written;
-        sent_limit = h.sent_limit;
-        end = h.end;
-        reset_size = h.reset_size;
-        told = h.told;
-        told_reset = h.told_reset;
-        acked = λ q is. (let (k, offset, bytes, fin, holds, low, high, ack) = h.acked q is in (k, offset, bytes, fin, holds, low, high, Confirmed-more p.theirs more p.tokens k ack));
-        end_acked = λ is. (let (k, offset, bytes, holds, ack) = h.end_acked is in (k, offset, bytes, holds, Confirmed-more p.theirs more p.tokens k ack));
-        limit_told = elim h.limit_told [ inl e ↦ inl e | inr t ↦ inr (Tells-more p.theirs more _ t) ];
-      }
+  send_slot n limit None h = h
+  send_slot n limit (Some l) h = send_alike h (λ is. is) (λ k ack. Confirmed-more p.theirs more p.tokens k ack) h.sent_limit (elim h.limit_told [ inl e ↦ inl e | inr t ↦ inr (Tells-more p.theirs more _ t) ])
 
   recv_slot : (n window : ℕ) (o : Option RecvLane) → RecvSlot p n window o → RecvSlot (with_theirs p more) n window o
-  recv_slot n window None h = record { no_bytes = h.no_bytes; no_end = h.no_end; not_stopped = h.not_stopped; no_limit = h.no_limit; no_stop = h.no_stop }
+  recv_slot n window None h = h
   recv_slot n window (Some l) h =
       record {
         received = λ q is. (let (m, le, told) = h.received q is in (m, le, TellsOffset-more p.theirs more n m told));
@@ -50,16 +38,7 @@ module _ (p : Past) (more : Packets) where
       record {
         sends = λ n. send_slot n (first_send_limit e n) (lookup e.sends n) (ok.sends n);
         recvs = λ n. recv_slot n (window e n) (lookup e.recvs n) (ok.recvs n);
-        packets = record {
-          count = ok.packets.count;
-          records = ok.packets.records;
-          lost_records = ok.packets.lost_records;
-          acks_told = ok.packets.acks_told;
-          kinds = ok.packets.kinds;
-          is_done = ok.packets.is_done;
-          above = ok.packets.above;
-          kept = ok.packets.kept;
-        };
+        packets = ok.packets;
         taken = EachTaken-more p.theirs more p.processed p.took _ ok.taken;
         credit = record {
           sent_known = ok.credit.sent_known;

@@ -1,43 +1,67 @@
--- A payload that the peer made keeps the invariant of the end that it comes to, whatever comes of it.
-use Rattle.std.proofs.Common.{◌≡◌, ℕ, ◌≤◌, ◌<◌, Bool, List, [], ◌∷◌, ◌++◌, ◌⊎◌, take, Option, Some, None, Result, Ok, Err, slice_get, true, false, if◌then◌else◌, ◌&&◌, ◌||◌, ◌==◌, refl, sym, ap, ◌∙◌, subst, arith, inl, inr, append-nil, append_assoc}
-use Rattle.std.proofs.lemmas.Bool.{cases_lt, eqb-true, ltb-false, eq-eqb, and_right}
+-- What the peer made keeps the invariant of the end that it comes to, as a payload or as frames alone, and spends nothing when it comes again.
+use Rattle.std.proofs.Common.{◌≡◌, ℕ, ◌≤◌, ◌<◌, Bool, List, [], ◌∷◌, ◌++◌, ◌⊎◌, take, Option, Some, None, Result, Ok, Err, slice_get, true, false, if◌then◌else◌, ◌&&◌, ◌||◌, ◌==◌, refl, sym, ap, ◌∙◌, subst, arith, inl, inr, append-nil, append_assoc, zero, suc, MatchBool, ◌≢◌, ◌+◌, length, unwrap_or, is_some, nat_lt, le_antisymm}
+use Rattle.std.proofs.lemmas.Bool.{cases_lt, eqb-true, ltb-false, eq-eqb, and_right, false≢true, or_cases, and_parts, lt-ltb, true≢false}
 use Rattle.std.specs.FinSet as set
 use Rattle.std.specs.List.{AllByRecursion}
-use Rattle.qs_ranges.specs.Numbers.{NumberSet, numbers, missing_from}
+use Rattle.qs_ranges.specs.Numbers.{NumberSet, numbers, missing_from, end_of}
 use Rattle.qs_ranges.proofs.Sets.{missing_from-is}
-use Rattle.qs_wire.specs.Layout.{PlacedValue}
-use Rattle.qs_wire.specs.Grammar.{frames_of}
+use Rattle.qs_wire.specs.Layout.{PlacedValue, FrameValue}
+use Rattle.qs_wire.specs.Grammar.{frames_of, Fits}
 use Rattle.qs_wire.specs.Reading.{reading_of}
 use Rattle.qs_wire.specs.declared.fault.WireFault.{WireFault}
 use Rattle.qs_calls.specs.declared.closing.Closing.{Closing}
 use Rattle.qs_calls.specs.declared.closing.Closed.{Closed}
 use Rattle.qs_calls.specs.declared.closing.Closer.{Closer}
 use Rattle.qs_calls.specs.declared.closing.Closer.TheVariants.{Us, Peer}
-use Rattle.qs_machine.specs.Receiving.{told_receive}
+use Rattle.qs_machine.specs.Receiving.{told_receive, ReceiveStep, ReceiveBy, Takes, Stops, AtEnd, RunsOut, TakesPayload}
 use Rattle.qs_calls.specs.declared.closing.Closed.TheVariants.{ByUs, ByPeer}
 use Rattle.qs_calls.specs.declared.closing.Closed.TheVariants as closings
 use Rattle.qs_calls.specs.declared.closing.Received.{Received}
 use Rattle.qs_calls.specs.declared.closing.Received.TheVariants.{Done, Duplicate, BelowFloor, PeerClosed, NoMemory}
-use Rattle.qs_machine.specs.Ends.{End, closes}
-use Rattle.qs_machine.specs.Seen.{Seen, Ack, Close, seen, seen_all, asks_ack}
-use Rattle.qs_machine.specs.FrameStep.{named, frame_taken}
+use Rattle.qs_machine.specs.Ends.{End, closes, first_send_limit, is_own, opens, opened_by_peer}
+use Rattle.qs_machine.specs.Seen.{Seen, Ack, Close, seen, seen_all, asks_ack, Stream, Control}
+use Rattle.qs_machine.specs.FrameStep.{named, frame_taken, is_named, item_taken}
 use Rattle.qs_machine.specs.Recording.{recorded, has_too_many, lowest_end, least_in}
 use Rattle.qs_machine.proofs.RunLaws.{least_above}
-use Rattle.qs_machine.specs.Receiving.{ReceiveStep, ReceiveBy, Takes, Stops, AtEnd}
 use Rattle.qs_machine.proofs.EveryCall.{no_fault_there, by_open}
 use Rattle.qs_calls.specs.declared.answer.Answer.TheVariants as answers
-use Rattle.qs_runs.specs.Logs.{is_done}
-use Rattle.qs_runs.specs.Agree.{frames_in}
+use Rattle.qs_runs.specs.Logs.{is_done, Part, is_among, is_taken, is_taken_at, was_told, is_in}
+use Rattle.qs_runs.specs.Agree.{frames_in, IsOld}
 use Rattle.qs_runs.proofs.Lists.{All_append, All_take, Among_right}
-use Rattle.qs_runs.proofs.Members.{insert-cases, insert-old, insert-new, cut-cases, cut-kept}
-use Rattle.qs_runs.specs.Pasts.{Past, Tells}
-use Rattle.qs_runs.specs.Invariant.{EndOk, FrameTaken}
-use Rattle.qs_runs.proofs.Changes.{every_stays}
-use Rattle.qs_runs.proofs.Settling.{settle_ok}
-use Rattle.qs_runs.proofs.Acking.{acks_ok, named_pieces_ok}
-use Rattle.qs_machine.proofs.Leaves.{frame_leaves}
-use Rattle.qs_runs.proofs.Frames.{Effect, frame_keeps}
+use Rattle.qs_runs.proofs.Members.{insert-cases, insert-old, insert-new, cut-cases, cut-kept, run-cases, run-old, below-end, end-le}
+use Rattle.qs_runs.specs.Pasts.{Past, Tells, Packets, WasConfirmed, HoldsAt, EachTaken}
+use Rattle.qs_runs.specs.Invariant.{EndOk, FrameTaken, SendSlot, standing}
+use Rattle.qs_runs.proofs.Changes.{send_alike, every_stays, AllGrow, all_grow_refl, grow_trans, frame_stays, Grows, settle_ok, each_grows, raise_grows}
+use Rattle.qs_runs.proofs.Acking.{acks_ok, named_pieces_ok, WasAcked}
+use Rattle.qs_machine.proofs.Leaves.{frame_leaves, acks_leave, stops_leave, end_leaves}
+use Rattle.qs_runs.proofs.Frames.{Effect, frame_keeps, new_recvs, lane_opened}
 use Rattle.qs_runs.proofs.OwnMoves.{ended_by}
+use Rattle.std.proofs.lemmas.Option.{none-some, same_Some}
+use Rattle.std.specs.Bool.{⊤}
+use Rattle.qs_recv.specs.Lane.{RecvLane, raise, highest, take_stream, take_reset, is_whole, check_stream, check_reset}
+use Rattle.qs_send.specs.Lane.{SendLane}
+use Rattle.qs_send.specs.Records.{Among}
+use Rattle.qs_calls.specs.declared.token.Token.{Token}
+use Rattle.qs_calls.specs.declared.token.Taken.{Taken}
+use Rattle.qs_calls.specs.declared.token.Taken.TheVariants.{Took, Unchanged, NotOurs}
+use Rattle.qs_calls.specs.declared.token.TakeFault.{TakeFault}
+use Rattle.qs_calls.specs.declared.token.TakeFault.TheVariants as faults
+use Rattle.qs_calls.specs.declared.token.TokenFault.{TokenFault}
+use Rattle.qs_machine.specs.Tables.{Tables, lookup, updated, total, open_to}
+use Rattle.qs_machine.specs.Credit.{settle, spent}
+use Rattle.qs_machine.specs.Verdicts.{verdict, item_verdict, credit_fault, lane_of, state_fault_in}
+use Rattle.qs_machine.specs.Alone.{is_ours, MayTake, TakesOne, TakesEach, TakeBy, TakeAllBy, after_one, token_refusal, TokenAckedStep}
+use Rattle.qs_runs.specs.Worlds.{HandedIn}
+use Rattle.qs_runs.proofs.Facing.{IsThere, there_taken}
+use Rattle.qs_runs.proofs.Standing.{certain_cases}
+use Rattle.qs_wire.specs.declared.stream_id.Dir.TheVariants.{Uni}
+use Rattle.qs_recv.specs.Assembled.{put, forget}
+use Rattle.qs_send.specs.declared.piece.Item.TheVariants.{MaxStreamData, MaxStreams, ResetStream, StopSending, StreamDataBlocked}
+use Rattle.qs_machine.proofs.TableLaws.{lookup_open, total_update, total_each}
+use Rattle.qs_runs.proofs.Taking.{or_else_none, stream_passed, fin_fits, reset_fits}
+use Rattle.qs_runs.proofs.Unharmed.{spent_opened}
+
+-- A payload that the peer made keeps the invariant of the end that it comes to, whatever comes of it.
 
 -- packet k was processed now, or it was not
 abbrev pub with_done : Past → ℕ → Bool → Past
@@ -70,9 +94,6 @@ module _ (k : ℕ) where
   or_processed : (b : Bool) (x : Bool) → x ≡ true → (if b then true else x) ≡ true
   or_processed true x h = refl
   or_processed false x h = h
-
-  this_processed : (d : ℕ → Bool) (j : ℕ) → j ≡ k → (if j == k && true then true else d j) ≡ true
-  this_processed d j e = rw (eq-eqb j k e) refl
 
   -- the numbers that are kept, and the floor, where there are too many runs or not
   abbrev kept_by : Bool → NumberSet → NumberSet
@@ -123,7 +144,7 @@ module _ (k : ℕ) where
           acks_told = λ largest ranges t. (let a = ok.packets.acks_told largest ranges t in record { names_largest = a.names_largest; names_processed = λ j named. or_processed (j == k && true) _ (a.names_processed j named) });
           is_done = λ j h.
               elim (insert-cases e.done k j (still_member b s j h)) [
-                | inl same ↦ this_processed p.processed j same
+                | inl same ↦ rw (eq-eqb j k same) refl
                 | inr old ↦ or_processed (j == k && true) _ (ok.packets.is_done j old)
               ];
           kept = λ j h.
@@ -199,3 +220,420 @@ receives p e new k text result ok is step = by_closed e.closed step
     by_closed None h =
         by_open (EndOk (with_received p k result) new) k text e result new h (stays (Ok BelowFloor) refl) (stays (Ok Duplicate) refl) (λ high mid takes same.
         ended_by _ _ _ same (settle_ok _ mid (takes_ok p k (frames_in text) is (reading_of text).left [] false (reading_of text).fault e result mid refl ok (ltb-false k e.floor high) tt takes)))
+
+-- Frames that come without their packet, and tokens that are acknowledged.
+
+-- these frames of the peer's packets came, with this result
+abbrev pub with_took : Past → List Part → Result Taken TakeFault → Past
+with_took p parts result = record p { took = λ k i. if is_taken_at k i parts result then true else p.took k i }
+
+-- this end was told that the token's packets were acknowledged, if it was
+abbrev pub with_token : Past → Token → Bool → Past
+with_token p t told = record p { tokens = λ j. if told && is_in t j then true else p.tokens j }
+
+cond_or : (b x : Bool) → (if b then true else x) ≡ true → (b ≡ true) ⊎ (x ≡ true)
+cond_or true x h = inl refl
+cond_or false x h = inr h
+
+pub or_cond : (b x : Bool) → x ≡ true → (if b then true else x) ≡ true
+or_cond true x h = refl
+or_cond false x h = h
+
+-- The frames at their places
+
+-- each of these frames stands in its packet
+abbrev pub AreHeldAt : Packets → List Part → List FrameValue → Type 0
+AreHeldAt ps [] [] = ⊤
+AreHeldAt ps (part ∷ parts) (f ∷ fs) = HoldsAt ps part.number part.place (seen f) × AreHeldAt ps parts fs
+AreHeldAt ps parts fs = ⊥
+
+-- so each is told
+pub held_told : (ps : Packets) (parts : List Part) (fs : List FrameValue) → AreHeldAt ps parts fs → (g : Seen) → Among g (seen_all fs) → Tells ps g
+held_told ps [] [] held g a = absurd a
+held_told ps [] (f ∷ fs) held g a = absurd held
+held_told ps (part ∷ parts) [] held g a = absurd held
+held_told ps (part ∷ parts) (f ∷ fs) ((all, there, at), held) g (inl is) = (part.number, (all, there, subst (λ x. Among x all) (sym is) (found all part.place at)))
+  where
+    found : (all : List Seen) (i : ℕ) → slice_get all i ≡ Some (seen f) → Among (seen f) all
+    found [] i at = absurd (none-some (seen f) at)
+    found (v ∷ all) zero at = inl (sym (same_Some v (seen f) at))
+    found (v ∷ all) (suc i) at = inr (found all i at)
+held_told ps (part ∷ parts) (f ∷ fs) (here, held) g (inr a) = held_told ps parts fs held g a
+
+-- what holds of them holds at each of the places
+pub held_holds : (P : Seen → Type 0) (ps : Packets) (parts : List Part) (fs : List FrameValue) → AreHeldAt ps parts fs → AllByRecursion P (seen_all fs) → (k i : ℕ) → is_among k i parts ≡ true →
+    (f : Seen) × HoldsAt ps k i f × P f
+held_holds P ps [] fs held all k i is = absurd (false≢true is)
+held_holds P ps (part ∷ parts) [] held all k i is = absurd held
+held_holds P ps (part ∷ parts) (f ∷ fs) (here, held) all k i is =
+    elim (or_cases (k == part.number && i == part.place) (is_among k i parts) is) [
+      | inl this ↦ (
+          let (number, place) = and_parts (k == part.number) (i == part.place) this in
+          (seen f, subst (λ x. HoldsAt ps x i (seen f)) (sym (eqb-true k part.number number)) (subst (λ x. HoldsAt ps part.number x (seen f)) (sym (eqb-true i part.place place)) here), all.0))
+      | inr other ↦ held_holds P ps parts fs held all.1 k i other
+    ]
+
+-- and what holds at each of the places holds of them
+pub held_all : (P : Seen → Type 0) (ps : Packets) (parts : List Part) (fs : List FrameValue) → AreHeldAt ps parts fs → ((k i : ℕ) (f : Seen) → is_among k i parts ≡ true → HoldsAt ps k i f → P f) → AllByRecursion P (seen_all fs)
+held_all P ps [] [] held each = tt
+held_all P ps [] (f ∷ fs) held each = absurd held
+held_all P ps (part ∷ parts) [] held each = absurd held
+held_all P ps (part ∷ parts) (f ∷ fs) (here, held) each =
+    (each part.number part.place (seen f) (rw (eq-eqb part.number part.number refl, eq-eqb part.place part.place refl) refl) here, held_all P ps parts fs held (λ k i g among at. each k i g (or_right _ (is_among k i parts) among) at))
+  where
+    or_right : (x y : Bool) → y ≡ true → (x || y) ≡ true
+    or_right true y is = refl
+    or_right false y is = is
+
+-- Frames, one after the other
+
+-- whether it changed something or nothing, the frame took effect
+pub took_effect : (e : End) (f : FrameValue) (one : Taken) (new : End) → TakesOne e f (Ok one) new → MayTake e f × (new ≡ frame_taken (seen f) e)
+took_effect e f Took new h = (h.0, h.1)
+took_effect e f Unchanged new h = (h.0, h.1)
+took_effect e f NotOurs new h = absurd h
+
+-- one by one they are several of one; what isn't an end's own changes nothing
+pub handed : (e : End) (fs : List FrameValue) (result : Result Taken TakeFault) (new : End) → e.closed ≡ None → HandedIn fs e result new →
+    ((mid : End) × TakesEach fs e result mid × (new ≡ settle mid)) ⊎ ((result ≡ Ok NotOurs) × (new ≡ e))
+handed e fs result new open_end (inl several) = inl (subst (λ o. TakeAllBy o fs e result new) open_end several)
+handed e fs result new open_end (inr (f, is, one)) = by (is_ours (seen f)) refl (subst (λ o. TakeBy o f e result new) open_end one)
+  where
+    each : is_ours (seen f) ≡ true → (r : Result Taken TakeFault) (mid : End) → TakesOne e f r mid → TakesEach (f ∷ []) e r mid
+    each ours (Ok Took) mid h = rw ours (inl (mid, Took, Ok NotOurs, h, (refl, refl), refl))
+    each ours (Ok Unchanged) mid h = rw ours (inl (mid, Unchanged, Ok NotOurs, h, (refl, refl), refl))
+    each ours (Ok NotOurs) mid h = absurd h
+    each ours (Err fault) mid h = rw ours (inr (fault, h, refl))
+
+    by : (b : Bool) → is_ours (seen f) ≡ b → MatchBool b ((mid : End) × TakesOne e f result mid × (new ≡ settle mid)) ((result ≡ Ok NotOurs) × (new ≡ e)) →
+        ((mid : End) × TakesEach fs e result mid × (new ≡ settle mid)) ⊎ ((result ≡ Ok NotOurs) × (new ≡ e))
+    by true ours (mid, takes, after) = inl (mid, subst (λ gs. TakesEach gs e result mid) (sym is) (each ours result mid takes), after)
+    by false other none = inr none
+
+-- no frame of these found a fault, nor a want of memory
+abbrev pub all_came : Result Taken TakeFault → Bool
+all_came (Ok taken) = true
+all_came (Err fault) = false
+
+pub taken_came : (result : Result Taken TakeFault) → is_taken result ≡ true → all_came result ≡ true
+taken_came (Ok taken) is = refl
+taken_came (Err fault) is = is
+
+pub later_came : (one : Taken) (later : Result Taken TakeFault) → all_came (after_one one later) ≡ true → all_came later ≡ true
+later_came one (Ok taken) is = refl
+later_came one (Err fault) is = is
+
+pub none_asked : (e new : End) (g : Seen) → is_ours g ≡ true → RunsOut e g new → new ≡ e
+none_asked e new (Stream n offset bytes fin) ours h = h.0
+none_asked e new (Control i) ours h = h.0
+none_asked e new g ours h = absurd (false≢true ours)
+
+others_taken : (t : Tables RecvLane) (g : Seen) → is_ours g ≡ false → FrameTaken t g
+others_taken t (Stream n offset bytes fin) other = absurd (false≢true (sym other))
+others_taken t (Control i) other = absurd (false≢true (sym other))
+others_taken t g other = tt
+
+-- What frames leave that came.
+pub record Came (p : Past) (old e new : End) (fs : List Seen) (result : Result Taken TakeFault) : Type 0 where
+  pub ok : EndOk p new
+  pub there : IsThere old new
+  pub grow : AllGrow e.recvs new.recvs
+  pub done : all_came result ≡ true → AllByRecursion (FrameTaken new.recvs) fs
+
+module _ (p : Past) (old : End) (fine : (mid : End) → EndOk p mid → IsThere old mid → (g : Seen) → Tells p.theirs g → verdict mid g ≡ None) where
+  same_came : (e new : End) (fs : List Seen) (result : Result Taken TakeFault) → EndOk p e → IsThere old e → new ≡ e → (all_came result ≡ true → AllByRecursion (FrameTaken e.recvs) fs) → Came p old e new fs result
+  same_came e new fs result ok there same done = subst (λ x. Came p old e x fs result) (sym same) (record { ok = ok; there = there; grow = all_grow_refl e.recvs; done = done })
+
+  -- one took no effect
+  stops_came : (f : FrameValue) (e new : End) (fs : List Seen) (fault : TakeFault) (result : Result Taken TakeFault) → result ≡ Err fault → EndOk p e → IsThere old e → Tells p.theirs (seen f) → Fits f → is_ours (seen f) ≡ true → TakesOne e f (Err fault) new → Came p old e new fs result
+  stops_came f e new fs faults.NoMemory result is ok there told fit ours h =
+      same_came e new fs result ok there (none_asked e new (seen f) ours h.1) (λ d. absurd (false≢true (sym (ap all_came is) ∙ d)))
+  stops_came f e new fs (faults.Closing closing) result is ok there told fit ours h =
+      elim h.0 [
+        | inl no_text ↦ absurd (no_text.0 fit)
+        | inr (fits, faulty) ↦ absurd (none-some closing.code (sym (fine e ok there (seen f) told) ∙ faulty))
+      ]
+  stops_came f e new fs (faults.PeerClosed code) result is ok there told fit ours h = absurd h
+
+  pub each_came : (fs : List FrameValue) (e : End) (result : Result Taken TakeFault) (new : End) → EndOk p e → IsThere old e → ((g : Seen) → Among g (seen_all fs) → Tells p.theirs g) → AllByRecursion Fits fs → TakesEach fs e result new → Came p old e new (seen_all fs) result
+  each_came [] e result new ok there told fit h = same_came e new [] result ok there h.1 (λ d. tt)
+  each_came (f ∷ fs) e result new ok there told fit h =
+      by (is_ours (seen f)) refl h (λ mid r now same takes. each_came fs mid r new now same (λ g a. told g (inr a)) fit.1 takes)
+    where
+      by : (b : Bool) → is_ours (seen f) ≡ b → MatchBool b (((mid : End) × (one : Taken) × (later : Result Taken TakeFault) × TakesOne e f (Ok one) mid × TakesEach fs mid later new × (result ≡ after_one one later)) ⊎ ((fault : TakeFault) × TakesOne e f (Err fault) new × (result ≡ Err fault))) (TakesEach fs e result new)
+          → ((mid : End) (r : Result Taken TakeFault) → EndOk p mid → IsThere old mid → TakesEach fs mid r new → Came p old mid new (seen_all fs) r) → Came p old e new (seen f ∷ seen_all fs) result
+      by true ours (inl (mid, one, later, takes, more, is)) goes =
+          let (may, after) = took_effect e f one mid takes in
+          let effect : Effect p e (frame_taken (seen f) e) (seen f) = frame_keeps p e (seen f) ok (told (seen f) (inl refl)) may.1 in
+          let rest = goes (frame_taken (seen f) e) later effect.ok (there_taken old e (seen f) there) (subst (λ x. TakesEach fs x later new) after more) in
+          record {
+            ok = rest.ok;
+            there = rest.there;
+            grow = grow_trans e.recvs _ new.recvs effect.grow rest.grow;
+            done = λ d. (frame_stays _ new.recvs rest.grow (seen f) effect.taken, rest.done (later_came one later (sym (ap all_came is) ∙ d)));
+          }
+      by true ours (inr (fault, one, is)) goes = stops_came f e new (seen f ∷ seen_all fs) fault result is ok there (told (seen f) (inl refl)) fit.0 ours one
+      by false other more goes =
+          let rest = goes e result ok there more in
+          record { ok = rest.ok; there = rest.there; grow = rest.grow; done = λ d. (others_taken new.recvs (seen f) other, rest.done d) }
+
+  -- as the call ends the limits move
+  pub handed_came : (fs : List FrameValue) (e : End) (result : Result Taken TakeFault) (new : End) → e.closed ≡ None → EndOk p e → IsThere old e → ((g : Seen) → Among g (seen_all fs) → Tells p.theirs g) → AllByRecursion Fits fs → HandedIn fs e result new →
+      EndOk p new × (standing new ≡ standing old) × (is_taken result ≡ true → AllByRecursion (FrameTaken new.recvs) (seen_all fs))
+  handed_came fs e result new open_end ok there told fit h =
+      elim (handed e fs result new open_end h) [
+        | inl (mid, takes, after) ↦ (
+            let came = each_came fs e result mid ok there told fit takes in (
+              ended_by p _ new after (settle_ok p mid came.ok),
+              ap standing after ∙ came.there.0,
+              λ d. subst (λ x. AllByRecursion (FrameTaken x.recvs) (seen_all fs)) (sym after) (every_stays mid.recvs (settle mid).recvs (each_grows raise mid.recvs raise_grows) (seen_all fs) (came.done (taken_came result d))),
+            )
+            )
+        | inr (is, same) ↦ (ended_by p e new same ok, ap standing same ∙ there.0, λ d. absurd (false≢true (sym (ap is_taken is) ∙ d)))
+      ]
+
+-- what holds of each frame that was taken holds of these too
+pub took_each : (p : Past) (parts : List Part) (result : Result Taken TakeFault) (P : Seen → Type 0) → EachTaken p.theirs p.processed p.took P →
+    ((k i : ℕ) → is_among k i parts ≡ true → is_taken result ≡ true → (f : Seen) × HoldsAt p.theirs k i f × P f) → EachTaken p.theirs p.processed (with_took p parts result).took P
+took_each p parts result P each taken =
+    record {
+      packets = each.packets;
+      frames = λ k i is.
+          elim (cond_or (is_taken_at k i parts result) (p.took k i) is) [
+            | inl now ↦ (let (among, came) = and_parts (is_among k i parts) _ now in taken k i among came)
+            | inr before ↦ each.frames k i before
+          ];
+    }
+
+pub took_ok : (p : Past) (parts : List Part) (result : Result Taken TakeFault) (e : End) → EndOk p e → ((k i : ℕ) → is_among k i parts ≡ true → is_taken result ≡ true → (f : Seen) × HoldsAt p.theirs k i f × FrameTaken e.recvs f) → EndOk (with_took p parts result) e
+took_ok p parts result e ok taken =
+    record {
+      sends = ok.sends;
+      recvs = ok.recvs;
+      packets = ok.packets;
+      credit = ok.credit;
+      streams = ok.streams;
+      taken = took_each p parts result (FrameTaken e.recvs) ok.taken taken;
+    }
+
+-- Tokens
+
+-- an end is told more tokens
+pub token_ok : (p : Past) (t : Token) (told : Bool) (e : End) → EndOk p e → EndOk (with_token p t told) e
+token_ok p t was e ok =
+    record { sends = λ n. slot n (lookup e.sends n) (ok.sends n); recvs = ok.recvs; packets = ok.packets; taken = ok.taken; credit = ok.credit; streams = ok.streams }
+  where
+    more : (j : ℕ) → WasConfirmed p.theirs p.tokens j → WasConfirmed p.theirs (with_token p t was).tokens j
+    more j (inl ack) = inl ack
+    more j (inr told) = inr (or_cond (was && is_in t j) (p.tokens j) told)
+
+    slot : (n : ℕ) (o : Option SendLane) → SendSlot p n (first_send_limit e n) o → SendSlot (with_token p t was) n (first_send_limit e n) o
+    slot n None h = h
+    slot n (Some l) h = send_alike h (λ is. is) more h.sent_limit h.limit_told
+
+named_alone : (t : Token) (j : ℕ) → is_named ((t.first, t.number) ∷ []) j ≡ true → is_in t j ≡ true
+named_alone t j h = elim (or_cases _ _ h) [ inl both ↦ both | inr none ↦ absurd (false≢true none) ]
+
+-- the pieces of the packets that are told by their token
+pub token_pieces : (p : Past) (t : Token) (e : End) → EndOk (with_token p t true) e → AllByRecursion (WasAcked (with_token p t true)) (named e ((t.first, t.number) ∷ []))
+token_pieces p t e ok = named_pieces_ok (with_token p t true) e ok ((t.first, t.number) ∷ []) (λ j is. inr (told j (named_alone t j is)))
+  where
+    told : (j : ℕ) → is_in t j ≡ true → (if is_in t j then true else p.tokens j) ≡ true
+    told j is = rw is refl
+
+pub token_acked_moves : (p : Past) (e new : End) (t : Token) (result : Result (Unit {0}) TokenFault) → EndOk p e → TokenAckedStep e t result new → EndOk (with_token p t (was_told result)) new
+unfolding frame_taken
+token_acked_moves p e new t result ok step =
+    let q : Past = with_token p t true in
+    let now : EndOk q e = token_ok p t true e ok in
+    let all = token_pieces p t e now in
+    let told : was_told result ≡ true → EndOk q new → EndOk (with_token p t (was_told result)) new = λ is. subst (λ b. EndOk (with_token p t b) new) (sym is) in
+    elim (certain_cases (token_refusal e t) e result new _ step) [
+      | inl (fault, is, same) ↦ ended_by _ e new same (token_ok p t (was_told result) e ok)
+      | inr (allowed, inl (is, same)) ↦ told (ap was_told is) (ended_by q _ new same (settle_ok q _ (acks_ok q (named e ((t.first, t.number) ∷ [])) e all now)))
+      | inr (allowed, inr (is, mid, (m, h, asks), same)) ↦
+          told (ap was_told is) (ended_by q _ new same (settle_ok q mid (ended_by q _ mid h (acks_ok q (take m (named e ((t.first, t.number) ∷ []))) e (All_take _ m _ all) now))))
+    ]
+
+-- A repeat leaves an end as it was, and what tells nothing new spends nothing.
+
+-- a packet that was processed
+pub repeats : (p : Past) (e new : End) (k : ℕ) (text : List ℕ) (result : Result Received Closing) → EndOk p e → e.closed ≡ None → ReceiveStep e k text result new → p.processed k ≡ true → new ≡ e
+repeats p e new k text result ok not_closed step done = by_floor _ refl (subst (λ o. ReceiveBy o k text e result new) not_closed step)
+  where
+    by_kept : (b : Bool) → set.contains e.done k ≡ b → nat_lt k e.floor ≡ false → MatchBool b ((result ≡ Ok Duplicate) × (new ≡ e)) ((mid : End) × TakesPayload k text e result mid × (new ≡ settle mid)) → new ≡ e
+    by_kept true is low h = h.1
+    by_kept false is low h =
+        elim (ok.packets.kept k done) [
+          | inl kept ↦ absurd (true≢false (sym kept ∙ is))
+          | inr below ↦ absurd (true≢false (sym (lt-ltb k e.floor below) ∙ low))
+        ]
+
+    by_floor : (b : Bool) → nat_lt k e.floor ≡ b → MatchBool b ((result ≡ Ok BelowFloor) × (new ≡ e)) (MatchBool (set.contains e.done k) ((result ≡ Ok Duplicate) × (new ≡ e)) ((mid : End) × TakesPayload k text e result mid × (new ≡ settle mid))) → new ≡ e
+    by_floor true low h = h.1
+    by_floor false low h = by_kept _ refl low h
+
+-- a run of members adds nothing
+same_end : (s : NumberSet) (lo hi : ℕ) → ((q : ℕ) → lo ≤ q → q < hi → set.contains s q ≡ true) → end_of (set.union s (numbers lo hi)) ≡ end_of s
+same_end s lo hi all =
+    le_antisymm
+    (end-le (set.union s (numbers lo hi)) (end_of s) (λ q is. elim (run-cases s lo hi q is) [ inl old ↦ below-end s q old | inr new ↦ below-end s q (all q new.0 new.1) ]))
+    (end-le s (end_of (set.union s (numbers lo hi))) (λ q is. below-end (set.union s (numbers lo hi)) q (run-old s lo hi q is)))
+
+stream_highest : (l : RecvLane) (offset : ℕ) (bytes : List ℕ) (fin : Bool) → ((q : ℕ) → offset ≤ q → q < offset + length bytes → set.contains l.arrived.received q ≡ true) → (fin ≡ true → l.final_size ≢ None) →
+    ((size : ℕ) → l.final_size ≡ Some size → fin ≡ true → offset + length bytes ≡ size) → highest (take_stream l offset bytes fin) ≡ highest l
+stream_highest l offset bytes fin all known fits = go l.final_size refl fin refl
+  where
+    received : (b : Bool) → end_of (if b then l.arrived else put l.arrived offset bytes).received ≡ end_of l.arrived.received
+    received true = refl
+    received false = same_end l.arrived.received offset (offset + length bytes) all
+
+    go : (x : Option ℕ) → l.final_size ≡ x → (b : Bool) → fin ≡ b →
+        unwrap_or (if b then Some (offset + length bytes) else x) (end_of (if is_some l.reset_code then l.arrived else put l.arrived offset bytes).received) ≡ unwrap_or x (end_of l.arrived.received)
+    go (Some size) is true set = fits size is set
+    go None is true set = absurd (known set is)
+    go (Some size) is false set = refl
+    go None is false set = received (is_some l.reset_code)
+
+reset_highest : (l : RecvLane) (code size : ℕ) → l.final_size ≢ None → ((known : ℕ) → l.final_size ≡ Some known → size ≡ known) → highest (take_reset l code size) ≡ highest l
+reset_highest l code size known fits = by _ refl
+  where
+    go : (x : Option ℕ) → l.final_size ≡ x → size ≡ unwrap_or x (end_of l.arrived.received)
+    go (Some y) is = fits y is
+    go None is = absurd (known is)
+
+    by : (b : Bool) → (is_some l.reset_code || is_whole l) ≡ b → highest (if b then l else record l { arrived = forget l.arrived; final_size = Some size; reset_code = Some code }) ≡ highest l
+    by true e = refl
+    by false e = go l.final_size refl
+
+-- one half changes and keeps its highest offset
+spent_kept : (e : End) (n : ℕ) (f : RecvLane → RecvLane) (o : Option RecvLane) → lookup e.recvs n ≡ o → ((l : RecvLane) → lookup e.recvs n ≡ Some l → highest (f l) ≡ highest l) → total highest (updated e.recvs n f o) ≡ total highest e.recvs
+spent_kept e n f None is same = refl
+spent_kept e n f (Some l) is same = omega (arith, total_update highest e.recvs n l (f l) is, same l is)
+
+-- opening leaves a half that is there
+lane_stays : (e : End) (n : ℕ) (l : RecvLane) → lookup e.recvs n ≡ Some l → (b : Bool) → lookup (if b then e else opens n e).recvs n ≡ Some l
+lane_stays e n l is true = is
+lane_stays e n l is false = by _
+  where
+    by : (b : Bool) → lookup (if b then e.recvs else open_to e.recvs n (new_recvs e n)) n ≡ Some l
+    by true = is
+    by false =
+        elim (lookup_open e.recvs n n (new_recvs e n)) [
+          | inl same ↦ same ∙ is
+          | inr new ↦ absurd (none-some l (sym new.0 ∙ is))
+        ]
+
+module _ (e : End) where
+  stream_spends : (n offset : ℕ) (bytes : List ℕ) (fin : Bool) → IsOld e (Stream n offset bytes fin) → verdict e (Stream n offset bytes fin) ≡ None → spent (frame_taken (Stream n offset bytes fin) e) ≡ spent e
+  unfolding verdict frame_taken
+  stream_spends n offset bytes fin (all, known) fine = go (lookup e.recvs n) refl
+    where
+      go : (o : Option RecvLane) → lookup e.recvs n ≡ o → spent (frame_taken (Stream n offset bytes fin) e) ≡ spent e
+      go (Some l) is =
+          let there : lookup (opened_by_peer n e).recvs n ≡ Some l = lane_stays e n l is (is_own e n) in
+          let this : lane_of e n ≡ l = lane_opened e n l (is_own e n) refl there in
+          let fits = fin_fits e l offset (length bytes) fin (subst (λ x. credit_fault e (check_stream x offset (length bytes) fin) ≡ None) this (stream_passed e n offset bytes fin fine).1) in
+          let came : (q : ℕ) → offset ≤ q → q < offset + length bytes → set.contains l.arrived.received q ≡ true =
+          λ q low high. (let (m, at, there) = all q low high in subst (λ (x : RecvLane). set.contains x.arrived.received q ≡ true) (same_Some m l (sym at ∙ is)) there) in
+          let sized : fin ≡ true → l.final_size ≢ None =
+          λ set. (let (m, at, some) = known set in subst (λ (x : RecvLane). x.final_size ≢ None) (same_Some m l (sym at ∙ is)) some) in
+          spent_kept (opened_by_peer n e) n (λ x. take_stream x offset bytes fin) (lookup (opened_by_peer n e).recvs n) refl
+          (λ m at. (let same : l ≡ m = same_Some l m (sym there ∙ at) in subst (λ x. highest (take_stream x offset bytes fin) ≡ highest x) same (stream_highest l offset bytes fin came sized fits)))
+          ∙ spent_opened e n (is_own e n)
+      -- the stream isn't open, so the frame has neither a byte nor the end
+      go None is =
+          let unsized : fin ≡ true → ⊥ = λ set. (let (m, at, some) = known set in none-some m (sym is ∙ at)) in
+          spent_kept (opened_by_peer n e) n (λ x. take_stream x offset bytes fin) (lookup (opened_by_peer n e).recvs n) refl
+          (λ m at. stream_highest m offset bytes fin (λ q low high. (let (k, open_at, there) = all q low high in absurd (none-some k (sym is ∙ open_at)))) (λ set. absurd (unsized set)) (λ size sized set. absurd (unsized set)))
+          ∙ spent_opened e n (is_own e n)
+
+  reset_spends : (n code size : ℕ) → IsOld e (Control (ResetStream n code size)) → item_verdict e (ResetStream n code size) ≡ None → spent (item_taken (ResetStream n code size) e) ≡ spent e
+  reset_spends n code size (l, is, known) fine =
+      let there : lookup (opened_by_peer n e).recvs n ≡ Some l = lane_stays e n l is (is_own e n) in
+      let this : lane_of e n ≡ l = lane_opened e n l (is_own e n) refl there in
+      let fits = reset_fits e l size (subst (λ x. credit_fault e (check_reset x size) ≡ None) this (or_else_none (state_fault_in e n) _ fine).1) in
+      spent_kept (opened_by_peer n e) n (λ x. take_reset x code size) (lookup (opened_by_peer n e).recvs n) refl
+      (λ m at. (let same : l ≡ m = same_Some l m (sym there ∙ at) in subst (λ x. highest (take_reset x code size) ≡ highest x) same (reset_highest l code size known fits)))
+      ∙ spent_opened e n (is_own e n)
+
+  frame_spends : (f : Seen) → IsOld e f → verdict e f ≡ None → spent (frame_taken f e) ≡ spent e
+  unfolding verdict frame_taken
+  frame_spends (Ack largest ranges) old fine = ap spent (acks_leave (named e ranges) e)
+  frame_spends (Stream n offset bytes fin) old fine = stream_spends n offset bytes fin old fine
+  frame_spends (Control (MaxStreamData n m)) old fine = spent_opened e n (is_own e n)
+  frame_spends (Control (MaxStreams Uni m)) old fine = refl
+  frame_spends (Control (ResetStream n code size)) old fine = reset_spends n code size old fine
+  frame_spends (Control (StopSending n code)) old fine = spent_opened e n (is_own e n)
+  frame_spends (Control (StreamDataBlocked n m)) old fine = spent_opened e n (is_own e n)
+  frame_spends f old fine = refl
+
+-- What is old stays old.
+known_stays : (l m : RecvLane) → Grows l m → l.final_size ≢ None → m.final_size ≢ None
+known_stays l m g known none = go l.final_size refl
+  where
+    go : (x : Option ℕ) → l.final_size ≡ x → ⊥
+    go None is = known is
+    go (Some size) is = none-some size (sym none ∙ g.final size is)
+
+old_stays : (a b : End) → AllGrow a.recvs b.recvs → (f : Seen) → IsOld a f → IsOld b f
+old_stays a b grow (Stream n offset bytes fin) (all, known) = (
+  λ q low high. (let (l, is, came) = all q low high in let (m, there, g) = grow n l is in (m, there, g.received q came)),
+  λ set. (let (l, is, sized) = known set in let (m, there, g) = grow n l is in (m, there, known_stays l m g sized)),
+)
+old_stays a b grow (Control (ResetStream n code size)) (l, is, known) = (let (m, there, g) = grow n l is in (m, there, known_stays l m g known))
+old_stays a b grow f old = tt
+
+all_old : (a b : End) → AllGrow a.recvs b.recvs → (fs : List Seen) → AllByRecursion (IsOld a) fs → AllByRecursion (IsOld b) fs
+all_old a b grow [] all = tt
+all_old a b grow (f ∷ fs) all = (old_stays a b grow f all.0, all_old a b grow fs all.1)
+
+settle_spends : (e : End) → spent (settle e) ≡ spent e
+settle_spends e = total_each highest raise e.recvs (λ l. refl)
+
+-- The frames of a payload, one after the other
+
+takes_spend : (left : List PlacedValue) (p : Past) (k : ℕ) (asks : Bool) (fault : Option WireFault) (e : End) (result : Result Received Closing) (new : End) → EndOk p e → ((f : Seen) → Among f (seen_all (frames_of left)) → Tells p.theirs f) →
+    AllByRecursion (IsOld e) (seen_all (frames_of left)) → Takes k fault asks e left result new → spent new ≡ spent e
+takes_spend [] p k asks fault e result new ok told all h = ap (total highest) (end_leaves k asks fault e result new h)
+takes_spend (v ∷ left) p k asks fault e result new ok told all (inl stops) = ap (total highest) (stops_leave v (seen v.frame) e result new stops)
+takes_spend (v ∷ left) p k asks fault e result new ok told all (inr (goes, rest)) =
+    let f : Seen = seen v.frame in
+    let one : Effect p e (frame_taken f e) f = frame_keeps p e f ok (told f (inl refl)) (no_fault_there e f goes) in
+    takes_spend left p k (asks || asks_ack f) fault (frame_taken f e) result new one.ok (λ g a. told g (inr a)) (all_old e (frame_taken f e) one.grow (seen_all (frames_of left)) all.1) rest
+    ∙ frame_spends e f all.0 (no_fault_there e f goes)
+
+-- a payload that tells nothing new spends nothing
+pub spends_nothing : (p : Past) (e new : End) (k : ℕ) (text : List ℕ) (result : Result Received Closing) → EndOk p e → slice_get p.theirs k ≡ Some (frames_in text) → e.closed ≡ None → ReceiveStep e k text result new →
+    AllByRecursion (IsOld e) (frames_in text) → spent new ≡ spent e
+spends_nothing p e new k text result ok is not_closed step all =
+    by_open (spent new ≡ spent e) k text e result new (subst (λ o. ReceiveBy o k text e result new) not_closed step) (λ low same. ap spent same) (λ again same. ap spent same) (λ high mid takes same.
+    ap spent same ∙ settle_spends mid ∙ takes_spend (reading_of text).left p k false (reading_of text).fault e result mid ok (λ g a. (k, (frames_in text, is, a))) all takes)
+
+-- Frames without their packet, one after the other
+
+one_spends : (f : FrameValue) (e new : End) (fault : TakeFault) → is_ours (seen f) ≡ true → TakesOne e f (Err fault) new → spent new ≡ spent e
+one_spends f e new faults.NoMemory ours h = ap spent (none_asked e new (seen f) ours h.1)
+one_spends f e new (faults.Closing closing) ours h = ap spent h.2
+one_spends f e new (faults.PeerClosed code) ours h = absurd h
+
+each_spends : (fs : List FrameValue) (p : Past) (e : End) (result : Result Taken TakeFault) (new : End) → EndOk p e → ((g : Seen) → Among g (seen_all fs) → Tells p.theirs g) → AllByRecursion (IsOld e) (seen_all fs) → TakesEach fs e result new → spent new ≡ spent e
+each_spends [] p e result new ok told old h = ap spent h.1
+each_spends (f ∷ fs) p e result new ok told old h = by (is_ours (seen f)) refl h (λ mid r now before takes. each_spends fs p mid r new now (λ g a. told g (inr a)) before takes)
+  where
+    by : (b : Bool) → is_ours (seen f) ≡ b → MatchBool b (((mid : End) × (one : Taken) × (later : Result Taken TakeFault) × TakesOne e f (Ok one) mid × TakesEach fs mid later new × (result ≡ after_one one later)) ⊎ ((fault : TakeFault) × TakesOne e f (Err fault) new × (result ≡ Err fault))) (TakesEach fs e result new)
+        → ((mid : End) (r : Result Taken TakeFault) → EndOk p mid → AllByRecursion (IsOld mid) (seen_all fs) → TakesEach fs mid r new → spent new ≡ spent mid) → spent new ≡ spent e
+    by true ours (inl (mid, one, later, takes, more, is)) goes =
+        let (may, after) = took_effect e f one mid takes in
+        let effect : Effect p e (frame_taken (seen f) e) (seen f) = frame_keeps p e (seen f) ok (told (seen f) (inl refl)) may.1 in
+        goes (frame_taken (seen f) e) later effect.ok (all_old e (frame_taken (seen f) e) effect.grow (seen_all fs) old.1) (subst (λ x. TakesEach fs x later new) after more) ∙ frame_spends e (seen f) old.0 may.1
+    by true ours (inr (fault, one, is)) goes = one_spends f e new fault ours one
+    by false other more goes = goes e result ok old.1 more
+
+-- frames that tell nothing new spend nothing
+pub frames_spend : (p : Past) (e new : End) (fs : List FrameValue) (result : Result Taken TakeFault) → EndOk p e → e.closed ≡ None → ((g : Seen) → Among g (seen_all fs) → Tells p.theirs g) → AllByRecursion (IsOld e) (seen_all fs) → HandedIn fs e result new → spent new ≡ spent e
+frames_spend p e new fs result ok open_end told old h =
+    elim (handed e fs result new open_end h) [
+      | inl (mid, takes, after) ↦ ap spent after ∙ settle_spends mid ∙ each_spends fs p e result mid ok told old takes
+      | inr (is, same) ↦ ap spent same
+    ]

@@ -1,5 +1,5 @@
 -- Every run keeps the invariant of both ends.
-use Rattle.std.proofs.Common.{◌≡◌, ◌≤◌, ℕ, Bool, true, List, [], ◌∷◌, ◌++◌, map, ◌⊎◌, inl, inr, Option, None, Some, Result, Ok, false, not, arith, sym, subst, refl, ap, ◌∙◌, slice_get, append-nil}
+use Rattle.std.proofs.Common.{◌≡◌, ◌≤◌, ℕ, Bool, true, List, [], ◌∷◌, ◌++◌, map, ◌⊎◌, inl, inr, None, Some, Result, Ok, false, not, arith, sym, subst, refl, ap, ◌∙◌, slice_get, append-nil}
 use Rattle.std.proofs.lemmas.Bool.{false≢true}
 use Rattle.std.specs.Global.{Vec}
 use Rattle.std.specs.List.{AllByRecursion}
@@ -15,14 +15,13 @@ use Rattle.qs_machine.specs.Ends.{End, new_end, wide_end_made, is_own_by}
 use Rattle.qs_machine.specs.Credit.{first_grant, granted_streams, settle}
 use Rattle.qs_machine.specs.Receiving.{ReceiveStep}
 use Rattle.qs_machine.specs.Seen.{seen_all}
-use Rattle.qs_machine.specs.Alone.{TokenAckedStep, TokenLostStep}
-use Rattle.qs_machine.specs.Owner.{AcceptOfStep, StopAndForgetStep}
+use Rattle.qs_machine.specs.Alone.{TokenAckedStep}
+use Rattle.qs_machine.specs.Owner.{StopAndForgetStep}
 use Rattle.qs_machine.specs.Raising.{RaiseStep, greater_limits, limits_raised, raise_refusal}
 use Rattle.qs_machine.specs.EndStep.{Call, Answer as CallAnswer, EndStep, Consume, Receive, TakeFrame, TakeFrames, TokenAcked, TokenLost, MakeAck, FillIn, RaiseLimits, Set, StopAndForget, AcceptOf}
-use Rattle.qs_machine.specs.Setting.{Setting, SetStep}
 use Rattle.qs_machine.specs.Standing.{IsSound}
 use Rattle.qs_machine.specs.Repeats.{SentWasWritten}
-use Rattle.qs_machine.proofs.Bounds.{new_ends_sound}
+use Rattle.qs_machine.proofs.Counts.{new_ends_sound}
 use Rattle.qs_machine.proofs.SentCalls.{new_keeps, keeps_call}
 use Rattle.qs_machine.proofs.CallsCounts.{sound_end, counts_call}
 use Rattle.qs_calls.specs.declared.event.Side.{Side}
@@ -39,32 +38,22 @@ use Rattle.qs_calls.specs.declared.token.Token.{Token}
 use Rattle.qs_calls.specs.declared.token.Taken.{Taken}
 use Rattle.qs_calls.specs.declared.token.TakeFault.{TakeFault}
 use Rattle.qs_calls.specs.declared.token.TokenFault.{TokenFault}
-use Rattle.qs_calls.specs.declared.settings.SetFault.{SetFault}
-use Rattle.qs_machine.specs.Setting.{Setting, SetStep}
 use Rattle.qs_calls.specs.declared.settings.RaiseFault.{RaiseFault}
-use Rattle.qs_calls.specs.declared.settings.SetFault.{SetFault}
-use Rattle.qs_machine.proofs.EveryCall.{MovesStanding}
-use Rattle.qs_machine.proofs.Plains.{plain_nothing}
+use Rattle.qs_machine.proofs.EveryCall.{MovesStanding, hears}
+use Rattle.qs_machine.proofs.Ways.{plain_nothing}
 use Rattle.qs_runs.specs.Logs.{Part, Happening, Did, MadeAck, FilledIn, ConsumedUpTo, AckedToken, LostToken, RaisedLimits, CameWith, CameAlone, History, Log, happened, other, own_calls, processed, took, was_acked, is_taken, is_delivery, reads_of, texts_of, made, made_by, payload, AreFramesOf, HasLanded, HasSet, Forgot, AcceptedOf}
 use Rattle.qs_runs.specs.Worlds.{World, AreGranted, Begins, end_of, OwnStep, TakesBytes, DeliverStep, ComeWithStep, HandedIn, ComeAloneStep, EventStep, WorldStep, Run, EventRun}
-use Rattle.qs_calls.specs.declared.uses.UseFault.{UseFault}
 use Rattle.qs_runs.specs.Agree.{frames_in}
 use Rattle.qs_runs.proofs.Lists.{All_append}
 use Rattle.qs_runs.specs.Pasts.{Past, packets_of, past}
-use Rattle.qs_runs.specs.Invariant.{EndOk, FrameTaken, CountsTrue, CountsOk, WorldOk, Standing, role_of, settings_of, stands_as}
+use Rattle.qs_runs.specs.Invariant.{EndOk, FrameTaken, CountsTrue, CountsOk, WorldOk, Standing, role_of, settings_of, stands_as, standing}
 use Rattle.qs_runs.proofs.Unharmed.{Facing}
-use Rattle.qs_runs.specs.Invariant.{standing}
-use Rattle.qs_runs.proofs.Receives.{receives}
-use Rattle.qs_runs.proofs.OwnMoves.{accept_of_moves, own_moves, with_call, with_packets, uses_made, consume_moves, nothing_made, token_lost_moves, forget_moves}
+use Rattle.qs_runs.proofs.Receives.{receives, with_took, AreHeldAt, held_told, held_holds, handed_came, took_ok, token_acked_moves}
+use Rattle.qs_runs.proofs.OwnMoves.{accept_of_moves, own_moves, with_call, with_packets, uses_made, consume_moves, nothing_made, token_lost_moves, forget_moves, raise_moves, set_moves}
 use Rattle.qs_runs.proofs.Standing.{call_stands, certain_cases, IsRefused}
 use Rattle.qs_runs.proofs.PeerMoves.{with_theirs, peer_moves}
-use Rattle.qs_runs.proofs.Raising.{raise_moves}
-use Rattle.qs_runs.proofs.NewSettings.{set_moves}
 use Rattle.qs_runs.proofs.Facing.{facing, opposite_roles, receive_stands, fine_now}
-use Rattle.qs_runs.proofs.Alone.{with_took, AreHeldAt, held_told, held_holds, handed_came, took_ok, token_acked_moves}
-use Rattle.qs_runs.proofs.Landing.{step_lands}
-use Rattle.qs_runs.proofs.Parts.{parts_held, parts_fit}
-use Rattle.qs_runs.proofs.Histories.{past_own, past_peer, past_sender, past_receiver, Makes, past_makes, past_peer_makes, makes_ack, makes_fill, makes_none, past_consumed, past_peer_consumed, past_raised, past_came, past_came_from, past_came_to, past_token, past_peer_token, made_none, made_own, made_peer, made_makes, made_peer_makes, made_raised, made_came, did, theirs_mine, mine_theirs, payload_seen, AreFaultless, faultless_at, own_faultless, makes_set, makes_given, past_forgot, made_forgot}
+use Rattle.qs_runs.proofs.Histories.{step_lands, parts_held, parts_fit, past_own, past_peer, past_sender, past_receiver, Makes, past_makes, past_peer_makes, makes_ack, makes_fill, makes_none, past_consumed, past_peer_consumed, past_raised, past_came, past_came_from, past_came_to, past_token, past_peer_token, made_none, made_own, made_peer, made_makes, made_peer_makes, made_raised, made_came, did, theirs_mine, mine_theirs, payload_seen, AreFaultless, faultless_at, own_faultless, makes_set, makes_given, past_forgot, made_forgot}
 use Rattle.qs_runs.proofs.Packing.{Packs, ack_packs, fill_packs, packs_faultless, packs_counts, packs_ok}
 use Rattle.qs_runs.proofs.NewEnds.{first_world, made_first, ends_made, begins_true, tells_nothing, new_ok}
 use Rattle.qs_runs.proofs.Granting.{TellCounts, own_call, own_counts, counts_told, counts_stay, known_within}
@@ -187,33 +176,18 @@ both_granted p q s x y =
       streams_uni = omega (arith, x.streams_uni, y.streams_uni);
     }
 
--- whether an ACK is due doesn't matter
-due_ok : (p : Past) (e : End) (due : Bool) → EndOk p e → EndOk p (record e { ack_due = due })
-due_ok p e due ok = record { sends = ok.sends; recvs = ok.recvs; packets = ok.packets; taken = ok.taken; credit = ok.credit; streams = ok.streams }
+-- what a side is told besides leaves its end as it was, but for whether an ACK is due
+side_kept : (a b : Settings) (s : Side) (h k : History) (e : End) (due : Bool) → SideOk a b s h e → EndOk (past s k) (record e { ack_due = due }) → CountsOk (past s k) e → AreFaultless (made s k) → SideOk a b s k (record e { ack_due = due })
+side_kept a b s h k e due side ok counts texts = record { ok = ok; counts = counts; sound = side.sound; sent = side.sent; stand = side.stand; peer = side.peer; texts = texts }
 
 due_side : (a b : Settings) (s : Side) (h : History) (e : End) (due : Bool) → SideOk a b s h e → SideOk a b s h (record e { ack_due = due })
 due_side a b s h e due side =
-    record {
-      ok = due_ok (past s h) e due side.ok;
-      counts = side.counts;
-      sound = side.sound;
-      sent = side.sent;
-      stand = side.stand;
-      peer = side.peer;
-      texts = side.texts;
-    }
+    side_kept a b s h h e due side (record { sends = side.ok.sends; recvs = side.ok.recvs; packets = side.ok.packets; taken = side.ok.taken; credit = side.ok.credit; streams = side.ok.streams }) side.counts side.texts
 
 came_side : (a b : Settings) (t s : Side) (k : ℕ) (bytes : List ℕ) (result : Result Received Closing) (h : History) (e : End) → SideOk a b t (did s (acts.Deliver k) (answers.Deliver result) ∷ h) e → SideOk a b t (CameWith s k bytes result ∷ h) e
 came_side a b t s k bytes result h e side =
-    record {
-      ok = moved (λ p. EndOk p e) _ _ (past_came t s k bytes result h) side.ok;
-      counts = moved (λ p. CountsOk p e) _ _ (past_came t s k bytes result h) side.counts;
-      sound = side.sound;
-      sent = side.sent;
-      stand = side.stand;
-      peer = side.peer;
-      texts = moved AreFaultless _ _ (made_came t s k bytes result h) side.texts;
-    }
+    side_kept a b t _ (CameWith s k bytes result ∷ h) e e.ack_due side (moved (λ p. EndOk p e) _ _ (past_came t s k bytes result h) side.ok) (moved (λ p. CountsOk p e) _ _ (past_came t s k bytes result h) side.counts)
+    (moved AreFaultless _ _ (made_came t s k bytes result h) side.texts)
 
 -- One thing more happens
 
@@ -221,28 +195,13 @@ module _ (a b : Settings) (h : History) (s : Side) (x : Happening) (e new : End)
   -- the peer makes packets
   peer_side : (texts : List (List ℕ)) → past s (x ∷ h) ≡ with_theirs (past s h) (map frames_in texts) → made s (x ∷ h) ≡ made s h → new ≡ e → SideOk a b s (x ∷ h) new
   peer_side texts goes_on none same =
-      moved (SideOk a b s (x ∷ h)) _ _ same (record {
-        ok = moved (λ p. EndOk p e) _ _ goes_on (peer_moves (past s h) (map frames_in texts) e side.ok);
-        counts = moved (λ p. CountsOk p e) _ _ goes_on side.counts;
-        sound = side.sound;
-        sent = side.sent;
-        stand = side.stand;
-        peer = side.peer;
-        texts = moved AreFaultless _ _ none side.texts;
-      })
+      moved (SideOk a b s (x ∷ h)) _ _ same (side_kept a b s h (x ∷ h) e e.ack_due side
+      (moved (λ p. EndOk p e) _ _ goes_on (peer_moves (past s h) (map frames_in texts) e side.ok)) (moved (λ p. CountsOk p e) _ _ goes_on side.counts) (moved AreFaultless _ _ none side.texts))
 
   -- nothing happens to this side
   idle_side : past s (x ∷ h) ≡ past s h → made s (x ∷ h) ≡ made s h → new ≡ e → SideOk a b s (x ∷ h) new
   idle_side goes_on none same =
-      moved (SideOk a b s (x ∷ h)) _ _ same (record {
-        ok = moved (λ p. EndOk p e) _ _ goes_on side.ok;
-        counts = moved (λ p. CountsOk p e) _ _ goes_on side.counts;
-        sound = side.sound;
-        sent = side.sent;
-        stand = side.stand;
-        peer = side.peer;
-        texts = moved AreFaultless _ _ none side.texts;
-      })
+      moved (SideOk a b s (x ∷ h)) _ _ same (side_kept a b s h (x ∷ h) e e.ack_due side (moved (λ p. EndOk p e) _ _ goes_on side.ok) (moved (λ p. CountsOk p e) _ _ goes_on side.counts) (moved AreFaultless _ _ none side.texts))
 
   -- a call of this side
   call_side : (texts : List (List ℕ)) → made s (x ∷ h) ≡ made s h ++ texts → AreFaultless texts → EndOk (past s (x ∷ h)) new → CountsOk (past s (x ∷ h)) new → (call : Call) (given : CallAnswer call) → EndStep e call given new
@@ -263,14 +222,11 @@ module _ (a b : Settings) (h : History) (s : Side) (x : Happening) (e new : End)
   raise_side limits result goes_on none granted step =
       call_side [] (none ∙ sym (append-nil (made s h))) tt
       (moved (λ p. EndOk p new) _ _ goes_on (raise_moves (past s h) e new limits result side.ok step))
-      (moved (λ p. CountsOk p new) _ _ goes_on (counts_stay (past s h).mine e new side.counts settings (counts_call e side.sound side.sent (RaiseLimits limits) result new step)))
+      (moved (λ p. CountsOk p new) _ _ goes_on (counts_stay (past s h).mine e new side.counts (elim cases [ inl (fault, is, same) ↦ ap (λ (f : End). f.settings) same | inr (allowed, (is, same)) ↦ ap (λ (f : End). f.settings) same ]) (counts_call e side.sound side.sent (RaiseLimits limits) result new step)))
       (RaiseLimits limits) result step stands.0 stands.1
     where
       cases : IsRefused e result new ⊎ ((raise_refusal e limits ≡ None) × ((result ≡ Ok tt) × (new ≡ settle (limits_raised limits e))))
       cases = certain_cases (raise_refusal e limits) e result new _ step
-
-      settings : new.settings ≡ e.settings
-      settings = elim cases [ inl (fault, is, same) ↦ ap (λ (f : End). f.settings) same | inr (allowed, (is, same)) ↦ ap (λ (f : End). f.settings) same ]
 
       stands : (standing new ≡ stands_as a b s new.peer) × AreGranted new.peer (settings_of a b (other s))
       stands =
@@ -311,9 +267,9 @@ module _ (a b : Settings) (h : History) (v w : World) (s : Side) (ok : WorldOk a
   -- the owner of an end does something
   own_step : (act : Act) (answer : Answer) → is_delivery act ≡ false → OwnStep (end_of v s) act answer (end_of w s) → end_of w (other s) ≡ end_of v (other s) → Sides (did s act answer)
   own_step act answer own step same =
-      let (call, given, calls, stands) = own_call (end_of v s) (end_of w s) act answer step in
+      let (call, given, calls, deaf) = own_call (end_of v s) (end_of w s) act answer step in
       call_step (did s act answer) (made_by act answer) (with_call (past s h) act answer) (past_own s act answer h own) refl (past_peer s act answer h own) (made_own s act answer h) (made_peer s act answer h)
-      (own_faultless (end_of v s) act answer (end_of w s) step) (own_counts (end_of v s) (end_of w s) act answer step) (own_moves (past s h) (end_of v s) (end_of w s) act answer here.ok step) call given calls stands same
+      (own_faultless (end_of v s) act answer (end_of w s) step) (own_counts (end_of v s) (end_of w s) act answer step) (own_moves (past s h) (end_of v s) (end_of w s) act answer here.ok step) call given calls (λ moves. deaf (hears call moves)) same
 
   -- it makes an ACK alone, or frames are filled in: a packet of a shorter room, or none
   packet_step : (x : Happening) (texts : List (List ℕ)) → Makes s x texts → Packs (end_of v s) texts (end_of w s) → (call : Call) (given : CallAnswer call) → EndStep (end_of v s) call given (end_of w s) → (MovesStanding call → ⊥)
@@ -322,13 +278,11 @@ module _ (a b : Settings) (h : History) (v w : World) (s : Side) (ok : WorldOk a
       call_step x texts (with_packets (past s h) (map frames_in texts)) (past_makes s x texts h makes) refl (past_peer_makes s x texts h makes) (made_makes s x texts h makes) (made_peer_makes s x texts h makes)
       (packs_faultless (past s h) (end_of v s) (end_of w s) texts packs) (packs_counts (past s h) (end_of v s) (end_of w s) texts packs) (packs_ok (past s h) (end_of v s) (end_of w s) texts packs here.ok) call given step stands same
 
-  -- a token's packet is declared lost
-  lost_step : (token : Token) (result : Result (Unit {0}) TokenFault) → TokenLostStep (end_of v s) token result (end_of w s) → end_of w (other s) ≡ end_of v (other s) → Sides (LostToken s token result)
-  lost_step token result step same =
-      let x = LostToken s token result in
-      let makes = makes_none s token result in
+  -- a call that makes nothing and tells the past nothing: a token's packets are declared lost, a window is set anew, a stream is given out
+  silent_step : (x : Happening) → Makes s x [] → EndOk (past s h) (end_of w s) → (call : Call) (given : CallAnswer call) → EndStep (end_of v s) call given (end_of w s) → (MovesStanding call → ⊥) → end_of w (other s) ≡ end_of v (other s) → Sides x
+  silent_step x makes moves call given step stands same =
       call_step x [] (with_packets (past s h) []) (past_makes s x [] h makes) refl (past_peer_makes s x [] h makes) (made_makes s x [] h makes) (made_peer_makes s x [] h makes) tt (λ d count t. absurd (tells_nothing _ _ refl t))
-      (nothing_made (past s h) (end_of w s) (token_lost_moves (past s h) (end_of v s) (end_of w s) here.ok token result step)) (TokenLost token) result step (λ no. no) same
+      (nothing_made (past s h) (end_of w s) moves) call given step stands same
 
   -- bytes are taken without a copy
   consumed_step : (n most : ℕ) (result : Result Consumed UseFault) (bytes : Vec ℕ) → TakesBytes (end_of v s) n most result bytes.items (end_of w s) → end_of w (other s) ≡ end_of v (other s) → Sides (ConsumedUpTo s n most result bytes)
@@ -343,22 +297,6 @@ module _ (a b : Settings) (h : History) (v w : World) (s : Side) (ok : WorldOk a
       (moved (λ p. CountsOk p (end_of w s)) _ _ (past_consumed s n most result bytes h) (subst (λ ps. CountsTrue ps (end_of w s).settings (granted_streams (end_of w s))) (sym (uses_made (past s h) (reads_of n most result bytes))) counts))
       (Consume n most) result step.0 (stands_on a b s (end_of v s) (end_of w s) stays here.stand) (granted_on _ (end_of v s) (end_of w s) stays here.peer))
       (idle_side a b h (other s) x (end_of v (other s)) (end_of w (other s)) there (past_peer_consumed s n most result bytes h) (made_none (other s) x h refl) same)
-
-  -- a window or a grant is set anew
-  set_step : (setting : Setting) (result : Result (Unit {0}) SetFault) → SetStep (end_of v s) setting result (end_of w s) → end_of w (other s) ≡ end_of v (other s) → Sides (HasSet s setting result)
-  set_step setting result step same =
-      let x = HasSet s setting result in
-      let makes = makes_set s setting result in
-      call_step x [] (with_packets (past s h) []) (past_makes s x [] h makes) refl (past_peer_makes s x [] h makes) (made_makes s x [] h makes) (made_peer_makes s x [] h makes) tt (λ d count t. absurd (tells_nothing _ _ refl t))
-      (nothing_made (past s h) (end_of w s) (set_moves (past s h) (end_of v s) (end_of w s) setting result here.ok step)) (Set setting) result step (λ no. no) same
-
-  -- a stream of one direction is given out
-  given_step : (d : Dir) (result : Option ℕ) → AcceptOfStep (end_of v s) d result (end_of w s) → end_of w (other s) ≡ end_of v (other s) → Sides (AcceptedOf s d result)
-  given_step d result step same =
-      let x = AcceptedOf s d result in
-      let makes = makes_given s d result in
-      call_step x [] (with_packets (past s h) []) (past_makes s x [] h makes) refl (past_peer_makes s x [] h makes) (made_makes s x [] h makes) (made_peer_makes s x [] h makes) tt (λ d count t. absurd (tells_nothing _ _ refl t))
-      (nothing_made (past s h) (end_of w s) (accept_of_moves (past s h) (end_of v s) (end_of w s) here.ok d result step)) (AcceptOf d) result step (λ no. no) same
 
   -- limits are taken in that the peer grants
   raise_step : (limits : PeerLimits) (result : Result (Unit {0}) RaiseFault) → AreGranted limits (end_of v (other s)).settings → RaiseStep (end_of v s) limits result (end_of w s) → end_of w (other s) ≡ end_of v (other s) → Sides (RaisedLimits s limits result)
@@ -471,12 +409,15 @@ sides_keep a b h v w (MadeAck s room result text) ok ((delay, step), same) =
 sides_keep a b h v w (FilledIn s want room result text) ok (step, same) =
     packet_step a b h v w s ok _ (texts_of result text) (makes_fill s want room result text) (fill_packs (end_of v s) (end_of w s) want room result text step) (FillIn want room) (result, text) step (λ no. no) same
 sides_keep a b h v w (ConsumedUpTo s n most result bytes) ok (step, same) = consumed_step a b h v w s ok n most result bytes step same
-sides_keep a b h v w (LostToken s token result) ok (step, same) = lost_step a b h v w s ok token result step same
+sides_keep a b h v w (LostToken s token result) ok (step, same) =
+    silent_step a b h v w s ok _ (makes_none s token result) (token_lost_moves (past s h) (end_of v s) (end_of w s) (ok.ends s) token result step) (TokenLost token) result step (λ no. no) same
 sides_keep a b h v w (AckedToken s token result) ok ((landed, step), same) = token_step a b h v w s ok token result step same
 sides_keep a b h v w (RaisedLimits s limits result) ok ((granted, step), same) = raise_step a b h v w s ok limits result granted step same
-sides_keep a b h v w (HasSet s setting result) ok (step, same) = set_step a b h v w s ok setting result step same
+sides_keep a b h v w (HasSet s setting result) ok (step, same) =
+    silent_step a b h v w s ok _ (makes_set s setting result) (set_moves (past s h) (end_of v s) (end_of w s) setting result (ok.ends s) step) (Set setting) result step (λ no. no) same
 sides_keep a b h v w (Forgot s n code result) ok (step, same) = forget_step a b h v w s ok n code result step same
-sides_keep a b h v w (AcceptedOf s d result) ok (step, same) = given_step a b h v w s ok d result step same
+sides_keep a b h v w (AcceptedOf s d result) ok (step, same) =
+    silent_step a b h v w s ok _ (makes_given s d result) (accept_of_moves (past s h) (end_of v s) (end_of w s) (ok.ends s) d result step) (AcceptOf d) result step (λ no. no) same
 sides_keep a b h v w (CameWith s k bytes result) ok step = came_step a b h v w s ok k bytes result step
 sides_keep a b h v w (CameAlone s parts result) ok step = alone_step a b h v w s ok parts result step
 

@@ -5,9 +5,8 @@ use Rattle.qs_machine.specs.Ends.{End}
 use Rattle.qs_machine.specs.EndStep.{Call, Answer as CallAnswer, EndStep}
 use Rattle.qs_machine.proofs.Leaves.{acks_leave, put_leaves, frame_leaves}
 use Rattle.qs_machine.proofs.EveryCall.{Change, changed, Comes, MovesStanding, relates, Wanted, Took, Acked, Put, Raised, WasSet, Shut}
-use Rattle.qs_machine.specs.Setting.{SendBuffer, StreamWindow}
+use Rattle.qs_machine.specs.Setting.{SendBuffer, StreamWindow, Grant}
 use Rattle.qs_machine.specs.FrameStep.{named}
-use Rattle.qs_machine.specs.Setting.{Grant}
 use Rattle.qs_machine.specs.Owner.{Certain, Uncertain}
 use Rattle.qs_runs.specs.Invariant.{Standing, standing}
 

@@ -1,11 +1,10 @@
 -- A receiving half that takes frames.
-use Rattle.std.proofs.Common.{◌≡◌, ℕ, ◌+◌, ◌-◌, ◌<◌, ◌≤◌, Bool, true, false, ◌||◌, List, ◌⊎◌, length, Option, Some, None, is_some, refl, sym, ap, ◌∙◌, arith, inl, inr, if◌then◌else◌}
+use Rattle.std.proofs.Common.{◌≡◌, ℕ, ◌+◌, ◌-◌, ◌<◌, ◌≤◌, Bool, true, false, ◌||◌, List, ◌⊎◌, length, Option, Some, None, is_some, refl, sym, ap, ◌∙◌, arith, inl, inr, if◌then◌else◌, nat_cmp}
 use Rattle.std.proofs.lemmas.Option.{none-some, same_Some}
 use Rattle.std.proofs.lemmas.Bool.Decides.{nat_tests}
 use Rattle.std.proofs.lemmas.Bool.{or_parts, and_cases, eqb-true, not-false, true≢false, false≢true}
 use Rattle.std.specs.FinMap as fmap
 use Rattle.std.specs.FinSet as set
-use Rattle.std.proofs.Common.{nat_cmp}
 use Rattle.qs_ranges.specs.Numbers.{end_of, is_within}
 use Rattle.qs_ranges.proofs.Sets.{below-end_of, end_of-last}
 use Rattle.qs_recv.proofs.LawfulLaws.{below_is, contains-below}
@@ -136,12 +135,9 @@ module _ (p : Past) (n window : ℕ) (l : RecvLane) (h : RecvOk p n window l) wh
     -- an offset below the largest that came
     told_below : (q : ℕ) → is_within 0 (end_of l.arrived.received) q ≡ true → TellsUpTo p.theirs n q
     told_below q is = elim (end_of-last l.arrived.received) [
-      | inl none ↦ absurd (below none)
+      | inl none ↦ absurd ((let lt : q < end_of l.arrived.received = grind (arith, nat_tests) in omega (arith, lt, none)))
       | inr last ↦ (let (m, le, told) = h.received (end_of l.arrived.received - 1) last in (m, (let lt : q < end_of l.arrived.received = grind (arith, nat_tests) in omega (arith, lt, le)), told))
     ]
-      where
-        below : end_of l.arrived.received ≡ 0 → ⊥
-        below none = (let lt : q < end_of l.arrived.received = grind (arith, nat_tests) in omega (arith, lt, none))
 
     pub take_reset_ok : (b : Bool) → RecvOk p n window (if b then l else when_reset)
     take_reset_ok true = h

@@ -24,7 +24,7 @@ use Rattle.qs_machine.proofs.TableLaws.{value, total_le, total_update, total_ope
 use Rattle.qs_runs.specs.Pasts.{Past, Tells, TellsEnd, TellsReset, IsNamed, Names}
 use Rattle.qs_runs.specs.Invariant.{EndOk, SendSlot, NeverSent, RecvTrue, RecvSlot, NeverReceived, TellsUpTo, is_open}
 use Rattle.qs_runs.proofs.Agreement.{byte_written}
-use Rattle.qs_runs.proofs.Opening.{opened_ok, named_by, lane_opened}
+use Rattle.qs_runs.proofs.Frames.{opened_ok, named_by, lane_opened}
 
 abbrev sent_of : Option SendLane → ℕ
 sent_of o = value (λ l. l.sent_end) o
@@ -244,12 +244,9 @@ facing_by : (e f : End) (n : ℕ) (b : Bool) → Facing e f → Facing (if b the
 facing_by e f n true h = h
 facing_by e f n false h = record { opposite = h.opposite; first_limit = h.first_limit; first_data = h.first_data; bidi = h.bidi; uni = h.uni }
 
-new_highest : (window : ℕ) (share : Share) → highest (new_recv_lane window share) ≡ 0
-new_highest window share = le_antisymm (end-le set.empty 0 (λ q is. absurd (false≢true (sym (set.contains-empty nat_cmp q) ∙ is)))) (omega arith)
-
 total_by : (t : Tables RecvLane) (n window : ℕ) (share : Share) (b : Bool) → total highest (if b then t else open_to t n (λ m. new_recv_lane window share)) ≡ total highest t
 total_by t n window share true = refl
-total_by t n window share false = total_open highest t n (λ m. new_recv_lane window share) (λ m. new_highest window share)
+total_by t n window share false = total_open highest t n (λ m. new_recv_lane window share) (λ m. (le_antisymm (end-le set.empty 0 (λ q is. absurd (false≢true (sym (set.contains-empty nat_cmp q) ∙ is)))) (omega arith)))
 
 -- opening spends nothing
 pub spent_opened : (e : End) (n : ℕ) (b : Bool) → spent (if b then e else opens n e) ≡ spent e

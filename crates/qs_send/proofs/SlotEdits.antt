@@ -6,8 +6,6 @@ use Rattle.qs_ranges.specs.Numbers.{MAX_VARINT}
 use Rattle.qs_send.specs.Lane.{Sending, new_sending, after_allow, after_blocked}
 use Rattle.qs_send.specs.Halves.{half_at, slot_at, slot_half, halves_from, over_sending, IsOver, IsOverSlot, ArePlaced}
 use Rattle.qs_send.specs.declared.halves.slot.SendSlot.{SendSlot}
-use Rattle.qs_send.specs.Sound.{IsLawful}
-use Rattle.qs_send.proofs.Overs.{over_lawful}
 use Rattle.qs_send.proofs.Slots.{len_halves, at_halves, half_set, slot_set, placed_over, halves_take}
 
 pub none_of : (w : Option ℕ) → false ≡ is_some w → w ≡ None
@@ -58,12 +56,6 @@ module _ (kind : ℕ) (full : List Sending) (slots : List SendSlot) (i : ℕ) (s
 
   pub over_slot : (n : ℕ) → s.written ≡ Some n → IsOverSlot s n
   over_slot n some = subst (λ t. IsOverSlot t n) (sym read_slot) (are.over i n there (sym (ap (λ (t : SendSlot). t.written) read_slot) ∙ some))
-
-  pub over_lawful_at : kind < 4 → (n : ℕ) → s.written ≡ Some n → IsLawful (half_at (halves_from kind full 0 slots) i)
-  over_lawful_at four n some =
-      let over = over_slot n some in
-      let few = are.few in
-      subst IsLawful (sym (over_is n some)) (over_lawful (i * 4 + kind) n (s.rest / 2) (s.rest % 2 == 1) s.buffer s.widest (omega (arith, there, few, four)) over.within over.small over.widest)
 
   -- a half that isn't over becomes another
   pub lent : (y : Sending) → s.written ≡ None → halves_from kind (set full s.rest y) 0 slots ≡ set (halves_from kind full 0 slots) i y

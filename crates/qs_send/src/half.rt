@@ -95,7 +95,7 @@ impl SendHalf {
     }
 
     /// What holds of every half. It does nothing: a caller learns the clause.
-    pub fn is_lawful(&self)
+    pub fn learn_lawful(&self)
         ensures { IsLawful self.now }
     {
         let _limit = self.limit;
@@ -338,6 +338,7 @@ impl SendHalf {
     }
 
     /// The application's code of the reset: at most 2^62 - 1.
+    #[inline(always)]
     pub fn reset_code(&self) -> Option<u64>
         ensures value { result ≡ option_map (λ (r : Reset). r.code) self.now.lane.was_reset }
         ensures small { IfSome result (λ code. code ≤ MAX_VARINT) }
@@ -353,6 +354,7 @@ impl SendHalf {
     }
 
     /// How many bytes were written.
+    #[inline(always)]
     pub fn written(&self) -> u64
         ensures exact { result ≡ self.now.lane.written }
         ensures small { result ≤ MAX_VARINT }
@@ -361,6 +363,7 @@ impl SendHalf {
     }
 
     /// The number after the largest offset that was sent; 0 where none was.
+    #[inline(always)]
     pub fn sent_end(&self) -> u64
         ensures exact { result ≡ self.now.lane.sent_end }
         ensures small { result ≤ MAX_VARINT }
@@ -376,6 +379,7 @@ impl SendHalf {
     }
 
     /// The offsets below it may be sent.
+    #[inline(always)]
     pub fn limit(&self) -> u64
         ensures exact { result ≡ self.now.lane.limit }
         ensures small { result ≤ MAX_VARINT }

@@ -49,6 +49,7 @@ impl LiveOffsets {
         }
     }
 
+    #[inline(always)]
     pub(crate) fn sent_end(&self) -> u64
         ensures { result ≡ self.now.parts.sent_end }
     {
@@ -62,6 +63,7 @@ impl LiveOffsets {
         self.acked.first_missing(0)
     }
 
+    #[inline(always)]
     pub(crate) fn kept_len(&self) -> usize
         ensures { result ≡ length self.now.parts.kept }
     {
@@ -78,6 +80,7 @@ impl LiveOffsets {
     }
 
     /// The bytes that are kept, so many from a place on, in two pieces.
+    #[inline(always)]
     pub(crate) fn part(&self, from: usize, len: usize) -> (&[u8], &[u8])
         requires { from + len ≤ length self.now.parts.kept }
         ensures { result.0.now ++ result.1.now ≡ take len (drop from self.now.parts.kept) }

@@ -141,7 +141,7 @@ impl LostRecords {
 
     /// The order has the numbers that are held, each once, and each has a piece. It does nothing: a proof calls it for what it
     /// ensures.
-    pub fn is_in_order(&self)
+    pub fn learn_in_order(&self)
         ensures { IsOrderOf self.now.pieces self.now.order }
     {
         let _order = &self.order;

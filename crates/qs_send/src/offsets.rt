@@ -43,6 +43,7 @@ impl Offsets {
         }
     }
 
+    #[inline(always)]
     pub(crate) fn written(&self) -> u64
         ensures exact { result ≡ self.now.parts.written }
         ensures small { result ≤ MAX_VARINT }
@@ -51,6 +52,7 @@ impl Offsets {
     }
 
     /// The number after the largest offset that was sent; 0 where none was.
+    #[inline(always)]
     pub(crate) fn sent_end(&self) -> u64
         ensures { result ≡ self.now.parts.sent_end }
     {
@@ -71,6 +73,7 @@ impl Offsets {
         }
     }
 
+    #[inline(always)]
     pub(crate) fn kept_len(&self) -> usize
         ensures { result ≡ length self.now.parts.kept }
     {
@@ -93,6 +96,7 @@ impl Offsets {
     }
 
     /// The bytes that are kept, so many from a place on, in two pieces.
+    #[inline(always)]
     pub(crate) fn part(&self, from: usize, len: usize) -> (&[u8], &[u8])
         requires { from + len ≤ length self.now.parts.kept }
         ensures { result.0.now ++ result.1.now ≡ take len (drop from self.now.parts.kept) }
@@ -136,6 +140,7 @@ impl Offsets {
     }
 
     /// Takes in that the offsets below `end` were sent.
+    #[inline(always)]
     pub(crate) fn sent(&mut self, end: u64)
         requires { end ≤ self.old.parts.written }
         ensures parts { self.new.parts ≡ with_sent self.old.parts end }

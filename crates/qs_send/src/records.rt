@@ -187,7 +187,7 @@ impl Records {
     }
 
     /// Each packet that is held has a piece. It does nothing: a proof calls it for what it ensures.
-    pub fn none_is_empty(&self)
+    pub fn learn_none_empty(&self)
         ensures { NoneEmpty self.now.pieces }
     {
         let _slots = &self.slots;

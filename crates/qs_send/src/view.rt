@@ -60,7 +60,8 @@ impl<'a> SendView<'a> {
     pub(crate) fn of_over(number: u64, written: u64, slot: SendSlot) -> Self
         requires number { number ≤ MAX_VARINT }
         requires slot { IsOverSlot slot written }
-        ensures { result ≡ over_sending number written (slot.rest / 2) (slot.rest % 2 == 1) slot.buffer slot.widest }
+        ensures half { result ≡ over_sending number written (slot.rest / 2) (slot.rest % 2 == 1) slot.buffer slot.widest }
+        ensures lawful { IsLawful result }
     {
         SendView {
             half: Viewed::Over(Over {
@@ -77,9 +78,10 @@ impl<'a> SendView<'a> {
     /// Another.
     #[inline(always)]
     pub(crate) fn of_full(half: &'a SendHalf) -> Self
-        ensures { result ≡ half.now }
+        ensures half { result ≡ half.now }
+        ensures lawful { IsLawful result }
     {
-        half.is_lawful();
+        half.learn_lawful();
         SendView {
             half: Viewed::Full(half),
         }
@@ -87,7 +89,7 @@ impl<'a> SendView<'a> {
 
     /// What holds of every half. It does nothing: a caller learns the clause.
     #[inline(always)]
-    pub fn is_lawful(&self)
+    pub fn learn_lawful(&self)
         ensures { IsLawful self.now }
     {
         let _half = &self.half;

@@ -13,7 +13,7 @@ use Rattle.qs_runs.specs.Worlds.{World, WorldStep, EventRun, world_made, both_ma
 use Rattle.qs_world.specs.Plays.{AgreeingRun, HasAgreed}
 use Rattle.qs_runs.specs.Invariant.{WorldOk}
 use Rattle.qs_runs.proofs.Runs.{run_keeps, event_runs}
-use Rattle.qs_runs.proofs.Agrees.{agrees, step_agrees}
+use Rattle.qs_runs.proofs.Clauses.{agrees, step_agrees}
 
 -- an agreeing run is a run of events
 pub is_run : (a b : Settings) (log : Log) (w : World) → AgreeingRun a b log w → EventRun a b log w

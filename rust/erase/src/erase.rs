@@ -61,6 +61,9 @@ const CALLS: [(&str, &str, &str); 2] = [
     ("collect", "collected_in", "IteratorCalls"),
 ];
 
+/// How the name of a step begins that only tells the prover a fact.
+const LEARN: &str = "learn_";
+
 /// Calls that take memory and can't fail, or that the shim has under another name where they can. None may stay.
 const BANNED: &str = "alloc collect concat into_boxed_slice into_vec join repeat sort sort_by sort_by_cached_key sort_by_key to_owned \
                       to_string to_vec";
@@ -222,6 +225,9 @@ impl<'a> Eraser<'a> {
         if self.place.laws && self.is_law(at, end, body) {
             return Ok(self.cut_item(at - 1, body + 1));
         }
+        if self.word(at + 1).starts_with(LEARN) {
+            return self.learnt(at, end, body);
+        }
         if self.place.program && self.word(at + 1) == "main" {
             let start = self.tokens[at].start;
             self.edits
@@ -235,6 +241,46 @@ impl<'a> Eraser<'a> {
         }
         self.signature(at + 1, end)?;
         Ok(body)
+    }
+
+    /// A step that only tells the prover a fact goes whole. It takes nothing that may change and answers nothing, so it does nothing.
+    fn learnt(&mut self, at: usize, end: usize, body: usize) -> Erased<usize> {
+        let changes = (at..end).any(|i| self.word(i) == "mut" || self.is_sign(i, "->"));
+        if changes || self.word(body) != "{" {
+            return self.unknown(at + 1, "a step that may do something");
+        }
+        let mut first = at;
+        if self.word(first - 1) == ")" {
+            first -= 3;
+        }
+        first -= usize::from(self.word(first - 1) == "pub");
+        while self.word(first - 1) == "]" {
+            first = self.open(first - 1)? - 1;
+        }
+        let start = self.comments_above(self.line_start(self.tokens[first].start));
+        Ok(self.cut(start, self.close(body)?))
+    }
+
+    /// A call of such a step goes, a statement of its own.
+    fn call_of_learnt(&mut self, at: usize) -> Erased<usize> {
+        let close = self.close(at + 1)?;
+        let mut first = at;
+        loop {
+            first = match self.word(first - 1) {
+                "." if matches!(self.word(first - 2), ")" | "]") => {
+                    let open = self.open(first - 2)?;
+                    open - usize::from(self.is_name(open - 1))
+                }
+                "." => first - 2,
+                ":" => first - 3,
+                _ => break,
+            };
+        }
+        let is_statement = matches!(self.word(first - 1), ";" | "{" | "}");
+        if !is_statement || self.word(close + 1) != ";" {
+            return self.unknown(at, "a step that isn't a statement");
+        }
+        Ok(self.cut_lines(first, close + 1))
     }
 
     /// Where the braces of a clause open: behind its star, where it speaks of what is owned, and its name.
@@ -343,6 +389,9 @@ impl<'a> Eraser<'a> {
     fn name(&mut self, at: usize) -> Erased<usize> {
         let word = self.word(at);
         let before = self.word_before(at);
+        if word.starts_with(LEARN) {
+            return self.call_of_learnt(at);
+        }
         if self.is_sign(at + 1, "::") && !(at >= 2 && self.is_sign(at - 2, "::")) {
             return self.path(at);
         }
@@ -483,7 +532,18 @@ impl<'a> Eraser<'a> {
 
     /// Takes an item out, with the comments above it.
     fn cut_item(&mut self, first: usize, last: usize) -> usize {
-        let mut start = self.line_start(self.tokens[first].start);
+        let start = self.line_start(self.tokens[first].start);
+        let start = if self.word(first) == "#" {
+            start
+        } else {
+            self.comments_above(start)
+        };
+        self.cut(start, last)
+    }
+
+    /// The first of the comments that stand right above a line, and messages of errors.
+    fn comments_above(&self, line: usize) -> usize {
+        let mut start = line;
         while start > 0 {
             let above = self.line_start(start - 1);
             let line = self.text[above..start].trim_start();
@@ -493,10 +553,7 @@ impl<'a> Eraser<'a> {
             }
             start = above;
         }
-        if self.word(first) == "#" {
-            start = self.line_start(self.tokens[first].start);
-        }
-        self.cut(start, last)
+        start
     }
 
     /// Takes the lines of tokens out.
@@ -568,6 +625,22 @@ impl<'a> Eraser<'a> {
             }
         }
         self.unknown(open, "a bracket that isn't closed")
+    }
+
+    /// The bracket that opens where this one closes.
+    fn open(&self, close: usize) -> Erased<usize> {
+        let mut depth = 0;
+        for at in (0..=close).rev() {
+            match self.word(at) {
+                "(" | "[" | "{" => depth -= 1,
+                ")" | "]" | "}" => depth += 1,
+                _ => {}
+            }
+            if depth == 0 {
+                return Ok(at);
+            }
+        }
+        self.unknown(close, "a bracket that wasn't opened")
     }
 
     /// The token's text, empty past the end.

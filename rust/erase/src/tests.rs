@@ -119,6 +119,18 @@ fn a_hint_on_inlining_stays() {
 }
 
 #[test]
+fn a_step_of_a_proof_goes_with_its_calls() {
+    is_made(
+        "impl S {\n    /// What holds.\n    #[inline(always)]\n    pub(crate) fn learn_sum(&self)\n        ensures { sum self.now ≡ 0 }\n    {\n        let _a = self.a;\n    }\n\n    fn f(&mut self) {\n        self.learn_sum();\n        part(self.all[0], 1).learn_sum();\n        self.a = 1;\n    }\n}\n",
+        "impl S {\n    fn f(&mut self) {\n        self.a = 1;\n    }\n}\n",
+    );
+    stops("fn learn_sum(a: &mut u8) {\n}\n", "learn_sum");
+    stops("fn learn_sum() -> u8 {\n    1\n}\n", "learn_sum");
+    stops("fn f() {\n    let a = s.learn_sum();\n}\n", "learn_sum");
+    stops("use crate::a::learn_sum;\n", "learn_sum");
+}
+
+#[test]
 fn unknown_forms_stop_it() {
     stops("fn f() {\n    let ghost = 1;\n}\n", "ghost");
     stops("fn f()\n    ensures a ≡ b\n{}\n", "ensures");

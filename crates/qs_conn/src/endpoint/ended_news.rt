@@ -1,4 +1,4 @@
-//! Which streams came to their end, of which an owner wasn't told.
+//! Which streams came to their end.
 ghost use Rattle.std.specs.Prelude.{◌≡◌, ◌≤◌, ◌<◌, ◌^◌, ◌/◌, ℕ, true, false, length, IfSome};
 ghost use Rattle.qs_machine.specs.Tables.{type_of};
 ghost use Rattle.qs_machine.specs.Heard.{is_told};
@@ -6,46 +6,55 @@ ghost use Rattle.qs_machine.specs.News.{IsLeast, IsEnded};
 ghost use Rattle.qs_conn.specs.Marks.{IsBefore, IsUntold, IsUntoldOf, is_marked, both};
 
 use super::{Endpoint, is_uni, role_bit};
-use crate::marks::{Marks, least};
-use crate::places::index_from;
+use crate::marks::Marks;
+use crate::places::{index_from, lesser};
 use crate::told_streams::ToldStreams;
 use qs_wire::StreamId;
 
 impl Endpoint {
-    /// The least stream whose every half here came to its end and that wasn't told (RFC 9000, section 3).
-    #[inline(always)]
-    pub(crate) fn next_ended_untold(&self, told: &ToldStreams) -> Option<StreamId>
-        ensures { IsLeast (IsUntold (IsEnded self.now) told.now) 0 result }
+    /// The least stream at or above `from` whose every half here came to its end: the end or the reset was told to the reader, and all
+    /// that was sent is acknowledged, or the reset (RFC 9000, section 3). `None` where there is none.
+    ///
+    /// It takes no memory, and looks at one word of marks of each half for 64 streams of a type.
+    pub fn next_ended(&self, from: StreamId) -> Option<StreamId>
+        ensures { IsLeast (IsEnded self.now) from result }
     {
-        let bidi = least(
-            self.next_ended_untold_of(0, told),
-            self.next_ended_untold_of(1, told),
-        );
-        let uni = least(
-            self.next_ended_untold_of(2, told),
-            self.next_ended_untold_of(3, told),
-        );
-        match least(bidi, uni) {
-            Some(number) => StreamId::new(number),
-            None => None,
-        }
+        let none = ToldStreams::new(self.alloc);
+        self.next_ended_untold(&none, from.value())
     }
 
-    // The least such number among the streams of a type. Where none is over a caller pays for the look at that alone.
+    /// The same, of those that weren't told.
     #[inline(always)]
-    fn next_ended_untold_of(&self, stream_type: usize, told: &ToldStreams) -> Option<u64>
-        requires { stream_type < 4 }
-        ensures least { IsLeast (IsUntoldOf (IsEnded self.now) told.now stream_type) 0 result }
-        ensures small { IfSome result (λ n. n < 2 ^ 62) }
+    pub(crate) fn next_ended_untold(&self, told: &ToldStreams, from: u64) -> Option<StreamId>
+        requires { from ≤ 2 ^ 62 }
+        ensures { IsLeast (IsUntold (IsEnded self.now) told.now) from result }
+    {
+        let bidi = lesser(
+            self.next_ended_of(0, told, from),
+            self.next_ended_of(1, told, from),
+        );
+        let uni = lesser(
+            self.next_ended_of(2, told, from),
+            self.next_ended_of(3, told, from),
+        );
+        lesser(bidi, uni)
+    }
+
+    // The least such one of a type. Where none is over a caller pays for the look at that alone.
+    #[inline(always)]
+    fn next_ended_of(&self, stream_type: usize, told: &ToldStreams, from: u64) -> Option<StreamId>
+        requires stream_type { stream_type < 4 }
+        requires from { from ≤ 2 ^ 62 }
+        ensures { IsLeast (IsUntoldOf (IsEnded self.now) told.now stream_type) from result }
     {
         let (marks, _others) = self.ended_marks(stream_type);
         if !marks.may_have() {
             return None;
         }
-        let mut next = 0;
+        let mut next = from;
         while let Some(stream) = self.next_ended_marked(stream_type, told, next) {
             if self.has_ended(stream) {
-                return Some(stream.value());
+                return Some(stream);
             }
             next = stream.value() + 1;
         }

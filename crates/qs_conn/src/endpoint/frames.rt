@@ -1,14 +1,16 @@
 //! What the frames of a payload do.
-ghost use Rattle.std.specs.Prelude.{◌≡◌, ◌+◌, ◌≤◌, ◌<◌, ◌^◌, true, length, Ok, IfOk};
+ghost use Rattle.std.specs.Prelude.{◌≡◌, ◌+◌, ◌≤◌, ◌<◌, ◌^◌, true, length, None, Ok, IfOk};
 ghost use Rattle.qs_ranges.specs.Numbers.{MAX_VARINT};
 ghost use Rattle.qs_recv.specs.Lane.{check_stream, check_reset};
 ghost use Rattle.qs_recv.specs.declared.half.Highest.{Highest};
+ghost use Rattle.qs_machine.specs.Ends.{recv_lane};
 ghost use Rattle.qs_machine.specs.Credit.{grant};
 ghost use Rattle.qs_machine.specs.Seen.{Stream};
 ghost use Rattle.qs_machine.specs.Verdicts.{or_else, ack_fault, state_fault_in, state_fault_out, credit_fault, bytes_fault, fault_code, lane_of, verdict};
 ghost use Rattle.qs_conn.specs.Seen.{view_seen, SeenFits, Judges};
 
-use super::{Endpoint, is_uni};
+use super::{Endpoint, is_uni, role_bit};
+use crate::places::Place;
 use crate::seen::SeenFrame;
 use qs_recv::{Highest, RecvFault};
 use qs_send::Item;
@@ -49,7 +51,7 @@ impl Endpoint {
                 },
             ) => self.reset_fault(stream, final_size),
             SeenFrame::Control(Item::StreamDataBlocked { stream, .. }) => {
-                self.state_fault_in(stream)
+                self.state_fault_in(Place::of(stream))
             }
             SeenFrame::Control(Item::StopSending { stream, .. }) => self.state_fault_out(stream),
             SeenFrame::Control(Item::MaxStreamData { stream, .. }) => self.state_fault_out(stream),
@@ -91,7 +93,7 @@ impl Endpoint {
 
     #[tactic(auto, unfolding(qs_machine::specs::Verdicts::verdict))]
     #[inline(always)]
-    fn stream_fault(&self, stream: StreamId, offset: u64, bytes: &[u8], fin: bool) -> Option<u64>
+    fn stream_fault(&self, stream: Place, offset: u64, bytes: &[u8], fin: bool) -> Option<u64>
         requires { offset + length bytes.now ≤ MAX_VARINT }
         ensures { result ≡ or_else (state_fault_in self.now stream) (or_else (credit_fault self.now (check_stream (lane_of self.now stream) offset (length bytes.now) fin)) (bytes_fault self.now stream offset bytes.now)) }
     {
@@ -104,31 +106,50 @@ impl Endpoint {
     // The bytes come last, and only those that are still stored are compared (RFC 9000, section 2.2). A frame that raises the highest offset
     // changes this end.
     #[tactic(auto, unfolding(qs_machine::specs::Verdicts::verdict))]
-    fn judge_stream(
-        &self,
-        stream: StreamId,
-        offset: u64,
-        bytes: &[u8],
-        fin: bool,
-    ) -> Result<bool, u64>
+    fn judge_stream(&self, stream: Place, offset: u64, bytes: &[u8], fin: bool) -> Result<bool, u64>
         requires { offset + length bytes.now ≤ MAX_VARINT }
         ensures { Judges self.now (Stream stream offset bytes.now fin) result }
     {
         if let Some(code) = self.state_fault_in(stream) {
             return Err(code);
         }
-        let window = self.window(stream);
+        let Some(half) = self.core.recvs.half(stream) else {
+            return self.judge_first(stream, offset, bytes, fin);
+        };
+        let judged = half.judge(offset, bytes, fin);
+        if let Some(code) = self.credit_fault(judged.stream) {
+            return Err(code);
+        }
+        half.learn_lawful();
+        match judged.bytes {
+            Ok(()) => Ok(is_rise(judged.stream)),
+            Err(fault) => Err(code_of(fault)),
+        }
+    }
+
+    // The first frame of a stream opens it, so it changes this end.
+    #[tactic(auto, unfolding(qs_machine::specs::Verdicts::verdict))]
+    fn judge_first(&self, stream: Place, offset: u64, bytes: &[u8], fin: bool) -> Result<bool, u64>
+        requires in_range { offset + length bytes.now ≤ MAX_VARINT }
+        requires none { recv_lane self.now stream ≡ None }
+        requires state { state_fault_in self.now stream ≡ None }
+        ensures { Judges self.now (Stream stream offset bytes.now fin) result }
+    {
+        let window = self.window(stream.id);
         let len = bytes.len() as u64;
         let check = self
             .core
             .recvs
-            .check_stream(window, stream, offset, len, fin);
+            .check_stream(window, stream.id, offset, len, fin);
         if let Some(code) = self.credit_fault(check) {
             return Err(code);
         }
-        self.core.recvs.is_lawful(stream);
-        match self.core.recvs.check_bytes(window, stream, offset, bytes) {
-            Ok(()) => Ok(is_rise(check)),
+        match self
+            .core
+            .recvs
+            .check_bytes(window, stream.id, offset, bytes)
+        {
+            Ok(()) => Ok(true),
             Err(fault) => Err(code_of(fault)),
         }
     }
@@ -137,7 +158,7 @@ impl Endpoint {
         requires { size ≤ MAX_VARINT }
         ensures { result ≡ or_else (state_fault_in self.now stream) (credit_fault self.now (check_reset (lane_of self.now stream) size)) }
     {
-        if let Some(code) = self.state_fault_in(stream) {
+        if let Some(code) = self.state_fault_in(Place::of(stream)) {
             return Some(code);
         }
         let window = self.window(stream);
@@ -146,16 +167,22 @@ impl Endpoint {
     }
 
     // Of a frame on what the peer sends.
-    fn state_fault_in(&self, stream: StreamId) -> Option<u64>
+    fn state_fault_in(&self, stream: Place) -> Option<u64>
         ensures { result ≡ state_fault_in self.now stream }
     {
-        if self.is_own(stream) {
-            if self.core.recvs.is_open(stream) {
-                None
-            } else {
-                Some(STREAM_STATE_ERROR)
-            }
-        } else if self.grant(stream) <= stream.index() {
+        if stream.stream_type % 2 == role_bit(self.core.limits.role) {
+            return match self.core.recvs.half(stream) {
+                Some(_open) => None,
+                None => Some(STREAM_STATE_ERROR),
+            };
+        }
+        let streams = &self.core.limits.granted_streams;
+        let granted = if stream.stream_type >= 2 {
+            streams.uni
+        } else {
+            streams.bidi
+        };
+        if granted <= stream.index as u64 {
             Some(STREAM_LIMIT_ERROR)
         } else {
             None
@@ -190,7 +217,7 @@ impl Endpoint {
             Err(fault) => Some(code_of(fault)),
             Ok(highest) => {
                 let growth = highest.after.saturating_sub(highest.before);
-                if self.core.limits.granted < self.spent() + growth {
+                if self.core.limits.granted < self.core.recvs.tally().spent + growth {
                     Some(FLOW_CONTROL_ERROR)
                 } else {
                     None

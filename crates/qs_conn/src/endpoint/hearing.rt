@@ -1,21 +1,21 @@
 //! What of an end is news to its owner.
-ghost use Rattle.std.specs.Prelude.{◌≡◌, ◌<◌, ◌^◌, ◌↔◌, IsTrue, true, false, is_some, ℕ, None, IfSome, IfNone, Some};
+ghost use Rattle.std.specs.Prelude.{◌≡◌, ◌<◌, ◌↔◌, IsTrue, true, false, is_some, ℕ, None, Some};
 ghost use Rattle.qs_send.specs.Lane.{SendLane};
 ghost use Rattle.qs_machine.specs.Tables.{lookup};
 ghost use Rattle.qs_machine.specs.Asking.{room, stopped_with};
 ghost use Rattle.qs_machine.specs.Credit.{send_ended};
 ghost use Rattle.qs_machine.specs.Ends.{recv_lane};
 ghost use Rattle.qs_machine.specs.Heard.{Hearing, IsNextOpened, MayOpen, is_cut_short, is_met, limit_to_tell, WasResetAcked, is_told, wants};
-ghost use Rattle.qs_machine.specs.News.{IsLeast, IsReadable, IsEnded, IsHeld};
+ghost use Rattle.qs_machine.specs.News.{IsLeast, IsReadable, IsHeld};
 ghost use Rattle.qs_conn.specs.ByDir.{IsFirstDir};
 ghost use Rattle.qs_conn.specs.Hearing.{next_of_peer};
 
 use super::Endpoint;
 use crate::by_dir::ByDir;
-use crate::marks::least;
+use crate::places::lesser;
 use crate::recv_marks::RecvTask;
 use crate::told_streams::ToldStreams;
-use qs_calls::{MAX_VARINT, News};
+use qs_calls::MAX_VARINT;
 use qs_wire::{Dir, StreamId};
 
 impl Endpoint {
@@ -24,23 +24,18 @@ impl Endpoint {
         ensures { (h : Hearing) → h.opened_bidi ≡ heard.bidi → h.opened_uni ≡ heard.uni → IsLeast (IsNextOpened self.now h) 0 result }
     {
         let bidi = self.next_opened_of(Dir::Bidi, heard.bidi);
-        let uni = self.next_opened_of(Dir::Uni, heard.uni);
-        match least(bidi, uni) {
-            Some(number) => StreamId::new(number),
-            None => None,
-        }
+        lesser(bidi, self.next_opened_of(Dir::Uni, heard.uni))
     }
 
     // The next one of a direction.
-    fn next_opened_of(&self, dir: Dir, heard: u64) -> Option<u64>
-        ensures value { result ≡ next_of_peer self.now dir heard }
-        ensures small { IfSome result (λ n. n < 2 ^ 62) }
+    fn next_opened_of(&self, dir: Dir, heard: u64) -> Option<StreamId>
+        ensures { result ≡ next_of_peer self.now dir heard }
     {
         let stream_type = self.peer_type(dir);
         if heard >= self.opened_count(stream_type) as u64 {
             return None;
         }
-        Some(heard * 4 + stream_type as u64)
+        StreamId::new(heard * 4 + stream_type as u64)
     }
 
     /// The least stream at which a read of one byte tells something new, of those without a mark.

@@ -18,7 +18,7 @@ impl Endpoint {
         if let Some(fault) = self.lose_refusal(number) {
             return Err(fault);
         }
-        self.core.outbox.none_is_empty();
+        self.core.outbox.learn_none_empty();
         match self.core.lose(number) {
             Ok(()) => Ok(()),
             Err(_refused) => Err(LostFault::NoMemory),
@@ -33,7 +33,7 @@ impl Endpoint {
         if self.closed.is_some() {
             return Some(LostFault::Closed);
         }
-        self.core.outbox.none_is_empty();
+        self.core.outbox.learn_none_empty();
         if self.core.outbox.first(number).is_none() {
             return Some(LostFault::NotOutstanding);
         }

@@ -1,12 +1,7 @@
 //! Which streams wait for their owner, and which have something for a packet.
-ghost use Rattle.std.specs.Prelude.{◌≡◌, ◌≤◌, ◌<◌, ◌^◌, ℕ, IfSome};
-ghost use Rattle.qs_machine.specs.Tables.{type_of};
-ghost use Rattle.qs_machine.specs.News.{IsLeast, IsReadable, IsSendable, IsWritable, IsEnded};
-ghost use Rattle.qs_conn.specs.Marks.{IsBefore, IsEndedOf};
+ghost use Rattle.qs_machine.specs.News.{IsLeast, IsReadable, IsSendable, IsWritable};
 
-use super::{Endpoint, role_bit};
-use crate::marks::least;
-use crate::places::index_from;
+use super::Endpoint;
 use crate::recv_marks::RecvTask;
 use qs_wire::StreamId;
 
@@ -50,67 +45,5 @@ impl Endpoint {
             return None;
         }
         self.core.outbox.next_writable(from.value())
-    }
-
-    /// The least stream at or above `from` whose every half here came to its end: the end or the reset was told to the reader, and all
-    /// that was sent is acknowledged, or the reset (RFC 9000, section 3). `None` where there is none.
-    ///
-    /// It takes no memory, and looks at one word of marks of each half for 64 streams of a type.
-    pub fn next_ended(&self, from: StreamId) -> Option<StreamId>
-        ensures { IsLeast (IsEnded self.now) from result }
-    {
-        let from = from.value();
-        let bidi = least(self.next_bidi_ended(0, from), self.next_bidi_ended(1, from));
-        let uni = least(self.next_uni_ended(2, from), self.next_uni_ended(3, from));
-        match least(bidi, uni) {
-            Some(number) => StreamId::new(number),
-            None => None,
-        }
-    }
-
-    // The least such number among the bidirectional streams of a type.
-    fn next_bidi_ended(&self, stream_type: usize, from: u64) -> Option<u64>
-        requires stream_type { stream_type < 2 }
-        requires from { from ≤ 2 ^ 62 }
-        ensures least { IsLeast (IsEndedOf self.now stream_type) from result }
-        ensures small { IfSome result (λ n. n < 2 ^ 62) }
-    {
-        let mut next = from;
-        while let Some(stream) = self.next_bidi_marked(stream_type, next) {
-            if self.core.recvs.has_ended(stream) && self.core.outbox.has_ended(stream) {
-                return Some(stream.value());
-            }
-            next = stream.value() + 1;
-        }
-        None
-    }
-
-    // The least such number of a stream that may be over. None of those between is.
-    fn next_bidi_marked(&self, stream_type: usize, from: u64) -> Option<StreamId>
-        requires stream_type { stream_type < 2 }
-        requires from { from ≤ 2 ^ 62 }
-        ensures found { IfSome result (λ n. (from ≤ n) × (n < 2 ^ 62) × (type_of n ≡ stream_type)) }
-        ensures none { (n : ℕ) → from ≤ n → IsBefore n result → IsEndedOf self.now stream_type n → ⊥ }
-    {
-        let receiving = self.core.recvs.ended_marks(stream_type);
-        let sending = self.core.outbox.ended_marks(stream_type);
-        let index = receiving.next_both(sending, index_from(stream_type, from))?;
-        StreamId::new((index * 4 + stream_type) as u64)
-    }
-
-    // The least such number among the unidirectional streams of a type: those of this end only send.
-    fn next_uni_ended(&self, stream_type: usize, from: u64) -> Option<u64>
-        requires stream_type { (2 ≤ stream_type) × (stream_type < 4) }
-        requires from { from ≤ 2 ^ 62 }
-        ensures least { IsLeast (IsEndedOf self.now stream_type) from result }
-        ensures small { IfSome result (λ n. n < 2 ^ 62) }
-    {
-        if stream_type % 2 == role_bit(self.core.limits.role) {
-            self.core.outbox.next_ended_of(stream_type, from)
-        } else {
-            self.core
-                .recvs
-                .next_with_of(RecvTask::Ended, stream_type, from)
-        }
     }
 }

@@ -144,9 +144,9 @@ impl Endpoint {
         let window = self.window(stream);
         let share = self.core.limits.tuning.credit_step;
         let buffer = self.send_buffer();
-        self.core.outbox.are_of_open();
+        self.core.outbox.learn_of_open();
         let before = self.core.outbox.count(stream);
-        self.core.outbox.are_of_open();
+        self.core.outbox.learn_of_open();
         self.core.untold_recvs.open_to(stream)?;
         self.core.untold_sends.open_to(stream)?;
         open_sends(

@@ -83,7 +83,7 @@ impl Endpoint {
         if let Some(fault) = self.no_sender(stream) {
             return Err(fault);
         }
-        self.core.outbox.has_sending(stream);
+        self.core.outbox.learn_sending(stream);
         match self.core.outbox.finish(stream) {
             Ok(()) => {
                 self.settle();

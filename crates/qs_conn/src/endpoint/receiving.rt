@@ -95,7 +95,7 @@ impl Endpoint {
         ensures step { TakesPayload number payload.now self.old result self.new }
         ensures told { FoldsTo T.tells told.old (newly_acked self.old payload.now self.new) told.new }
     {
-        self.none_is_empty();
+        self.learn_none_empty();
         let mut frames = Frames::new(payload);
         let mut asks = false;
         loop {
@@ -111,10 +111,10 @@ impl Endpoint {
     }
 
     // Each outstanding packet has a piece. It does nothing: a caller learns the clause.
-    fn none_is_empty(&self)
+    fn learn_none_empty(&self)
         ensures { NoneEmpty self.now.outstanding }
     {
-        self.core.outbox.none_is_empty();
+        self.core.outbox.learn_none_empty();
     }
 
     // One frame takes effect, or the processing ends with it.

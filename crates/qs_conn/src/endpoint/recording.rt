@@ -1,5 +1,5 @@
 //! Which packet numbers were processed.
-ghost use Rattle.std.specs.Prelude.{◌≡◌, ◌+◌, ◌-◌, ◌<◌, ◌^◌, ◌||◌, if◌then◌else◌, OnOk, OnErr};
+ghost use Rattle.std.specs.Prelude.{◌≡◌, ◌+◌, ◌-◌, ◌<◌, ◌^◌, if◌then◌else◌, OnOk, OnErr};
 ghost use Rattle.std.specs.FinSet as set;
 ghost use Rattle.qs_ranges.specs.Numbers.{numbers, MissesRange};
 ghost use Rattle.qs_machine.specs.Recording.{has_too_many, least_in, lowest_end, recorded};
@@ -21,29 +21,23 @@ impl Endpoint {
     {
         self.done.insert(number, number + 1)?;
         self.floor = trim(&mut self.done, self.floor);
-        self.ack_due = either(self.ack_due, asks);
+        self.ack_due |= asks;
         Ok(())
     }
 }
 
 // Where too many ranges are kept, the lowest one leaves. Answers the number below which none is told apart.
+#[tactic(auto, unfolding(qs_machine::specs::Recording::has_too_many))]
 fn trim(done: &mut RangeSet, floor: u64) -> u64
     ensures done { done.new ≡ (if has_too_many done.old then set.difference done.old (numbers 0 (lowest_end done.old)) else done.old) }
     ensures floor { result ≡ (if has_too_many done.old then lowest_end done.old else floor) }
 {
-    if !has_too_many(done) {
+    if done.count() <= MAX_RUNS {
         return floor;
     }
     let end = lowest_end(done);
     done.drop_below(end);
     end
-}
-
-#[tactic(auto, unfolding(qs_machine::specs::Recording::has_too_many))]
-fn has_too_many(done: &RangeSet) -> bool
-    ensures { result ≡ has_too_many done.now }
-{
-    done.count() > MAX_RUNS
 }
 
 // One more than the largest number of the lowest range.
@@ -60,10 +54,4 @@ fn lowest(done: &RangeSet) -> u64
         Some(number) => number,
         None => 0,
     }
-}
-
-fn either(a: bool, b: bool) -> bool
-    ensures { result ≡ (a || b) }
-{
-    a || b
 }

@@ -1,5 +1,5 @@
 //! A frame without a fault takes effect.
-ghost use Rattle.std.specs.Prelude.{◌≡◌, ◌+◌, ◌≤◌, ◌<◌, ◌^◌, length, None, OnOk, OnErr};
+ghost use Rattle.std.specs.Prelude.{◌≡◌, ◌+◌, ◌≤◌, ◌<◌, ◌^◌, length, true, None, OnOk, OnErr};
 ghost use Rattle.std.specs.List.{FoldsTo};
 ghost use Rattle.qs_ranges.specs.Numbers.{MAX_VARINT};
 ghost use Rattle.qs_wire.specs.Varint.{numbers_of};
@@ -11,10 +11,12 @@ ghost use Rattle.qs_machine.specs.FrameStep.{named, acks, item_taken, frame_take
 ghost use Rattle.qs_machine.specs.Memory.{IsYetToOpen, MayRunOut};
 ghost use Rattle.qs_machine.specs.Receiving.{RunsOut};
 ghost use Rattle.qs_conn.specs.NewlyTold.{told_of};
+ghost use Rattle.qs_conn.specs.Plain.{IsPlain};
 ghost use Rattle.qs_conn.specs.Seen.{view_seen, SeenFits};
 
 use super::Endpoint;
 use crate::newly_told::Told;
+use crate::places::Place;
 use crate::seen::SeenFrame;
 use qs_ranges::NoMemory;
 use qs_send::Item;
@@ -102,7 +104,7 @@ impl Endpoint {
         ensures yet { OnErr result (IsYetToOpen self.old stream) }
     {
         self.open_by_peer(stream)?;
-        self.core.outbox.has_sending(stream);
+        self.core.outbox.learn_sending(stream);
         self.core.outbox.allow(stream, maximum);
         Ok(())
     }
@@ -141,9 +143,53 @@ impl Endpoint {
         Ok(())
     }
 
-    // Bytes of a stream came.
+    // Bytes of a stream came. Mostly they move nothing but what came of it.
     #[tactic(auto, unfolding(qs_machine::specs::FrameStep::frame_taken))]
     fn on_stream(
+        &mut self,
+        stream: Place,
+        offset: u64,
+        bytes: &[u8],
+        fin: bool,
+    ) -> Result<(), NoMemory>
+        requires in_range { offset + length bytes.now ≤ MAX_VARINT }
+        requires passed { verdict self.old (Stream stream offset bytes.now fin) ≡ None }
+        ensures ok { OnOk result (self.new ≡ frame_taken (Stream stream offset bytes.now fin) self.old) }
+        ensures err { OnErr result (self.new ≡ self.old) }
+        ensures asks { OnErr result (MayRunOut self.old (Stream stream offset bytes.now fin)) }
+    {
+        if self.is_plain(stream) {
+            self.core.recvs.take_stream(stream, offset, bytes, fin)?;
+            return Ok(());
+        }
+        self.on_any_stream(stream.id, offset, bytes, fin)
+    }
+
+    // Whether a stream is open, and no end, reset or stop was told of it: a frame moves no limit then, and no count of streams.
+    fn is_plain(&self, stream: Place) -> bool
+        ensures { result ≡ true → IsPlain self.now stream }
+    {
+        let Some(half) = self.core.recvs.half(stream) else {
+            return false;
+        };
+        if half.is_told() {
+            return false;
+        }
+        if half.stop_code().is_some() {
+            return false;
+        }
+        if half.reset_code().is_some() {
+            return false;
+        }
+        if stream.stream_type >= 2 {
+            return true;
+        }
+        stream.index < self.core.outbox.count_of(stream.stream_type)
+    }
+
+    // Bytes of a stream came, which they may open.
+    #[tactic(auto, unfolding(qs_machine::specs::FrameStep::frame_taken))]
+    fn on_any_stream(
         &mut self,
         stream: StreamId,
         offset: u64,
@@ -156,13 +202,14 @@ impl Endpoint {
         ensures err { OnErr result (self.new ≡ self.old) }
         ensures asks { OnErr result (MayRunOut self.old (Stream stream offset bytes.now fin)) }
     {
-        self.core.outbox.are_of_open();
+        self.core.outbox.learn_of_open();
         let sends = self.core.outbox.count(stream);
-        self.core.outbox.are_of_open();
+        self.core.outbox.learn_of_open();
         let recvs = self.core.recvs.count(stream);
         self.open_by_peer(stream)?;
         let was = self.core.is_over(stream);
-        if let Err(refused) = self.core.recvs.take_stream(stream, offset, bytes, fin) {
+        let place = Place::of(stream);
+        if let Err(refused) = self.core.recvs.take_stream(place, offset, bytes, fin) {
             self.core.outbox.close_to(stream, sends);
             self.core.recvs.close_to(stream, recvs);
             self.is_settled = false;

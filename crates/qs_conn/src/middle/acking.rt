@@ -118,7 +118,7 @@ impl Core {
         ensures told { late ≡ false → TellsAhead T.tells pass.old self.old.outbox self.new.outbox told.old told.new }
     {
         while let Some(number) = self.outbox.next_named(late, pass) {
-            self.outbox.none_is_empty();
+            self.outbox.learn_none_empty();
             self.ack_packet(KeptPacket { late, number })?;
             told.tell(number);
         }

@@ -1,24 +1,29 @@
 //! A packet is filled with what is due.
-ghost use Rattle.std.specs.Prelude.{◌≡◌, ◌+◌, ◌≤◌, ◌<◌, ◌↔◌, ◌^◌, ℕ, IsTrue, Bool, true, false, is_some, length, take, IfSome};
+ghost use Rattle.std.specs.Prelude.{◌≡◌, ◌+◌, ◌≤◌, ◌<◌, ◌↔◌, ◌^◌, ℕ, IsTrue, Bool, true, false, Some, is_some, length, take, IfSome};
 ghost use Rattle.std.specs.FinSet as set;
 ghost use Rattle.qs_ranges.specs.Numbers.{run_starts};
 ghost use Rattle.qs_send.specs.declared.piece.Piece.{Piece};
 ghost use Rattle.qs_machine.specs.Tables.{lookup};
 ghost use Rattle.qs_machine.specs.Due.{StreamGoes};
+ghost use Rattle.qs_machine.specs.Outgoing.{IsBlockedAt};
+ghost use Rattle.qs_conn.specs.Untold.{HasMore};
 ghost use Rattle.qs_machine.specs.Ends.{End};
 ghost use Rattle.qs_machine.specs.Filling.{IsAsked};
 ghost use Rattle.qs_conn.specs.declared.filling.Wish.{Wish};
 ghost use Rattle.qs_conn.specs.Middle.{IsCore, IsFilling, FillsOn, HasMemory, HoldsAtMost, IsStill, own_items, end_of};
 ghost use Rattle.qs_conn.specs.Filling.{slot_at, Passed, HasPassedTo, HasPassedKinds, kind_place, no_slot, and_slot, and_kind, all_items, Stage, Flow, Packed, IsAckLeft, InPacket, turn_at, start_of, way_end, IsOnWay};
 ghost use Rattle.qs_conn.specs.Marks.{IsBefore, IsIdle};
+ghost use Rattle.qs_conn.specs.Tasks.{IsOpen};
 
 use super::Core;
 use crate::filling::{
     Course, LEAST_STREAM_FRAME, Packet, Wish, cut_to, full_at, is_covered, put_ack_if, put_chunk,
     put_item,
 };
+use crate::outbox::Outbox;
 use crate::send_marks::Task;
 use crate::slot::{Kind, Slot};
+use crate::untold::Untold;
 use qs_ranges::RangeSet;
 use qs_wire::{Dir, StreamId};
 
@@ -144,6 +149,7 @@ impl Core {
     }
 
     /// Whether a stream may have an item of a kind. It looks at how many marks there are.
+    #[inline(always)]
     pub(super) fn may_tell(&self, kind: Kind) -> bool
         requires { IsCore self.now }
         ensures { result ≡ false → (n : ℕ) (e : End) → IsIdle (end_of self.now e) (slot_at kind n) }
@@ -229,7 +235,8 @@ impl Core {
             return self.put_open(wish.want.first, out, packet);
         }
         let packet = self.put_way(wish.want.first, false, out, packet);
-        if packet.is_full {
+        // Below the least stream there is no other.
+        if wish.want.first.value() == 0 {
             return packet;
         }
         self.put_way(wish.want.first, true, out, packet)
@@ -254,7 +261,7 @@ impl Core {
             if !is_on_way(around, first, stream) {
                 return packet;
             }
-            packet = self.put_open(stream, out, packet);
+            packet = self.put_chunks(stream, out, packet);
             if packet.is_full {
                 return packet;
             }
@@ -270,6 +277,7 @@ impl Core {
         requires core { IsCore self.now }
         requires from { from ≤ 2 ^ 62 }
         ensures from { IfSome result (λ n. from ≤ n) }
+        ensures open { IfSome result (IsOpen self.now.outbox.sends) }
         ensures none { (n : ℕ) (e : End) → from ≤ n → IsBefore n result → StreamGoes (end_of self.now e) n → ⊥ }
     {
         if self.outbox.sent_sum() < self.limits.known_data {
@@ -280,6 +288,7 @@ impl Core {
 
     // Puts chunks of a stream into the packet, if it is one that can send.
     #[tactic(auto, using(crate::proofs::Cores::fills_same))]
+    #[inline(always)]
     fn put_open(&mut self, stream: StreamId, out: &mut [u8], packet: Course) -> Course
         requires filling { IsFilling self.old out.old packet.len }
         requires memory { HasMemory self.old (length out.old) packet.len 0 }
@@ -317,15 +326,23 @@ impl Core {
                     return full_at(len, 0);
                 }
                 let part = cut_to(chunk, quota);
-                let end = put_chunk(&mut self.outbox, stream, part, out, len);
+                let cut = put_chunk(&mut self.outbox, stream, part, out, len);
                 self.untold_sends.look_blocked(&self.outbox, stream);
-                return full_at(end, 0);
+                return full_at(cut.len, 0);
             }
-            len = put_chunk(&mut self.outbox, stream, chunk, out, len);
+            let put = put_chunk(&mut self.outbox, stream, chunk, out, len);
+            len = put.len;
             quota -= chunk.len;
-            self.untold_sends.look_blocked(&self.outbox, stream);
+            look_unless_free(&mut self.untold_sends, &self.outbox, stream, put.is_free);
             if out.len() - len < LEAST_STREAM_FRAME {
                 return full_at(len, quota);
+            }
+            if put.is_done {
+                return Course {
+                    len,
+                    quota,
+                    is_full: false,
+                };
             }
             fresh = self.limits.known_data - self.outbox.sent_sum();
         }
@@ -338,7 +355,20 @@ impl Core {
     }
 }
 
+// A sending half of which a chunk went is marked where it stands at its limit with more written, unless it is known that it doesn't.
+#[inline(always)]
+fn look_unless_free(marks: &mut Untold, outbox: &Outbox, stream: StreamId, is_free: bool)
+    requires { is_free ≡ true → (m : ℕ) → IsBlockedAt (lookup outbox.now.sends stream) m → ⊥ }
+    ensures more { HasMore marks.old marks.new }
+    ensures marked { (m : ℕ) → IsBlockedAt (lookup outbox.now.sends stream) m → lookup marks.new stream ≡ Some false → ⊥ }
+{
+    if !is_free {
+        marks.look_blocked(outbox, stream);
+    }
+}
+
 // Where the way begins: at `first`, or, on the way around, at the least stream.
+#[inline(always)]
 fn way_start(around: bool, first: StreamId) -> u64
     ensures value { result ≡ start_of around first }
     ensures small { result ≤ 2 ^ 62 }
@@ -347,6 +377,7 @@ fn way_start(around: bool, first: StreamId) -> u64
 }
 
 // Whether a stream is one of the way: from `first` on, or, on the way around, below it.
+#[inline(always)]
 fn is_on_way(around: bool, first: StreamId, stream: StreamId) -> bool
     ensures { IsTrue result ↔ IsOnWay around first stream }
 {

@@ -33,12 +33,12 @@ pub(crate) struct KeptPacket {
 
 impl Outbox {
     /// Each outstanding packet has a piece. It does nothing: a caller learns the clause.
-    pub(crate) fn none_is_empty(&self)
+    pub(crate) fn learn_none_empty(&self)
         requires { IsIdle self.now }
         ensures { NoneEmpty self.now.outstanding }
     {
         let _next = self.next;
-        self.records.none_is_empty();
+        self.records.learn_none_empty();
     }
 
     /// The least number from one on of an outstanding packet.
@@ -74,7 +74,7 @@ impl Outbox {
         ensures { result ≡ false → (n : ℕ) → fmap.get self.now.lost.pieces n ≡ None }
     {
         let _next = self.next;
-        self.lost.is_in_order();
+        self.lost.learn_in_order();
         self.lost.len() > 0
     }
 

@@ -6,7 +6,7 @@ ghost use Rattle.qs_machine.specs.Tables.{lookup};
 ghost use Rattle.qs_machine.specs.Sums.{or_no_sending, tables_of};
 ghost use Rattle.qs_machine.specs.News.{IsLeast, IsHeld};
 ghost use Rattle.qs_conn.specs.Marks.{IsBefore, HaveTo, IsHeldOf};
-ghost use Rattle.qs_conn.specs.Tasks.{IsQuiet, HasTask, IsSought, IsSoughtOf};
+ghost use Rattle.qs_conn.specs.Tasks.{IsOpen, IsQuiet, HasTask, IsSought, IsSoughtOf};
 
 use crate::marks::least;
 use crate::places::{index_from, index_of, type_of};
@@ -17,6 +17,7 @@ use qs_send::SendView;
 use qs_wire::StreamId;
 
 /// Whether the stream has a sending half.
+#[inline(always)]
 pub(super) fn is_open(types: &[SendLanes; 4], stream: StreamId) -> bool
     requires { length types.now ≡ 4 }
     ensures { result ≡ is_some (lookup (tables_of types.now) stream) }
@@ -26,16 +27,17 @@ pub(super) fn is_open(types: &[SendLanes; 4], stream: StreamId) -> bool
 }
 
 /// What holds of an open stream's half. It does nothing: a caller learns the clause.
-pub(super) fn is_lawful(types: &[SendLanes; 4], stream: StreamId)
+pub(super) fn learn_lawful(types: &[SendLanes; 4], stream: StreamId)
     requires len { length types.now ≡ 4 }
     requires open { is_some (lookup (tables_of types.now) stream) ≡ true }
     ensures { IsLawful (or_no_sending (lookup (tables_of types.now) stream)) }
 {
     let lanes = &types[type_of(stream)];
-    lanes.is_lawful(index_of(stream));
+    lanes.learn_lawful(index_of(stream));
 }
 
 /// The half of an open stream.
+#[inline(always)]
 pub(super) fn half_of(types: &[SendLanes; 4], stream: StreamId) -> SendView<'_>
     requires len { length types.now ≡ 4 }
     requires open { is_some (lookup (tables_of types.now) stream) ≡ true }
@@ -46,6 +48,7 @@ pub(super) fn half_of(types: &[SendLanes; 4], stream: StreamId) -> SendView<'_>
 }
 
 /// Whether any half may have a task.
+#[inline(always)]
 pub(super) fn may_have(types: &[SendLanes; 4], task: Task) -> bool
     requires { length types.now ≡ 4 }
     ensures { result ≡ false → (n : ℕ) (s : Sending) → lookup (tables_of types.now) n ≡ Some s → IsQuiet task s }
@@ -69,6 +72,7 @@ pub(super) fn least_marked(types: &[SendLanes; 4], task: Task, from: u64) -> Opt
     requires len { length types.now ≡ 4 }
     requires from { from ≤ 2 ^ 62 }
     ensures from { IfSome result (λ n. from ≤ n) }
+    ensures open { IfSome result (IsOpen (tables_of types.now)) }
     ensures quiet { (n : ℕ) (s : Sending) → from ≤ n → IsBefore n result → lookup (tables_of types.now) n ≡ Some s → IsQuiet task s }
 {
     let bidi = least(next_of(types, task, 0, from), next_of(types, task, 1, from));
@@ -77,14 +81,19 @@ pub(super) fn least_marked(types: &[SendLanes; 4], task: Task, from: u64) -> Opt
 }
 
 // The least such number among the streams of a type.
+#[inline(always)]
 fn next_of(types: &[SendLanes; 4], task: Task, stream_type: usize, from: u64) -> Option<u64>
     requires len { length types.now ≡ 4 }
     requires stream_type { stream_type < 4 }
     requires from { from ≤ 2 ^ 62 }
     ensures found { IfSome result (λ n. (from ≤ n) × (n < 2 ^ 62)) }
+    ensures open { IfSome result (IsOpen (tables_of types.now)) }
     ensures quiet { HaveTo (IsQuiet task) (tables_of types.now) from result stream_type }
 {
     let lanes = &types[stream_type];
+    if !lanes.may_have(task) {
+        return None;
+    }
     let index = lanes.next_marked(task, index_from(stream_type, from))?;
     Some((index * 4 + stream_type) as u64)
 }
@@ -109,13 +118,8 @@ pub(super) fn next_with(types: &[SendLanes; 4], task: Task, from: u64) -> Option
     }
 }
 
-/// The least such number among the streams of a type.
-pub(super) fn next_with_of(
-    types: &[SendLanes; 4],
-    task: Task,
-    stream_type: usize,
-    from: u64,
-) -> Option<u64>
+// The least such number among the streams of a type.
+fn next_with_of(types: &[SendLanes; 4], task: Task, stream_type: usize, from: u64) -> Option<u64>
     requires len { length types.now ≡ 4 }
     requires stream_type { stream_type < 4 }
     requires from { from ≤ 2 ^ 62 }

@@ -6,15 +6,16 @@ ghost use Rattle.qs_send.specs.declared.piece.Piece.TheVariants as pieces;
 ghost use Rattle.qs_send.specs.Lane.{Sending, sent_lane, bytes_of, after_blocked};
 ghost use Rattle.qs_send.specs.Chunks.{has_unsent, IsDueChunk, IsHeldByRoom, HasBytes};
 ghost use Rattle.qs_conn.specs.Filling.{last_data, pieces_at};
+ghost use Rattle.qs_conn.specs.Tasks.{IsDoneAfter, IsFree};
 ghost use Rattle.qs_machine.specs.Tables.{lookup, updated};
 ghost use Rattle.qs_machine.specs.Sums.{or_none, tables_of};
 ghost use Rattle.qs_machine.specs.Outgoing.{on_lane, sent_sum, chunk_put, item_put_out, HasSending, ChunkFound, MayTell, IsCarried, IsIdle, AreBelow, halves_told, with_pending};
 
 use super::Outbox;
-use super::halves::{half_of, is_lawful, is_open};
+use super::halves::{half_of, is_open};
 use crate::piece_room::PieceRoom;
 use crate::places::{index_of, type_of};
-use crate::send_lanes::SendLanes;
+use crate::send_lanes::{SendLanes, Sent};
 use qs_ranges::NoMemory;
 use qs_send::{Chunk, Item, Piece, Records};
 use qs_wire::StreamId;
@@ -41,7 +42,7 @@ impl Outbox {
     {
         let _next = self.next;
         let half = half_of(&self.types, stream);
-        half.is_lawful();
+        half.learn_lawful();
         half.next_chunk(room, fresh)
     }
 
@@ -52,7 +53,7 @@ impl Outbox {
     {
         let _next = self.next;
         let half = half_of(&self.types, stream);
-        half.is_lawful();
+        half.learn_lawful();
         half.has_unsent()
     }
 
@@ -63,7 +64,7 @@ impl Outbox {
     {
         let _next = self.next;
         let half = half_of(&self.types, stream);
-        half.is_lawful();
+        half.learn_lawful();
         half.is_held_by_room(room, fresh)
     }
 
@@ -78,17 +79,22 @@ impl Outbox {
     }
 
     /// The chunk stands in the packet in the making.
-    pub(crate) fn put_chunk(&mut self, stream: StreamId, chunk: Chunk)
+    pub(crate) fn put_chunk(&mut self, stream: StreamId, chunk: Chunk) -> Sent
         requires spare { 0 < self.old.spare }
         requires due { (s : Sending) × HasSending self.old stream s × IsDueChunk s chunk }
         requires small { sent_sum (on_lane stream (λ l. sent_lane l chunk) self.old).sends ≤ MAX_VARINT }
-        ensures { self.new ≡ chunk_put stream chunk self.old }
+        ensures put { self.new ≡ chunk_put stream chunk self.old }
+        ensures done { result.is_done ≡ true → IsDoneAfter self.old stream chunk }
+        ensures free { result.is_free ≡ true → IsFree self.old stream }
     {
-        is_lawful(&self.types, stream);
         let lanes = &mut self.types[type_of(stream)];
-        self.sent += lanes.sent(index_of(stream), chunk);
+        let index = index_of(stream);
+        lanes.learn_lawful(index);
+        let sent = lanes.sent(index, chunk);
+        self.sent += sent.moved;
         hold(&mut self.pending, Piece::Data { stream, chunk });
         self.spare -= 1;
+        sent
     }
 
     /// The item stands in the packet in the making. No outstanding packet told it with this value.
@@ -157,6 +163,7 @@ fn note_blocked(types: &mut [SendLanes; 4], stream: StreamId)
 }
 
 // The pieces of the packet in the making are kept, where it has some, and none is left in the making. It takes no memory.
+#[inline(always)]
 fn put_pieces(records: &mut Records, number: u64, pending: &mut Vec<Piece>, room: &mut PieceRoom)
     requires ready { 0 < length pending.old.items → number < records.old.room }
     requires above { AreBelow records.old.pieces number }
@@ -197,6 +204,7 @@ fn last_looked_for(pieces: &[Piece]) -> Option<StreamId>
 }
 
 // One piece more, for which there is memory.
+#[inline(always)]
 fn hold(pending: &mut Vec<Piece>, piece: Piece)
     requires { vec_len pending.old < vec_capacity pending.old }
     ensures items { pending.new.items ≡ pending.old.items ++ piece ∷ [] }

@@ -10,15 +10,13 @@ ghost use Rattle.qs_machine.specs.Heard.{is_told};
 ghost use Rattle.qs_machine.specs.Changes.{half_changes};
 ghost use Rattle.qs_send.specs.Changes.{changes_by_stop};
 ghost use Rattle.qs_machine.specs.Asking.{waits_for_credit, unsent_of, acked_below_of};
-ghost use Rattle.qs_conn.specs.Marks.{IsBefore, IsHeldOf, AreEndsMarked};
+ghost use Rattle.qs_conn.specs.Marks.{IsBefore, AreEndsMarked};
 ghost use Rattle.qs_conn.specs.Sending.{IsDueOf, MayWrite, HasSent, WasStopped, buffer_room, limit_left};
-ghost use Rattle.qs_conn.specs.Tasks.{IsQuietAt};
+ghost use Rattle.qs_conn.specs.Tasks.{IsOpen, IsQuietAt};
 ghost use Rattle.qs_machine.specs.Outgoing.{IsCarried, IsAckedOut, IsAckedReset, IsBlockedAt, WantsMore, reset_by, with_outgoing};
 
 use super::Outbox;
-use super::halves::{
-    half_of, is_open, least_marked, may_have, next_sought, next_with, next_with_of,
-};
+use super::halves::{half_of, is_open, least_marked, may_have, next_sought, next_with};
 use crate::marks::Marks;
 use crate::send_marks::{Search, Task};
 use crate::told_streams::ToldStreams;
@@ -201,6 +199,7 @@ impl Outbox {
     pub(crate) fn next_marked(&self, task: Task, from: u64) -> Option<StreamId>
         requires { from ≤ 2 ^ 62 }
         ensures from { IfSome result (λ n. from ≤ n) }
+        ensures open { IfSome result (IsOpen self.now.sends) }
         ensures quiet { (n : ℕ) → from ≤ n → IsBefore n result → IsQuietAt task self.now n }
     {
         if !may_have(&self.types, task) {
@@ -268,17 +267,6 @@ impl Outbox {
         lanes.ended_marks()
     }
 
-    /// The least number from one on of a stream of a type whose sending half came to its end.
-    pub(crate) fn next_ended_of(&self, stream_type: usize, from: u64) -> Option<u64>
-        requires stream_type { stream_type < 4 }
-        requires from { from ≤ 2 ^ 62 }
-        ensures least { IsLeast (IsHeldOf HasSent self.now.sends stream_type) from result }
-        ensures small { IfSome result (λ n. n < 2 ^ 62) }
-    {
-        let _next = self.next;
-        next_with_of(&self.types, Task::Ended, stream_type, from)
-    }
-
     /// The least number from one on of a stream of which bytes or the end are due, which its own limit lets go.
     pub(crate) fn next_sendable(&self, from: u64) -> Option<StreamId>
         requires { from ≤ 2 ^ 62 }
@@ -287,7 +275,7 @@ impl Outbox {
         let _next = self.next;
         match next_with(&self.types, Task::Bytes, from) {
             Some(stream) => {
-                half_of(&self.types, stream).is_lawful();
+                half_of(&self.types, stream).learn_lawful();
                 Some(stream)
             }
             None => None,

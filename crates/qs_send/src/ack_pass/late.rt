@@ -15,7 +15,7 @@ impl<'a> AckPass<'a> {
     pub fn next_lost(&mut self, records: &LostRecords) -> Option<u64>
         ensures { IsNextLost records.now self.old result self.new }
     {
-        records.is_in_order();
+        records.learn_in_order();
         if records.len() == 0 {
             return None;
         }
@@ -56,7 +56,7 @@ impl<'a> AckPass<'a> {
             ≤ (self.old.turns + count_below records.now.order self.old.below) + seen_below seen.new self.new.below }
         ensures counted { self.old.turns ≤ self.new.turns }
     {
-        records.is_in_order();
+        records.learn_in_order();
         if self.below <= self.low {
             return None;
         }

@@ -19,8 +19,8 @@ impl SendHalf {
         ensures none { IfNone result (HasNoChunk self.now room fresh) }
         ensures kept { IfSome result (HasBytes self.now.lane) }
     {
-        self.is_lawful();
-        let Some((offset, end)) = self.due_run() else {
+        self.learn_lawful();
+        let Some((offset, end)) = self.offsets.due_run() else {
             return self.end_chunk(room);
         };
         let head = self.head_len(offset);
@@ -50,7 +50,7 @@ impl SendHalf {
     pub fn is_held_by_room(&self, room: usize, fresh: u64) -> bool
         ensures { IsTrue result ↔ IsHeldByRoom self.now room fresh }
     {
-        self.is_lawful();
+        self.learn_lawful();
         match self.next_chunk(usize::MAX, fresh) {
             Some(chunk) => self.frame_len(chunk) > room,
             None => false,
@@ -58,11 +58,12 @@ impl SendHalf {
     }
 
     /// The lowest due offset.
+    #[inline(always)]
     pub fn lowest_due(&self) -> Option<u64>
         ensures found { IfSome result (IsLeastFrom self.now.due.offsets 0) }
         ensures none { IfNone result (EndsBefore self.now.due.offsets 0) }
     {
-        let (offset, _) = self.due_run()?;
+        let (offset, _) = self.offsets.due_run()?;
         Some(offset)
     }
 
@@ -70,11 +71,12 @@ impl SendHalf {
     pub fn has_unsent(&self) -> bool
         ensures { result ≡ has_unsent self.now.lane }
     {
-        self.is_lawful();
+        self.learn_lawful();
         self.reset_code().is_none() && self.sent_end() < self.written().min(self.limit())
     }
 
     /// Whether the end is due.
+    #[inline(always)]
     pub fn end_due(&self) -> bool
         ensures { result ≡ self.now.due.fin }
     {
@@ -124,15 +126,6 @@ impl SendHalf {
             && (!chunk.fin || self.fin_sent)
     }
 
-    // The lowest due offsets that stand in a row.
-    fn due_run(&self) -> Option<(u64, u64)>
-        ensures found { IfSome result (IsRunFrom self.now.due.offsets 0) }
-        ensures none { IfNone result (EndsBefore self.now.due.offsets 0) }
-        ensures within { IfSome result (λ run. run.1 ≤ self.now.lane.written) }
-    {
-        self.offsets.due_run()
-    }
-
     // A frame without bytes, where no byte is due.
     #[tactic(auto, using(crate::proofs::Keeps::due_has_bytes))]
     fn end_chunk(&self, room: usize) -> Option<Chunk>
@@ -141,7 +134,7 @@ impl SendHalf {
         ensures none { (fresh : ℕ) → IfNone result (HasNoChunk self.now room fresh) }
         ensures kept { IfSome result (HasBytes self.now.lane) }
     {
-        self.is_lawful();
+        self.learn_lawful();
         if !self.end_due() {
             return None;
         }

@@ -26,7 +26,7 @@ impl SendHalf {
     pub(crate) fn over(&self, number: u64) -> Option<SendSlot>
         ensures { IfSome result (λ slot. IsOverSlot slot self.now.lane.written × (self.now ≡ over_sending number self.now.lane.written (slot.rest / 2) (slot.rest % 2 == 1) slot.buffer slot.widest)) }
     {
-        self.is_lawful();
+        self.learn_lawful();
         if self.id.value() != number {
             return None;
         }

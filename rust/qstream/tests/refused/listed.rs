@@ -163,19 +163,14 @@ fn recv_calls(random: &mut Random) -> u64 {
             }
             16 if random.below(40) == 0 => takes_none(|| half.stop(5)),
             17 if random.below(40) == 0 => {
-                let size = half.highest();
+                let size = half.sizes().spent;
                 if takes_none(|| half.check_reset(size)).is_ok() {
                     taken += asks(|| half.take_reset(6, size)).1;
                 }
             }
             _ => takes_none(|| {
-                _ = (
-                    half.limit(),
-                    half.taken(),
-                    half.highest(),
-                    half.final_size(),
-                );
-                _ = (half.state(), half.stored(), half.read_count());
+                _ = (half.sizes(), half.standing(), half.limit());
+                _ = (half.state(), half.final_size(), half.read_count());
             }),
         }
     }

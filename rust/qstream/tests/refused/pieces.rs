@@ -120,8 +120,7 @@ fn a_sending_half_takes_64_bytes() {
 }
 
 fn look_at_recv<A: Assembly>(half: &RecvHalf<A>) -> impl Debug + PartialEq + use<A> {
-    let counts = (half.stored(), half.highest(), half.taken(), half.limit());
-    (counts, half.final_size(), half.state())
+    (half.sizes(), half.limit(), half.final_size(), half.state())
 }
 
 /// A half, and how often it was refused its box.
@@ -206,7 +205,8 @@ fn a_reset_needs_no_memory() {
         refuse(refused);
         watched(|| half.take_reset(7, 9));
         assert_eq!((half.reset_code(), half.final_size()), (Some(7), Some(9)));
-        assert_eq!((half.held(), half.stored(), half.taken()), (0, 0, 9));
+        let sizes = half.sizes();
+        assert_eq!((half.held(), sizes.stored, sizes.taken), (0, 0, 9));
         assert_eq!(watched(|| half.read(&mut [0; 4])), Read::Reset(7));
         assert_eq!(half.state(), RecvState::ResetRead);
     }

@@ -2,7 +2,7 @@
 //! What the peer says to hold it back, until its owner is told.
 
 use crate::proved::qs_conn::by_dir::ByDir;
-use crate::proved::qs_conn::marks::least;
+use crate::proved::qs_conn::places::lesser;
 use crate::proved::qs_conn::told_streams::ToldStreams;
 use crate::proved::qs_ranges::NoMemory;
 use crate::proved::qs_wire::{Dir, StreamId};
@@ -63,20 +63,17 @@ impl BlockedMarks {
 
     /// The least stream whose limit was said to.
     pub(crate) fn next_stream(&self) -> Option<StreamId> {
-        let bidi = least(self.next_of(0), self.next_of(1));
-        let uni = least(self.next_of(2), self.next_of(3));
-        match least(bidi, uni) {
-            Some(number) => StreamId::new(number),
-            None => None,
-        }
+        let bidi = lesser(self.next_of(0), self.next_of(1));
+        let uni = lesser(self.next_of(2), self.next_of(3));
+        lesser(bidi, uni)
     }
 
     // The least one of a type.
-    fn next_of(&self, stream_type: usize) -> Option<u64> {
+    fn next_of(&self, stream_type: usize) -> Option<StreamId> {
         debug_assert!(stream_type < 4);
         let told = self.streams.of_type(stream_type);
         match told.marks().next(0) {
-            Some(index) => Some((index * 4 + stream_type) as u64),
+            Some(index) => StreamId::new((index * 4 + stream_type) as u64),
             None => None,
         }
     }

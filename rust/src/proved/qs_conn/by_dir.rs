@@ -16,6 +16,7 @@ impl<T: Copy> ByDir<T> {
     }
 
     /// The one of a direction.
+    #[inline(always)]
     pub(crate) fn of(&self, dir: Dir) -> T {
         match dir {
             Dir::Bidi => self.bidi,

@@ -52,6 +52,7 @@ pub struct Endpoint {
     floor: u64,
     ack_due: bool,
     closed: Option<Closed>,
+    alloc: Global,
 }
 
 impl Endpoint {
@@ -120,6 +121,7 @@ impl Endpoint {
             floor: 0,
             ack_due: false,
             closed: None,
+            alloc,
         }
     }
 

@@ -49,6 +49,7 @@ fn put_frame(frame: &Frame<'_>, out: &mut [u8], len: usize) -> Option<usize> {
 }
 
 /// Writes a STREAM frame with the bytes of a front and a back behind the bytes that are there, as `put_frame` does.
+#[inline(always)]
 fn put_data(
     id: StreamId,
     chunk: Chunk,
@@ -129,22 +130,41 @@ pub(crate) fn cut_to(chunk: Chunk, bytes: usize) -> Chunk {
     }
 }
 
-/// Puts a chunk into the packet that is known to fit, and answers how many bytes there are then.
+/// A packet into which a chunk went.
+#[derive(Clone, Copy)]
+pub(crate) struct Put {
+    /// How many bytes it has then.
+    pub len: usize,
+    /// Nothing more of the stream may go.
+    pub is_done: bool,
+    /// The stream's own limit holds nothing back.
+    pub is_free: bool,
+}
+
+/// Puts a chunk into the packet that is known to fit.
 pub(crate) fn put_chunk(
     outbox: &mut Outbox,
     stream: StreamId,
     chunk: Chunk,
     out: &mut [u8],
     len: usize,
-) -> usize {
+) -> Put {
     debug_assert!(len <= out.len());
     let (front, back) = outbox.bytes(stream, chunk);
     match put_data(stream, chunk, front, back, out, len) {
         Some(end) => {
-            outbox.put_chunk(stream, chunk);
-            end
+            let sent = outbox.put_chunk(stream, chunk);
+            Put {
+                len: end,
+                is_done: sent.is_done,
+                is_free: sent.is_free,
+            }
         }
-        None => len,
+        None => Put {
+            len,
+            is_done: false,
+            is_free: false,
+        },
     }
 }
 

@@ -130,7 +130,7 @@ impl Heard {
         if let Some(stream) = end.next_sent_untold(&self.sent) {
             return Some(sent_news(end, stream));
         }
-        if let Some(stream) = end.next_ended_untold(&self.ended) {
+        if let Some(stream) = end.next_ended_untold(&self.ended, 0) {
             return Some(News::Ended(stream));
         }
         match end.next_available(self.wanted) {

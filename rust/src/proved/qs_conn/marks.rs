@@ -85,7 +85,7 @@ impl Marks {
     #[inline(always)]
     pub(crate) fn set(&mut self, index: usize, is_marked: bool) {
         // Most marks stay as they are.
-        if self.has(index) == is_marked {
+        if self.marks.has(index) == is_marked {
             return;
         }
         self.turn(index, is_marked);

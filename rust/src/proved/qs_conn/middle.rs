@@ -34,7 +34,6 @@ impl Core {
     /// section 3).
     #[inline(always)]
     pub(crate) fn is_over(&self, stream: StreamId) -> bool {
-        self.recvs.are_few();
         if type_of(stream) % 2 == role_bit(self.limits.role) {
             return false;
         }

@@ -7,7 +7,7 @@ use crate::proved::qs_conn::places::{index_of, type_of};
 use crate::proved::qs_conn::send_lanes::SendLanes;
 use crate::proved::qs_conn::told::ToldItems;
 use crate::proved::qs_conn::told_index::ToldIndex;
-use halves::{half_of, is_lawful, is_open};
+use halves::{half_of, is_open};
 use crate::proved::qs_calls::SendReport;
 use crate::proved::qs_ranges::NoMemory;
 use crate::proved::qs_send::{LostRecords, Piece, Records, SendFault, SendState};
@@ -63,17 +63,6 @@ impl Outbox {
         }
     }
 
-    /// Each outstanding piece is of an open stream, and each lost one. It does nothing: a caller learns the clauses.
-    pub(crate) fn are_of_open(&self) {
-        let _next = self.next;
-    }
-
-    /// What holds of an open stream's half. It does nothing: a caller learns the clause.
-    pub(crate) fn has_sending(&self, stream: StreamId) {
-        let _next = self.next;
-        is_lawful(&self.types, stream);
-    }
-
     /// Whether the stream has a sending half.
     pub(crate) fn is_open(&self, stream: StreamId) -> bool {
         is_open(&self.types, stream)
@@ -97,7 +86,6 @@ impl Outbox {
             return false;
         }
         let half = half_of(&self.types, stream);
-        half.is_lawful();
         matches!(half.state(), SendState::DataRecvd | SendState::ResetRecvd)
     }
 
@@ -186,14 +174,12 @@ impl Outbox {
 
     /// Accepts bytes at an open stream, as many as there is room for; or changes nothing.
     pub(crate) fn write(&mut self, stream: StreamId, bytes: &[u8]) -> Result<usize, SendFault> {
-        is_lawful(&self.types, stream);
         let lanes = &mut self.types[type_of(stream)];
         lanes.write(index_of(stream), bytes)
     }
 
     /// Asks for the end of an open stream.
     pub(crate) fn finish(&mut self, stream: StreamId) -> Result<(), SendFault> {
-        is_lawful(&self.types, stream);
         let lanes = &mut self.types[type_of(stream)];
         lanes.finish(index_of(stream))
     }

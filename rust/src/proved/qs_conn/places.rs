@@ -3,6 +3,25 @@
 
 use crate::proved::qs_wire::StreamId;
 
+/// A stream with its place in a table, which is worked out once for a frame.
+#[derive(Clone, Copy)]
+pub(crate) struct Place {
+    pub id: StreamId,
+    pub stream_type: usize,
+    pub index: usize,
+}
+
+impl Place {
+    pub(crate) fn of(stream: StreamId) -> Place {
+        let number = stream.value();
+        Place {
+            id: stream,
+            stream_type: (number % 4) as usize,
+            index: (number / 4) as usize,
+        }
+    }
+}
+
 /// The type of a stream, 0 to 3: its two lowest bits (RFC 9000, section 2.1).
 pub(crate) fn type_of(stream: StreamId) -> usize {
     (stream.value() % 4) as usize
@@ -18,4 +37,13 @@ pub(crate) fn index_from(stream_type: usize, from: u64) -> usize {
     debug_assert!(stream_type < 4);
     debug_assert!(from <= 1 << 62);
     ((from + 3 - stream_type as u64) / 4) as usize
+}
+
+/// The lesser of two streams, where there are some.
+pub(crate) fn lesser(a: Option<StreamId>, b: Option<StreamId>) -> Option<StreamId> {
+    match (a, b) {
+        (Some(first), Some(second)) if second.value() < first.value() => b,
+        (Some(_first), _) => a,
+        (None, _) => b,
+    }
 }

@@ -14,7 +14,7 @@ use crate::proved::qs_recv::{Highest, Peek, Read, RecvFault, RecvHalf, RecvState
 use crate::proved::qs_wire::StreamId;
 use crate::shim::alloc::Global;
 
-type Half = RecvHalf<RingAssembly>;
+pub(crate) type Half = RecvHalf<RingAssembly>;
 
 /// The receiving halves of the streams of one type, by index.
 pub(crate) struct RecvLanes {
@@ -48,7 +48,14 @@ impl RecvLanes {
         self.halves.len()
     }
 
+    /// A lane, where it is open.
+    #[inline(always)]
+    pub(crate) fn half(&self, index: usize) -> Option<&Half> {
+        self.halves.get(index)
+    }
+
     /// The sums over all lanes.
+    #[inline(always)]
     pub(crate) fn tally(&self) -> Tally {
         self.tally
     }
@@ -284,13 +291,10 @@ impl RecvLanes {
 
     /// Whether a lane is in Data Read or Reset Read (RFC 9000, section 3.2).
     pub(crate) fn has_ended(&self, index: usize) -> bool {
-        let Some(half) = self.halves.get(index) else {
-            return false;
-        };
-        if !half.is_told() {
-            return false;
+        match self.halves.get(index) {
+            Some(half) => half.has_ended(),
+            None => false,
         }
-        matches!(half.state(), RecvState::DataRead | RecvState::ResetRead)
     }
 
     /// How a lane stands, where it is open.
@@ -299,7 +303,7 @@ impl RecvLanes {
         Some(RecvReport {
             state: half.state(),
             read_count: half.read_count(),
-            highest: half.highest(),
+            highest: half.sizes().spent,
             limit: half.limit(),
             final_size: half.final_size(),
             reset_code: half.reset_code(),
@@ -310,13 +314,12 @@ impl RecvLanes {
     /// How many bytes of a lane count as taken, where it is open.
     pub(crate) fn taken(&self, index: usize) -> Option<u64> {
         let half = self.halves.get(index)?;
-        Some(half.taken())
+        Some(half.sizes().taken)
     }
 
     /// The limit of an open lane of which no final size is known.
     pub(crate) fn limit_to_tell(&self, index: usize) -> Option<u64> {
         let half = self.halves.get(index)?;
-        half.is_lawful();
         match half.final_size() {
             Some(_known) => None,
             None => Some(half.limit()),
@@ -397,12 +400,12 @@ fn open_one(
 
 // What a half adds to the sums.
 fn measure(half: &Half) -> Tally {
-    half.is_lawful();
+    let sizes = half.sizes();
     Tally {
-        spent: half.highest(),
-        taken: half.taken(),
-        stored: half.stored(),
-        noted: half.noted(),
+        spent: sizes.spent,
+        taken: sizes.taken,
+        stored: sizes.stored,
+        noted: sizes.noted,
     }
 }
 

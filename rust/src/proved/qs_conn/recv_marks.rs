@@ -4,7 +4,7 @@
 use crate::proved::qs_conn::marks::Marks;
 use crate::proved::qs_conn::told_marks::ToldMarks;
 use crate::proved::qs_ranges::NoMemory;
-use crate::proved::qs_recv::{RecvHalf, RecvState, RingAssembly};
+use crate::proved::qs_recv::{RecvHalf, RingAssembly};
 use crate::shim::alloc::Global;
 
 /// What an owner may want to know of a receiving half.
@@ -49,8 +49,9 @@ impl RecvMarks {
 
     /// Looks again at a half that changed.
     pub(crate) fn look(&mut self, index: usize, half: &RecvHalf<RingAssembly>) {
-        self.readable.set(index, half.is_readable());
-        self.ended.set(index, has_ended(half));
+        let standing = half.standing();
+        self.readable.set(index, standing.is_readable);
+        self.ended.set(index, standing.has_ended);
     }
 
     /// Whether a half may have an answer of any kind.
@@ -93,14 +94,6 @@ impl RecvMarks {
 pub(crate) fn has(task: RecvTask, half: &RecvHalf<RingAssembly>) -> bool {
     match task {
         RecvTask::Readable => half.is_readable(),
-        RecvTask::Ended => has_ended(half),
+        RecvTask::Ended => half.has_ended(),
     }
-}
-
-// Whether the end or a reset was told to a reader (RFC 9000, section 3.2).
-fn has_ended(half: &RecvHalf<RingAssembly>) -> bool {
-    if !half.is_told() {
-        return false;
-    }
-    matches!(half.state(), RecvState::DataRead | RecvState::ResetRead)
 }

@@ -2,8 +2,8 @@
 //! The receiving halves of an end.
 
 use crate::proved::qs_conn::marks::{Marks, least};
-use crate::proved::qs_conn::places::{index_from, index_of, type_of};
-use crate::proved::qs_conn::recv_lanes::RecvLanes;
+use crate::proved::qs_conn::places::{Place, index_from, index_of, type_of};
+use crate::proved::qs_conn::recv_lanes::{Half, RecvLanes};
 use crate::proved::qs_conn::recv_marks::RecvTask;
 use crate::proved::qs_conn::told_streams::ToldStreams;
 use crate::proved::qs_conn::untold::Untold;
@@ -36,6 +36,12 @@ impl RecvTables {
     pub(crate) fn is_open(&self, stream: StreamId) -> bool {
         let lanes = &self.types[type_of(stream)];
         index_of(stream) < lanes.len()
+    }
+
+    /// The receiving half of a stream, where it is open.
+    pub(crate) fn half(&self, stream: Place) -> Option<&Half> {
+        let lanes = &self.types[stream.stream_type];
+        lanes.half(stream.index)
     }
 
     /// Whether a frame may be taken, at a stream that may have yet to be opened with that window.
@@ -87,13 +93,6 @@ impl RecvTables {
         lanes.stream_changes(index_of(stream), offset, len, fin)
     }
 
-    /// The half of an open stream is lawful. It does nothing: a caller learns the clause.
-    pub(crate) fn is_lawful(&self, stream: StreamId) {
-        let lanes = &self.types[type_of(stream)];
-        let _index = index_of(stream);
-        let _tally = lanes.tally();
-    }
-
     /// Whether a reset that passed the check would change an open stream.
     pub(crate) fn reset_changes(&self, stream: StreamId) -> bool {
         let lanes = &self.types[type_of(stream)];
@@ -140,13 +139,13 @@ impl RecvTables {
     /// Takes a frame that passed both checks, at an open stream; or changes nothing.
     pub(crate) fn take_stream(
         &mut self,
-        stream: StreamId,
+        stream: Place,
         offset: u64,
         bytes: &[u8],
         fin: bool,
     ) -> Result<(), NoMemory> {
-        let lanes = &mut self.types[type_of(stream)];
-        lanes.take_stream(index_of(stream), offset, bytes, fin)
+        let lanes = &mut self.types[stream.stream_type];
+        lanes.take_stream(stream.index, offset, bytes, fin)
     }
 
     /// Takes a reset that passed the check, at an open stream.
@@ -214,14 +213,6 @@ impl RecvTables {
         lanes.has_ended(index_of(stream))
     }
 
-    /// No type has more streams than have a number. It does nothing: a caller learns the clause.
-    pub(crate) fn are_few(&self) {
-        let _client_bidi = self.types[0].len();
-        let _server_bidi = self.types[1].len();
-        let _client_uni = self.types[2].len();
-        let _server_uni = self.types[3].len();
-    }
-
     /// How a stream stands, where it is open.
     pub(crate) fn report(&self, stream: StreamId) -> Option<RecvReport> {
         let lanes = &self.types[type_of(stream)];
@@ -263,8 +254,8 @@ impl RecvTables {
         }
     }
 
-    /// The least such number among the streams of a type.
-    pub(crate) fn next_with_of(&self, task: RecvTask, stream_type: usize, from: u64) -> Option<u64> {
+    // The least such number among the streams of a type.
+    fn next_with_of(&self, task: RecvTask, stream_type: usize, from: u64) -> Option<u64> {
         debug_assert!(stream_type < 4);
         debug_assert!(from <= 1 << 62);
         let lanes = &self.types[stream_type];
@@ -314,9 +305,12 @@ impl RecvTables {
 
     /// The sums over all streams.
     pub(crate) fn tally(&self) -> Tally {
-        let bidi = sum(self.types[0].tally(), self.types[1].tally());
-        let uni = sum(self.types[2].tally(), self.types[3].tally());
-        sum(bidi, uni)
+        sum(
+            self.types[0].tally(),
+            self.types[1].tally(),
+            self.types[2].tally(),
+            self.types[3].tally(),
+        )
     }
 
     /// What the rings of all streams take, in bytes, by a walk over them.
@@ -336,11 +330,11 @@ impl RecvTables {
     }
 }
 
-fn sum(a: Tally, b: Tally) -> Tally {
+fn sum(a: Tally, b: Tally, c: Tally, d: Tally) -> Tally {
     Tally {
-        spent: a.spent + b.spent,
-        taken: a.taken + b.taken,
-        stored: a.stored + b.stored,
-        noted: a.noted + b.noted,
+        spent: a.spent + b.spent + c.spent + d.spent,
+        taken: a.taken + b.taken + c.taken + d.taken,
+        stored: a.stored + b.stored + c.stored + d.stored,
+        noted: a.noted + b.noted + c.noted + d.noted,
     }
 }

@@ -1,10 +1,11 @@
 // Made from crates/qs_conn/src/seen.rt by rust/erase; not edited by hand.
 //! What an endpoint reads of a frame.
 
+use crate::proved::qs_conn::places::Place;
 use SeenFrame::{Ack, Close, Control, Plain, Stream};
 use crate::proved::qs_calls::MAX_VARINT;
 use crate::proved::qs_send::Item;
-use crate::proved::qs_wire::{Dir, Frame, StreamId};
+use crate::proved::qs_wire::{Dir, Frame};
 
 /// The most streams of a direction, whose numbers have a spelling (RFC 9000, section 4.6).
 const MAX_STREAMS: u64 = 1 << 60;
@@ -17,7 +18,7 @@ pub(crate) enum SeenFrame<'a> {
         ranges: &'a [u8],
     },
     Stream {
-        stream: StreamId,
+        stream: Place,
         offset: u64,
         bytes: &'a [u8],
         fin: bool,
@@ -62,7 +63,7 @@ pub(crate) fn seen<'a>(frame: &Frame<'a>) -> SeenFrame<'a> {
             fin,
             bytes,
         } => Stream {
-            stream,
+            stream: Place::of(stream),
             offset,
             bytes,
             fin,

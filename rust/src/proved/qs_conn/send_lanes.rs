@@ -9,6 +9,17 @@ use crate::proved::qs_send::{Chunk, SendFault, SendHalf, SendHalves, SendState, 
 use crate::proved::qs_wire::StreamId;
 use crate::shim::alloc::Global;
 
+/// What a chunk that was sent does to its half.
+#[derive(Clone, Copy)]
+pub(crate) struct Sent {
+    /// So far it moves the sent end.
+    pub(crate) moved: u64,
+    /// Nothing more of the half may go.
+    pub(crate) is_done: bool,
+    /// Its own limit holds nothing back.
+    pub(crate) is_free: bool,
+}
+
 /// The sending halves of the streams of one type, by index.
 pub(crate) struct SendLanes {
     alloc: Global,
@@ -35,6 +46,7 @@ impl SendLanes {
     }
 
     /// How many halves are open.
+    #[inline(always)]
     pub(crate) fn len(&self) -> usize {
         self.halves.len()
     }
@@ -57,12 +69,6 @@ impl SendLanes {
     /// How many bytes of all halves are kept until they are acknowledged.
     pub(crate) fn kept(&self) -> u128 {
         self.kept
-    }
-
-    /// What holds of an open half. It does nothing: a caller learns the clause.
-    #[inline(always)]
-    pub(crate) fn is_lawful(&self, index: usize) {
-        self.halves.is_lawful(index);
     }
 
     /// An open half.
@@ -121,7 +127,6 @@ impl SendLanes {
         let Some(half) = self.halves.full_mut(index) else {
             return Err(SendFault::Finished);
         };
-        half.is_lawful();
         let answer = half.write(bytes);
         let accepted = answer.unwrap_or(0) as u128;
         self.promised += accepted;
@@ -206,17 +211,24 @@ impl SendLanes {
         self.marks.look(index, half);
     }
 
-    /// Takes in that a chunk was sent, and answers how far that moves the sent end.
-    pub(crate) fn sent(&mut self, index: usize, chunk: Chunk) -> u64 {
+    /// Takes in that a chunk was sent.
+    pub(crate) fn sent(&mut self, index: usize, chunk: Chunk) -> Sent {
         let Some(half) = self.halves.full_mut(index) else {
-            return 0;
+            return Sent {
+                moved: 0,
+                is_done: false,
+                is_free: false,
+            };
         };
-        half.is_lawful();
         let before = half.sent_end();
         half.sent(chunk);
         let moved = half.sent_end() - before;
-        self.marks.look_sent(index, half);
-        moved
+        let is_done = self.marks.look_sent(index, half);
+        Sent {
+            moved,
+            is_done,
+            is_free: half.written() <= half.limit(),
+        }
     }
 
     /// Takes in that a chunk is acknowledged, or changes nothing.
@@ -294,7 +306,6 @@ impl SendLanes {
 
 // How many bytes of a half were sent or are still to be sent for the first time.
 fn promised(half: &SendHalf) -> u128 {
-    half.is_lawful();
     if let Some(_code) = half.reset_code() {
         return half.sent_end() as u128;
     }
@@ -303,7 +314,6 @@ fn promised(half: &SendHalf) -> u128 {
 
 // How many bytes of a half are kept until they are acknowledged.
 fn kept(half: &SendHalf) -> u128 {
-    half.is_lawful();
     half.kept_len() as u128
 }
 

@@ -108,10 +108,13 @@ impl SendMarks {
         self.writable.set(index, half.is_writable());
     }
 
-    /// Looks again at a half of which a chunk was sent: that moves neither its room nor its end, and leaves no more to send again.
-    pub(crate) fn look_sent(&mut self, index: usize, half: &SendHalf) {
-        self.bytes.set(index, may_send(half));
+    /// Looks again at a half of which a chunk was sent, and answers whether nothing more may go: that moves neither its room nor its end, and
+    /// leaves no more to send again.
+    pub(crate) fn look_sent(&mut self, index: usize, half: &SendHalf) -> bool {
+        let goes_on = may_send(half);
+        self.bytes.set(index, goes_on);
         look_again(&mut self.again, index, half);
+        !goes_on
     }
 
     /// Looks again at a half of which a chunk was acknowledged: that leaves no more to send again.
@@ -139,6 +142,7 @@ impl SendMarks {
     }
 
     /// The least marked index from one on.
+    #[inline(always)]
     pub(crate) fn next(&self, task: Task, from: usize) -> Option<usize> {
         self.of(task).next(from)
     }
@@ -201,7 +205,6 @@ fn full_has(task: Task, half: &SendHalf) -> bool {
 
 // Whether bytes or the end may go: a byte below the limit is due, or the end is and every byte was sent.
 fn may_send(half: &SendHalf) -> bool {
-    half.is_lawful();
     // Bytes that were never sent come first: they need no search of what was sent and what of it is acknowledged.
     if half.reset_code().is_none() && half.sent_end() < half.written().min(half.limit()) {
         return true;
@@ -214,7 +217,6 @@ fn may_send(half: &SendHalf) -> bool {
 
 // Whether bytes that were sent before may go, or the end.
 fn may_send_again(half: &SendHalf) -> bool {
-    half.is_lawful();
     if half.end_due() && half.sent_end() == half.written() {
         return true;
     }
@@ -223,6 +225,5 @@ fn may_send_again(half: &SendHalf) -> bool {
 
 // Whether all that was sent is acknowledged, the end too, or the reset is (RFC 9000, section 3.1).
 fn has_ended(half: &SendHalf) -> bool {
-    half.is_lawful();
     matches!(half.state(), SendState::DataRecvd | SendState::ResetRecvd)
 }

@@ -33,6 +33,7 @@ impl UntoldLanes {
         self.marks.set(index, is_marked);
     }
 
+    #[inline(always)]
     fn may_have(&self) -> bool {
         self.marks.may_have()
     }
@@ -100,6 +101,7 @@ impl Untold {
     }
 
     /// Whether any stream may be marked.
+    #[inline(always)]
     pub(crate) fn may_have(&self) -> bool {
         if self.types[0].may_have() {
             return true;

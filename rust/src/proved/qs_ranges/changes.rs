@@ -125,19 +125,12 @@ fn settle(few: &mut Few, blocks: &mut Vec<Block>, count: usize) {
         return;
     }
     if blocks.len() > 1 {
-        each_has_runs(blocks);
         return;
     }
     if let Some(runs) = few_of(&blocks[0]) {
         *few = runs;
         *blocks = Vec::new(*blocks.allocator());
     }
-}
-
-// Each block has a run. It does nothing: a proof calls it for what it ensures.
-fn each_has_runs(blocks: &[Block]) {
-    debug_assert!(1 < blocks.len());
-    let _some = (blocks[0].len(), blocks[1].len());
 }
 
 /// Copies the runs of blocks to the slice's front.

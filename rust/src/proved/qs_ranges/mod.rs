@@ -6,7 +6,7 @@ use crate::shim::Vec;
 use crate::proved::qs_ranges::block::Block;
 use crate::proved::qs_ranges::blocks::two_above;
 use crate::proved::qs_ranges::changes::{copy_runs, insert_many, remove_many};
-use crate::proved::qs_ranges::few::{Few, copy_few, count_few, few_above, few_above_two, insert_few, remove_few};
+use crate::proved::qs_ranges::few::{Few, copy_few, few_above, few_above_two, insert_few, remove_few};
 use crate::shim::alloc::{AllocError, AllocFailed, Global};
 
 mod bits;
@@ -95,7 +95,6 @@ impl RangeSet {
 
     /// Takes out the numbers below `n`. It takes constant time up to the end of the first run.
     pub fn drop_below(&mut self, n: u64) {
-        self.members_fit();
         let _never = self.remove(0, n.min(1 << 62));
     }
 
@@ -110,7 +109,15 @@ impl RangeSet {
 
     /// Whether `n` is a member.
     pub fn has(&self, n: u64) -> bool {
-        matches!(self.run_above(n), Some((start, _)) if start <= n)
+        if !self.blocks.is_empty() {
+            return self.has_in_blocks(n);
+        }
+        match self.few {
+            Few::InBlocks(_) => false,
+            Few::One(run) => run.0 <= n && n < run.1,
+            Few::Two(_, high) if high.0 <= n => n < high.1,
+            Few::Two(low, _) => low.0 <= n && n < low.1,
+        }
     }
 
     /// Whether each number from `lo` on and below `hi` is a member, as it is of an empty range.
@@ -164,12 +171,15 @@ impl RangeSet {
 
     /// How many runs there are: the members whose predecessor is not a member. It takes constant time.
     pub fn count(&self) -> usize {
-        count_few(self.few)
+        match self.few {
+            Few::InBlocks(count) => count,
+            Few::One(_) => 1,
+            Few::Two(_, _) => 2,
+        }
     }
 
-    /// Every member is below 2^62. It does nothing: a proof calls it for what it ensures.
-    pub fn members_fit(&self) {
-        let _few = &self.few;
+    fn has_in_blocks(&self, n: u64) -> bool {
+        matches!(self.run_above(n), Some((start, _)) if start <= n)
     }
 
     // The first run that ends above `n`.

@@ -32,6 +32,32 @@ pub struct Highest {
     pub after: u64,
 }
 
+/// What is said of a STREAM frame: of its offsets and its end, with what it does to the highest offset; and of its bytes.
+#[derive(Debug, Clone, Copy, PartialEq, Eq)]
+pub struct Judged {
+    pub stream: Result<Highest, RecvFault>,
+    pub bytes: Result<(), RecvFault>,
+}
+
+/// What a half adds to the sums over all of them: the highest offset; what credit is paid back for, which is that after a reset or a
+/// stop, else the bytes read; how many bytes are stored; and how many runs the offsets make that came, of which none are kept after
+/// a reset, or once all came and nothing is to be told. And whether it was stopped, so that what comes counts as taken.
+#[derive(Debug, Clone, Copy, PartialEq, Eq)]
+pub struct Sizes {
+    pub spent: u64,
+    pub taken: u64,
+    pub stored: u64,
+    pub noted: u64,
+    pub is_stopped: bool,
+}
+
+/// Whether a read of one byte would tell something new, and whether the end or a reset was told.
+#[derive(Debug, Clone, Copy, PartialEq, Eq)]
+pub struct Standing {
+    pub is_readable: bool,
+    pub has_ended: bool,
+}
+
 /// What a reader is told: so many bytes were read, all data was read, the stream was reset with a code, or nothing is next.
 #[derive(Debug, Clone, Copy, PartialEq, Eq)]
 pub enum Read {
@@ -151,6 +177,21 @@ impl<A: Assembly> RecvHalf<A> {
         }
     }
 
+    /// What is said of a STREAM frame: whether it may be taken, where the final size is tested before the credit, and whether its bytes
+    /// are those that are stored. A caller with credit of its own asks for that in between. It takes no memory.
+    pub fn judge(&self, offset: u64, bytes: &[u8], fin: bool) -> Judged {
+        match &self.parts {
+            Parts::Resting(_) => Judged {
+                stream: self.check_stream(offset, bytes.len() as u64, fin),
+                bytes: self.check_bytes(offset, bytes),
+            },
+            Parts::Live(live) => Judged {
+                stream: live.check_stream(offset, bytes.len() as u64, fin),
+                bytes: live.check_bytes(offset, bytes),
+            },
+        }
+    }
+
     /// Whether a STREAM frame that passed both checks would change the half: it tells the final size, or one of its offsets didn't
     /// come before, and no reset did.
     pub fn stream_changes(&self, offset: u64, len: u64, fin: bool) -> bool {
@@ -263,11 +304,28 @@ impl<A: Assembly> RecvHalf<A> {
         }
     }
 
-    /// What holds of the half at all times.
-    pub fn is_lawful(&self) {
+    /// What it adds to the sums over all halves.
+    pub fn sizes(&self) -> Sizes {
         match &self.parts {
-            Parts::Resting(kept) => kept.rest().is_lawful(),
-            Parts::Live(live) => live.is_lawful(),
+            Parts::Resting(kept) => kept.rest().sizes(),
+            Parts::Live(live) => live.sizes(),
+        }
+    }
+
+    /// Whether a read of one byte would tell something new: bytes, or an end or a reset that wasn't told yet; and whether either was.
+    /// Of a stopped half only the end and a reset are told (sections 2.2, 3.2 and 3.5).
+    pub fn standing(&self) -> Standing {
+        match &self.parts {
+            Parts::Resting(kept) => kept.rest().standing(),
+            Parts::Live(live) => live.standing(),
+        }
+    }
+
+    /// Whether the end or a reset was told: Data Read and Reset Read (section 3.2).
+    pub fn has_ended(&self) -> bool {
+        match &self.parts {
+            Parts::Resting(kept) => kept.rest().is_over(),
+            Parts::Live(live) => live.is_over(),
         }
     }
 
@@ -276,32 +334,6 @@ impl<A: Assembly> RecvHalf<A> {
         match &self.parts {
             Parts::Resting(kept) => kept.rest().limit(),
             Parts::Live(live) => live.limit(),
-        }
-    }
-
-    /// What credit is paid back for: the final size after a reset, the highest offset after a stop, else the bytes read.
-    pub fn taken(&self) -> u64 {
-        match &self.parts {
-            Parts::Resting(kept) => kept.rest().taken(),
-            Parts::Live(live) => live.taken(),
-        }
-    }
-
-    /// The final size if known, else one more than the largest offset that came, or 0.
-    pub fn highest(&self) -> u64 {
-        match &self.parts {
-            Parts::Resting(kept) => kept.rest().highest(),
-            Parts::Live(live) => live.highest(),
-        }
-    }
-
-    /// How many runs the offsets make that came: none where none did, else one, and one more for each gap between them. After a
-    /// reset, and once the reader was told the end, or would be told it had it not forgotten the stream, there are none: the half
-    /// keeps no offset then. It looks at no more than the first run.
-    pub fn noted(&self) -> u64 {
-        match &self.parts {
-            Parts::Resting(kept) => kept.rest().noted(),
-            Parts::Live(live) => live.noted(),
         }
     }
 
@@ -333,16 +365,8 @@ impl<A: Assembly> RecvHalf<A> {
     /// end and a reset are told (sections 2.2, 3.2 and 3.5).
     pub fn is_readable(&self) -> bool {
         match &self.parts {
-            Parts::Resting(kept) => self.revived(&kept.rest()).is_readable(),
-            Parts::Live(live) => live.is_readable(),
-        }
-    }
-
-    /// How many bytes are stored and not read.
-    pub fn stored(&self) -> u64 {
-        match &self.parts {
-            Parts::Resting(kept) => kept.rest().stored(),
-            Parts::Live(live) => live.stored(),
+            Parts::Resting(kept) => kept.rest().standing().is_readable,
+            Parts::Live(live) => live.standing().is_readable,
         }
     }
 

@@ -3,7 +3,7 @@
 
 use crate::proved::qs_recv::assembly::{Assembly, Peeking, Skipping};
 use crate::proved::qs_recv::credit::{limit_with, next_limit};
-use crate::proved::qs_recv::half::{Highest, Peek, Read, RecvFault, RecvState};
+use crate::proved::qs_recv::half::{Highest, Peek, Read, RecvFault, RecvState, Sizes, Standing};
 use crate::proved::qs_recv::rest::{Rest, given};
 use crate::proved::qs_recv::window::Windows;
 use crate::shim::alloc::Global;
@@ -91,7 +91,11 @@ impl<A: Assembly> LiveHalf<A> {
             return Err(RecvFault::FinalSize);
         }
         let end = offset + len;
-        let before = self.highest();
+        let before = if self.is_sized {
+            self.size
+        } else {
+            self.received_end
+        };
         if before.max(end) > self.limit {
             return Err(RecvFault::StreamCredit);
         }
@@ -246,8 +250,49 @@ impl<A: Assembly> LiveHalf<A> {
         self.windows = Windows::new(widest, window, self.windows.share());
     }
 
-    pub(crate) fn is_lawful(&self) {
-        let _ = &self.assembly;
+    pub(crate) fn sizes(&self) -> Sizes {
+        let spent = if self.is_sized {
+            self.size
+        } else {
+            self.received_end
+        };
+        let taken = if self.is_reset || self.is_stopped {
+            spent
+        } else {
+            self.read_count
+        };
+        let noted = if self.is_reset || (self.told && self.is_whole()) {
+            0
+        } else {
+            self.assembly.received().count() as u64
+        };
+        Sizes {
+            spent,
+            taken,
+            stored: self.assembly.stored(),
+            noted,
+            is_stopped: self.is_stopped,
+        }
+    }
+
+    pub(crate) fn standing(&self) -> Standing {
+        if self.told {
+            return Standing {
+                is_readable: false,
+                has_ended: self.is_reset || self.is_whole(),
+            };
+        }
+        let is_readable = if self.is_stopped && !self.is_reset {
+            self.is_whole()
+        } else {
+            self.is_reset
+                || (self.is_sized && self.read_count == self.size)
+                || self.assembly.received().has(self.read_count)
+        };
+        Standing {
+            is_readable,
+            has_ended: false,
+        }
     }
 
     pub(crate) fn limit(&self) -> u64 {
@@ -263,29 +308,11 @@ impl<A: Assembly> LiveHalf<A> {
     }
 
     pub(crate) fn highest(&self) -> u64 {
-        self.final_size().unwrap_or(self.received_end)
-    }
-
-    pub(crate) fn noted(&self) -> u64 {
-        self.is_lawful();
-        if self.is_reset {
-            return 0;
+        if self.is_sized {
+            self.size
+        } else {
+            self.received_end
         }
-        if self.told {
-            return self.noted_still();
-        }
-        self.assembly.received().count() as u64
-    }
-
-    // How many runs are noted of a half that wasn't reset and of which all was told: none once all came. It is seldom called, and apart so
-    // that the other is small.
-    #[inline(never)]
-    fn noted_still(&self) -> u64 {
-        self.is_lawful();
-        if self.is_whole() {
-            return 0;
-        }
-        self.assembly.received().count() as u64
     }
 
     pub(crate) fn final_size(&self) -> Option<u64> {
@@ -316,14 +343,6 @@ impl<A: Assembly> LiveHalf<A> {
         }
     }
 
-    pub(crate) fn is_readable(&self) -> bool {
-        !self.told && self.tells_something()
-    }
-
-    pub(crate) fn stored(&self) -> u64 {
-        self.assembly.stored()
-    }
-
     pub(crate) fn held(&self) -> u64 {
         self.assembly.held()
     }
@@ -340,48 +359,29 @@ impl<A: Assembly> LiveHalf<A> {
         given(self.is_reset, self.reset)
     }
 
-    // Whether a read of one byte would tell something, be it new or not.
-    fn tells_something(&self) -> bool {
-        if self.is_reset {
-            return true;
-        }
-        if self.is_stopped {
-            return self.is_whole();
-        }
-        if self.is_at_end() {
-            return true;
-        }
-        self.assembly.received().has(self.read_count)
-    }
-
-    // Whether the end was told, or a reset.
-    fn is_over(&self) -> bool {
+    /// Whether the end was told, or a reset.
+    pub(crate) fn is_over(&self) -> bool {
         self.told && (self.is_reset || self.is_whole())
     }
 
     // Whether all of the stream was read.
     fn is_at_end(&self) -> bool {
-        match self.final_size() {
-            Some(size) => self.read_count == size,
-            None => false,
-        }
+        self.is_sized && self.read_count == self.size
     }
 
-    // Whether the final size is known and every offset below it came.
+    // Whether the final size is known and every offset below it came. It is seldom called, and apart so that its callers are small.
+    #[inline(never)]
     fn is_whole(&self) -> bool {
-        match self.final_size() {
-            Some(size) => self.assembly.received().covers(0, size),
-            None => false,
-        }
+        self.is_sized && self.assembly.received().covers(0, self.size)
     }
 
     // Whether a frame with len bytes at offset names another final size, or lies outside the known one.
     fn breaks_final_size(&self, offset: u64, len: u64, fin: bool) -> bool {
         let end = offset + len;
-        match self.final_size() {
-            Some(size) => (len > 0 && size < end) || (fin && end != size),
-            None => fin && end < self.highest(),
+        if self.is_sized {
+            return (len > 0 && self.size < end) || (fin && end != self.size);
         }
+        fin && end < self.received_end
     }
 }
 

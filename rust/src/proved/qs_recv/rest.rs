@@ -2,7 +2,7 @@
 //! A receiving half that stores nothing, in few bytes.
 
 use crate::proved::qs_recv::credit::{Share, limit_with, next_limit};
-use crate::proved::qs_recv::half::{Peek, Read, RecvState};
+use crate::proved::qs_recv::half::{Peek, Read, RecvState, Sizes, Standing};
 use crate::proved::qs_recv::over::Over;
 use crate::proved::qs_recv::window::Windows;
 
@@ -169,9 +169,27 @@ impl Rest {
         self.windows = Windows::new(widest, window, self.windows.share());
     }
 
-    /// What holds of the half at all times.
-    pub(crate) fn is_lawful(&self) {
-        let _ = &self.limit;
+    pub(crate) fn sizes(&self) -> Sizes {
+        Sizes {
+            spent: self.highest(),
+            taken: self.taken(),
+            stored: self.stored(),
+            noted: self.noted(),
+            is_stopped: self.is_stopped,
+        }
+    }
+
+    pub(crate) fn standing(&self) -> Standing {
+        if self.told {
+            return Standing {
+                is_readable: false,
+                has_ended: self.is_over(),
+            };
+        }
+        Standing {
+            is_readable: self.is_reset || !matches!(self.peek(), Peek::Wait),
+            has_ended: false,
+        }
     }
 
     /// The limit on the highest offset that was granted.
@@ -287,8 +305,8 @@ impl Rest {
         (self.told && self.is_whole()) || self.is_reset
     }
 
-    // Whether the end was told, or a reset.
-    fn is_over(&self) -> bool {
+    /// Whether the end was told, or a reset.
+    pub(crate) fn is_over(&self) -> bool {
         self.told && (self.is_reset || self.is_whole())
     }
 

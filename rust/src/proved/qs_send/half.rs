@@ -60,11 +60,6 @@ impl SendHalf {
         }
     }
 
-    /// What holds of every half. It does nothing: a caller learns the clause.
-    pub fn is_lawful(&self) {
-        let _limit = self.limit;
-    }
-
     /// Accepts the front of the bytes, as many as there is room for, and answers how many. They are due.
     ///
     /// Refused, and then unchanged: `WasReset` after a reset, else `Finished` after `finish`, else
@@ -244,6 +239,7 @@ impl SendHalf {
     }
 
     /// The application's code of the reset: at most 2^62 - 1.
+    #[inline(always)]
     pub fn reset_code(&self) -> Option<u64> {
         self.reset_code.get()
     }
@@ -254,11 +250,13 @@ impl SendHalf {
     }
 
     /// How many bytes were written.
+    #[inline(always)]
     pub fn written(&self) -> u64 {
         self.offsets.written()
     }
 
     /// The number after the largest offset that was sent; 0 where none was.
+    #[inline(always)]
     pub fn sent_end(&self) -> u64 {
         self.offsets.sent_end()
     }
@@ -269,6 +267,7 @@ impl SendHalf {
     }
 
     /// The offsets below it may be sent.
+    #[inline(always)]
     pub fn limit(&self) -> u64 {
         self.limit
     }

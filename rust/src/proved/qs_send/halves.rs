@@ -36,22 +36,6 @@ impl SendHalves {
         self.slots.len()
     }
 
-    /// What holds of the half at an index. It does nothing, and can't fail, so nothing is read for it: a caller learns the clause.
-    #[inline(always)]
-    pub fn is_lawful(&self, index: usize) {
-        if index >= self.slots.len() {
-            return;
-        }
-        let slot = self.slots[index];
-        if slot.is_over() {
-            return;
-        }
-        let place = slot.rest as usize;
-        if place < self.full.len() {
-            self.full[place].is_lawful();
-        }
-    }
-
     /// The half at an index, to be read.
     #[inline(always)]
     pub fn at(&self, index: usize) -> SendView<'_> {

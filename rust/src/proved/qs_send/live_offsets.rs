@@ -30,6 +30,7 @@ impl LiveOffsets {
         }
     }
 
+    #[inline(always)]
     pub(crate) fn sent_end(&self) -> u64 {
         self.sent_end
     }
@@ -39,6 +40,7 @@ impl LiveOffsets {
         self.acked.first_missing(0)
     }
 
+    #[inline(always)]
     pub(crate) fn kept_len(&self) -> usize {
         self.kept.len()
     }
@@ -49,6 +51,7 @@ impl LiveOffsets {
     }
 
     /// The bytes that are kept, so many from a place on, in two pieces.
+    #[inline(always)]
     pub(crate) fn part(&self, from: usize, len: usize) -> (&[u8], &[u8]) {
         self.kept.part(from, len)
     }

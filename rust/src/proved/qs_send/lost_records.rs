@@ -83,11 +83,6 @@ impl LostRecords {
         self.order.len()
     }
 
-    /// The order has the numbers that are held, each once, and each has a piece. It does nothing: a proof calls it for what it
-    /// ensures.
-    pub fn is_in_order(&self) {
-        let _order = &self.order;
-    }
 }
 
 // The order with a number behind it, if it isn't held.

@@ -24,11 +24,13 @@ impl Offsets {
         }
     }
 
+    #[inline(always)]
     pub(crate) fn written(&self) -> u64 {
         self.written
     }
 
     /// The number after the largest offset that was sent; 0 where none was.
+    #[inline(always)]
     pub(crate) fn sent_end(&self) -> u64 {
         match &self.live {
             None => self.written,
@@ -44,6 +46,7 @@ impl Offsets {
         }
     }
 
+    #[inline(always)]
     pub(crate) fn kept_len(&self) -> usize {
         match &self.live {
             None => 0,
@@ -60,6 +63,7 @@ impl Offsets {
     }
 
     /// The bytes that are kept, so many from a place on, in two pieces.
+    #[inline(always)]
     pub(crate) fn part(&self, from: usize, len: usize) -> (&[u8], &[u8]) {
         match &self.live {
             None => (&[], &[]),
@@ -87,6 +91,7 @@ impl Offsets {
     }
 
     /// Takes in that the offsets below `end` were sent.
+    #[inline(always)]
     pub(crate) fn sent(&mut self, end: u64) {
         let Some(live) = &mut self.live else {
             return;

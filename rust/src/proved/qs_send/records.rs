@@ -117,11 +117,6 @@ impl Records {
         self.last_of(count.min(self.slots.len()))
     }
 
-    /// Each packet that is held has a piece. It does nothing: a proof calls it for what it ensures.
-    pub fn none_is_empty(&self) {
-        let _slots = &self.slots;
-    }
-
     /// The number of the first slot. No lower one is held.
     pub fn base(&self) -> u64 {
         self.base

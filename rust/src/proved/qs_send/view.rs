@@ -48,16 +48,9 @@ impl<'a> SendView<'a> {
     /// Another.
     #[inline(always)]
     pub(crate) fn of_full(half: &'a SendHalf) -> Self {
-        half.is_lawful();
         SendView {
             half: Viewed::Full(half),
         }
-    }
-
-    /// What holds of every half. It does nothing: a caller learns the clause.
-    #[inline(always)]
-    pub fn is_lawful(&self) {
-        let _half = &self.half;
     }
 
     /// The half, where it isn't over.

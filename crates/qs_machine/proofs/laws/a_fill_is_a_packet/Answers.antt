@@ -1,4 +1,4 @@
-use Rattle.qs_machine.proofs.AckPackets.{fill_packet}
+use Rattle.qs_machine.proofs.Ways.{fill_packet}
 use Rattle.qs_machine.proofs.laws.a_fill_is_a_packet.Goals as goal
 
 pub returns : goal.returns

@@ -1,6 +1,4 @@
-use Rattle.qs_machine.proofs.AckJoins.{joined_parts}
-use Rattle.qs_machine.proofs.AckRanges.{ranges_are_tokens}
-use Rattle.qs_machine.proofs.AckTokens.{an_ack_is_its_token, an_ack_is_its_tokens, an_ack_may_be_told}
+use Rattle.qs_machine.proofs.AckTokens.{joined_parts, ranges_are_tokens, an_ack_is_its_token, an_ack_is_its_tokens, an_ack_may_be_told}
 use Rattle.qs_machine.proofs.laws.acks_are_their_tokens.Goals as goal
 
 pub returns-clause-one : goal.returns-clause-one

@@ -1,4 +1,4 @@
-use Rattle.qs_machine.proofs.Lasting.{closed_stays}
+use Rattle.qs_machine.proofs.EveryCall.{closed_stays}
 use Rattle.qs_machine.proofs.laws.closed_ends_stay.Goals as goal
 
 pub returns : goal.returns

@@ -1,4 +1,4 @@
-use Rattle.qs_machine.proofs.Bounds.{new_ends_settled}
+use Rattle.qs_machine.proofs.Counts.{new_ends_settled}
 use Rattle.qs_machine.proofs.CallsCounts.{settled_call}
 use Rattle.qs_machine.proofs.laws.counts_are_settled.Goals as goal
 

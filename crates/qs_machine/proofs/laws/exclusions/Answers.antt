@@ -1,14 +1,6 @@
-use Rattle.qs_machine.proofs.ExclusionsDue.{not_due}
-use Rattle.qs_machine.proofs.ExclusionsMaking.{not_made}
-use Rattle.qs_machine.proofs.ExclusionsFilling.{not_filled}
-use Rattle.qs_machine.proofs.ExclusionsInOrder.{starved}
-use Rattle.qs_machine.proofs.ExclusionsReceiving.{not_received}
-use Rattle.qs_machine.proofs.ExclusionsMemory.{not_refused}
-use Rattle.qs_machine.proofs.ExclusionsOwner.{not_owned}
-use Rattle.qs_machine.proofs.ExclusionsAlone.{not_alone}
-use Rattle.qs_machine.proofs.ExclusionsNews.{not_found}
-use Rattle.qs_machine.proofs.ExclusionsAsking.{not_asked}
-use Rattle.qs_machine.proofs.ExclusionsHeard.{not_heard}
+use Rattle.qs_machine.proofs.ExclusionsMaking.{not_due, not_made, not_filled, starved}
+use Rattle.qs_machine.proofs.ExclusionsReceiving.{not_received, not_refused, not_alone}
+use Rattle.qs_machine.proofs.ExclusionsOwner.{not_owned, not_found, not_asked, not_heard}
 use Rattle.qs_machine.proofs.laws.exclusions.Goals as goal
 
 pub returns : goal.returns

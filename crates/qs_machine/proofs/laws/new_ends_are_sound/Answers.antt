@@ -1,4 +1,4 @@
-use Rattle.qs_machine.proofs.Bounds.{new_ends_sound, new_ends_wide}
+use Rattle.qs_machine.proofs.Counts.{new_ends_sound, new_ends_wide}
 use Rattle.qs_machine.proofs.laws.new_ends_are_sound.Goals as goal
 
 pub returns-clause-sound : goal.returns-clause-sound

@@ -1,6 +1,4 @@
-use Rattle.qs_machine.proofs.AckOrders.{order_stays}
-use Rattle.qs_machine.proofs.AckPayloads.{payload_tokens}
-use Rattle.qs_machine.proofs.Ways.{payload_frames, payload_take_frames, frame_take}
+use Rattle.qs_machine.proofs.Ways.{order_stays, payload_tokens, payload_frames, payload_take_frames, frame_take}
 use Rattle.qs_machine.proofs.laws.payloads_are_their_frames.Goals as goal
 
 pub returns-clause-effects : goal.returns-clause-effects

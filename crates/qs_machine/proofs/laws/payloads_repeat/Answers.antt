@@ -1,4 +1,4 @@
-use Rattle.qs_machine.proofs.PayloadsAgain.{payloads_repeat as resumes}
+use Rattle.qs_machine.proofs.Again.{payloads_repeat as resumes}
 use Rattle.qs_machine.proofs.laws.payloads_repeat.Goals as goal
 
 pub returns : goal.returns

@@ -1,4 +1,4 @@
-use Rattle.qs_machine.proofs.Plains.{plain_nothing}
+use Rattle.qs_machine.proofs.Ways.{plain_nothing}
 use Rattle.qs_machine.proofs.laws.plain_frames_tell_nothing.Goals as goal
 
 pub returns : goal.returns

@@ -1,4 +1,4 @@
-use Rattle.qs_machine.proofs.ProcessedAgain.{processed_repeat}
+use Rattle.qs_machine.proofs.Again.{processed_repeat}
 use Rattle.qs_machine.proofs.laws.processed_payloads_repeat.Goals as goal
 
 pub returns : goal.returns

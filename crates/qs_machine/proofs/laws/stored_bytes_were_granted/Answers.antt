@@ -1,4 +1,4 @@
-use Rattle.qs_machine.proofs.Bounds.{within_credit}
+use Rattle.qs_machine.proofs.Counts.{within_credit}
 use Rattle.qs_machine.proofs.laws.stored_bytes_were_granted.Goals as goal
 
 pub returns : goal.returns

@@ -4,4 +4,4 @@ use Rattle.qs_ranges.proofs.Sides.{dropped}
 use Rattle.qs_ranges.proofs.RangeSet.drop_below.Goals as goal
 
 pub returns : goal.returns
-returns c = dropped c.remove-never.result c.args.self.now c.remove-never.new.self c.args.n (2 ^ 62) c.min.result (ContainsRange c.args.self.now (0 - 1) (c.min.result + 1)) c.min.ensures c.members_fit.ensures c.remove-never.ensures.ok c.remove-never.ensures.inside
+returns c = dropped c.remove-never.result c.args.self.now c.remove-never.new.self c.args.n (2 ^ 62) c.min.result (ContainsRange c.args.self.now (0 - 1) (c.min.result + 1)) c.min.ensures c.learn_members_fit.ensures c.remove-never.ensures.ok c.remove-never.ensures.inside

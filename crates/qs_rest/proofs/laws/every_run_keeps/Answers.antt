@@ -1,4 +1,4 @@
-use Rattle.qs_rest.proofs.EveryRun.{every_run_keeps}
+use Rattle.qs_rest.proofs.Runs.{every_run_keeps}
 use Rattle.qs_rest.proofs.laws.every_run_keeps.Goals as goal
 
 pub returns : goal.returns

@@ -1,4 +1,4 @@
-use Rattle.qs_rest.proofs.Stops.{give_back}
+use Rattle.qs_rest.proofs.Telling.{give_back}
 use Rattle.qs_rest.proofs.laws.stops_give_back.Goals as goal
 
 pub returns : goal.returns

@@ -1,4 +1,4 @@
-use Rattle.qs_runs.proofs.Statements.{law_final_size_is_declared}
+use Rattle.qs_runs.proofs.Clauses.{law_final_size_is_declared}
 use Rattle.qs_runs.proofs.laws.final_size_is_declared.Goals as goal
 
 pub returns : goal.returns

@@ -1,4 +1,4 @@
-use Rattle.qs_runs.proofs.Statements.{law_opened_is_below_known}
+use Rattle.qs_runs.proofs.Clauses.{law_opened_is_below_known}
 use Rattle.qs_runs.proofs.laws.opened_is_below_known.Goals as goal
 
 pub returns : goal.returns

@@ -1,4 +1,4 @@
-use Rattle.qs_runs.proofs.Statements.{law_pieces_are_written}
+use Rattle.qs_runs.proofs.Clauses.{law_pieces_are_written}
 use Rattle.qs_runs.proofs.laws.pieces_are_written.Goals as goal
 
 pub returns : goal.returns

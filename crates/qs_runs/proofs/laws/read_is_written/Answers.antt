@@ -1,4 +1,4 @@
-use Rattle.qs_runs.proofs.Statements.{law_read_is_written}
+use Rattle.qs_runs.proofs.Clauses.{law_read_is_written}
 use Rattle.qs_runs.proofs.laws.read_is_written.Goals as goal
 
 pub returns : goal.returns

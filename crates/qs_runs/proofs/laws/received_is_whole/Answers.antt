@@ -1,4 +1,4 @@
-use Rattle.qs_runs.proofs.Statements.{law_received_is_whole}
+use Rattle.qs_runs.proofs.Clauses.{law_received_is_whole}
 use Rattle.qs_runs.proofs.laws.received_is_whole.Goals as goal
 
 pub returns : goal.returns

@@ -1,4 +1,4 @@
-use Rattle.qs_runs.proofs.Statements.{law_reset_code_is_the_senders}
+use Rattle.qs_runs.proofs.Clauses.{law_reset_code_is_the_senders}
 use Rattle.qs_runs.proofs.laws.reset_code_is_the_senders.Goals as goal
 
 pub returns : goal.returns

@@ -1,4 +1,4 @@
-use Rattle.qs_runs.proofs.Statements.{law_sent_is_within_known}
+use Rattle.qs_runs.proofs.Clauses.{law_sent_is_within_known}
 use Rattle.qs_runs.proofs.laws.sent_is_within_known.Goals as goal
 
 pub returns : goal.returns

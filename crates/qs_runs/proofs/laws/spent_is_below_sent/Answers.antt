@@ -1,4 +1,4 @@
-use Rattle.qs_runs.proofs.Statements.{law_spent_is_below_sent}
+use Rattle.qs_runs.proofs.Clauses.{law_spent_is_below_sent}
 use Rattle.qs_runs.proofs.laws.spent_is_below_sent.Goals as goal
 
 pub returns : goal.returns

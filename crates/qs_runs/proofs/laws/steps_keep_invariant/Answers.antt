@@ -1,4 +1,4 @@
-use Rattle.qs_runs.proofs.Statements.{law_steps_keep_invariant}
+use Rattle.qs_runs.proofs.Clauses.{law_steps_keep_invariant}
 use Rattle.qs_runs.proofs.laws.steps_keep_invariant.Goals as goal
 
 pub returns : goal.returns

@@ -1,4 +1,4 @@
-use Rattle.qs_runs.proofs.Statements.{law_stored_is_written}
+use Rattle.qs_runs.proofs.Clauses.{law_stored_is_written}
 use Rattle.qs_runs.proofs.laws.stored_is_written.Goals as goal
 
 pub returns : goal.returns

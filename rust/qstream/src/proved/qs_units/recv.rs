@@ -3,7 +3,7 @@
 use crate::shim::{HostRuntime, assert_eq};
 
 use crate::proved::qs_chunks::ChunkAssembly;
-use crate::proved::qs_recv::{Assembly, Highest, Read, RecvFault, RecvHalf, RecvState, RingAssembly, Share};
+use crate::proved::qs_recv::{Assembly, Highest, Read, RecvFault, RecvHalf, RecvState, RingAssembly, Share, Sizes};
 use crate::shim::alloc::Global;
 use crate::shim::test::Fail;
 
@@ -56,13 +56,8 @@ fn take_once<A: Assembly>(
     half.take_stream(offset, bytes, fin)
 }
 
-fn look<A: Assembly>(half: &RecvHalf<A>) -> (u64, u64, Option<u64>, RecvState) {
-    (
-        half.stored(),
-        half.highest(),
-        half.final_size(),
-        half.state(),
-    )
+fn look<A: Assembly>(half: &RecvHalf<A>) -> (Sizes, Option<u64>, RecvState) {
+    (half.sizes(), half.final_size(), half.state())
 }
 
 // A frame that found no memory is taken again where it changed nothing, so that the tests pass with each allocation refused in turn.
@@ -137,7 +132,8 @@ fn answers<A: Assembly>(half: &mut RecvHalf<A>, step: Step) -> bool {
         Step::Raise(limit) => half.raise() == limit,
         Step::State(state) => half.state() == state,
         Step::Counts(stored, highest, taken) => {
-            (half.stored(), half.highest(), half.taken()) == (stored, highest, taken)
+            let sizes = half.sizes();
+            (sizes.stored, sizes.spent, sizes.taken) == (stored, highest, taken)
         }
         Step::Credit(read, limit) => (half.read_count(), half.limit()) == (read, limit),
         Step::Known(size, reset, stop) => {

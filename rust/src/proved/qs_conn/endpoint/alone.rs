@@ -134,11 +134,11 @@ impl Endpoint {
                 bytes,
                 fin,
             } => {
-                if self.is_yet_to_open(stream) {
+                if self.is_yet_to_open(stream.id) {
                     return true;
                 }
                 let len = bytes.len() as u64;
-                self.core.recvs.stream_changes(stream, offset, len, fin)
+                self.core.recvs.stream_changes(stream.id, offset, len, fin)
             }
             SeenFrame::Control(item) => self.item_changes(item),
             SeenFrame::Ack { .. } | SeenFrame::Close(_) | SeenFrame::Plain { .. } => false,

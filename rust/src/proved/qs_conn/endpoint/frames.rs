@@ -1,7 +1,8 @@
 // Made from crates/qs_conn/src/endpoint/frames.rt by rust/erase; not edited by hand.
 //! What the frames of a payload do.
 
-use super::{Endpoint, is_uni};
+use super::{Endpoint, is_uni, role_bit};
+use crate::proved::qs_conn::places::Place;
 use crate::proved::qs_conn::seen::SeenFrame;
 use crate::proved::qs_recv::{Highest, RecvFault};
 use crate::proved::qs_send::Item;
@@ -38,7 +39,7 @@ impl Endpoint {
                 },
             ) => self.reset_fault(stream, final_size),
             SeenFrame::Control(Item::StreamDataBlocked { stream, .. }) => {
-                self.state_fault_in(stream)
+                self.state_fault_in(Place::of(stream))
             }
             SeenFrame::Control(Item::StopSending { stream, .. }) => self.state_fault_out(stream),
             SeenFrame::Control(Item::MaxStreamData { stream, .. }) => self.state_fault_out(stream),
@@ -74,7 +75,7 @@ impl Endpoint {
     }
 
     #[inline(always)]
-    fn stream_fault(&self, stream: StreamId, offset: u64, bytes: &[u8], fin: bool) -> Option<u64> {
+    fn stream_fault(&self, stream: Place, offset: u64, bytes: &[u8], fin: bool) -> Option<u64> {
         match self.judge_stream(stream, offset, bytes, fin) {
             Ok(_sure) => None,
             Err(code) => Some(code),
@@ -83,35 +84,47 @@ impl Endpoint {
 
     // The bytes come last, and only those that are still stored are compared (RFC 9000, section 2.2). A frame that raises the highest offset
     // changes this end.
-    fn judge_stream(
-        &self,
-        stream: StreamId,
-        offset: u64,
-        bytes: &[u8],
-        fin: bool,
-    ) -> Result<bool, u64> {
+    fn judge_stream(&self, stream: Place, offset: u64, bytes: &[u8], fin: bool) -> Result<bool, u64> {
         if let Some(code) = self.state_fault_in(stream) {
             return Err(code);
         }
-        let window = self.window(stream);
+        let Some(half) = self.core.recvs.half(stream) else {
+            return self.judge_first(stream, offset, bytes, fin);
+        };
+        let judged = half.judge(offset, bytes, fin);
+        if let Some(code) = self.credit_fault(judged.stream) {
+            return Err(code);
+        }
+        match judged.bytes {
+            Ok(()) => Ok(is_rise(judged.stream)),
+            Err(fault) => Err(code_of(fault)),
+        }
+    }
+
+    // The first frame of a stream opens it, so it changes this end.
+    fn judge_first(&self, stream: Place, offset: u64, bytes: &[u8], fin: bool) -> Result<bool, u64> {
+        let window = self.window(stream.id);
         let len = bytes.len() as u64;
         let check = self
             .core
             .recvs
-            .check_stream(window, stream, offset, len, fin);
+            .check_stream(window, stream.id, offset, len, fin);
         if let Some(code) = self.credit_fault(check) {
             return Err(code);
         }
-        self.core.recvs.is_lawful(stream);
-        match self.core.recvs.check_bytes(window, stream, offset, bytes) {
-            Ok(()) => Ok(is_rise(check)),
+        match self
+            .core
+            .recvs
+            .check_bytes(window, stream.id, offset, bytes)
+        {
+            Ok(()) => Ok(true),
             Err(fault) => Err(code_of(fault)),
         }
     }
 
     fn reset_fault(&self, stream: StreamId, size: u64) -> Option<u64> {
         debug_assert!(size <= 0x3fff_ffff_ffff_ffff);
-        if let Some(code) = self.state_fault_in(stream) {
+        if let Some(code) = self.state_fault_in(Place::of(stream)) {
             return Some(code);
         }
         let window = self.window(stream);
@@ -120,14 +133,20 @@ impl Endpoint {
     }
 
     // Of a frame on what the peer sends.
-    fn state_fault_in(&self, stream: StreamId) -> Option<u64> {
-        if self.is_own(stream) {
-            if self.core.recvs.is_open(stream) {
-                None
-            } else {
-                Some(STREAM_STATE_ERROR)
-            }
-        } else if self.grant(stream) <= stream.index() {
+    fn state_fault_in(&self, stream: Place) -> Option<u64> {
+        if stream.stream_type % 2 == role_bit(self.core.limits.role) {
+            return match self.core.recvs.half(stream) {
+                Some(_open) => None,
+                None => Some(STREAM_STATE_ERROR),
+            };
+        }
+        let streams = &self.core.limits.granted_streams;
+        let granted = if stream.stream_type >= 2 {
+            streams.uni
+        } else {
+            streams.bidi
+        };
+        if granted <= stream.index as u64 {
             Some(STREAM_LIMIT_ERROR)
         } else {
             None
@@ -157,7 +176,7 @@ impl Endpoint {
             Err(fault) => Some(code_of(fault)),
             Ok(highest) => {
                 let growth = highest.after.saturating_sub(highest.before);
-                if self.core.limits.granted < self.spent() + growth {
+                if self.core.limits.granted < self.core.recvs.tally().spent + growth {
                     Some(FLOW_CONTROL_ERROR)
                 } else {
                     None

@@ -3,30 +3,26 @@
 
 use super::Endpoint;
 use crate::proved::qs_conn::by_dir::ByDir;
-use crate::proved::qs_conn::marks::least;
+use crate::proved::qs_conn::places::lesser;
 use crate::proved::qs_conn::recv_marks::RecvTask;
 use crate::proved::qs_conn::told_streams::ToldStreams;
-use crate::proved::qs_calls::{MAX_VARINT, News};
+use crate::proved::qs_calls::MAX_VARINT;
 use crate::proved::qs_wire::{Dir, StreamId};
 
 impl Endpoint {
     /// The least stream of the peer's that is open and wasn't heard of, where so many of each direction were.
     pub(crate) fn next_opened(&self, heard: ByDir<u64>) -> Option<StreamId> {
         let bidi = self.next_opened_of(Dir::Bidi, heard.bidi);
-        let uni = self.next_opened_of(Dir::Uni, heard.uni);
-        match least(bidi, uni) {
-            Some(number) => StreamId::new(number),
-            None => None,
-        }
+        lesser(bidi, self.next_opened_of(Dir::Uni, heard.uni))
     }
 
     // The next one of a direction.
-    fn next_opened_of(&self, dir: Dir, heard: u64) -> Option<u64> {
+    fn next_opened_of(&self, dir: Dir, heard: u64) -> Option<StreamId> {
         let stream_type = self.peer_type(dir);
         if heard >= self.opened_count(stream_type) as u64 {
             return None;
         }
-        Some(heard * 4 + stream_type as u64)
+        StreamId::new(heard * 4 + stream_type as u64)
     }
 
     /// The least stream at which a read of one byte tells something new, of those without a mark.

@@ -14,7 +14,6 @@ impl Endpoint {
         if let Some(fault) = self.lose_refusal(number) {
             return Err(fault);
         }
-        self.core.outbox.none_is_empty();
         match self.core.lose(number) {
             Ok(()) => Ok(()),
             Err(_refused) => Err(LostFault::NoMemory),
@@ -26,7 +25,6 @@ impl Endpoint {
         if self.closed.is_some() {
             return Some(LostFault::Closed);
         }
-        self.core.outbox.none_is_empty();
         if self.core.outbox.first(number).is_none() {
             return Some(LostFault::NotOutstanding);
         }

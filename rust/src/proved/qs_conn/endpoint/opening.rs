@@ -108,9 +108,7 @@ impl Endpoint {
         let window = self.window(stream);
         let share = self.core.limits.tuning.credit_step;
         let buffer = self.send_buffer();
-        self.core.outbox.are_of_open();
         let before = self.core.outbox.count(stream);
-        self.core.outbox.are_of_open();
         self.core.untold_recvs.open_to(stream)?;
         self.core.untold_sends.open_to(stream)?;
         open_sends(

@@ -61,7 +61,6 @@ impl Endpoint {
         if let Some(fault) = self.no_sender(stream) {
             return Err(fault);
         }
-        self.core.outbox.has_sending(stream);
         match self.core.outbox.finish(stream) {
             Ok(()) => {
                 self.settle();

@@ -74,7 +74,6 @@ impl Endpoint {
         told: &mut T,
     ) -> Result<Received, Closing> {
         debug_assert!(number < 1 << 62);
-        self.none_is_empty();
         let mut frames = Frames::new(payload);
         let mut asks = false;
         loop {
@@ -87,11 +86,6 @@ impl Endpoint {
                 Err(fault) => return Err(self.close_by(fault)),
             }
         }
-    }
-
-    // Each outstanding packet has a piece. It does nothing: a caller learns the clause.
-    fn none_is_empty(&self) {
-        self.core.outbox.none_is_empty();
     }
 
     // One frame takes effect, or the processing ends with it.

@@ -14,23 +14,19 @@ impl Endpoint {
         debug_assert!(number < 1 << 62);
         self.done.insert(number, number + 1)?;
         self.floor = trim(&mut self.done, self.floor);
-        self.ack_due = either(self.ack_due, asks);
+        self.ack_due |= asks;
         Ok(())
     }
 }
 
 // Where too many ranges are kept, the lowest one leaves. Answers the number below which none is told apart.
 fn trim(done: &mut RangeSet, floor: u64) -> u64 {
-    if !has_too_many(done) {
+    if done.count() <= MAX_RUNS {
         return floor;
     }
     let end = lowest_end(done);
     done.drop_below(end);
     end
-}
-
-fn has_too_many(done: &RangeSet) -> bool {
-    done.count() > MAX_RUNS
 }
 
 // One more than the largest number of the lowest range.
@@ -43,8 +39,4 @@ fn lowest(done: &RangeSet) -> u64 {
         Some(number) => number,
         None => 0,
     }
-}
-
-fn either(a: bool, b: bool) -> bool {
-    a || b
 }

@@ -3,6 +3,7 @@
 
 use super::Endpoint;
 use crate::proved::qs_conn::newly_told::Told;
+use crate::proved::qs_conn::places::Place;
 use crate::proved::qs_conn::seen::SeenFrame;
 use crate::proved::qs_ranges::NoMemory;
 use crate::proved::qs_send::Item;
@@ -70,7 +71,6 @@ impl Endpoint {
     fn on_max_stream_data(&mut self, stream: StreamId, maximum: u64) -> Result<(), NoMemory> {
         debug_assert!(maximum <= 0x3fff_ffff_ffff_ffff);
         self.open_by_peer(stream)?;
-        self.core.outbox.has_sending(stream);
         self.core.outbox.allow(stream, maximum);
         Ok(())
     }
@@ -98,21 +98,55 @@ impl Endpoint {
         Ok(())
     }
 
-    // Bytes of a stream came.
+    // Bytes of a stream came. Mostly they move nothing but what came of it.
     fn on_stream(
+        &mut self,
+        stream: Place,
+        offset: u64,
+        bytes: &[u8],
+        fin: bool,
+    ) -> Result<(), NoMemory> {
+        if self.is_plain(stream) {
+            self.core.recvs.take_stream(stream, offset, bytes, fin)?;
+            return Ok(());
+        }
+        self.on_any_stream(stream.id, offset, bytes, fin)
+    }
+
+    // Whether a stream is open, and no end, reset or stop was told of it: a frame moves no limit then, and no count of streams.
+    fn is_plain(&self, stream: Place) -> bool {
+        let Some(half) = self.core.recvs.half(stream) else {
+            return false;
+        };
+        if half.is_told() {
+            return false;
+        }
+        if half.stop_code().is_some() {
+            return false;
+        }
+        if half.reset_code().is_some() {
+            return false;
+        }
+        if stream.stream_type >= 2 {
+            return true;
+        }
+        stream.index < self.core.outbox.count_of(stream.stream_type)
+    }
+
+    // Bytes of a stream came, which they may open.
+    fn on_any_stream(
         &mut self,
         stream: StreamId,
         offset: u64,
         bytes: &[u8],
         fin: bool,
     ) -> Result<(), NoMemory> {
-        self.core.outbox.are_of_open();
         let sends = self.core.outbox.count(stream);
-        self.core.outbox.are_of_open();
         let recvs = self.core.recvs.count(stream);
         self.open_by_peer(stream)?;
         let was = self.core.is_over(stream);
-        if let Err(refused) = self.core.recvs.take_stream(stream, offset, bytes, fin) {
+        let place = Place::of(stream);
+        if let Err(refused) = self.core.recvs.take_stream(place, offset, bytes, fin) {
             self.core.outbox.close_to(stream, sends);
             self.core.recvs.close_to(stream, recvs);
             self.is_settled = false;

@@ -72,7 +72,6 @@ impl Core {
         told: &mut T,
     ) -> Result<(), NoMemory> {
         while let Some(number) = self.outbox.next_named(late, pass) {
-            self.outbox.none_is_empty();
             self.ack_packet(KeptPacket { late, number })?;
             told.tell(number);
         }

@@ -6,8 +6,10 @@ use crate::proved::qs_conn::filling::{
     Course, LEAST_STREAM_FRAME, Packet, Wish, cut_to, full_at, is_covered, put_ack_if, put_chunk,
     put_item,
 };
+use crate::proved::qs_conn::outbox::Outbox;
 use crate::proved::qs_conn::send_marks::Task;
 use crate::proved::qs_conn::slot::{Kind, Slot};
+use crate::proved::qs_conn::untold::Untold;
 use crate::proved::qs_ranges::RangeSet;
 use crate::proved::qs_wire::{Dir, StreamId};
 
@@ -91,6 +93,7 @@ impl Core {
     }
 
     /// Whether a stream may have an item of a kind. It looks at how many marks there are.
+    #[inline(always)]
     pub(super) fn may_tell(&self, kind: Kind) -> bool {
         match kind {
             Kind::ResetStream | Kind::StreamDataBlocked => self.untold_sends.may_have(),
@@ -145,7 +148,8 @@ impl Core {
             return self.put_open(wish.want.first, out, packet);
         }
         let packet = self.put_way(wish.want.first, false, out, packet);
-        if packet.is_full {
+        // Below the least stream there is no other.
+        if wish.want.first.value() == 0 {
             return packet;
         }
         self.put_way(wish.want.first, true, out, packet)
@@ -162,7 +166,7 @@ impl Core {
             if !is_on_way(around, first, stream) {
                 return packet;
             }
-            packet = self.put_open(stream, out, packet);
+            packet = self.put_chunks(stream, out, packet);
             if packet.is_full {
                 return packet;
             }
@@ -183,6 +187,7 @@ impl Core {
     }
 
     // Puts chunks of a stream into the packet, if it is one that can send.
+    #[inline(always)]
     fn put_open(&mut self, stream: StreamId, out: &mut [u8], packet: Course) -> Course {
         if self.outbox.is_open(stream) {
             return self.put_chunks(stream, out, packet);
@@ -204,15 +209,23 @@ impl Core {
                     return full_at(len, 0);
                 }
                 let part = cut_to(chunk, quota);
-                let end = put_chunk(&mut self.outbox, stream, part, out, len);
+                let cut = put_chunk(&mut self.outbox, stream, part, out, len);
                 self.untold_sends.look_blocked(&self.outbox, stream);
-                return full_at(end, 0);
+                return full_at(cut.len, 0);
             }
-            len = put_chunk(&mut self.outbox, stream, chunk, out, len);
+            let put = put_chunk(&mut self.outbox, stream, chunk, out, len);
+            len = put.len;
             quota -= chunk.len;
-            self.untold_sends.look_blocked(&self.outbox, stream);
+            look_unless_free(&mut self.untold_sends, &self.outbox, stream, put.is_free);
             if out.len() - len < LEAST_STREAM_FRAME {
                 return full_at(len, quota);
+            }
+            if put.is_done {
+                return Course {
+                    len,
+                    quota,
+                    is_full: false,
+                };
             }
             fresh = self.limits.known_data - self.outbox.sent_sum();
         }
@@ -225,12 +238,22 @@ impl Core {
     }
 }
 
+// A sending half of which a chunk went is marked where it stands at its limit with more written, unless it is known that it doesn't.
+#[inline(always)]
+fn look_unless_free(marks: &mut Untold, outbox: &Outbox, stream: StreamId, is_free: bool) {
+    if !is_free {
+        marks.look_blocked(outbox, stream);
+    }
+}
+
 // Where the way begins: at `first`, or, on the way around, at the least stream.
+#[inline(always)]
 fn way_start(around: bool, first: StreamId) -> u64 {
     if around { 0 } else { first.value() }
 }
 
 // Whether a stream is one of the way: from `first` on, or, on the way around, below it.
+#[inline(always)]
 fn is_on_way(around: bool, first: StreamId, stream: StreamId) -> bool {
     if around {
         return stream.value() < first.value();

@@ -19,12 +19,6 @@ pub(crate) struct KeptPacket {
 }
 
 impl Outbox {
-    /// Each outstanding packet has a piece. It does nothing: a caller learns the clause.
-    pub(crate) fn none_is_empty(&self) {
-        let _next = self.next;
-        self.records.none_is_empty();
-    }
-
     /// The least number from one on of an outstanding packet.
     pub(crate) fn next_outstanding(&self, from: u64) -> Option<u64> {
         let _next = self.next;
@@ -48,7 +42,6 @@ impl Outbox {
     /// Whether a packet is kept that was declared lost.
     pub(crate) fn keeps_lost(&self) -> bool {
         let _next = self.next;
-        self.lost.is_in_order();
         self.lost.len() > 0
     }
 

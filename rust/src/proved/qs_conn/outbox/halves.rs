@@ -10,24 +10,21 @@ use crate::proved::qs_send::SendView;
 use crate::proved::qs_wire::StreamId;
 
 /// Whether the stream has a sending half.
+#[inline(always)]
 pub(super) fn is_open(types: &[SendLanes; 4], stream: StreamId) -> bool {
     let lanes = &types[type_of(stream)];
     index_of(stream) < lanes.len()
 }
 
-/// What holds of an open stream's half. It does nothing: a caller learns the clause.
-pub(super) fn is_lawful(types: &[SendLanes; 4], stream: StreamId) {
-    let lanes = &types[type_of(stream)];
-    lanes.is_lawful(index_of(stream));
-}
-
 /// The half of an open stream.
+#[inline(always)]
 pub(super) fn half_of(types: &[SendLanes; 4], stream: StreamId) -> SendView<'_> {
     let lanes = &types[type_of(stream)];
     lanes.get(index_of(stream))
 }
 
 /// Whether any half may have a task.
+#[inline(always)]
 pub(super) fn may_have(types: &[SendLanes; 4], task: Task) -> bool {
     if types[0].may_have(task) {
         return true;
@@ -52,10 +49,14 @@ pub(super) fn least_marked(types: &[SendLanes; 4], task: Task, from: u64) -> Opt
 }
 
 // The least such number among the streams of a type.
+#[inline(always)]
 fn next_of(types: &[SendLanes; 4], task: Task, stream_type: usize, from: u64) -> Option<u64> {
     debug_assert!(stream_type < 4);
     debug_assert!(from <= 1 << 62);
     let lanes = &types[stream_type];
+    if !lanes.may_have(task) {
+        return None;
+    }
     let index = lanes.next_marked(task, index_from(stream_type, from))?;
     Some((index * 4 + stream_type) as u64)
 }
@@ -77,13 +78,8 @@ pub(super) fn next_with(types: &[SendLanes; 4], task: Task, from: u64) -> Option
     }
 }
 
-/// The least such number among the streams of a type.
-pub(super) fn next_with_of(
-    types: &[SendLanes; 4],
-    task: Task,
-    stream_type: usize,
-    from: u64,
-) -> Option<u64> {
+// The least such number among the streams of a type.
+fn next_with_of(types: &[SendLanes; 4], task: Task, stream_type: usize, from: u64) -> Option<u64> {
     debug_assert!(stream_type < 4);
     debug_assert!(from <= 1 << 62);
     let lanes = &types[stream_type];

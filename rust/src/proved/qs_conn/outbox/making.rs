@@ -3,10 +3,10 @@
 use crate::shim::Vec;
 
 use super::Outbox;
-use super::halves::{half_of, is_lawful, is_open};
+use super::halves::{half_of, is_open};
 use crate::proved::qs_conn::piece_room::PieceRoom;
 use crate::proved::qs_conn::places::{index_of, type_of};
-use crate::proved::qs_conn::send_lanes::SendLanes;
+use crate::proved::qs_conn::send_lanes::{SendLanes, Sent};
 use crate::proved::qs_ranges::NoMemory;
 use crate::proved::qs_send::{Chunk, Item, Piece, Records};
 use crate::proved::qs_wire::StreamId;
@@ -27,7 +27,6 @@ impl Outbox {
     pub(crate) fn next_chunk(&self, stream: StreamId, room: usize, fresh: u64) -> Option<Chunk> {
         let _next = self.next;
         let half = half_of(&self.types, stream);
-        half.is_lawful();
         half.next_chunk(room, fresh)
     }
 
@@ -35,7 +34,6 @@ impl Outbox {
     pub(crate) fn has_unsent(&self, stream: StreamId) -> bool {
         let _next = self.next;
         let half = half_of(&self.types, stream);
-        half.is_lawful();
         half.has_unsent()
     }
 
@@ -43,7 +41,6 @@ impl Outbox {
     pub(crate) fn is_held_by_room(&self, stream: StreamId, room: usize, fresh: u64) -> bool {
         let _next = self.next;
         let half = half_of(&self.types, stream);
-        half.is_lawful();
         half.is_held_by_room(room, fresh)
     }
 
@@ -53,12 +50,14 @@ impl Outbox {
     }
 
     /// The chunk stands in the packet in the making.
-    pub(crate) fn put_chunk(&mut self, stream: StreamId, chunk: Chunk) {
-        is_lawful(&self.types, stream);
+    pub(crate) fn put_chunk(&mut self, stream: StreamId, chunk: Chunk) -> Sent {
         let lanes = &mut self.types[type_of(stream)];
-        self.sent += lanes.sent(index_of(stream), chunk);
+        let index = index_of(stream);
+        let sent = lanes.sent(index, chunk);
+        self.sent += sent.moved;
         hold(&mut self.pending, Piece::Data { stream, chunk });
         self.spare -= 1;
+        sent
     }
 
     /// The item stands in the packet in the making. No outstanding packet told it with this value.
@@ -108,6 +107,7 @@ fn note_blocked(types: &mut [SendLanes; 4], stream: StreamId) {
 }
 
 // The pieces of the packet in the making are kept, where it has some, and none is left in the making. It takes no memory.
+#[inline(always)]
 fn put_pieces(records: &mut Records, number: u64, pending: &mut Vec<Piece>, room: &mut PieceRoom) {
     if pending.len() > 1 {
         records.put(number, room.hand_over(pending));
@@ -139,6 +139,7 @@ fn last_looked_for(pieces: &[Piece]) -> Option<StreamId> {
 }
 
 // One piece more, for which there is memory.
+#[inline(always)]
 fn hold(pending: &mut Vec<Piece>, piece: Piece) {
     let _ = match piece {
         Piece::Data { stream, chunk } => pending.push(Piece::Data { stream, chunk }),

@@ -2,9 +2,7 @@
 //! What an end has to tell of its sending side.
 
 use super::Outbox;
-use super::halves::{
-    half_of, is_open, least_marked, may_have, next_sought, next_with, next_with_of,
-};
+use super::halves::{half_of, is_open, least_marked, may_have, next_sought, next_with};
 use crate::proved::qs_conn::marks::Marks;
 use crate::proved::qs_conn::send_marks::{Search, Task};
 use crate::proved::qs_conn::told_streams::ToldStreams;
@@ -209,21 +207,12 @@ impl Outbox {
         lanes.ended_marks()
     }
 
-    /// The least number from one on of a stream of a type whose sending half came to its end.
-    pub(crate) fn next_ended_of(&self, stream_type: usize, from: u64) -> Option<u64> {
-        debug_assert!(stream_type < 4);
-        debug_assert!(from <= 1 << 62);
-        let _next = self.next;
-        next_with_of(&self.types, Task::Ended, stream_type, from)
-    }
-
     /// The least number from one on of a stream of which bytes or the end are due, which its own limit lets go.
     pub(crate) fn next_sendable(&self, from: u64) -> Option<StreamId> {
         debug_assert!(from <= 1 << 62);
         let _next = self.next;
         match next_with(&self.types, Task::Bytes, from) {
             Some(stream) => {
-                half_of(&self.types, stream).is_lawful();
                 Some(stream)
             }
             None => None,

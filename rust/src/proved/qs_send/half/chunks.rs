@@ -11,8 +11,7 @@ impl SendHalf {
     /// `fresh` bytes of connection credit left for bytes that were never sent. It carries the end where
     /// the end is due and it reaches the last written byte. `None` where no chunk may go.
     pub fn next_chunk(&self, room: usize, fresh: u64) -> Option<Chunk> {
-        self.is_lawful();
-        let Some((offset, end)) = self.due_run() else {
+        let Some((offset, end)) = self.offsets.due_run() else {
             return self.end_chunk(room);
         };
         let head = self.head_len(offset);
@@ -40,7 +39,6 @@ impl SendHalf {
     /// Whether the room alone holds a chunk back: one that is due, below the stream's limit and within the
     /// credit, and whose frame is longer than `room`.
     pub fn is_held_by_room(&self, room: usize, fresh: u64) -> bool {
-        self.is_lawful();
         match self.next_chunk(usize::MAX, fresh) {
             Some(chunk) => self.frame_len(chunk) > room,
             None => false,
@@ -48,18 +46,19 @@ impl SendHalf {
     }
 
     /// The lowest due offset.
+    #[inline(always)]
     pub fn lowest_due(&self) -> Option<u64> {
-        let (offset, _) = self.due_run()?;
+        let (offset, _) = self.offsets.due_run()?;
         Some(offset)
     }
 
     /// Whether bytes that were never sent may go by the half's own limit.
     pub fn has_unsent(&self) -> bool {
-        self.is_lawful();
         self.reset_code().is_none() && self.sent_end() < self.written().min(self.limit())
     }
 
     /// Whether the end is due.
+    #[inline(always)]
     pub fn end_due(&self) -> bool {
         self.fin_noted && !self.fin_acked
     }
@@ -93,14 +92,8 @@ impl SendHalf {
             && (!chunk.fin || self.fin_sent)
     }
 
-    // The lowest due offsets that stand in a row.
-    fn due_run(&self) -> Option<(u64, u64)> {
-        self.offsets.due_run()
-    }
-
     // A frame without bytes, where no byte is due.
     fn end_chunk(&self, room: usize) -> Option<Chunk> {
-        self.is_lawful();
         if !self.end_due() {
             return None;
         }

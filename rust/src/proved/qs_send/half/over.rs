@@ -19,7 +19,6 @@ impl SendHalf {
 
     /// The slot of a half of that number that is over: all of it was acknowledged, and neither a reset nor a STOP_SENDING came.
     pub(crate) fn over(&self, number: u64) -> Option<SendSlot> {
-        self.is_lawful();
         if self.id.value() != number {
             return None;
         }

@@ -1,5 +1,5 @@
 use Rattle.std.proofs.Common.{sym, ◌∙◌}
-use Rattle.qs_machine.proofs.Bounds.{no_wide_fault}
+use Rattle.qs_machine.proofs.Counts.{no_wide_fault}
 use Rattle.qs_conn.proofs.endpoint.Endpoint.new.Goals as goal
 
 pub begun-requires : goal.begun-requires

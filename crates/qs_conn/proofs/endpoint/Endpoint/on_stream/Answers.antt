@@ -1,121 +1,50 @@
-use Rattle.std.proofs.Common.{◌≡◌, ℕ, Option, inr, is_some, arith, length, refl, sym, ap, ◌∙◌, subst, take, ◌%◌}
-use Rattle.qs_recv.specs.Lane.{RecvLane}
-use Rattle.qs_recv.specs.declared.credit.Share.TheVariants.{Half}
-use Rattle.qs_machine.specs.Tables.{Tables, table, with_table, lookup}
+use Rattle.std.proofs.Common.{ap, sym, ◌∙◌, is_some, subst}
+use Rattle.qs_machine.specs.Tables.{lookup}
 use Rattle.qs_machine.specs.Ends.{End}
-use Rattle.qs_machine.specs.Verdicts.{or_new}
-use Rattle.qs_machine.specs.Memory.{HasNews}
-use Rattle.qs_machine.specs.Standing.{IsInCredit}
-use Rattle.qs_machine.specs.Sums.{tally_on}
-use Rattle.qs_machine.specs.Outgoing.{Outgoing, AreOfOpen, sent_sum}
-use Rattle.qs_conn.proofs.Counted.{fit_recvs, fit_streamed, closed_counted}
-use Rattle.qs_conn.proofs.Counting.{counted_small, counted_part}
-use Rattle.qs_conn.specs.Ended.{AreAllCounted, IsToldOfEnd}
-use Rattle.qs_conn.proofs.Cores.{kept_moved, rest_recvs}
-use Rattle.qs_conn.proofs.Runs.{idle_with}
-use Rattle.qs_machine.proofs.Taken.{in_there, stream_in, stream_checked, stream_unchanged, stream_sound, sends_back, recvs_back, tally_back, restored_out, peer_none, peer_lost, peer_unsent, back_sound}
+use Rattle.qs_machine.specs.Standing.{IsInCredit, HasLawfulLane}
+use Rattle.qs_machine.proofs.Taken.{in_there, stream_in, stream_checked, stream_unchanged, stream_sound}
 use Rattle.qs_conn.proofs.Calm.{told_streamed}
-use Rattle.qs_conn.specs.Untold.{AreTold, TellsAt, SendTells}
-use Rattle.qs_conn.proofs.Untolds.{told_closed}
-use Rattle.qs_machine.specs.Asking.{kept_on}
-use Rattle.qs_conn.specs.Promised.{promised_on}
-use Rattle.qs_conn.proofs.Promised.{peer_unwritten}
+use Rattle.qs_conn.proofs.Cores.{rest_recvs}
+use Rattle.qs_conn.proofs.Plains.{plain_next, fit_plain}
 use Rattle.qs_conn.proofs.endpoint.Endpoint.on_stream.Goals as goal
 
 pub take_stream-requires-clause-open : goal.take_stream-requires-clause-open
 take_stream-requires-clause-open c =
-    ap is_some
-    (in_there c.args.self.now _ c.args.stream (stream_in c.args.self.now c.args.stream c.args.offset c.args.bytes.now c.args.fin c.requires.passed) (c.self-2.view_is ∙ c.in_ok-open_by_peer.ensures.ok))
+    ap is_some (in_there c.args.self.now _ c.args.stream (stream_in c.args.self.now c.args.stream c.args.offset c.args.bytes.now c.args.fin c.requires.passed) (c.self.view_is ∙ sym (c.is_plain.ensures c.if-is_plain.true).stays))
 
 pub take_stream-requires-clause-passed : goal.take_stream-requires-clause-passed
 take_stream-requires-clause-passed c =
-    stream_checked c.args.self.now _ c.args.stream c.args.offset c.args.bytes.now c.args.fin c.requires.passed (c.self-2.view_is ∙ c.in_ok-open_by_peer.ensures.ok)
+    stream_checked c.args.self.now _ c.args.stream c.args.offset c.args.bytes.now c.args.fin c.requires.passed (c.self.view_is ∙ sym (c.is_plain.ensures c.if-is_plain.true).stays)
 
 pub take_stream-requires-clause-unchanged : goal.take_stream-requires-clause-unchanged
 take_stream-requires-clause-unchanged c =
-    stream_unchanged c.args.self.now _ c.args.stream c.args.offset c.args.bytes.now c.args.fin c.requires.passed (c.self-2.view_is ∙ c.in_ok-open_by_peer.ensures.ok)
-
-pub close_to-requires-in-Err : goal.close_to-requires-in-Err
-close_to-requires-in-Err c =
-    subst (λ (t : Tables RecvLane). tally_on (take c.count-recvs.result (table t (c.args.stream % 4))) ≡ tally_on (table t (c.args.stream % 4))) (sym c.in-Err.ensures.err)
-    (tally_back c.args.self.now _ c.args.stream c.count-recvs.result (c.self-2.view_is ∙ c.in_ok-open_by_peer.ensures.ok) (c.count-recvs.ensures ∙ ap (λ (e : End). length (table e.recvs (c.args.stream % 4))) c.self.view_is))
+    stream_unchanged c.args.self.now _ c.args.stream c.args.offset c.args.bytes.now c.args.fin c.requires.passed (c.self.view_is ∙ sym (c.is_plain.ensures c.if-is_plain.true).stays)
 
 pub invariant_of-self : goal.invariant_of-self
-invariant_of-self c =
-    let core = c.self-2.inside.core in
-    let h = c.self-2.invariant.rest in
-    let was = c.self.invariant.rest in
-    let credit = h.core.credit in
-    let opened = c.self-2.view_is ∙ c.in_ok-open_by_peer.ensures.ok in
-    let sound : IsInCredit c.args.self.now = subst (λ (k : End). IsInCredit k) c.self.view_is was.core.sound in
-    let back = recvs_back c.args.self.now _ c.args.stream c.count-recvs.result c.close_to-in-Err.new.self opened (c.count-recvs.ensures ∙ ap (λ (e : End). length (table e.recvs (c.args.stream % 4))) c.self.view_is) (c.close_to-in-Err.ensures ∙ ap (λ (t : Tables RecvLane). with_table t (c.args.stream % 4) (take c.count-recvs.result (table t (c.args.stream % 4)))) c.in-Err.ensures.err) in
-    let sends = sends_back c.args.self.now _ c.args.stream c.count-sends.result c.close_to.new.self.sends opened (c.count-sends.ensures ∙ ap (λ (e : End). length (table e.sends (c.args.stream % 4))) c.self.view_is) (ap (λ (x : Outgoing). x.sends) c.close_to.ensures) in
-    let tells = TellsAt core.limits.role core.limits.settings in
-    let sum = ap (λ (x : Outgoing). sent_sum x.sends) c.close_to.ensures ∙ peer_unsent c.args.self.now _ c.args.stream c.count-sends.result opened (c.count-sends.ensures ∙ ap (λ (e : End). length (table e.sends (c.args.stream % 4))) c.self.view_is) in
-    kept_moved _ _ _ _ _ _ c.self-2.invariant _
-    (record {
-      core = record {
-        sound = back_sound c.args.self.now _ c.args.stream c.close_to-in-Err.new.self sound opened back;
-        fits = h.core.fits;
-        credit = omega (arith, sum, credit);
-        counts = fit_recvs _ _ _ _ _ _ _ h.core.counts _ _ _ (closed_counted c.args.self.now _ c.args.stream _ _ c.self.inside.core.ended _ opened back sends (subst (λ (k : End). AreAllCounted k.role k.recvs k.sends c.self.inside.core.ended) c.self.view_is was.core.counts.counted) h.core.counts.counted)
-            (subst (λ (t : Tables RecvLane). (n : ℕ) → IsToldOfEnd (lookup t n)) (sym back) (subst (λ (k : End). (n : ℕ) → IsToldOfEnd (lookup k.recvs n)) c.self.view_is was.core.counts.told));
-        told_in = subst (λ (x : Outgoing). AreTold tells c.close_to-in-Err.new.self x.outstanding x.acked core.untold_recvs) (sym c.close_to.ensures)
-            (told_closed tells core.recvs core.outbox.outstanding core.outbox.acked core.untold_recvs h.core.told_in c.take_stream.new.self c.close_to-in-Err.new.self c.args.stream c.count-recvs.result c.in-Err.ensures.err c.close_to-in-Err.ensures);
-        told_out = subst (λ (x : Outgoing). AreTold SendTells x.sends x.outstanding x.acked core.untold_sends) (sym c.close_to.ensures)
-            (told_closed SendTells core.outbox.sends core.outbox.outstanding core.outbox.acked core.untold_sends h.core.told_out core.outbox.sends _ c.args.stream c.count-sends.result refl refl);
-      };
-      idle = idle_with core.outbox _ _ c.close_to.ensures h.idle;
-    })
+invariant_of-self c = rw c.in_err-take_stream.ensures.err c.self.invariant
 
-pub returns-in-Err-clause-err : goal.returns-in-Err-clause-err
-returns-in-Err-clause-err c =
-    let recvs = recvs_back c.args.self.now _ c.args.stream c.count-recvs.result c.close_to-in-Err.new.self (c.self-2.view_is ∙ c.in_ok-open_by_peer.ensures.ok) (c.count-recvs.ensures ∙ ap (λ (e : End). length (table e.recvs (c.args.stream % 4))) c.self.view_is) (c.close_to-in-Err.ensures ∙ ap (λ (t : Tables RecvLane). with_table t (c.args.stream % 4) (take c.count-recvs.result (table t (c.args.stream % 4)))) c.in-Err.ensures.err) in
-    restored_out c.args.self.now _ c.args.stream c.count-sends.result c.self-2.inside.core.outbox.spare c.close_to.new.self c.close_to-in-Err.new.self (c.self-2.view_is ∙ c.in_ok-open_by_peer.ensures.ok)
-    (c.count-sends.ensures ∙ ap (λ (e : End). length (table e.sends (c.args.stream % 4))) c.self.view_is) c.close_to.ensures recvs
-
-pub close_to-requires-clause-none : goal.close_to-requires-clause-none
-close_to-requires-clause-none c =
-    peer_none c.args.self.now _ c.args.stream c.count-sends.result (c.self-2.view_is ∙ c.in_ok-open_by_peer.ensures.ok) (c.count-sends.ensures ∙ ap (λ (e : End). length (table e.sends (c.args.stream % 4))) c.self.view_is)
-    (subst (λ (k : End). AreOfOpen k.sends k.outstanding) c.self.view_is c.are_of_open.ensures.outstanding)
-
-pub close_to-requires-clause-lost : goal.close_to-requires-clause-lost
-close_to-requires-clause-lost c =
-    peer_lost c.args.self.now _ c.args.stream c.count-sends.result (c.self-2.view_is ∙ c.in_ok-open_by_peer.ensures.ok) (c.count-sends.ensures ∙ ap (λ (e : End). length (table e.sends (c.args.stream % 4))) c.self.view_is)
-    (subst (λ (k : End). AreOfOpen k.sends k.lost.pieces) c.self.view_is c.are_of_open.ensures.lost)
-
-pub close_to-requires-clause-unwritten : goal.close_to-requires-clause-unwritten
-close_to-requires-clause-unwritten c =
-    peer_unwritten promised_on (λ j limit buffer. refl) c.args.self.now _ c.args.stream c.count-sends.result (c.self-2.view_is ∙ c.in_ok-open_by_peer.ensures.ok) (c.count-sends.ensures ∙ ap (λ (e : End). length (table e.sends (c.args.stream % 4))) c.self.view_is)
-
-pub close_to-requires-clause-unkept : goal.close_to-requires-clause-unkept
-close_to-requires-clause-unkept c =
-    peer_unwritten kept_on (λ j limit buffer. refl) c.args.self.now _ c.args.stream c.count-sends.result (c.self-2.view_is ∙ c.in_ok-open_by_peer.ensures.ok) (c.count-sends.ensures ∙ ap (λ (e : End). length (table e.sends (c.args.stream % 4))) c.self.view_is)
-
-pub close_to-requires-clause-unsent : goal.close_to-requires-clause-unsent
-close_to-requires-clause-unsent c =
-    peer_unsent c.args.self.now _ c.args.stream c.count-sends.result (c.self-2.view_is ∙ c.in_ok-open_by_peer.ensures.ok) (c.count-sends.ensures ∙ ap (λ (e : End). length (table e.sends (c.args.stream % 4))) c.self.view_is)
-
-pub recount-requires-clause-small : goal.recount-requires-clause-small
-recount-requires-clause-small c = counted_small _ _ _ _ c.self-2.invariant.rest.core.counts.counted c.is_over-was.ensures.few
-
-pub recount-requires-clause-part : goal.recount-requires-clause-part
-recount-requires-clause-part c = counted_part _ _ _ _ _ _ c.self-2.invariant.rest.core.counts.counted c.is_over-was.ensures.value
-
-pub invariant_of-self-2 : goal.invariant_of-self-2
-invariant_of-self-2 c =
-    let core = c.self-2.inside.core in
-    let h = c.self-2.invariant.rest in
-    let opened = c.self-2.view_is ∙ c.in_ok-open_by_peer.ensures.ok in
-    let sound : IsInCredit c.args.self.now = subst (λ (k : End). IsInCredit k) c.self.view_is c.self.invariant.rest.core.sound in
+pub invariant_of-self-then-is_plain : goal.invariant_of-self-then-is_plain
+invariant_of-self-then-is_plain c =
+    let core = c.self.inside.core in
+    let k = c.self.invariant in
+    let h = k.rest in
+    let plain = c.is_plain.ensures c.if-is_plain.true in
+    let opened = c.self.view_is ∙ sym plain.stays in
+    let after = c.in_ok-take_stream.ensures.ok in
+    let found = in_there c.args.self.now _ c.args.stream (stream_in c.args.self.now c.args.stream c.args.offset c.args.bytes.now c.args.fin c.requires.passed) opened in
+    let lane = plain.lane _ (ap (λ (e : End). lookup e.recvs c.args.stream) (sym c.self.view_is) ∙ found) in
+    let sound : IsInCredit c.args.self.now = subst (λ (e : End). IsInCredit e) c.self.view_is h.core.sound in
     let checked = stream_checked c.args.self.now _ c.args.stream c.args.offset c.args.bytes.now c.args.fin c.requires.passed opened in
-    kept_moved _ _ _ _ _ _ c.self-2.invariant _
-    (rest_recvs core h c.take_stream.new.self core.untold_recvs c.recount.new.self
-    (stream_sound c.args.self.now _ c.args.stream c.args.offset c.args.bytes.now c.args.fin c.take_stream.new.self sound c.requires.passed opened c.in_default.ensures.ok)
-    (fit_streamed _ _ _ _ _ _ _ h.core.counts _ _ h.core.sound _ c.args.stream _ _ _ _ c.is_over-was.result c.is_over-is.result checked c.in_default.ensures.ok c.is_over-was.ensures.value c.is_over-is.ensures.value c.recount.ensures)
-    (told_streamed core.limits.role core.limits.settings core.recvs core.outbox.outstanding core.outbox.acked core.untold_recvs h.core.told_in c.take_stream.new.self c.args.stream _ _ h.core.sound c.args.offset c.args.bytes.now c.args.fin checked c.in_default.ensures.ok))
-
-pub returns-in-Err-clause-asks : goal.returns-in-Err-clause-asks
-returns-in-Err-clause-asks c =
-    inr (subst (λ (o : Option RecvLane). HasNews (or_new o 0 Half) c.args.offset (length c.args.bytes.now))
-    (in_there c.args.self.now _ c.args.stream (stream_in c.args.self.now c.args.stream c.args.offset c.args.bytes.now c.args.fin c.requires.passed) (c.self-2.view_is ∙ c.in_ok-open_by_peer.ensures.ok)) c.in-Err.ensures.news)
+    let lawful = (subst (HasLawfulLane core.limits.role core.limits.settings c.args.stream) found (h.core.sound.lanes c.args.stream)).0 in
+    record {
+      rest =
+          rest_recvs core h c.take_stream.new.self core.untold_recvs core.ended
+          (stream_sound c.args.self.now _ c.args.stream c.args.offset c.args.bytes.now c.args.fin c.take_stream.new.self sound c.requires.passed opened after)
+          (fit_plain core.recvs c.take_stream.new.self c.args.stream c.args.offset c.args.bytes.now c.args.fin _ found lane after _ _ _ _ _ _ h.core.counts _ _ h.core.sound checked)
+          (told_streamed core.limits.role core.limits.settings core.recvs core.outbox.outstanding core.outbox.acked core.untold_recvs h.core.told_in c.take_stream.new.self c.args.stream _ _ h.core.sound c.args.offset c.args.bytes.now c.args.fin checked after);
+      peer_fits = k.peer_fits;
+      closing_fits = k.closing_fits;
+      few = k.few;
+      acks = k.acks;
+      settled = plain_next core.recvs c.take_stream.new.self c.args.stream c.args.offset c.args.bytes.now c.args.fin _ found lane after _ _ _ _ _ _ _ _ lawful k.settled;
+    }

@@ -21,10 +21,10 @@ invariant_of-self-2 c =
     (rest_opened core h c.args.stream c.window-window.result _ _ _ _ _ _ _ _ _ c.in_ok-open_sends.ensures.ok c.in_default.ensures.ok window c.in_ok-open_to.ensures.ok c.in_ok-open_to-2.ensures.ok)
 
 pub close_to-requires-clause-none : goal.close_to-requires-clause-none
-close_to-requires-clause-none c = none_back c.self.inside.core.outbox c.open_sends.new.outbox c.args.stream c.count-before.result _ _ _ c.in_ok-open_sends.ensures.ok c.count-before.ensures c.are_of_open.ensures.outstanding
+close_to-requires-clause-none c = none_back c.self.inside.core.outbox c.open_sends.new.outbox c.args.stream c.count-before.result _ _ _ c.in_ok-open_sends.ensures.ok c.count-before.ensures c.learn_of_open.ensures.outstanding
 
 pub close_to-requires-clause-lost : goal.close_to-requires-clause-lost
-close_to-requires-clause-lost c = lost_back c.self.inside.core.outbox c.open_sends.new.outbox c.args.stream c.count-before.result _ _ _ c.in_ok-open_sends.ensures.ok c.count-before.ensures c.are_of_open.ensures.lost
+close_to-requires-clause-lost c = lost_back c.self.inside.core.outbox c.open_sends.new.outbox c.args.stream c.count-before.result _ _ _ c.in_ok-open_sends.ensures.ok c.count-before.ensures c.learn_of_open.ensures.lost
 
 pub close_to-requires-clause-unwritten : goal.close_to-requires-clause-unwritten
 close_to-requires-clause-unwritten c = unwritten_back promised_on (λ j limit buffer. refl) c.self.inside.core.outbox c.open_sends.new.outbox c.args.stream c.count-before.result _ _ _ c.in_ok-open_sends.ensures.ok c.count-before.ensures

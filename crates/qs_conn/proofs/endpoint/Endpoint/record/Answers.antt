@@ -6,7 +6,7 @@ use Rattle.qs_conn.proofs.endpoint.Endpoint.record.Goals as goal
 pub returns-clause-ok : goal.returns-clause-ok
 returns-clause-ok c =
     let kept = c.in_ok-insert.ensures.ok ∙ insert_is_range c.self.inside.done c.args.number in
-    rw (← c.self.view_is, c.trim-self-inside.ensures.done, c.trim-self-inside.ensures.floor, c.either-self-inside.ensures, kept) refl
+    rw (← c.self.view_is, c.trim-self-inside.ensures.done, c.trim-self-inside.ensures.floor, kept) refl
 
 pub invariant_of-self-2 : goal.invariant_of-self-2
 invariant_of-self-2 c =

@@ -7,7 +7,7 @@ use Rattle.qs_machine.specs.Credit.{count_after}
 use Rattle.qs_machine.specs.Tables.{Tables, total}
 use Rattle.qs_machine.specs.Standing.{KeepsCredit}
 use Rattle.qs_machine.proofs.TableLaws.{total_each}
-use Rattle.qs_machine.proofs.Sound.{keeps_settle}
+use Rattle.qs_machine.proofs.CallsSound.{keeps_settle}
 use Rattle.qs_conn.proofs.Counted.{fit_settled}
 use Rattle.qs_conn.specs.Filling.{present_of}
 use Rattle.qs_conn.specs.Untold.{TellsAt}

@@ -17,7 +17,7 @@ loop-number-preserved g c =
       told = λ new t early less h. c.loop-number.invariant.told new t early
           (less_on c.loop-number.self.outbox c.ack_packet.new.self.outbox new (less_packet c.args.late c.in-Some.number c.loop-number.self.outbox c.ack_packet.new.self.outbox _ c.in_ok-ack_packet.ensures.step) less)
           (tells_more _ c.args.late c.loop-number.pass c.next_named.new.pass c.in-Some.number c.loop-number.self.outbox c.ack_packet.new.self.outbox new c.next_named.result c.loop-number.told c.tell.new.self t early c.in-Some.is c.next_named.ensures.answer
-          c.next_named.ensures.falls c.next_named.ensures.below c.none_is_empty.ensures c.in_ok-ack_packet.ensures.step c.tell.ensures less h);
+          c.next_named.ensures.falls c.next_named.ensures.below c.learn_none_empty.ensures c.in_ok-ack_packet.ensures.step c.tell.ensures less h);
     }
 
 pub returns-in_err-ack_packet-clause-step : goal.returns-in_err-ack_packet-clause-step

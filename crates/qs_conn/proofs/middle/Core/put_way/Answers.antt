@@ -32,9 +32,9 @@ loop-stream-preserved c =
           let before = c.loop-stream.invariant.flow wish room old e all at start in
           let here = flow_idle wish room old (take c.loop-stream.packet.len c.loop-stream.out) (end_of c.loop-stream.self e) c.loop-stream.packet.quota c.loop-stream.packet.is_full around first c.loop-stream.from stream c.in-Some.ensures.from
           (λ n. c.in-Some.ensures.none n e) before in
-          let after = c.put_open-packet.ensures.flow around first wish room old e (all stream) (at ∙ sym c.loop-stream.invariant.filled.room) (c.is_on_way.ensures.0 c.if-not-is_on_way.false) here in
-          subst (λ n. Flow wish room old (take c.put_open-packet.result.len c.put_open-packet.new.out) (end_of c.put_open-packet.new.self e) c.put_open-packet.result.quota c.put_open-packet.result.is_full (turn_at around first (n + 1))) (sym c.value-from.ensures.same) after);
-      filled = fills_on _ _ _ _ _ _ _ _ _ _ _ c.loop-stream.invariant.filled c.put_open-packet.ensures.filled;
+          let after = c.put_chunks-packet.ensures.flow around first wish room old e (all stream) (at ∙ sym c.loop-stream.invariant.filled.room) (c.is_on_way.ensures.0 c.if-not-is_on_way.false) here in
+          subst (λ n. Flow wish room old (take c.put_chunks-packet.result.len c.put_chunks-packet.new.out) (end_of c.put_chunks-packet.new.self e) c.put_chunks-packet.result.quota c.put_chunks-packet.result.is_full (turn_at around first (n + 1))) (sym c.value-from.ensures.same) after);
+      filled = fills_on _ _ _ _ _ _ _ _ _ _ _ c.loop-stream.invariant.filled c.put_chunks-packet.ensures.filled;
     }
 
 pub returns-then-not-is_on_way-clause-flow : goal.returns-then-not-is_on_way-clause-flow
@@ -51,8 +51,8 @@ returns-then-packet-2-clause-flow c = λ wish room old e all at start. (
     let before = c.loop-stream.invariant.flow wish room old e all at start in
     let here = flow_idle wish room old (take c.loop-stream.packet.len c.loop-stream.out) (end_of c.loop-stream.self e) c.loop-stream.packet.quota c.loop-stream.packet.is_full around first c.loop-stream.from stream c.in-Some.ensures.from
     (λ n. c.in-Some.ensures.none n e) before in
-    let after = c.put_open-packet.ensures.flow around first wish room old e (all stream) (at ∙ sym c.loop-stream.invariant.filled.room) (c.is_on_way.ensures.0 c.if-not-is_on_way.false) here in
-    flow_whole wish room old (take c.put_open-packet.result.len c.put_open-packet.new.out) (end_of c.put_open-packet.new.self e) c.put_open-packet.result.quota c.put_open-packet.result.is_full around first (stream + 1) c.if-packet-2.true after)
+    let after = c.put_chunks-packet.ensures.flow around first wish room old e (all stream) (at ∙ sym c.loop-stream.invariant.filled.room) (c.is_on_way.ensures.0 c.if-not-is_on_way.false) here in
+    flow_whole wish room old (take c.put_chunks-packet.result.len c.put_chunks-packet.new.out) (end_of c.put_chunks-packet.new.self e) c.put_chunks-packet.result.quota c.put_chunks-packet.result.is_full around first (stream + 1) c.if-packet-2.true after)
 
 pub returns-clause-flow : goal.returns-clause-flow
 returns-clause-flow c = λ wish room old e all at start.
@@ -61,7 +61,7 @@ returns-clause-flow c = λ wish room old e all at start.
     (c.loop-stream.invariant.flow wish room old e all at start)
 
 pub returns-then-packet-2-clause-filled : goal.returns-then-packet-2-clause-filled
-returns-then-packet-2-clause-filled c = fills_on _ _ _ _ _ _ _ _ _ _ _ c.loop-stream.invariant.filled c.put_open-packet.ensures.filled
+returns-then-packet-2-clause-filled c = fills_on _ _ _ _ _ _ _ _ _ _ _ c.loop-stream.invariant.filled c.put_chunks-packet.ensures.filled
 
-pub put_open-packet-requires-clause-memory : goal.put_open-packet-requires-clause-memory
-put_open-packet-requires-clause-memory c = c.loop-stream.invariant.filled.memory 0 c.requires.memory
+pub put_chunks-packet-requires-clause-memory : goal.put_chunks-packet-requires-clause-memory
+put_chunks-packet-requires-clause-memory c = c.loop-stream.invariant.filled.memory 0 c.requires.memory

@@ -8,8 +8,8 @@ use Rattle.qs_machine.proofs.TableEdits.{open_there, half_is, updated_is, on_ok}
 use Rattle.qs_conn.proofs.Outboxes.{half_found, half_there, lane_now, lane_step, same_step, box_finished, finish_ok, finish_err, on_error}
 use Rattle.qs_conn.proofs.outbox.Outbox.finish.Goals as goal
 
-pub is_lawful-requires-clause-open : goal.is_lawful-requires-clause-open
-is_lawful-requires-clause-open c = half_there _ c.args.self.now (tables_of c.self.inside.types) c.args.stream c.self.view_is refl c.requires
+pub learn_lawful-requires-clause-open : goal.learn_lawful-requires-clause-open
+learn_lawful-requires-clause-open c = half_there _ c.args.self.now (tables_of c.self.inside.types) c.args.stream c.self.view_is refl c.requires
 
 pub finish-requires : goal.finish-requires
 finish-requires c = open_there c.self.inside.types c.args.stream _ _ _ c.self.invariant.3 c.type_of.ensures.value c.index_of.ensures.value (half_there _ c.args.self.now (tables_of c.self.inside.types) c.args.stream c.self.view_is refl c.requires)
@@ -17,7 +17,7 @@ finish-requires c = open_there c.self.inside.types c.args.stream _ _ _ c.self.in
 pub invariant_of-self : goal.invariant_of-self
 invariant_of-self c =
     let is = updated_is c.self.inside.types c.args.stream _ _ _ _ after_finish c.self.invariant.3 c.type_of.ensures.value c.index_of.ensures.value c.finish.ensures.after in
-    (box_finished _ _ _ _ _ _ _ _ _ c.self.invariant.0 c.args.stream _ (half_found _ c.args.stream (half_there _ c.args.self.now (tables_of c.self.inside.types) c.args.stream c.self.view_is refl c.requires)) c.is_lawful.ensures is, c.self.invariant.1, sent_finish (tables_of c.self.inside.types) _ _ c.self.invariant.2 c.args.stream is, length-set _ _ _ ∙ c.self.invariant.3)
+    (box_finished _ _ _ _ _ _ _ _ _ c.self.invariant.0 c.args.stream _ (half_found _ c.args.stream (half_there _ c.args.self.now (tables_of c.self.inside.types) c.args.stream c.self.view_is refl c.requires)) c.learn_lawful.ensures is, c.self.invariant.1, sent_finish (tables_of c.self.inside.types) _ _ c.self.invariant.2 c.args.stream is, length-set _ _ _ ∙ c.self.invariant.3)
 
 pub returns : goal.returns
 returns c =

@@ -11,9 +11,9 @@ returns-then-not-is_open c =
 
 pub returns-in-DataRecvd : goal.returns-in-DataRecvd
 returns-in-DataRecvd c =
-    over_yes _ c.half_of-half.result c.state.result (lookup_now _ c.args.self.now (tables_of c.self.inside.types) c.args.stream c.half_of-half.result c.self.view_is refl c.half_of-half.ensures) c.is_lawful.ensures c.state.ensures c.in-DataRecvd.is
+    over_yes _ c.half_of-half.result c.state.result (lookup_now _ c.args.self.now (tables_of c.self.inside.types) c.args.stream c.half_of-half.result c.self.view_is refl c.half_of-half.ensures) c.learn_lawful.ensures c.state.ensures c.in-DataRecvd.is
 
 pub returns-in_default : goal.returns-in_default
 returns-in_default c =
-    over_no _ c.half_of-half.result (lookup_now _ c.args.self.now (tables_of c.self.inside.types) c.args.stream c.half_of-half.result c.self.view_is refl c.half_of-half.ensures) c.is_lawful.ensures
+    over_no _ c.half_of-half.result (lookup_now _ c.args.self.now (tables_of c.self.inside.types) c.args.stream c.half_of-half.result c.self.view_is refl c.half_of-half.ensures) c.learn_lawful.ensures
     (λ is. c.in_default.not-DataRecvd (c.state.ensures ∙ is)) (λ is. c.in_default.not-ResetRecvd (c.state.ensures ∙ is))

@@ -1,5 +1,6 @@
 use Rattle.std.proofs.Common.{◌≡◌, false, refl, arith}
 use Rattle.qs_machine.specs.Sums.{tables_of}
+use Rattle.qs_conn.proofs.Outboxes.{some_open}
 use Rattle.qs_conn.proofs.Quiets.{quiet_at}
 use Rattle.qs_conn.proofs.outbox.Outbox.next_marked.Goals as goal
 
@@ -10,3 +11,6 @@ returns-then-not-may_have-clause-quiet c =
 
 pub returns-clause-quiet : goal.returns-clause-quiet
 returns-clause-quiet c = λ n le before. quiet_at c.args.task _ c.args.self.now (tables_of c.self.inside.types) n c.self.view_is refl (c.self.invariant.0.tied.lanes n) (λ s. c.least_marked.ensures.quiet n s le before)
+
+pub returns-clause-open : goal.returns-clause-open
+returns-clause-open c = some_open _ c.args.self.now (tables_of c.self.inside.types) c.least_marked.result c.self.view_is refl c.least_marked.ensures.open

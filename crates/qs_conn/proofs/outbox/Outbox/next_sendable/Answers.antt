@@ -9,7 +9,7 @@ half_of-requires-clause-open c = ap is_some (c.in-Some.ensures.found c.in-Some.s
 
 pub returns-in-Some : goal.returns-in-Some
 returns-in-Some c =
-    due_least _ c.args.self.now (tables_of c.self.inside.types) c.args.from _ c.self.view_is refl c.self.invariant.0.tied.lanes (lawful_found (tables_of c.self.inside.types) c.in-Some.stream c.half_of.result c.half_of.ensures c.is_lawful.ensures) c.in-Some.ensures
+    due_least _ c.args.self.now (tables_of c.self.inside.types) c.args.from _ c.self.view_is refl c.self.invariant.0.tied.lanes (lawful_found (tables_of c.self.inside.types) c.in-Some.stream c.half_of.result c.half_of.ensures c.learn_lawful.ensures) c.in-Some.ensures
 
 pub returns-in-None : goal.returns-in-None
 returns-in-None c = due_least _ c.args.self.now (tables_of c.self.inside.types) c.args.from _ c.self.view_is refl c.self.invariant.0.tied.lanes (λ n s none. absurd (none-some n none)) c.in-None.ensures

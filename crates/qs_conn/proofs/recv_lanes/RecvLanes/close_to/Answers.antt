@@ -1,6 +1,6 @@
 use Rattle.std.proofs.Common.{arith, ◌∙◌, refl}
 use Rattle.std.proofs.lemmas.List.{length-take}
-use Rattle.qs_machine.proofs.Tallies.{lawful_take}
+use Rattle.qs_machine.proofs.Counts.{lawful_take}
 use Rattle.qs_conn.proofs.RecvNews.{noted_fewer}
 use Rattle.qs_conn.proofs.Settling.{are_taken}
 use Rattle.qs_conn.proofs.recv_lanes.RecvLanes.close_to.Goals as goal

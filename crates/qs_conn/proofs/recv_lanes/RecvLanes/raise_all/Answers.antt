@@ -1,6 +1,6 @@
 use Rattle.std.proofs.Common.{◌∙◌, sym}
 use Rattle.std.proofs.lemmas.List.{length-map}
-use Rattle.qs_machine.proofs.Tallies.{tally_raised, lawful_raised}
+use Rattle.qs_machine.proofs.Counts.{tally_raised, lawful_raised}
 use Rattle.qs_conn.proofs.RecvNews.{noted_raised}
 use Rattle.qs_conn.proofs.LaneMarks.{still_settled, none_marked}
 use Rattle.qs_conn.proofs.Settling.{none_raised}

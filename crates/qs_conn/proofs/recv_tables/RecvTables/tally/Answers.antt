@@ -1,25 +1,9 @@
-use Rattle.std.proofs.Common.{[], ap, arith}
+use Rattle.std.proofs.Common.{ap, arith}
 use Rattle.qs_recv.specs.Lane.{highest, taken, noted}
 use Rattle.qs_machine.specs.declared.tally.Tally.{Tally}
 use Rattle.qs_machine.specs.Sums.{stored_on}
 use Rattle.qs_machine.proofs.TableEdits.{total_four}
 use Rattle.qs_conn.proofs.recv_tables.RecvTables.tally.Goals as goal
-
-pub sum-bidi-requires-clause-small : goal.sum-bidi-requires-clause-small
-sum-bidi-requires-clause-small c =
-    let room = rw (← c.self.view_is) at c.requires in
-    let whole = total_four highest c.self.inside.types c.index-self-0.result c.index-self-1.result [] [] c.self.invariant in
-    let a = ap (λ (t : Tally). t.spent) c.tally.ensures.value in
-    let b = ap (λ (t : Tally). t.spent) c.tally-2.ensures.value in
-    omega (arith, whole, a, b, room)
-
-pub sum-uni-requires-clause-small : goal.sum-uni-requires-clause-small
-sum-uni-requires-clause-small c =
-    let room = rw (← c.self.view_is) at c.requires in
-    let whole = total_four highest c.self.inside.types [] [] c.index-self-2.result c.index-self-3.result c.self.invariant in
-    let e = ap (λ (t : Tally). t.spent) c.tally-3.ensures.value in
-    let d = ap (λ (t : Tally). t.spent) c.tally-4.ensures.value in
-    omega (arith, whole, e, d, room)
 
 pub sum-requires-clause-small : goal.sum-requires-clause-small
 sum-requires-clause-small c =
@@ -29,9 +13,7 @@ sum-requires-clause-small c =
     let b = ap (λ (t : Tally). t.spent) c.tally-2.ensures.value in
     let e = ap (λ (t : Tally). t.spent) c.tally-3.ensures.value in
     let d = ap (λ (t : Tally). t.spent) c.tally-4.ensures.value in
-    let bidi = ap (λ (t : Tally). t.spent) c.sum-bidi.ensures.value in
-    let uni = ap (λ (t : Tally). t.spent) c.sum-uni.ensures.value in
-    omega (arith, whole, a, b, e, d, bidi, uni, room)
+    omega (arith, whole, a, b, e, d, room)
 
 pub returns-clause-spent : goal.returns-clause-spent
 returns-clause-spent c =
@@ -40,10 +22,7 @@ returns-clause-spent c =
     let b = ap (λ (t : Tally). t.spent) c.tally-2.ensures.value in
     let e = ap (λ (t : Tally). t.spent) c.tally-3.ensures.value in
     let d = ap (λ (t : Tally). t.spent) c.tally-4.ensures.value in
-    let bidi = ap (λ (t : Tally). t.spent) c.sum-bidi.ensures.value in
-    let uni = ap (λ (t : Tally). t.spent) c.sum-uni.ensures.value in
-    let all = ap (λ (t : Tally). t.spent) c.sum.ensures.value in
-    rw (← c.self.view_is) (omega (arith, whole, a, b, e, d, bidi, uni, all))
+    rw (← c.self.view_is) (omega (arith, whole, a, b, e, d, c.sum.ensures.spent))
 
 pub returns-clause-taken : goal.returns-clause-taken
 returns-clause-taken c =
@@ -52,10 +31,7 @@ returns-clause-taken c =
     let b = ap (λ (t : Tally). t.taken) c.tally-2.ensures.value in
     let e = ap (λ (t : Tally). t.taken) c.tally-3.ensures.value in
     let d = ap (λ (t : Tally). t.taken) c.tally-4.ensures.value in
-    let bidi = ap (λ (t : Tally). t.taken) c.sum-bidi.ensures.value in
-    let uni = ap (λ (t : Tally). t.taken) c.sum-uni.ensures.value in
-    let all = ap (λ (t : Tally). t.taken) c.sum.ensures.value in
-    rw (← c.self.view_is) (omega (arith, whole, a, b, e, d, bidi, uni, all))
+    rw (← c.self.view_is) (omega (arith, whole, a, b, e, d, c.sum.ensures.taken))
 
 pub returns-clause-stored : goal.returns-clause-stored
 returns-clause-stored c =
@@ -64,10 +40,7 @@ returns-clause-stored c =
     let b = ap (λ (t : Tally). t.stored) c.tally-2.ensures.value in
     let e = ap (λ (t : Tally). t.stored) c.tally-3.ensures.value in
     let d = ap (λ (t : Tally). t.stored) c.tally-4.ensures.value in
-    let bidi = ap (λ (t : Tally). t.stored) c.sum-bidi.ensures.value in
-    let uni = ap (λ (t : Tally). t.stored) c.sum-uni.ensures.value in
-    let all = ap (λ (t : Tally). t.stored) c.sum.ensures.value in
-    rw (← c.self.view_is) (omega (arith, whole, a, b, e, d, bidi, uni, all))
+    rw (← c.self.view_is) (omega (arith, whole, a, b, e, d, c.sum.ensures.stored))
 
 pub returns-clause-noted : goal.returns-clause-noted
 returns-clause-noted c =
@@ -76,7 +49,4 @@ returns-clause-noted c =
     let b = ap (λ (t : Tally). t.noted) c.tally-2.ensures.value in
     let e = ap (λ (t : Tally). t.noted) c.tally-3.ensures.value in
     let d = ap (λ (t : Tally). t.noted) c.tally-4.ensures.value in
-    let bidi = ap (λ (t : Tally). t.noted) c.sum-bidi.ensures.value in
-    let uni = ap (λ (t : Tally). t.noted) c.sum-uni.ensures.value in
-    let all = ap (λ (t : Tally). t.noted) c.sum.ensures.value in
-    rw (← c.self.view_is) (omega (arith, whole, a, b, e, d, bidi, uni, all))
+    rw (← c.self.view_is) (omega (arith, whole, a, b, e, d, c.sum.ensures.noted))

@@ -24,7 +24,7 @@ returns-then-has-clause-least c =
     let ms = marks_of c.self.inside.marks c.args.search.task in
     let marked = c.self.invariant.1 c.args.search.task in
     let there = sought_there c.args.search xs ms c.args.told.now marked c.loop-index.next c.in-Some.index c.in-Some.ensures in
-    rw (← c.self.view_is) (sought_found c.args.search xs ms c.args.told.now marked c.args.from c.loop-index.next c.in-Some.index c.at.result c.loop-index.invariant c.in-Some.ensures (part_at xs c.in-Some.index c.at.result there (lent_at c.self.inside.halves c.in-Some.index c.at.result there c.at.ensures)) (c.has.ensures.some c.if-has.true))
+    rw (← c.self.view_is) (sought_found c.args.search xs ms c.args.told.now marked c.args.from c.loop-index.next c.in-Some.index c.at.result c.loop-index.invariant c.in-Some.ensures (part_at xs c.in-Some.index c.at.result there (lent_at c.self.inside.halves c.in-Some.index c.at.result there c.at.ensures.half)) (c.has.ensures.some c.if-has.true))
 
 pub loop-index-preserved : goal.loop-index-preserved
 loop-index-preserved c =
@@ -32,7 +32,7 @@ loop-index-preserved c =
     let ms = marks_of c.self.inside.marks c.args.search.task in
     let marked = c.self.invariant.1 c.args.search.task in
     let there = sought_there c.args.search xs ms c.args.told.now marked c.loop-index.next c.in-Some.index c.in-Some.ensures in
-    sought_passed c.args.search xs ms c.args.told.now marked c.args.from c.loop-index.next c.in-Some.index c.at.result c.loop-index.invariant c.in-Some.ensures (part_at xs c.in-Some.index c.at.result there (lent_at c.self.inside.halves c.in-Some.index c.at.result there c.at.ensures))
+    sought_passed c.args.search xs ms c.args.told.now marked c.args.from c.loop-index.next c.in-Some.index c.at.result c.loop-index.invariant c.in-Some.ensures (part_at xs c.in-Some.index c.at.result there (lent_at c.self.inside.halves c.in-Some.index c.at.result there c.at.ensures.half))
     (quiet_has_none c.args.search.task c.at.result (c.has.ensures.none c.if-has.false))
 
 pub loop-index-smaller : goal.loop-index-smaller

@@ -21,12 +21,12 @@ overflow_add-next c = (let there = next_there (IsQuiet c.args.task) (HasTask c.a
 pub returns-then-has-clause-least : goal.returns-then-has-clause-least
 returns-then-has-clause-least c =
     let there = next_there (IsQuiet c.args.task) (HasTask c.args.task) (quiet_has_none c.args.task) c.self.inside.halves (marks_of c.self.inside.marks c.args.task) (c.self.invariant.1 c.args.task) c.loop-next.next c.in-Some.index c.in-Some.ensures in
-    rw (← c.self.view_is) (least_at (HasTask c.args.task) c.self.inside.halves c.args.from c.in-Some.index c.at.result (part_at c.self.inside.halves c.in-Some.index c.at.result there (lent_at c.self.inside.halves c.in-Some.index c.at.result there c.at.ensures)) (c.has.ensures.some c.if-has.true) (clear_to (IsQuiet c.args.task) (HasTask c.args.task) (quiet_has_none c.args.task) c.self.inside.halves (marks_of c.self.inside.marks c.args.task) (c.self.invariant.1 c.args.task) c.args.from c.loop-next.next c.in-Some.index c.loop-next.invariant c.in-Some.ensures))
+    rw (← c.self.view_is) (least_at (HasTask c.args.task) c.self.inside.halves c.args.from c.in-Some.index c.at.result (part_at c.self.inside.halves c.in-Some.index c.at.result there (lent_at c.self.inside.halves c.in-Some.index c.at.result there c.at.ensures.half)) (c.has.ensures.some c.if-has.true) (clear_to (IsQuiet c.args.task) (HasTask c.args.task) (quiet_has_none c.args.task) c.self.inside.halves (marks_of c.self.inside.marks c.args.task) (c.self.invariant.1 c.args.task) c.args.from c.loop-next.next c.in-Some.index c.loop-next.invariant c.in-Some.ensures))
 
 pub loop-next-preserved : goal.loop-next-preserved
 loop-next-preserved c =
     let there = next_there (IsQuiet c.args.task) (HasTask c.args.task) (quiet_has_none c.args.task) c.self.inside.halves (marks_of c.self.inside.marks c.args.task) (c.self.invariant.1 c.args.task) c.loop-next.next c.in-Some.index c.in-Some.ensures in
-    clear_past (HasTask c.args.task) c.self.inside.halves c.args.from c.in-Some.index c.at.result (part_at c.self.inside.halves c.in-Some.index c.at.result there (lent_at c.self.inside.halves c.in-Some.index c.at.result there c.at.ensures)) (λ some. quiet_has_none c.args.task c.at.result (c.has.ensures.none c.if-has.false) some) (clear_to (IsQuiet c.args.task) (HasTask c.args.task) (quiet_has_none c.args.task) c.self.inside.halves (marks_of c.self.inside.marks c.args.task) (c.self.invariant.1 c.args.task) c.args.from c.loop-next.next c.in-Some.index c.loop-next.invariant c.in-Some.ensures)
+    clear_past (HasTask c.args.task) c.self.inside.halves c.args.from c.in-Some.index c.at.result (part_at c.self.inside.halves c.in-Some.index c.at.result there (lent_at c.self.inside.halves c.in-Some.index c.at.result there c.at.ensures.half)) (λ some. quiet_has_none c.args.task c.at.result (c.has.ensures.none c.if-has.false) some) (clear_to (IsQuiet c.args.task) (HasTask c.args.task) (quiet_has_none c.args.task) c.self.inside.halves (marks_of c.self.inside.marks c.args.task) (c.self.invariant.1 c.args.task) c.args.from c.loop-next.next c.in-Some.index c.loop-next.invariant c.in-Some.ensures)
 
 pub loop-next-smaller : goal.loop-next-smaller
 loop-next-smaller c =

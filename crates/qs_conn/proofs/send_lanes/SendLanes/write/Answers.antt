@@ -18,9 +18,9 @@ may_write-requires c = mark_there (IsQuiet tasks.Writable) c.self.inside.halves 
 pub returns-then-not-may_write-clause-accepted : goal.returns-then-not-may_write-clause-accepted
 returns-then-not-may_write-clause-accepted c =
     let there : c.args.index < length c.self.inside.halves = rw c.self.view_is c.requires in
-    let at = part_at c.self.inside.halves c.args.index c.at.result there (lent_at c.self.inside.halves c.args.index c.at.result there c.at.ensures) in
+    let at = part_at c.self.inside.halves c.args.index c.at.result there (lent_at c.self.inside.halves c.args.index c.at.result there c.at.ensures.half) in
     rw (← c.self.view_is)
-    (wrote_none c.write_none.result c.self.inside.halves c.args.index c.at.result c.args.bytes.now there (lent_at c.self.inside.halves c.args.index c.at.result there c.at.ensures)
+    (wrote_none c.write_none.result c.self.inside.halves c.args.index c.at.result c.args.bytes.now there (lent_at c.self.inside.halves c.args.index c.at.result there c.at.ensures.half)
     (unmarked_at (IsQuiet tasks.Writable) c.self.inside.halves c.self.inside.marks.writable c.args.index c.at.result (c.self.invariant.1 tasks.Writable) at (sym c.if-not-may_write.ensures)) c.write_none.ensures.accepted)
 
 pub look_written-requires-clause-there : goal.look_written-requires-clause-there
@@ -28,11 +28,11 @@ look_written-requires-clause-there c = λ t. mark_there (IsQuiet t) c.self.insid
 
 pub look_written-requires-clause-again : goal.look_written-requires-clause-again
 look_written-requires-clause-again c =
-    still_quiet tasks.Again c.self.inside.halves c.self.inside.marks c.args.index c.in-Some.half.now c.write-answer.new.self c.self.invariant.1 (rw c.self.view_is c.requires) (lent_at c.self.inside.halves c.args.index c.in-Some.half.now (rw c.self.view_is c.requires) c.in-Some.ensures.found) (wrote_keeps c.write-answer.result c.in-Some.half.now c.write-answer.new.self c.args.bytes.now c.write-answer.ensures.accepted c.write-answer.ensures.refused c.is_lawful.ensures.order.sent_written).0
+    still_quiet tasks.Again c.self.inside.halves c.self.inside.marks c.args.index c.in-Some.half.now c.write-answer.new.self c.self.invariant.1 (rw c.self.view_is c.requires) (lent_at c.self.inside.halves c.args.index c.in-Some.half.now (rw c.self.view_is c.requires) c.in-Some.ensures.found) (wrote_keeps c.write-answer.result c.in-Some.half.now c.write-answer.new.self c.args.bytes.now c.write-answer.ensures.accepted c.write-answer.ensures.refused c.learn_lawful.ensures.order.sent_written).0
 
 pub look_written-requires-clause-end : goal.look_written-requires-clause-end
 look_written-requires-clause-end c =
-    still_quiet tasks.Ended c.self.inside.halves c.self.inside.marks c.args.index c.in-Some.half.now c.write-answer.new.self c.self.invariant.1 (rw c.self.view_is c.requires) (lent_at c.self.inside.halves c.args.index c.in-Some.half.now (rw c.self.view_is c.requires) c.in-Some.ensures.found) (wrote_keeps c.write-answer.result c.in-Some.half.now c.write-answer.new.self c.args.bytes.now c.write-answer.ensures.accepted c.write-answer.ensures.refused c.is_lawful.ensures.order.sent_written).1
+    still_quiet tasks.Ended c.self.inside.halves c.self.inside.marks c.args.index c.in-Some.half.now c.write-answer.new.self c.self.invariant.1 (rw c.self.view_is c.requires) (lent_at c.self.inside.halves c.args.index c.in-Some.half.now (rw c.self.view_is c.requires) c.in-Some.ensures.found) (wrote_keeps c.write-answer.result c.in-Some.half.now c.write-answer.new.self c.args.bytes.now c.write-answer.ensures.accepted c.write-answer.ensures.refused c.learn_lawful.ensures.order.sent_written).1
 
 pub look_written-requires-clause-stop : goal.look_written-requires-clause-stop
 look_written-requires-clause-stop c = still_unstopped c.self.inside.halves c.self.inside.marks c.args.index c.in-Some.half.now c.write-answer.new.self c.self.invariant.1 (rw c.self.view_is c.requires) (lent_at c.self.inside.halves c.args.index c.in-Some.half.now (rw c.self.view_is c.requires) c.in-Some.ensures.found) (wrote_stop c.write-answer.result c.in-Some.half.now c.write-answer.new.self c.args.bytes.now c.write-answer.ensures.accepted c.write-answer.ensures.refused)
@@ -52,7 +52,7 @@ overflow_add-self-2 c =
 pub invariant_of-self-2 : goal.invariant_of-self-2
 invariant_of-self-2 c =
     all_looked _ _ _ _ _ _ _ c.args.index c.write-answer.new.self c.look_written.ensures c.self.invariant
-    (sums_wrote c.write-answer.result c.self.inside.halves c.self.inside.promised c.self.inside.kept c.args.index c.in-Some.half.now c.write-answer.new.self c.args.bytes.now c.unwrap_or-accepted.result (rw c.self.view_is c.requires) (lent_at c.self.inside.halves c.args.index c.in-Some.half.now (rw c.self.view_is c.requires) c.in-Some.ensures.found) c.is_lawful.ensures c.unwrap_or-accepted.ensures c.write-answer.ensures.accepted c.write-answer.ensures.refused c.self.invariant.2)
+    (sums_wrote c.write-answer.result c.self.inside.halves c.self.inside.promised c.self.inside.kept c.args.index c.in-Some.half.now c.write-answer.new.self c.args.bytes.now c.unwrap_or-accepted.result (rw c.self.view_is c.requires) (lent_at c.self.inside.halves c.args.index c.in-Some.half.now (rw c.self.view_is c.requires) c.in-Some.ensures.found) c.learn_lawful.ensures c.unwrap_or-accepted.ensures c.write-answer.ensures.accepted c.write-answer.ensures.refused c.self.invariant.2)
 
 pub returns-clause-accepted : goal.returns-clause-accepted
 returns-clause-accepted c =

@@ -10,9 +10,9 @@ set-requires c = c.requires.there tasks.Bytes
 pub look_again-requires-clause-there : goal.look_again-requires-clause-there
 look_again-requires-clause-there c = c.requires.there tasks.Again
 
-pub returns : goal.returns
-returns c =
+pub returns-clause-looked : goal.returns-clause-looked
+returns-clause-looked c =
     let marks = c.args.self.now in
     let i = c.args.index in
     let again = c.look_again.ensures in
-    looked marks (record { bytes = c.set.new.self; again = c.look_again.new.again; writable = marks.writable; ended = marks.ended; stopped = marks.stopped }) i c.args.half.now c.may_send.result again.0 (is_marked marks.writable i) (is_marked marks.ended i) (is_marked marks.stopped i) c.may_send.ensures.none again.1 c.requires.room c.requires.end c.requires.stop c.set.ensures again.2 (mark_kept marks.writable i) (mark_kept marks.ended i) (mark_kept marks.stopped i)
+    looked marks (record { bytes = c.set.new.self; again = c.look_again.new.again; writable = marks.writable; ended = marks.ended; stopped = marks.stopped }) i c.args.half.now c.may_send-goes_on.result again.0 (is_marked marks.writable i) (is_marked marks.ended i) (is_marked marks.stopped i) c.may_send-goes_on.ensures.none again.1 c.requires.room c.requires.end c.requires.stop c.set.ensures again.2 (mark_kept marks.writable i) (mark_kept marks.ended i) (mark_kept marks.stopped i)

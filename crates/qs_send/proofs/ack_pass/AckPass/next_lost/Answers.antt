@@ -39,7 +39,7 @@ returns-then-not-read_range c =
       answer = λ falls. none_ahead l.pieces start q (so_far.passed falls) was.none (sym was.same.1 ∙ ended.0);
       falls = λ falls. subst (FallBelow end.low) (sym (unread ∙ ended.0)) tt;
       below = tt;
-      turns = lost_turns_end l start cut end seen c.is_in_order.ensures.same was.seen turns refl unread (lost_turns_look l start q cut c.loop-number.seen seen was.same.1 was.turns so_far.turns);
+      turns = lost_turns_end l start cut end seen c.learn_in_order.ensures.same was.seen turns refl unread (lost_turns_look l start q cut c.loop-number.seen seen was.same.1 was.turns so_far.turns);
       counted = omega (arith, turns, rise, until);
       each = omega (arith, each, turns, counts);
     }
@@ -69,7 +69,7 @@ loop-number-preserved c =
     record {
       passed = λ falls. passed_range l.pieces start q cut was.same.0 was.same.1 was.below was.none was.past read.0 after read.1 (so_far.passed falls);
       below = omega (arith, bound, less, lower);
-      turns = lost_turns_read l start cut after read.0 seen c.is_in_order.ensures.same was.seen read.1 (lost_turns_look l start q cut c.loop-number.seen seen was.same.1 was.turns so_far.turns);
+      turns = lost_turns_read l start cut after read.0 seen c.learn_in_order.ensures.same was.seen read.1 (lost_turns_look l start q cut c.loop-number.seen seen was.same.1 was.turns so_far.turns);
       counted = omega (arith, rise, one, until);
       seen = seen_lower l.pieces seen cut.below after.below (omega (arith, bound)) was.seen;
       looks = omega (arith, looks, most);

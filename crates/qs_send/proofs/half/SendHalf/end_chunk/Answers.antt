@@ -12,4 +12,4 @@ returns-then-room-head_len-clause-none c =
 pub returns-clause-found : goal.returns-clause-found
 returns-clause-found c =
     let fits : 1 + short_len c.args.self.now.lane.id + offset_len c.args.self.now.lane.written < c.args.room = rw (← c.written-offset.ensures.exact, ← c.head_len.ensures.exact) c.if-room-head_len.false in
-    λ fresh. rw c.written-offset.ensures.exact (end_next _ _ fresh c.is_lawful.ensures c.requires (sym c.if-not-end_due.ensures) fits)
+    λ fresh. rw c.written-offset.ensures.exact (end_next _ _ fresh c.learn_lawful.ensures c.requires (sym c.if-not-end_due.ensures) fits)

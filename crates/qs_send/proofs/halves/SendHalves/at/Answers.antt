@@ -25,12 +25,12 @@ index-requires c =
     let p = place_there c.self.inside.stream_type c.self.inside.full.items c.self.inside.slots.items c.args.index c.index-slot.result.now c.self.invariant.1 t c.index-slot.ensures (sym c.get.ensures.value ∙ c.in-None.is) in
     omega (arith, p)
 
-pub returns-in-Some : goal.returns-in-Some
-returns-in-Some c =
+pub returns-in-Some-clause-half : goal.returns-in-Some-clause-half
+returns-in-Some-clause-half c =
     let t = in_slots _ _ _ _ c.args.index c.self.view_is c.requires in
-    rw (← c.self.view_is) (c.of_over.ensures ∙ sym (over_is c.self.inside.stream_type c.self.inside.full.items c.self.inside.slots.items c.args.index c.index-slot.result.now c.self.invariant.1 t c.index-slot.ensures c.in-Some.written (sym c.get.ensures.value ∙ c.in-Some.is)))
+    rw (← c.self.view_is) (c.of_over.ensures.half ∙ sym (over_is c.self.inside.stream_type c.self.inside.full.items c.self.inside.slots.items c.args.index c.index-slot.result.now c.self.invariant.1 t c.index-slot.ensures c.in-Some.written (sym c.get.ensures.value ∙ c.in-Some.is)))
 
-pub returns-in-None : goal.returns-in-None
-returns-in-None c =
+pub returns-in-None-clause-half : goal.returns-in-None-clause-half
+returns-in-None-clause-half c =
     let t = in_slots _ _ _ _ c.args.index c.self.view_is c.requires in
-    rw (← c.self.view_is) (c.of_full.ensures ∙ full_read c.self.inside.stream_type c.self.inside.full.items c.self.inside.slots.items c.args.index c.index-slot.result.now c.self.invariant.1 t c.index-slot.ensures c.index.result.now (sym c.get.ensures.value ∙ c.in-None.is) c.index.ensures)
+    rw (← c.self.view_is) (c.of_full.ensures.half ∙ full_read c.self.inside.stream_type c.self.inside.full.items c.self.inside.slots.items c.args.index c.index-slot.result.now c.self.invariant.1 t c.index-slot.ensures c.index.result.now (sym c.get.ensures.value ∙ c.in-None.is) c.index.ensures)
