@@ -3,7 +3,9 @@
 use crate::shim::{HostRuntime, assert_eq};
 
 use crate::proved::qs_chunks::ChunkAssembly;
-use crate::proved::qs_recv::{Assembly, Highest, Read, RecvFault, RecvHalf, RecvState, RingAssembly, Share, Sizes};
+use crate::proved::qs_recv::{
+    Assembly, Highest, Read, RecvFault, RecvHalf, RecvState, RingAssembly, Share, Sizes,
+};
 use crate::shim::alloc::Global;
 use crate::shim::test::Fail;
 
