@@ -9,32 +9,28 @@ use Rattle.qs_conn.specs.Words.{flag, flags, AreFlags}
 use Rattle.qs_conn.proofs.Words.{marked_is, flag_past}
 
 pub both_len : (ms os : List Bool) → length (both ms os) ≡ min (length ms) (length os)
-both_len [] os = omega arith
-both_len (m ∷ ms) [] = omega arith
 both_len (m ∷ ms) (o ∷ os) = omega (arith, both_len ms os)
+both_len _ _ = omega arith
 
 no_more : (b : Bool) → (b && false) ≡ false
 no_more true = refl
 no_more false = refl
 
 pub both_is : (ms os : List Bool) (i : ℕ) → is_marked (both ms os) i ≡ (is_marked ms i && is_marked os i)
-both_is [] os i = refl
 both_is (m ∷ ms) [] i = sym (no_more (is_marked (m ∷ ms) i))
-both_is (m ∷ ms) (o ∷ os) zero = refl
 both_is (m ∷ ms) (o ∷ os) (suc i) = both_is ms os i
+both_is _ _ _ = refl
 
 -- Words
 
 -- the bits that are set in both lists of words
 abbrev pub common : List ℕ → List ℕ → List ℕ
-common [] vs = []
-common (w ∷ ws) [] = []
 common (w ∷ ws) (v ∷ vs) = bit_and w v ∷ common ws vs
+common _ _ = []
 
 pub common_len : (ws vs : List ℕ) → length (common ws vs) ≡ min (length ws) (length vs)
-common_len [] vs = omega arith
-common_len (w ∷ ws) [] = omega arith
 common_len (w ∷ ws) (v ∷ vs) = omega (arith, common_len ws vs)
+common_len _ _ = omega arith
 
 pub common_at : (ws vs : List ℕ) (k d : ℕ) → k < length ws → k < length vs → get_or (common ws vs) k d ≡ bit_and (get_or ws k 0) (get_or vs k 0)
 common_at [] vs k d lt lt' = absurd (omega (arith, lt))
@@ -44,11 +40,10 @@ common_at (w ∷ ws) (v ∷ vs) (suc k) d lt lt' = common_at ws vs k d (omega (a
 
 -- a bit of both
 one_and : (a b c : ℕ) → c ≡ min a b → a < 2 → b < 2 → (c == 1) ≡ ((a == 1) && (b == 1))
-one_and zero b c is lt lt' = let none : c ≡ 0 = omega (arith, is) in ap (λ x. x == 1) none
-one_and (suc zero) zero c is lt lt' = let none : c ≡ 0 = omega (arith, is) in ap (λ x. x == 1) none
 one_and (suc zero) (suc zero) c is lt lt' = let one : c ≡ 1 = omega (arith, is) in ap (λ x. x == 1) one
 one_and (suc zero) (suc (suc b)) c is lt lt' = absurd (omega (arith, lt'))
 one_and (suc (suc a)) b c is lt lt' = absurd (omega (arith, lt))
+one_and _ _ c is _ _ = let none : c ≡ 0 = omega (arith, is) in ap (λ x. x == 1) none
 
 module _ (ws vs : List ℕ) where
   common_flag : (i : ℕ) → flag (common ws vs) i ≡ (flag ws i && flag vs i)

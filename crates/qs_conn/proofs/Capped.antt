@@ -1,5 +1,5 @@
 -- The chunk that would pass the cap of bytes is cut, and nothing more goes in.
-use Rattle.std.proofs.Common.{◌≡◌, ℕ, ◌+◌, ◌-◌, ◌<◌, ◌≤◌, Bool, true, false, ◌&&◌, ◌==◌, List, ◌++◌, ◌⊎◌, length, take, refl, sym, ap, ◌∙◌, subst, arith, inl, inr}
+use Rattle.std.proofs.Common.{◌≡◌, ℕ, ◌+◌, ◌-◌, ◌<◌, ◌≤◌, Bool, true, false, ◌&&◌, ◌==◌, List, ◌++◌, ◌⊎◌, length, take, refl, sym, ap, subst, arith, inl, inr}
 use Rattle.std.proofs.lemmas.Bool.{cases_lt}
 use Rattle.std.proofs.lemmas.Bool.Decides.{nat_tests}
 use Rattle.std.proofs.lemmas.List.{length-take-le}
@@ -19,7 +19,7 @@ use Rattle.qs_machine.specs.Credit.{all_sent}
 use Rattle.qs_machine.specs.Seen.{Stream}
 use Rattle.qs_machine.specs.Due.{IsDue}
 use Rattle.qs_machine.specs.Lawful.{frame_put}
-use Rattle.qs_conn.specs.Filling.{end_by, stream_frame, Packed, Flow, turn_at}
+use Rattle.qs_conn.specs.Filling.{end_by, stream_frame, Flow, turn_at}
 use Rattle.qs_conn.proofs.Chunks.{Ties, ties_of, byte_of, due_still, chunk_lane, chunk_sum, chunk_known}
 use Rattle.qs_conn.proofs.Flows.{Chunking, BytesGo, chunking_cut, chunking_none, lane_there, end_chunk}
 

@@ -84,8 +84,7 @@ pub record IsClear (e : End) (n : ℕ) (l : SendLane) (c : Chunk) : Type 0 where
 
 both : (a b : Bool) → (a && b) ≡ true → (a ≡ true) × (b ≡ true)
 both true true e = (refl, refl)
-both true false e = absurd (true≢false (sym e))
-both false b e = absurd (true≢false (sym e))
+both _ _ e = absurd (true≢false (sym e))
 
 module _ (e : End) (n : ℕ) (s : Sending) (t : Ties e n s) (c : Chunk) (chunk : IsDueChunk s c) where
   -- what the end of a chunk means

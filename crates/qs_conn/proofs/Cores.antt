@@ -1,14 +1,13 @@
 -- What holds of the tables of an end: each change of a part keeps it.
-use Rattle.std.proofs.Common.{◌≡◌, ℕ, zero, suc, ◌+◌, ◌-◌, ◌≤◌, ◌^◌, Bool, true, false, List, [], length, take, append-nil, Option, None, Some, Result, Ok, Err, is_some, cond, refl, sym, ap, ◌∙◌, subst, arith}
+use Rattle.std.proofs.Common.{if◌then◌else◌, ◌≡◌, ℕ, zero, suc, ◌+◌, ◌-◌, ◌≤◌, ◌^◌, Bool, true, false, List, [], length, take, append-nil, Option, None, Some, Ok, is_some, cond, refl, sym, ap, ◌∙◌, subst, arith}
 use Rattle.std.specs.FinMap as fmap
-use Rattle.std.specs.Result.{OnOk, OnErr}
 use Rattle.std.proofs.lemmas.Bool.{true≢false}
 use Rattle.std.proofs.lemmas.Option.{none-some, same_Some}
-use Rattle.qs_ranges.specs.declared.NoMemory.{NoMemory}
 use Rattle.qs_ranges.specs.Numbers.{MAX_VARINT, NumberSet}
 use Rattle.qs_recv.specs.Lane.{RecvLane, after_read, stop, stop_and_forget, new_lane as new_recv_lane, MAX_WINDOW, set_window}
+use Rattle.qs_machine.specs.Due.{IsCurrent}
 use Rattle.qs_recv.specs.declared.credit.Share.{Share}
-use Rattle.qs_send.specs.Lane.{SendLane, Sending, new_lane as new_send_lane, answer_of, refusal, reset_refusal, write_lane, finish_lane, reset_lane, stop_taken, allow_lane, buffer_lane}
+use Rattle.qs_send.specs.Lane.{SendLane, Sending, new_lane as new_send_lane, answer_of, refusal, reset_refusal, write_lane, sent_lane, finish_lane, reset_lane, stop_taken, allow_lane, buffer_lane}
 use Rattle.qs_send.specs.declared.parts.Chunk.{Chunk}
 use Rattle.qs_send.specs.declared.piece.Item.{Item}
 use Rattle.qs_send.specs.declared.piece.Piece.{Piece}
@@ -19,13 +18,16 @@ use Rattle.qs_machine.specs.Tables.{Tables, lookup, update, updated, open_to}
 use Rattle.qs_machine.specs.Ends.{End, new_end, window_by}
 use Rattle.qs_machine.specs.Lawful.{frame_put}
 use Rattle.qs_machine.specs.Seen.{Seen, Stream, Control}
-use Rattle.qs_machine.specs.Outgoing.{Outgoing, HasSending, IsIdle, with_sends, on_lane, sent_sum, IsBlockedAt, IsCarried, first_piece, first_acked_out, first_lost_out, without_piece_out, acked_at, item_put_out, chunk_put}
+use Rattle.qs_machine.specs.Outgoing.{Outgoing, HasSending, IsIdle, with_sends, on_lane, sent_sum, IsBlockedAt, IsCarried, first_piece, first_acked_out, first_lost_out, without_piece_out, AreApartIn, acked_at, item_put_out, chunk_put}
 use Rattle.qs_machine.specs.Standing.{KeepsCredit}
 use Rattle.qs_machine.specs.Sums.{or_none}
 use Rattle.qs_machine.proofs.TablesAfter.{update_back}
 use Rattle.qs_machine.proofs.Taken.{sum_open}
 use Rattle.qs_conn.specs.declared.by_dir.ByDir.{ByDir}
 use Rattle.qs_conn.specs.declared.middle.Core.{Core}
+use Rattle.qs_conn.specs.declared.carried.Carried.{Carried}
+use Rattle.qs_conn.specs.Carried.{AreCarried, HasPlaces, places_to, item_carried, carried_without, recv_limit, limits_by, carried_below}
+use Rattle.qs_conn.specs.OwnCarried.{Kept, AreOwn, own_with, own_left}
 use Rattle.qs_conn.specs.Middle.{IsCore, IsAtRest, IsKept, KeepsStreams, IsFilling, FillsOn, HasMemory, end_of}
 use Rattle.qs_conn.specs.Ended.{AreAllCounted, CountsFit, half_of, is_over, recounted}
 use Rattle.qs_conn.specs.Filling.{end_by, present_of, PutsItem, LeavesRest}
@@ -40,7 +42,9 @@ use Rattle.qs_conn.proofs.Funded.{sum_lane, reset_sends, stop_sends, sum_piece, 
 use Rattle.qs_conn.proofs.Kept.{sound_after_read, sound_after_stop, sound_after_forget, sound_opened, sound_after_window}
 use Rattle.qs_conn.proofs.Pieces.{noted_old, put_old}
 use Rattle.qs_conn.proofs.Untolds.{recv_own, send_own, recv_noted, send_noted, recvs_open, sends_open, told_carried, told_edited, told_placed, told_unmarked, told_written, told_sent, told_finished, told_allowed, told_buffered, told_put, told_noted, acked_stays, lost_stays, marks_stay, in_idle, out_idle}
+use Rattle.qs_conn.proofs.CarriedSteps.{carried_recv, carried_windowed, carried_send, carried_allowed, carried_chunk, carried_put, carried_acked, carried_lost, carried_placed, carried_opened, wide_none, reset_limit, reset_kept, stop_limit, stop_kept, stop_stop, read_stop, read_limit, stop_recv_limit}
 use Rattle.qs_conn.proofs.EachItem.{each_item}
+use Rattle.qs_conn.proofs.Owns.{own_risen, own_chunk, own_told, own_acked, own_lost}
 use Rattle.qs_conn.proofs.Rests.{rest_same, rest_on}
 use Rattle.qs_conn.proofs.Slots.{end_put}
 use Rattle.qs_conn.proofs.Stills.{memory_less, memory_marks}
@@ -60,7 +64,7 @@ sends_stay late k (Told i) o none =
 
 -- the next number and the room of a packet are no part of it
 pub core_outbox : (c : Core) → IsCore c → (next spare : ℕ) (o : Outgoing) → o ≡ record c.outbox { next = next; spare = spare } → IsCore (record c { outbox = o })
-core_outbox c h next spare o is = subst (λ (x : Outgoing). IsCore (record c { outbox = x })) (sym is) (record { sound = h.sound; fits = h.fits; credit = h.credit; counts = h.counts; told_in = h.told_in; told_out = h.told_out })
+core_outbox c h next spare o is = subst (λ (x : Outgoing). IsCore (record c { outbox = x })) (sym is) (record { sound = h.sound; fits = h.fits; credit = h.credit; counts = h.counts; told_in = h.told_in; told_out = h.told_out; carried = h.carried; own = h.own })
 
 module _ (c : Core) (h : IsAtRest c) where
   abbrev core : IsCore c
@@ -71,48 +75,72 @@ module _ (c : Core) (h : IsAtRest c) where
   -- a half changes, and sends no more
   on_half : (n : ℕ) (f : SendLane → SendLane) (o : Outgoing) (marks : Tables Bool) → o ≡ on_lane n f c.outbox → ((l : SendLane) → (f l).sent_end ≡ l.sent_end)
       → CountsFit c.limits.role c.limits.settings c.recvs (updated c.outbox.sends n f (lookup c.outbox.sends n)) c.ended c.limits.granted_streams.bidi c.limits.granted_streams.uni → AreTold SendTells (updated c.outbox.sends n f (lookup c.outbox.sends n)) c.outbox.outstanding c.outbox.acked marks
-      → IsAtRest (record c { outbox = o; untold_sends = marks })
-  on_half n f o marks is same counts told =
+      → AreCarried c.recvs (updated c.outbox.sends n f (lookup c.outbox.sends n)) c.outbox.outstanding c.carried → IsAtRest (record c { outbox = o; untold_sends = marks })
+  on_half n f o marks is same counts told carried =
       let sum = sum_lane c.outbox.sends n f same in
       let credit = core.credit in
       subst (λ (x : Outgoing). IsAtRest (record c { outbox = x; untold_sends = marks })) (sym is)
-      (record { core = record { sound = core.sound; fits = core.fits; credit = omega (arith, sum, credit); counts = counts; told_in = core.told_in; told_out = told }; idle = h.idle })
+      (record { core = record { sound = core.sound; fits = core.fits; credit = omega (arith, sum, credit); counts = counts; told_in = core.told_in; told_out = told; carried = carried; own = core.own }; idle = h.idle })
 
-  pub rest_allowed : (n limit : ℕ) (half : Sending) (o : Outgoing) → HasSending c.outbox n half → o ≡ on_lane n (λ l. allow_lane l limit) c.outbox → IsAtRest (record c { outbox = o })
+  pub rest_allowed : (n limit : ℕ) (half : Sending) (o : Outgoing) → HasSending c.outbox n half → o ≡ on_lane n (λ l. allow_lane l limit) c.outbox → IsAtRest (record c { outbox = o; carried = carried_below n limit c.outbox.sends c.carried })
   rest_allowed n limit half o has is =
-      on_half n (λ l. allow_lane l limit) o c.untold_sends is (λ l. refl) (fit_allowed _ _ _ _ _ _ _ core.counts _ n limit refl)
-      (told_allowed c.outbox.sends c.outbox.outstanding c.outbox.acked c.untold_sends core.told_out _ n limit (λ l at. subst (λ (k : SendLane). k.sent_end ≤ k.limit) (same_Some half.lane l (sym has.lane ∙ at)) has.lawful.order.sent_limit) refl)
+      let sum = sum_lane c.outbox.sends n (λ l. allow_lane l limit) (λ l. refl) in
+      let credit = core.credit in
+      subst (λ (x : Outgoing). IsAtRest (record c { outbox = x; carried = carried_below n limit c.outbox.sends c.carried })) (sym is)
+      (record {
+        core = record {
+          sound = core.sound;
+          fits = core.fits;
+          credit = omega (arith, sum, credit);
+          counts = fit_allowed _ _ _ _ _ _ _ core.counts _ n limit refl;
+          told_in = core.told_in;
+          told_out = told_allowed c.outbox.sends c.outbox.outstanding c.outbox.acked c.untold_sends core.told_out _ n limit (λ l at. subst (λ (k : SendLane). k.sent_end ≤ k.limit) (same_Some half.lane l (sym has.lane ∙ at)) has.lawful.order.sent_limit) refl;
+          carried = carried_allowed c.recvs c.outbox.sends c.outbox.outstanding c.carried core.carried _ n limit refl;
+          own = core.own;
+        };
+        idle = h.idle;
+      })
 
   pub rest_buffered : (n size : ℕ) (o : Outgoing) → o ≡ on_lane n (λ l. buffer_lane l size) c.outbox → IsAtRest (record c { outbox = o })
   rest_buffered n size o is =
       on_half n (λ l. buffer_lane l size) o c.untold_sends is (λ l. refl) (fit_buffered _ _ _ _ _ _ _ core.counts _ n size refl)
       (told_buffered c.outbox.sends c.outbox.outstanding c.outbox.acked c.untold_sends core.told_out _ n size refl)
+      (carried_send c.recvs c.outbox.sends c.outbox.outstanding c.carried core.carried _ n (λ l. buffer_lane l size) refl (λ l. refl) (λ l r e. e))
 
   pub rest_written : (n : ℕ) (bytes : List ℕ) (o : Outgoing) (marks : Tables Bool) → refusal (or_none (lookup c.outbox.sends n)) ≡ None → o ≡ on_lane n (λ l. write_lane l bytes) c.outbox → HasMore c.untold_sends marks
       → ((m : ℕ) → IsBlockedAt (lookup o.sends n) m → lookup marks n ≡ Some false → ⊥) → IsAtRest (record c { outbox = o; untold_sends = marks })
   rest_written n bytes o marks free is more blocked =
       on_half n (λ l. write_lane l bytes) o marks is (λ l. refl) (fit_written _ _ _ _ _ _ _ core.counts _ n bytes free refl)
       (told_written c.outbox.sends c.outbox.outstanding c.outbox.acked c.untold_sends core.told_out _ n marks bytes refl more (subst (λ (x : Outgoing). (m : ℕ) → IsBlockedAt (lookup x.sends n) m → lookup marks n ≡ Some false → ⊥) is blocked))
+      (carried_send c.recvs c.outbox.sends c.outbox.outstanding c.carried core.carried _ n (λ l. write_lane l bytes) refl (λ l. refl) (λ l r e. e))
 
   pub rest_finished : (n : ℕ) (half : Sending) (o : Outgoing) → HasSending c.outbox n half → answer_of (refusal (or_none (lookup c.outbox.sends n))) ≡ Ok tt → o ≡ on_lane n finish_lane c.outbox → IsAtRest (record c { outbox = o })
   rest_finished n half o has free is =
       on_half n finish_lane o c.untold_sends is (λ l. refl) (fit_finished _ _ _ _ _ _ _ core.counts _ n c.outbox half refl has free refl) (told_finished c.outbox.sends c.outbox.outstanding c.outbox.acked c.untold_sends core.told_out _ n refl)
+      (carried_send c.recvs c.outbox.sends c.outbox.outstanding c.carried core.carried _ n finish_lane refl (λ l. refl) (λ l r e. e))
 
   -- a half that is broken off has its reset to tell
   pub rest_reset : (n code : ℕ) (o : Outgoing) (marks : Tables Bool) → o ≡ on_lane n (λ l. reset_lane l code) c.outbox → marks ≡ updated c.untold_sends n (λ b. true) (lookup c.untold_sends n) → IsAtRest (record c { outbox = o; untold_sends = marks })
   rest_reset n code o marks is are =
       on_half n (λ l. reset_lane l code) o marks is (λ l. reset_sends code l (is_some (reset_refusal l))) (fit_reset _ _ _ _ _ _ _ core.counts _ n code refl) (told_edited SendTells c.outbox.sends c.outbox.outstanding c.outbox.acked c.untold_sends core.told_out _ marks n (λ l. reset_lane l code) refl are)
+      (carried_send c.recvs c.outbox.sends c.outbox.outstanding c.carried core.carried _ n (λ l. reset_lane l code) refl (λ l. reset_limit l code) (λ l r. reset_kept l code r))
 
   pub rest_told_to_stop : (answers : Bool) (n code : ℕ) (o : Outgoing) (marks : Tables Bool) → o ≡ on_lane n (λ l. stop_taken answers l code) c.outbox → marks ≡ updated c.untold_sends n (λ b. true) (lookup c.untold_sends n) → IsAtRest (record c { outbox = o; untold_sends = marks })
   rest_told_to_stop answers n code o marks is are =
       on_half n (λ l. stop_taken answers l code) o marks is (stop_sends answers code) (fit_told_to_stop _ _ _ _ _ _ _ core.counts _ answers n code refl) (told_edited SendTells c.outbox.sends c.outbox.outstanding c.outbox.acked c.untold_sends core.told_out _ marks n (λ l. stop_taken answers l code) refl are)
+      (carried_send c.recvs c.outbox.sends c.outbox.outstanding c.carried core.carried _ n (λ l. stop_taken answers l code) refl (stop_limit answers code) (stop_kept answers code))
 
   -- Receiving halves
 
+  rest_moved : (now : Tables RecvLane) (marks : Tables Bool) (e : ByDir ℕ) → KeepsCredit c.limits.role c.limits.settings (present_of c.limits) now c.limits.granted
+      → CountsFit c.limits.role c.limits.settings now c.outbox.sends e c.limits.granted_streams.bidi c.limits.granted_streams.uni → AreTold (TellsAt c.limits.role c.limits.settings) now c.outbox.outstanding c.outbox.acked marks
+      → (t : Carried) → AreCarried now c.outbox.sends c.outbox.outstanding t → IsAtRest (record c { recvs = now; untold_recvs = marks; carried = t; ended = e })
+  rest_moved now marks e sound counts told t carried = record { core = record { sound = sound; fits = core.fits; credit = core.credit; counts = counts; told_in = told; told_out = core.told_out; carried = carried; own = core.own }; idle = h.idle }
+
   pub rest_recvs : (now : Tables RecvLane) (marks : Tables Bool) (e : ByDir ℕ) → KeepsCredit c.limits.role c.limits.settings (present_of c.limits) now c.limits.granted
       → CountsFit c.limits.role c.limits.settings now c.outbox.sends e c.limits.granted_streams.bidi c.limits.granted_streams.uni → AreTold (TellsAt c.limits.role c.limits.settings) now c.outbox.outstanding c.outbox.acked marks
-      → IsAtRest (record c { recvs = now; untold_recvs = marks; ended = e })
-  rest_recvs now marks e sound counts told = record { core = record { sound = sound; fits = core.fits; credit = core.credit; counts = counts; told_in = told; told_out = core.told_out }; idle = h.idle }
+      → AreCarried now c.outbox.sends c.outbox.outstanding c.carried → IsAtRest (record c { recvs = now; untold_recvs = marks; ended = e })
+  rest_recvs now marks e sound counts told carried = rest_moved now marks e sound counts told c.carried carried
 
   -- a stream is read, and counted anew
   pub rest_read : (n size : ℕ) (now : Tables RecvLane) (e : ByDir ℕ) (was is : Bool) → now ≡ updated c.recvs n (λ l. after_read l size) (lookup c.recvs n) → was ≡ is_over c.limits.role c.recvs c.outbox.sends n → is ≡ is_over c.limits.role now c.outbox.sends n
@@ -121,20 +149,23 @@ module _ (c : Core) (h : IsAtRest c) where
       rest_recvs now c.untold_recvs e (sound_after_read c.limits.role c.limits.settings (present_of c.limits) c.recvs now c.limits.granted n size core.sound after)
       (fit_read _ _ _ _ _ _ _ core.counts _ _ core.sound now n size e was is after before behind to)
       (told_read c.limits.role c.limits.settings c.recvs c.outbox.outstanding c.outbox.acked c.untold_recvs core.told_in now n size after)
+      (carried_recv c.recvs c.outbox.sends c.outbox.outstanding c.carried core.carried now n (λ l. after_read l size) after (λ l. read_limit l size) (λ l v. read_stop l size v))
 
   pub rest_stopped : (n code : ℕ) (now : Tables RecvLane) (marks : Tables Bool) → now ≡ updated c.recvs n (λ l. stop l code) (lookup c.recvs n) → marks ≡ updated c.untold_recvs n (λ b. true) (lookup c.untold_recvs n) → IsAtRest (record c { recvs = now; untold_recvs = marks })
   rest_stopped n code now marks after are =
       rest_recvs now marks c.ended (sound_after_stop c.limits.role c.limits.settings (present_of c.limits) c.recvs now c.limits.granted n code core.sound after)
       (fit_stopped _ _ _ _ _ _ _ core.counts now n code after)
       (told_edited (TellsAt c.limits.role c.limits.settings) c.recvs c.outbox.outstanding c.outbox.acked c.untold_recvs core.told_in now marks n (λ l. stop l code) after are)
+      (carried_recv c.recvs c.outbox.sends c.outbox.outstanding c.carried core.carried now n (λ l. stop l code) after (λ l. stop_recv_limit l code) (λ l v. stop_stop l code v))
 
   -- a stream has another window
   pub rest_windowed : (n w : ℕ) (now : Tables RecvLane) (marks : Tables Bool) → 1 ≤ w → w ≤ MAX_WINDOW → now ≡ updated c.recvs n (λ l. set_window l w) (lookup c.recvs n) → marks ≡ updated c.untold_recvs n (λ b. true) (lookup c.untold_recvs n)
-      → IsAtRest (record c { recvs = now; untold_recvs = marks })
-  rest_windowed n w now marks some small after are =
-      rest_recvs now marks c.ended (sound_after_window c.limits.role c.limits.settings (present_of c.limits) c.recvs now c.limits.granted n w some small core.sound after)
+      → (limits : Tables Bool) → limits ≡ limits_by (recv_limit c.recvs n) (recv_limit now n) n c.carried.limits → IsAtRest (record c { recvs = now; untold_recvs = marks; carried = record c.carried { limits = limits } })
+  rest_windowed n w now marks some small after are limits fell =
+      rest_moved now marks c.ended (sound_after_window c.limits.role c.limits.settings (present_of c.limits) c.recvs now c.limits.granted n w some small core.sound after)
       (fit_windowed _ _ _ _ _ _ _ core.counts now n w after)
       (told_edited (TellsAt c.limits.role c.limits.settings) c.recvs c.outbox.outstanding c.outbox.acked c.untold_recvs core.told_in now marks n (λ l. set_window l w) after are)
+      (record c.carried { limits = limits }) (carried_windowed c.recvs c.outbox.sends c.outbox.outstanding c.carried core.carried now n w after limits fell)
 
   -- a stream is stopped and forgotten, and counted anew
   pub rest_forgotten : (n code : ℕ) (now : Tables RecvLane) (marks : Tables Bool) (e : ByDir ℕ) (was is : Bool) → now ≡ updated c.recvs n (λ l. stop_and_forget l code) (lookup c.recvs n) → marks ≡ updated c.untold_recvs n (λ b. true) (lookup c.untold_recvs n) → was ≡ is_over c.limits.role c.recvs c.outbox.sends n
@@ -143,16 +174,17 @@ module _ (c : Core) (h : IsAtRest c) where
       rest_recvs now marks e (sound_after_forget c.limits.role c.limits.settings (present_of c.limits) c.recvs now c.limits.granted n code core.sound after)
       (fit_forgotten _ _ _ _ _ _ _ core.counts now n code e was is after before behind to)
       (told_edited (TellsAt c.limits.role c.limits.settings) c.recvs c.outbox.outstanding c.outbox.acked c.untold_recvs core.told_in now marks n (λ l. stop_and_forget l code) after are)
+      (carried_recv c.recvs c.outbox.sends c.outbox.outstanding c.carried core.carried now n (λ l. stop_and_forget l code) after (λ l. stop_recv_limit l code) (λ l v. stop_stop l code v))
 
   -- Streams open
 
   pub rest_opened : (n w : ℕ) (share : Share) (limit buffer : ℕ) (no_send no_recv : Bool) (o : Outgoing) (now : Tables RecvLane) (ins outs : Tables Bool) → o ≡ with_sends (cond no_send c.outbox.sends (open_to c.outbox.sends n (λ m. new_send_lane m limit buffer))) c.outbox
       → now ≡ cond no_recv c.recvs (open_to c.recvs n (λ m. new_recv_lane w share)) → w ≡ window_by c.limits.role c.limits.settings n → ins ≡ open_to c.untold_recvs n (λ k. false) → outs ≡ open_to c.untold_sends n (λ k. false)
-      → IsAtRest (record c { outbox = o; recvs = now; untold_recvs = ins; untold_sends = outs })
-  rest_opened n w share limit buffer no_send no_recv o now ins outs is after window in_are out_are =
+      → (t : Carried) → t ≡ places_to n c.carried → IsAtRest (record c { outbox = o; recvs = now; untold_recvs = ins; untold_sends = outs; carried = t })
+  rest_opened n w share limit buffer no_send no_recv o now ins outs is after window in_are out_are t marks =
       let sum = sum_open c.outbox.sends n limit buffer no_send in
       let credit = core.credit in
-      subst (λ (x : Outgoing). IsAtRest (record c { outbox = x; recvs = now; untold_recvs = ins; untold_sends = outs })) (sym is)
+      subst (λ (x : Outgoing). IsAtRest (record c { outbox = x; recvs = now; untold_recvs = ins; untold_sends = outs; carried = t })) (sym is)
       (record {
         core = record {
           sound = sound_opened c.limits.role c.limits.settings (present_of c.limits) c.recvs now c.limits.granted n w share no_recv core.sound window after;
@@ -161,27 +193,29 @@ module _ (c : Core) (h : IsAtRest c) where
           counts = fit_opened _ _ _ _ _ _ _ core.counts now _ n w share limit buffer no_send no_recv refl after;
           told_in = rw in_are (recvs_open c.limits.role c.limits.settings c.recvs now c.outbox.outstanding c.outbox.acked c.untold_recvs n w share no_recv core.told_in after window);
           told_out = rw out_are (sends_open c.outbox.sends _ c.outbox.outstanding c.outbox.acked c.untold_sends n limit buffer no_send core.told_out refl);
+          carried = rw marks (carried_opened c.recvs c.outbox.sends c.outbox.outstanding c.carried core.carried n no_recv no_send now _ (λ m. new_recv_lane w share) (λ m. new_send_lane m limit buffer) after refl);
+          own = core.own;
         };
         idle = h.idle;
       })
 
   -- there are places for marks, and no stream opened
-  rest_marks : (ins outs : Tables Bool) → AreTold (TellsAt c.limits.role c.limits.settings) c.recvs c.outbox.outstanding c.outbox.acked ins → AreTold SendTells c.outbox.sends c.outbox.outstanding c.outbox.acked outs → IsAtRest (record c { untold_recvs = ins; untold_sends = outs })
-  rest_marks ins outs told_in told_out = record { core = record { sound = core.sound; fits = core.fits; credit = core.credit; counts = core.counts; told_in = told_in; told_out = told_out }; idle = h.idle }
+  rest_marks : (ins outs : Tables Bool) → AreTold (TellsAt c.limits.role c.limits.settings) c.recvs c.outbox.outstanding c.outbox.acked ins → AreTold SendTells c.outbox.sends c.outbox.outstanding c.outbox.acked outs → (t : Carried) → HasPlaces c.carried t → IsAtRest (record c { untold_recvs = ins; untold_sends = outs; carried = t })
+  rest_marks ins outs told_in told_out t wide = record { core = record { sound = core.sound; fits = core.fits; credit = core.credit; counts = core.counts; told_in = told_in; told_out = told_out; carried = carried_placed c.recvs c.outbox.sends c.outbox.outstanding c.carried core.carried t wide; own = core.own }; idle = h.idle }
 
   ins_placed : (n : ℕ) (ins : Tables Bool) → ins ≡ open_to c.untold_recvs n (λ k. false) → AreTold (TellsAt c.limits.role c.limits.settings) c.recvs c.outbox.outstanding c.outbox.acked ins
   ins_placed n ins are = rw are (told_placed (TellsAt c.limits.role c.limits.settings) c.recvs c.outbox.outstanding c.outbox.acked c.untold_recvs core.told_in n)
 
   pub rest_ins_placed : (n : ℕ) (ins outs : Tables Bool) → ins ≡ open_to c.untold_recvs n (λ k. false) → outs ≡ c.untold_sends → IsAtRest (record c { untold_recvs = ins; untold_sends = outs })
-  rest_ins_placed n ins outs in_are out_are = rest_marks ins outs (ins_placed n ins in_are) (rw out_are core.told_out)
+  rest_ins_placed n ins outs in_are out_are = rest_marks ins outs (ins_placed n ins in_are) (rw out_are core.told_out) c.carried (wide_none c.carried c.carried refl)
 
-  pub rest_placed : (n : ℕ) (ins outs : Tables Bool) → ins ≡ open_to c.untold_recvs n (λ k. false) → outs ≡ open_to c.untold_sends n (λ k. false) → IsAtRest (record c { untold_recvs = ins; untold_sends = outs })
+  pub rest_placed : (n : ℕ) (ins outs : Tables Bool) → ins ≡ open_to c.untold_recvs n (λ k. false) → outs ≡ open_to c.untold_sends n (λ k. false) → (t : Carried) → HasPlaces c.carried t → IsAtRest (record c { untold_recvs = ins; untold_sends = outs; carried = t })
   rest_placed n ins outs in_are out_are = rest_marks ins outs (ins_placed n ins in_are) (rw out_are (told_placed SendTells c.outbox.sends c.outbox.outstanding c.outbox.acked c.untold_sends core.told_out n))
 
   -- Limits
 
-  pub rest_known : (most : ℕ) (streams : ByDir ℕ) → c.limits.known_data ≤ most → most ≤ MAX_VARINT → streams.bidi ≤ 2 ^ 60 → streams.uni ≤ 2 ^ 60 → IsAtRest (record c { limits = record c.limits { known_data = most; known_streams = streams } })
-  rest_known most streams more small bidi uni =
+  pub rest_known : (most : ℕ) (streams : ByDir ℕ) → c.limits.known_data ≤ most → c.limits.known_streams.bidi ≤ streams.bidi → c.limits.known_streams.uni ≤ streams.uni → most ≤ MAX_VARINT → streams.bidi ≤ 2 ^ 60 → streams.uni ≤ 2 ^ 60 → IsAtRest (record c { limits = record c.limits { known_data = most; known_streams = streams } })
+  rest_known most streams more bidi_more uni_more small bidi uni =
       let credit = core.credit in
       let fits = core.fits in
       record {
@@ -192,6 +226,8 @@ module _ (c : Core) (h : IsAtRest c) where
           counts = core.counts;
           told_in = core.told_in;
           told_out = core.told_out;
+          carried = core.carried;
+          own = own_risen c.limits c.outbox.outstanding c.own core.own _ (omega arith) (omega arith) (omega arith) more bidi_more uni_more;
         };
         idle = h.idle;
       }
@@ -200,8 +236,8 @@ module _ (c : Core) (h : IsAtRest c) where
 
   -- the first piece of a packet is acknowledged, and the stream counted anew
   pub rest_acked : (late : Bool) (k : ℕ) (p : Piece) (o : Outgoing) (ins outs : Tables Bool) (e : ByDir ℕ) → first_piece (fmap.get (held_out late c.outbox) k) ≡ Some p → o ≡ first_acked_out (acked_at late k p) c.outbox → ins ≡ marked_for told_by_recv p c.untold_recvs → outs ≡ marked_for told_by_send p c.untold_sends
-      → AreAllCounted c.limits.role c.recvs o.sends e → IsIdle o → IsAtRest (record c { outbox = o; untold_recvs = ins; untold_sends = outs; ended = e })
-  rest_acked late k p o ins outs e first is in_are out_are counted idle =
+      → AreAllCounted c.limits.role c.recvs o.sends e → IsIdle o → AreApartIn c.outbox.outstanding → (t : Carried) → t ≡ (if late then c.carried else carried_without p c.recvs o.sends c.carried) → (ys : Kept) → ys ≡ (if late then c.own else own_left p c.own) → IsAtRest (record c { outbox = o; untold_recvs = ins; untold_sends = outs; carried = t; own = ys; ended = e })
+  rest_acked late k p o ins outs e first is in_are out_are counted idle apart t marks ys values =
       let sum = ap (λ (x : Outgoing). sent_sum x.sends) is ∙ sum_piece p (without_piece_out late k c.outbox) in
       let credit = core.credit in
       record {
@@ -212,6 +248,8 @@ module _ (c : Core) (h : IsAtRest c) where
           counts = fit_sends _ _ _ _ _ _ _ core.counts o.sends e counted;
           told_in = acked_stays (TellsAt c.limits.role c.limits.settings) told_by_recv (recv_own c.limits.role c.limits.settings) (recv_noted c.limits.role c.limits.settings) c.recvs c.outbox o c.untold_recvs ins core.told_in late k p first is in_are;
           told_out = rw (ap (λ (x : Outgoing). x.sends) is) (told_noted late k p c.outbox o.outstanding o.acked outs (acked_stays SendTells told_by_send send_own send_noted c.outbox.sends c.outbox o c.untold_sends outs core.told_out late k p first is out_are));
+          carried = carried_acked late k p c.outbox o c.recvs c.carried t core.carried apart first is marks;
+          own = own_acked late k p c.limits c.outbox o c.own ys core.own apart first is values;
         };
         idle = idle;
       }
@@ -221,20 +259,20 @@ module _ (c : Core) (h : IsAtRest c) where
   rest_marked p o ins outs is in_are out_are =
       subst (λ (x : Outgoing). IsAtRest (record c { outbox = x; untold_recvs = ins; untold_sends = outs })) (sym is)
       (record {
-        core = record { sound = core.sound; fits = core.fits; credit = core.credit; counts = core.counts; told_in = marks_stay (TellsAt c.limits.role c.limits.settings) told_by_recv (recv_own c.limits.role c.limits.settings) (recv_noted c.limits.role c.limits.settings) c.recvs c.outbox c.outbox c.untold_recvs ins core.told_in p refl in_are; told_out = marks_stay SendTells told_by_send send_own send_noted c.outbox.sends c.outbox c.outbox c.untold_sends outs core.told_out p refl out_are };
+        core = record { sound = core.sound; fits = core.fits; credit = core.credit; counts = core.counts; told_in = marks_stay (TellsAt c.limits.role c.limits.settings) told_by_recv (recv_own c.limits.role c.limits.settings) (recv_noted c.limits.role c.limits.settings) c.recvs c.outbox c.outbox c.untold_recvs ins core.told_in p refl in_are; told_out = marks_stay SendTells told_by_send send_own send_noted c.outbox.sends c.outbox c.outbox c.untold_sends outs core.told_out p refl out_are; carried = core.carried; own = core.own };
         idle = h.idle;
       })
 
-  -- a piece that changes no half is acknowledged, or stays
-  pub rest_acked_by : (result : Result (Unit {0}) NoMemory) (late : Bool) (k : ℕ) (p : Piece) (o : Outgoing) (ins outs : Tables Bool) → first_piece (fmap.get (held_out late c.outbox) k) ≡ Some p → half_of p ≡ None → OnOk result (o ≡ first_acked_out (acked_at late k p) c.outbox)
-      → OnErr result (o ≡ c.outbox) → ins ≡ marked_for told_by_recv p c.untold_recvs → outs ≡ marked_for told_by_send p c.untold_sends → IsIdle o → IsAtRest (record c { outbox = o; untold_recvs = ins; untold_sends = outs })
-  rest_acked_by (Ok done) late k p o ins outs first none ok err in_are out_are idle =
+  -- a piece that changes no half is acknowledged
+  pub rest_acked_by : (late : Bool) (k : ℕ) (p : Piece) (o : Outgoing) (ins outs : Tables Bool) → first_piece (fmap.get (held_out late c.outbox) k) ≡ Some p → half_of p ≡ None → o ≡ first_acked_out (acked_at late k p) c.outbox
+      → ins ≡ marked_for told_by_recv p c.untold_recvs → outs ≡ marked_for told_by_send p c.untold_sends → IsIdle o → AreApartIn c.outbox.outstanding → (t : Carried) → t ≡ (if late then c.carried else carried_without p c.recvs o.sends c.carried) → (ys : Kept) → ys ≡ (if late then c.own else own_left p c.own) → IsAtRest (record c { outbox = o; untold_recvs = ins; untold_sends = outs; carried = t; own = ys })
+  rest_acked_by late k p o ins outs first none ok in_are out_are idle =
       rest_acked late k p o ins outs c.ended first ok in_are out_are (subst (λ (t : Tables SendLane). AreAllCounted c.limits.role c.recvs t c.ended) (sym (ap (λ (x : Outgoing). x.sends) ok ∙ sends_stay late k p c.outbox none)) core.counts.counted) idle
-  rest_acked_by (Err e) late k p o ins outs first none ok err in_are out_are idle = rest_marked p o ins outs err in_are out_are
 
   -- the first piece of a packet is lost
-  pub rest_lost : (k : ℕ) (p : Piece) (o : Outgoing) (ins outs : Tables Bool) → first_piece (fmap.get c.outbox.outstanding k) ≡ Some p → o ≡ first_lost_out k p c.outbox → ins ≡ marked_for told_by_recv p c.untold_recvs → outs ≡ marked_for told_by_send p c.untold_sends → IsIdle o → IsAtRest (record c { outbox = o; untold_recvs = ins; untold_sends = outs })
-  rest_lost k p o ins outs first is in_are out_are idle =
+  pub rest_lost : (k : ℕ) (p : Piece) (o : Outgoing) (ins outs : Tables Bool) → first_piece (fmap.get c.outbox.outstanding k) ≡ Some p → o ≡ first_lost_out k p c.outbox → ins ≡ marked_for told_by_recv p c.untold_recvs → outs ≡ marked_for told_by_send p c.untold_sends → IsIdle o
+      → AreApartIn c.outbox.outstanding → (t : Carried) → t ≡ carried_without p c.recvs o.sends c.carried → IsAtRest (record c { outbox = o; untold_recvs = ins; untold_sends = outs; carried = t; own = own_left p c.own })
+  rest_lost k p o ins outs first is in_are out_are idle apart t marks =
       let sends = sym (ap (λ (x : Outgoing). x.sends) is) in
       record {
         core = record {
@@ -244,6 +282,8 @@ module _ (c : Core) (h : IsAtRest c) where
           counts = subst (λ (t : Tables SendLane). CountsFit c.limits.role c.limits.settings c.recvs t c.ended c.limits.granted_streams.bidi c.limits.granted_streams.uni) sends core.counts;
           told_in = lost_stays (TellsAt c.limits.role c.limits.settings) told_by_recv (recv_own c.limits.role c.limits.settings) (recv_noted c.limits.role c.limits.settings) c.recvs c.outbox o c.untold_recvs ins core.told_in k p first is in_are;
           told_out = subst (λ (t : Tables SendLane). AreTold SendTells t o.outstanding o.acked outs) sends (lost_stays SendTells told_by_send send_own send_noted c.outbox.sends c.outbox o c.untold_sends outs core.told_out k p first is out_are);
+          carried = carried_lost k p c.outbox o c.recvs c.carried t core.carried apart first is marks;
+          own = own_lost k p c.limits c.outbox o c.own core.own apart first is;
         };
         idle = idle;
       }
@@ -261,8 +301,8 @@ module _ (c : Core) (h : IsCore c) where
 
   -- a frame is put
   core_put : (f : Seen) (o : Outgoing) (marks : Tables Bool) → end_by c.limits c.recvs o there ≡ frame_put f there → sent_sum o.sends ≤ c.limits.known_data → o.acked ≡ c.outbox.acked → AreTold SendTells o.sends o.outstanding o.acked marks
-      → IsCore (record c { outbox = o; untold_sends = marks })
-  core_put f o marks is credit acked told =
+      → (t : Carried) → AreCarried c.recvs o.sends o.outstanding t → (ys : Kept) → AreOwn c.limits o.outstanding ys → IsCore (record c { outbox = o; untold_sends = marks; carried = t; own = ys })
+  core_put f o marks is credit acked told t marked ys values =
       let carried : (p : Piece) → IsCarried c.outbox.outstanding p → IsCarried o.outstanding p = λ p out. subst (λ (x : End). IsCarried x.outstanding p) (sym is) (put_old f there p out) in
       record {
         sound = h.sound;
@@ -271,17 +311,21 @@ module _ (c : Core) (h : IsCore c) where
         counts = fit_sends _ _ _ _ _ _ _ h.counts o.sends c.ended (subst (λ (x : End). AreAllCounted c.limits.role x.recvs x.sends c.ended) (sym is) (put_counted c.limits.role there f c.ended h.counts.counted));
         told_in = rw acked (told_carried (TellsAt c.limits.role c.limits.settings) c.recvs c.outbox.outstanding c.outbox.acked c.untold_recvs h.told_in o.outstanding carried);
         told_out = told;
+        carried = marked;
+        own = values;
       }
 
   -- an item went in, or didn't fit
-  pub core_item : (i : Item) (before : List ℕ) (len : ℕ) (after : List ℕ) (end : ℕ) (o : Outgoing) (full : Bool) → PutsItem i before len c.outbox after end o full → IsCore (record c { outbox = o })
-  core_item i before len after end o true (same, text, out, long) = subst (λ (x : Outgoing). IsCore (record c { outbox = x })) (sym out) h
-  core_item i before len after end o false (text, out) =
+  pub core_item : (i : Item) (before : List ℕ) (len : ℕ) (after : List ℕ) (end : ℕ) (o : Outgoing) (full : Bool) → PutsItem i before len c.outbox after end o full → (e : End) → IsCurrent (end_of c e) i
+      → IsCore (record c { outbox = o; carried = if full then c.carried else item_carried i true c.carried; own = if full then c.own else own_with i c.own })
+  core_item i before len after end o true (same, text, out, long) e current = subst (λ (x : Outgoing). IsCore (record c { outbox = x })) (sym out) h
+  core_item i before len after end o false (text, out) e current =
       let sum = sum_put i c.outbox in
       let credit = h.credit in
       let told = told_carried SendTells c.outbox.sends c.outbox.outstanding c.outbox.acked c.untold_sends h.told_out (item_put_out i c.outbox).outstanding (noted_old (Told i) there) in
-      subst (λ (x : Outgoing). IsCore (record c { outbox = x })) (sym out)
-      (core_put (Control i) (item_put_out i c.outbox) c.untold_sends (end_put c.limits c.recvs c.outbox there i) (omega (arith, sum, credit)) refl (told_put i c.outbox.sends _ c.outbox.acked c.untold_sends told))
+      subst (λ (x : Outgoing). IsCore (record c { outbox = x; carried = item_carried i true c.carried; own = own_with i c.own })) (sym out)
+      (core_put (Control i) (item_put_out i c.outbox) c.untold_sends (end_put c.limits c.recvs c.outbox there i) (omega (arith, sum, credit)) refl (told_put i c.outbox.sends _ c.outbox.acked c.untold_sends told)
+      (item_carried i true c.carried) (carried_put c.limits c.recvs c.outbox e c.carried h.carried i current) (own_with i c.own) (own_told c.limits c.recvs c.outbox e c.own h.own i current))
 
   -- a chunk went in, and where it reached the stream's limit the stream has a mark
   pub core_chunk : (n : ℕ) (chunk : Chunk) (bytes : List ℕ) (o : Outgoing) (marks : Tables Bool) → o ≡ chunk_put n chunk c.outbox → length bytes ≡ chunk.len → sent_sum (chunk_put n chunk c.outbox).sends ≤ c.limits.known_data → HasMore c.untold_sends marks
@@ -291,7 +335,9 @@ module _ (c : Core) (h : IsCore c) where
       let told = told_carried SendTells c.outbox.sends c.outbox.outstanding c.outbox.acked c.untold_sends h.told_out put.outstanding (noted_old (Data n chunk) there) in
       subst (λ (x : Outgoing). IsCore (record c { outbox = x; untold_sends = marks })) (sym is)
       (core_put (Stream n chunk.offset bytes chunk.fin) put marks (end_chunk c.limits c.recvs c.outbox there n chunk bytes count) credit refl
-      (told_sent c.outbox.sends put.outstanding c.outbox.acked c.untold_sends told put.sends n marks chunk refl more (subst (λ (x : Outgoing). (m : ℕ) → IsBlockedAt (lookup x.sends n) m → lookup marks n ≡ Some false → ⊥) is blocked)))
+      (told_sent c.outbox.sends put.outstanding c.outbox.acked c.untold_sends told put.sends n marks chunk refl more (subst (λ (x : Outgoing). (m : ℕ) → IsBlockedAt (lookup x.sends n) m → lookup marks n ≡ Some false → ⊥) is blocked))
+      c.carried (carried_send c.recvs c.outbox.sends put.outstanding c.carried (carried_chunk c.recvs c.outbox.sends c.outbox.outstanding c.carried h.carried c.outbox.next n chunk) put.sends n (λ l. sent_lane l chunk) refl (λ l. refl) (λ l r e. e))
+      c.own (own_chunk c.limits c.outbox.outstanding c.own h.own c.outbox.next n chunk))
 
   -- a half of which all was told is marked no more
   pub core_recv_unmarked : (n : ℕ) (marks : Tables Bool) → marks ≡ updated c.untold_recvs n (λ b. false) (lookup c.untold_recvs n) → ((e : End) → IsIdleAt (end_of c e) (slots.StopSending n)) → ((e : End) → IsIdleAt (end_of c e) (slots.MaxStreamData n)) → IsCore (record c { untold_recvs = marks })
@@ -303,6 +349,8 @@ module _ (c : Core) (h : IsCore c) where
         counts = h.counts;
         told_in = told_unmarked (TellsAt c.limits.role c.limits.settings) c.recvs c.outbox.outstanding c.outbox.acked c.untold_recvs h.told_in marks n are (in_idle c.limits c.recvs c.outbox there n (stop there) (limit there));
         told_out = h.told_out;
+        carried = h.carried;
+        own = h.own;
       }
 
   pub core_send_unmarked : (n : ℕ) (marks : Tables Bool) → marks ≡ updated c.untold_sends n (λ b. false) (lookup c.untold_sends n) → ((e : End) → IsIdleAt (end_of c e) (slots.ResetStream n)) → ((e : End) → IsIdleAt (end_of c e) (slots.StreamDataBlocked n)) → IsCore (record c { untold_sends = marks })
@@ -314,6 +362,8 @@ module _ (c : Core) (h : IsCore c) where
         counts = h.counts;
         told_in = h.told_in;
         told_out = told_unmarked SendTells c.outbox.sends c.outbox.outstanding c.outbox.acked c.untold_sends h.told_out marks n are (out_idle c.limits c.recvs c.outbox there n (reset there) (blocked there));
+        carried = h.carried;
+        own = h.own;
       }
 
 pub fills_same : (c : Core) (out : List ℕ) (len own : ℕ) → IsFilling c out len → FillsOn c out len c out len own
@@ -321,9 +371,9 @@ fills_same c out len own h =
     record { filling = h; memory = λ left. memory_less c (length out) len left (left - own) (omega arith); streams = streams_same c; ended = refl; rest = rest_same len out; room = refl }
 
 -- the packets and the marks alone moved
-pub fills_outbox : (c : Core) (o : Outgoing) (marks : Tables Bool) (xs ys : List ℕ) (i j own : ℕ) → IsCore (record c { outbox = o; untold_sends = marks }) → j ≤ length ys
-    → ((left : ℕ) → HasMemory c (length xs) i left → HasMemory (record c { outbox = o; untold_sends = marks }) (length ys) j (left - own)) → LeavesRest i xs j ys → length ys ≡ length xs → FillsOn c xs i (record c { outbox = o; untold_sends = marks }) ys j own
-fills_outbox c o marks xs ys i j own core within memory rest room = record { filling = record { core = core; within = within }; memory = memory; streams = record { limits = refl; recvs = refl }; ended = refl; rest = rest; room = room }
+pub fills_outbox : (c : Core) (o : Outgoing) (marks : Tables Bool) (t : Carried) (values : Kept) (xs ys : List ℕ) (i j own : ℕ) → IsCore (record c { outbox = o; untold_sends = marks; carried = t; own = values }) → j ≤ length ys
+    → ((left : ℕ) → HasMemory c (length xs) i left → HasMemory (record c { outbox = o; untold_sends = marks; carried = t; own = values }) (length ys) j (left - own)) → LeavesRest i xs j ys → length ys ≡ length xs → FillsOn c xs i (record c { outbox = o; untold_sends = marks; carried = t; own = values }) ys j own
+fills_outbox c o marks t values xs ys i j own core within memory rest room = record { filling = record { core = core; within = within }; memory = memory; streams = record { limits = refl; recvs = refl }; ended = refl; rest = rest; room = room }
 
 pub fills_on : (a b c : Core) (xs ys zs : List ℕ) (i j k own more : ℕ) → FillsOn a xs i b ys j own → FillsOn b ys j c zs k more → FillsOn a xs i c zs k (own + more)
 fills_on a b c xs ys zs i j k own more f g =
@@ -390,3 +440,7 @@ module _ (c : Core) (peer : PeerLimits) (done : NumberSet) (is due : Bool) (clos
   -- more may have moved, which is noted
   pub kept_moved : (now : Core) → IsAtRest now → IsKept now peer done false due closed
   kept_moved now rest = record { rest = rest; peer_fits = k.peer_fits; closing_fits = k.closing_fits; few = k.few; acks = k.acks; settled = λ on. absurd (true≢false (sym on)) }
+
+  -- the peer allows more
+  pub kept_known : (most : ℕ) (streams : ByDir ℕ) → c.limits.known_data ≤ most → c.limits.known_streams.bidi ≤ streams.bidi → c.limits.known_streams.uni ≤ streams.uni → most ≤ MAX_VARINT → streams.bidi ≤ 2 ^ 60 → streams.uni ≤ 2 ^ 60 → IsKept (record c { limits = record c.limits { known_data = most; known_streams = streams } }) peer done is due closed
+  kept_known most streams more bidi_more uni_more small bidi uni = record { rest = rest_known c k.rest most streams more bidi_more uni_more small bidi uni; peer_fits = k.peer_fits; closing_fits = k.closing_fits; few = k.few; acks = k.acks; settled = k.settled }

@@ -30,7 +30,7 @@ use Rattle.qs_machine.proofs.LanesAgain.{data_after}
 use Rattle.qs_conn.proofs.ToldEnds.{still_told, forgotten_told, told_updated, told_read, told_opened, told_raised, none_told}
 use Rattle.qs_machine.proofs.Counts.{within_credit}
 use Rattle.qs_machine.specs.Credit.{recv_ended, send_ended, granted_streams, lifetime, count_after}
-use Rattle.qs_machine.specs.Seen.{Seen, Ack, Stream, Control, Close, Plain}
+use Rattle.qs_machine.specs.Seen.{Seen, Stream, Control}
 use Rattle.qs_machine.specs.Lawful.{frame_put, chunk_of}
 use Rattle.qs_machine.specs.Sums.{or_none}
 use Rattle.qs_machine.specs.Outgoing.{Outgoing, HasSending, first_acked_out, acked_at}
@@ -263,12 +263,10 @@ closed_counted e mid n recvs sends c c' is r s h mid_h =
 
 pub put_counted : (role : Role) (e : End) (x : Seen) (c : ByDir ℕ) → AreAllCounted role e.recvs e.sends c → AreAllCounted role (frame_put x e).recvs (frame_put x e).sends c
 unfolding frame_put
-put_counted role e (Ack largest ranges) c h = h
 put_counted role e (Stream n offset bytes fin) c h = sends_same role e.recvs e.sends _ n (λ l. sent_lane l (chunk_of offset bytes fin)) c h refl (λ l there. refl)
 put_counted role e (Control i) c h =
     each_item (λ j. AreAllCounted role (frame_put (Control j) e).recvs (frame_put (Control j) e).sends c) (λ m. h) (λ n m. h) (λ d m. h) (λ n code size. h) (λ n code. h) (λ m. h) (λ n m. sends_same role e.recvs e.sends _ n blocked_lane c h refl (λ l there. refl)) (λ d m. h) i
-put_counted role e (Close code) c h = h
-put_counted role e (Plain asks) c h = h
+put_counted _ _ _ _ h = h
 
 -- a piece of a stream is acknowledged, and the stream is counted anew
 pub piece_recounted : (role : Role) (recvs : Tables RecvLane) (late : Bool) (k n : ℕ) (p : Piece) (o new : Outgoing) (e e' : ByDir ℕ) (was is : Bool) → half_of p ≡ Some n → new ≡ first_acked_out (acked_at late k p) o → AreAllCounted role recvs o.sends e

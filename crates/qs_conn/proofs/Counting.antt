@@ -57,11 +57,10 @@ count_set p (z ∷ xs) (suc i) x y is = omega (arith, count_set p xs i x y is, l
 
 -- Lanes that begin have not ended
 pairs_none_left : {K : Type 0} (begin : K → RecvLane) (ks : List K) (ss : List SendLane) → ((k : K) → recv_ended (begin k) ≡ false) → pairs (map begin ks) ss ≡ 0
-pairs_none_left begin [] ss none = refl
-pairs_none_left begin (k ∷ ks) [] none = refl
 pairs_none_left begin (k ∷ ks) (s ∷ ss) none =
     let zero_here : one_if (recv_ended (begin k) && send_ended s) ≡ 0 = ap (λ b. one_if (b && send_ended s)) (none k) in
     omega (arith, zero_here, pairs_step (begin k) (map begin ks) s ss, pairs_none_left begin ks ss none)
+pairs_none_left _ _ _ _ = refl
 
 pairs_none_right : {K : Type 0} (begin : K → SendLane) (ks : List K) (rs : List RecvLane) → ((k : K) → send_ended (begin k) ≡ false) → pairs rs (map begin ks) ≡ 0
 pairs_none_right begin ks [] none = refl
@@ -89,9 +88,8 @@ count_append p begin ks (x ∷ xs) none = omega (arith, len_cond (p x) x (filter
 
 -- A raised limit ends nothing
 pairs_raised : (rs : List RecvLane) (ss : List SendLane) → pairs (map raise rs) ss ≡ pairs rs ss
-pairs_raised [] ss = refl
-pairs_raised (r ∷ rs) [] = refl
 pairs_raised (r ∷ rs) (s ∷ ss) = omega (arith, pairs_step r rs s ss, pairs_step (raise r) (map raise rs) s ss, pairs_raised rs ss)
+pairs_raised _ _ = refl
 
 bit_le : (b : Bool) → one_if b ≤ 1
 bit_le true = omega arith
@@ -99,9 +97,8 @@ bit_le false = omega arith
 
 -- no more streams ended than are open
 pairs_le : (rs : List RecvLane) (ss : List SendLane) → pairs rs ss ≤ length rs
-pairs_le [] ss = omega arith
-pairs_le (r ∷ rs) [] = omega arith
 pairs_le (r ∷ rs) (s ∷ ss) = omega (arith, pairs_step r rs s ss, pairs_le rs ss, bit_le (recv_ended r && send_ended s))
+pairs_le _ _ = omega arith
 
 and_true : (b : Bool) → one_if (b && true) ≡ one_if b
 and_true true = refl
@@ -132,28 +129,24 @@ moves_send a rs ss i x y is there = moves a _ _ _ _ is (pairs_send rs ss i x y t
 -- a receiving half of a type changes
 recv_kind : (role : Role) (k i : ℕ) (recvs : Tables RecvLane) (sends : Tables SendLane) (e : ByDir ℕ) (x y : RecvLane) → k < 4 → slice_get (table recvs k) i ≡ Some x → AreAllCounted role recvs sends e
     → AreAllCounted role (with_table recvs k (slice_set (table recvs k) i y)) sends (recounted k (over role k (recv_ended x) (send_over (slice_get (table sends k) i))) (over role k (recv_ended y) (send_over (slice_get (table sends k) i))) e)
-recv_kind Client zero i recvs sends e x y lt is h = record { bidi = stays e.bidi _ _ h.bidi; uni = h.uni }
 recv_kind Client (suc zero) i recvs sends e x y lt is h = record { bidi = moves_recv e.bidi recvs.server_bidi sends.server_bidi i x y h.bidi is; uni = h.uni }
 recv_kind Client (suc (suc zero)) i recvs sends e x y lt is h = record { bidi = h.bidi; uni = stays e.uni _ _ h.uni }
 recv_kind Client (suc (suc (suc zero))) i recvs sends e x y lt is h = record { bidi = h.bidi; uni = moves_uni e.uni recvs.server_uni i x y h.uni is }
 recv_kind Server zero i recvs sends e x y lt is h = record { bidi = moves_recv e.bidi recvs.client_bidi sends.client_bidi i x y h.bidi is; uni = h.uni }
-recv_kind Server (suc zero) i recvs sends e x y lt is h = record { bidi = stays e.bidi _ _ h.bidi; uni = h.uni }
 recv_kind Server (suc (suc zero)) i recvs sends e x y lt is h = record { bidi = h.bidi; uni = moves_uni e.uni recvs.client_uni i x y h.uni is }
 recv_kind Server (suc (suc (suc zero))) i recvs sends e x y lt is h = record { bidi = h.bidi; uni = stays e.uni _ _ h.uni }
 recv_kind role (suc (suc (suc (suc k)))) i recvs sends e x y lt is h = absurd (omega (arith, lt))
+recv_kind _ _ _ _ _ e _ _ _ _ h = record { bidi = stays e.bidi _ _ h.bidi; uni = h.uni }
 
 -- a sending half of a type changes
 send_kind : (role : Role) (k i : ℕ) (recvs : Tables RecvLane) (sends : Tables SendLane) (e : ByDir ℕ) (x y : SendLane) → k < 4 → slice_get (table sends k) i ≡ Some x → AreAllCounted role recvs sends e
     → AreAllCounted role recvs (with_table sends k (slice_set (table sends k) i y)) (recounted k (over role k (recv_over (slice_get (table recvs k) i)) (send_ended x)) (over role k (recv_over (slice_get (table recvs k) i)) (send_ended y)) e)
 send_kind Client zero i recvs sends e x y lt is h = record { bidi = stays e.bidi _ _ h.bidi; uni = h.uni }
 send_kind Client (suc zero) i recvs sends e x y lt is h = record { bidi = moves_send e.bidi recvs.server_bidi sends.server_bidi i x y h.bidi is; uni = h.uni }
-send_kind Client (suc (suc zero)) i recvs sends e x y lt is h = record { bidi = h.bidi; uni = stays e.uni _ _ h.uni }
-send_kind Client (suc (suc (suc zero))) i recvs sends e x y lt is h = record { bidi = h.bidi; uni = stays e.uni _ _ h.uni }
 send_kind Server zero i recvs sends e x y lt is h = record { bidi = moves_send e.bidi recvs.client_bidi sends.client_bidi i x y h.bidi is; uni = h.uni }
 send_kind Server (suc zero) i recvs sends e x y lt is h = record { bidi = stays e.bidi _ _ h.bidi; uni = h.uni }
-send_kind Server (suc (suc zero)) i recvs sends e x y lt is h = record { bidi = h.bidi; uni = stays e.uni _ _ h.uni }
-send_kind Server (suc (suc (suc zero))) i recvs sends e x y lt is h = record { bidi = h.bidi; uni = stays e.uni _ _ h.uni }
 send_kind role (suc (suc (suc (suc k)))) i recvs sends e x y lt is h = absurd (omega (arith, lt))
+send_kind _ _ _ _ _ e _ _ _ _ h = record { bidi = h.bidi; uni = stays e.uni _ _ h.uni }
 
 -- Of a stream
 
@@ -241,15 +234,12 @@ part_le a c v is le = omega (arith, is, le)
 
 part_kind : (role : Role) (k i : ℕ) (recvs : Tables RecvLane) (sends : Tables SendLane) (e : ByDir ℕ) → k < 4 → AreAllCounted role recvs sends e
     → one_if (over role k (recv_over (slice_get (table recvs k) i)) (send_over (slice_get (table sends k) i))) ≤ cond (is_uni k) e.uni e.bidi
-part_kind Client zero i recvs sends e lt h = omega arith
 part_kind Client (suc zero) i recvs sends e lt h = part_le e.bidi _ _ h.bidi (pairs_part recvs.server_bidi sends.server_bidi i)
-part_kind Client (suc (suc zero)) i recvs sends e lt h = omega arith
 part_kind Client (suc (suc (suc zero))) i recvs sends e lt h = part_le e.uni _ _ h.uni (ended_part recvs.server_uni i)
 part_kind Server zero i recvs sends e lt h = part_le e.bidi _ _ h.bidi (pairs_part recvs.client_bidi sends.client_bidi i)
-part_kind Server (suc zero) i recvs sends e lt h = omega arith
 part_kind Server (suc (suc zero)) i recvs sends e lt h = part_le e.uni _ _ h.uni (ended_part recvs.client_uni i)
-part_kind Server (suc (suc (suc zero))) i recvs sends e lt h = omega arith
 part_kind role (suc (suc (suc (suc k)))) i recvs sends e lt h = absurd (omega (arith, lt))
+part_kind _ _ _ _ _ _ _ _ = omega arith
 
 pub counted_part : (role : Role) (n : ℕ) (recvs : Tables RecvLane) (sends : Tables SendLane) (e : ByDir ℕ) (was : Bool) → AreAllCounted role recvs sends e → was ≡ is_over role recvs sends n → one_if was ≤ cond (is_uni n) e.uni e.bidi
 unfolding lookup
@@ -273,27 +263,19 @@ counted_small role recvs sends e h few = (
 
 opened_recv_kind : {K : Type 0} (role : Role) (k : ℕ) (begin : K → RecvLane) (ks : List K) (recvs : Tables RecvLane) (sends : Tables SendLane) (e : ByDir ℕ) → k < 4 → ((j : K) → recv_ended (begin j) ≡ false) → AreAllCounted role recvs sends e
     → AreAllCounted role (with_table recvs k (table recvs k ++ map begin ks)) sends e
-opened_recv_kind Client zero begin ks recvs sends e lt none h = record { bidi = h.bidi; uni = h.uni }
 opened_recv_kind Client (suc zero) begin ks recvs sends e lt none h = record { bidi = h.bidi ∙ sym (pairs_append_left begin ks recvs.server_bidi sends.server_bidi none); uni = h.uni }
-opened_recv_kind Client (suc (suc zero)) begin ks recvs sends e lt none h = record { bidi = h.bidi; uni = h.uni }
 opened_recv_kind Client (suc (suc (suc zero))) begin ks recvs sends e lt none h = record { bidi = h.bidi; uni = h.uni ∙ sym (count_append recv_ended begin ks recvs.server_uni none) }
 opened_recv_kind Server zero begin ks recvs sends e lt none h = record { bidi = h.bidi ∙ sym (pairs_append_left begin ks recvs.client_bidi sends.client_bidi none); uni = h.uni }
-opened_recv_kind Server (suc zero) begin ks recvs sends e lt none h = record { bidi = h.bidi; uni = h.uni }
 opened_recv_kind Server (suc (suc zero)) begin ks recvs sends e lt none h = record { bidi = h.bidi; uni = h.uni ∙ sym (count_append recv_ended begin ks recvs.client_uni none) }
-opened_recv_kind Server (suc (suc (suc zero))) begin ks recvs sends e lt none h = record { bidi = h.bidi; uni = h.uni }
 opened_recv_kind role (suc (suc (suc (suc k)))) begin ks recvs sends e lt none h = absurd (omega (arith, lt))
+opened_recv_kind _ _ _ _ _ _ _ _ _ h = record { bidi = h.bidi; uni = h.uni }
 
 opened_send_kind : {K : Type 0} (role : Role) (k : ℕ) (begin : K → SendLane) (ks : List K) (recvs : Tables RecvLane) (sends : Tables SendLane) (e : ByDir ℕ) → k < 4 → ((j : K) → send_ended (begin j) ≡ false) → AreAllCounted role recvs sends e
     → AreAllCounted role recvs (with_table sends k (table sends k ++ map begin ks)) e
-opened_send_kind Client zero begin ks recvs sends e lt none h = record { bidi = h.bidi; uni = h.uni }
 opened_send_kind Client (suc zero) begin ks recvs sends e lt none h = record { bidi = h.bidi ∙ sym (pairs_append_right begin ks recvs.server_bidi sends.server_bidi none); uni = h.uni }
-opened_send_kind Client (suc (suc zero)) begin ks recvs sends e lt none h = record { bidi = h.bidi; uni = h.uni }
-opened_send_kind Client (suc (suc (suc zero))) begin ks recvs sends e lt none h = record { bidi = h.bidi; uni = h.uni }
 opened_send_kind Server zero begin ks recvs sends e lt none h = record { bidi = h.bidi ∙ sym (pairs_append_right begin ks recvs.client_bidi sends.client_bidi none); uni = h.uni }
-opened_send_kind Server (suc zero) begin ks recvs sends e lt none h = record { bidi = h.bidi; uni = h.uni }
-opened_send_kind Server (suc (suc zero)) begin ks recvs sends e lt none h = record { bidi = h.bidi; uni = h.uni }
-opened_send_kind Server (suc (suc (suc zero))) begin ks recvs sends e lt none h = record { bidi = h.bidi; uni = h.uni }
 opened_send_kind role (suc (suc (suc (suc k)))) begin ks recvs sends e lt none h = absurd (omega (arith, lt))
+opened_send_kind _ _ _ _ _ _ _ _ _ h = record { bidi = h.bidi; uni = h.uni }
 
 pub recvs_opened : (role : Role) (recvs now : Tables RecvLane) (sends : Tables SendLane) (e : ByDir ℕ) (n w : ℕ) (share : Share) (absent : Bool) → AreAllCounted role recvs sends e → now ≡ cond absent recvs (open_to recvs n (λ m. new_recv_lane w share)) → AreAllCounted role now sends e
 unfolding open_to

@@ -10,7 +10,7 @@ use Rattle.qs_wire.specs.Varint.{short}
 use Rattle.qs_wire.proofs.Numbers.{short_positive}
 use Rattle.qs_wire.specs.Grammar.{Fits, canonical}
 use Rattle.qs_send.specs.Lane.{SendLane, Sending, sent_lane, bytes_of}
-use Rattle.qs_send.specs.Chunks.{IsDueChunk, IsAllowed, IsNextChunk, HasNoChunk, HasBytes, IsHeldByRoom, frame_len}
+use Rattle.qs_send.specs.Chunks.{IsAllowed, IsNextChunk, HasNoChunk, HasBytes, IsHeldByRoom, frame_len}
 use Rattle.qs_send.specs.Laws.{fresh_after}
 use Rattle.qs_send.specs.declared.parts.Chunk.{Chunk}
 use Rattle.qs_send.specs.declared.piece.Item.{Item}
@@ -30,16 +30,15 @@ use Rattle.qs_machine.specs.Ends.{End, send_lane}
 use Rattle.qs_machine.specs.Credit.{all_sent}
 use Rattle.qs_machine.specs.Seen.{Seen, Ack, Stream, Control, seen_all}
 use Rattle.qs_machine.specs.Due.{Among, IsDueItem, IsDue, IsEndDue, ByteGoes, StreamGoes}
-use Rattle.qs_machine.specs.Lawful.{Fills, AcksAll, AreInTurn, ComesBefore, frame_put, pieces_so_far}
+use Rattle.qs_machine.specs.Lawful.{Fills, AcksAll, AreInTurn, ComesBefore, frame_put}
 use Rattle.qs_calls.specs.declared.filling.Fill.{Fill}
-use Rattle.qs_machine.specs.Filling.{IsAsked, bytes_in, stream_bytes, bytes_left, EndGoesAlone, GoesWithin}
-use Rattle.qs_machine.specs.InOrder.{AreInOrder}
-use Rattle.qs_machine.specs.Making.{IsText, NamesMost}
+use Rattle.qs_machine.specs.Filling.{IsAsked, stream_bytes, bytes_left, EndGoesAlone, GoesWithin}
+use Rattle.qs_machine.specs.Making.{NamesMost}
 use Rattle.qs_machine.proofs.Carried.{among_more}
-use Rattle.qs_conn.specs.Filling.{IsWished, HasWished, IsAckLeft, end_by, MayGo, stream_frame, InPacket, all_items, turn_at, HadTurn, IsOnWay, start_of, way_end, Flowing, Flow, Packed, Stage}
-use Rattle.qs_conn.proofs.Items.{fills_push, sum_by_base, known_by_base}
+use Rattle.qs_conn.specs.Filling.{IsWished, HasWished, IsAckLeft, end_by, MayGo, stream_frame, InPacket, all_items, turn_at, HadTurn, IsOnWay, start_of, way_end, Content, WithItems, Flowing, Flow, Packed, Stage, IsPassed}
+use Rattle.qs_conn.proofs.Items.{fills_push}
 use Rattle.qs_conn.proofs.Texts.{all_push, no_text, text_push, seen_push}
-use Rattle.qs_conn.proofs.Stages.{turn_push, bytes_push}
+use Rattle.qs_conn.proofs.Stages.{turn_push, bytes_push, begun_content}
 use Rattle.qs_conn.proofs.PacketOrder.{order_chunk}
 use Rattle.qs_conn.proofs.Chunks.{Ties, ties_of, same_truth, IsClear, may_carry, chunk_lane, chunk_sum, chunk_known, clear_old, clear_new, cut_last, goes_other, chunk_only, none_goes}
 use Rattle.qs_conn.proofs.Openings.{none_is}
@@ -48,18 +47,7 @@ use Rattle.qs_conn.proofs.Sendables.{passed_all}
 -- A packet with the streams that had their turn before n, and some chunks of stream n: of these no later one begins where another ended,
 -- or none may follow.
 pub record Chunking (wish : Wish) (room : ℕ) (old : End) (text : List ℕ) (e : End) (quota : ℕ) (around : Bool) (first n : ℕ) : Type 0 where
-  pub frames : List FrameValue
-  pub fills : Fills old old (seen_all frames) e
-  pub cap : stream_bytes (seen_all frames) + quota ≡ wish.want.most_bytes
-  pub begins : first ≡ wish.want.first
-  pub spells : IsText wish.delay frames text
-  pub acks : AllByRecursion (NamesMost old wish.delay room) frames
-  pub wished : AllByRecursion (IsWished wish) (seen_all frames)
-  pub turns : AreInTurn first old (seen_all frames)
-  pub order : wish.want.items ≡ true → AreInOrder old [] (pieces_so_far e e.next)
-  pub within : all_sent e ≤ e.known_data
-  pub ack : wish.ack_due ≡ true → (room < length text + 25) ⊎ AcksAll old (seen_all frames)
-  pub items : wish.want.items ≡ true → (i : Item) → IsDueItem old i → Among (Control i) (seen_all frames)
+  pub so_far : WithItems first wish room old text e quota
   pub asked : IsAsked wish.want n
   pub on_way : IsOnWay around first n
   pub over : (m : ℕ) → HadTurn around first n m → StreamGoes e m → ⊥
@@ -123,18 +111,7 @@ pub flow_first : (first : ℕ) (wish : Wish) (room : ℕ) (old : End) (text : Li
 flow_first first wish room old text e true at s = s first
 flow_first first wish room old text e false at s =
     record {
-      frames = s.frames;
-      fills = s.fills;
-      cap = omega (arith, s.no_byte);
-      begins = at;
-      spells = s.spells;
-      acks = s.acks;
-      wished = s.wished;
-      turns = s.turns first;
-      order = λ on. s.order;
-      within = (let same = sum_by_base e old s.steady in let known = known_by_base e old s.steady in omega (arith, same, known, s.within));
-      ack = s.ack;
-      items = λ on i due. s.items i (passed_all i) due;
+      so_far = record { begins = at; content = begun_content wish room old text e (IsPassed all_items) s first; ack = s.ack; items = λ on i due. s.items i (passed_all i) due };
       over = λ n (ge, lt). absurd (omega (arith, ge, lt));
       untouched = λ n no c there. s.no_chunk n c there;
     }
@@ -147,18 +124,12 @@ flow_bare first wish room old left at unasked goes none within fresh = subst (λ
     bare : Flowing wish room old [] old wish.want.most_bytes (turn_at false first first)
     bare =
         record {
-          frames = [];
-          fills = refl;
-          cap = omega arith;
-          begins = at;
-          spells = no_text wish.delay;
-          acks = tt;
-          wished = tt;
-          turns = tt;
-          order = λ on. absurd (true≢false (sym on ∙ unasked));
-          within = within;
-          ack = λ due. absurd (true≢false (sym due ∙ none));
-          items = λ on. absurd (true≢false (sym on ∙ unasked));
+          so_far = record {
+            begins = at;
+            content = record { frames = []; fills = refl; cap = omega arith; spells = no_text wish.delay; acks = tt; wished = tt; turns = tt; order = λ on. absurd (true≢false (sym on ∙ unasked)); within = within };
+            ack = λ due. absurd (true≢false (sym due ∙ none));
+            items = λ on. absurd (true≢false (sym on ∙ unasked));
+          };
           over = λ n (ge, lt). absurd (omega (arith, ge, lt));
           untouched = λ n no c there. fresh (Data n c) there;
         }
@@ -172,18 +143,7 @@ unwished false items both none = refl
 pub chunking_begins : (wish : Wish) (room : ℕ) (old : End) (text : List ℕ) (e : End) (quota : ℕ) (around : Bool) (first n : ℕ) → IsAsked wish.want n → IsOnWay around first n → Flowing wish room old text e quota (turn_at around first n) → Chunking wish room old text e quota around first n
 chunking_begins wish room old text e quota around first n asked on f =
     record {
-      frames = f.frames;
-      fills = f.fills;
-      cap = f.cap;
-      begins = f.begins;
-      spells = f.spells;
-      acks = f.acks;
-      wished = f.wished;
-      turns = f.turns;
-      order = f.order;
-      within = f.within;
-      ack = f.ack;
-      items = f.items;
+      so_far = f.so_far;
       asked = asked;
       on_way = on;
       over = f.over;
@@ -227,18 +187,7 @@ capped_whole wish room old text e frames around first n on none ack items over (
 pub chunking_done : (wish : Wish) (room : ℕ) (old : End) (text : List ℕ) (e : End) (quota : ℕ) (around : Bool) (first n : ℕ) → Chunking wish room old text e quota around first n → (StreamGoes e n → ⊥) → Flowing wish room old text e quota (turn_at around first (n + 1))
 chunking_done wish room old text e quota around first n k none =
     record {
-      frames = k.frames;
-      fills = k.fills;
-      cap = k.cap;
-      begins = k.begins;
-      spells = k.spells;
-      acks = k.acks;
-      wished = k.wished;
-      turns = k.turns;
-      order = k.order;
-      within = k.within;
-      ack = k.ack;
-      items = k.items;
+      so_far = k.so_far;
       over = λ m had goes. elim (had_before around first n (n + 1) m had) [
         | inl before ↦ k.over m before goes
         | inr (ge, lt) ↦ (let same : m ≡ n = omega (arith, lt, ge) in none (subst (StreamGoes e) same goes))
@@ -247,31 +196,23 @@ chunking_done wish room old text e quota around first n k none =
     }
 
 module _ (wish : Wish) (room : ℕ) (old : End) (text : List ℕ) (e : End) (quota : ℕ) (around : Bool) (first n : ℕ) (k : Chunking wish room old text e quota around first n) (s : Sending) (t : Ties e n s) (fits : length text ≤ room) where
+  abbrev it : Content first wish room old text e quota
+  it = k.so_far.content
+
   -- it ends, as no chunk may go any more, whatever the room
   pub chunking_ends : HasNoChunk s 25 (e.known_data - all_sent e) → Flowing wish room old text e quota (turn_at around first (n + 1))
-  chunking_ends none = chunking_done wish room old text e quota around first n k (none_goes e n s 25 t (omega arith) k.within none)
+  chunking_ends none = chunking_done wish room old text e quota around first n k (none_goes e n s 25 t (omega arith) it.within none)
 
   -- the packet is full, as the room holds a chunk back
   pub chunking_full : HasNoChunk s (room - length text) (e.known_data - all_sent e) → IsHeldByRoom s (room - length text) (e.known_data - all_sent e) → Packed first wish room old text e quota
   chunking_full none held =
       let few : room - length text < 19 = (held_by_room_or_limits s (room - length text) (e.known_data - all_sent e) t.lawful none).0 held in
-      record { frames = k.frames; fills = k.fills; cap = k.cap; spells = k.spells; acks = k.acks; wished = k.wished; turns = k.turns; order = k.order; within = k.within; whole = λ left. absurd (omega (arith, few, left, fits)) }
+      record { content = k.so_far.content; whole = λ left. absurd (omega (arith, few, left, fits)) }
 
   -- the cap was used up before, and the stream has bytes that may go
   pub chunking_none : quota ≡ 0 → BytesGo e n → Packed first wish room old text e 0
   chunking_none none goes =
-      record {
-        frames = k.frames;
-        fills = k.fills;
-        cap = omega (arith, k.cap, none);
-        spells = k.spells;
-        acks = k.acks;
-        wished = k.wished;
-        turns = k.turns;
-        order = k.order;
-        within = k.within;
-        whole = capped_whole wish room old text e (seen_all k.frames) around first n k.on_way (omega (arith, k.cap, none)) k.ack k.items k.over goes k.begins;
-      }
+      subst (Packed first wish room old text e) none (record { content = it; whole = capped_whole wish room old text e (seen_all it.frames) around first n k.on_way (omega (arith, it.cap, none)) k.so_far.ack k.so_far.items k.over goes k.so_far.begins })
 
   module _ (c : Chunk) (allowed : IsAllowed s (room - length text) (e.known_data - all_sent e) c) (has : HasBytes s.lane c) (bytes : List ℕ) (is : bytes ≡ bytes_of s.lane c) (count : length bytes ≡ c.len) where
     abbrev frame : FrameValue
@@ -284,7 +225,7 @@ module _ (wish : Wish) (room : ℕ) (old : End) (text : List ℕ) (e : End) (quo
     text' = text ++ canonical frame
 
     abbrev frames' : List FrameValue
-    frames' = k.frames ++ frame ∷ []
+    frames' = it.frames ++ frame ∷ []
 
     pub chunk_len : length (canonical frame) ≡ frame_len n c.offset c.len
     chunk_len = sym (frame_len_is_canonical n c.offset c.fin bytes) ∙ ap (frame_len n c.offset) count
@@ -302,7 +243,7 @@ module _ (wish : Wish) (room : ℕ) (old : End) (text : List ℕ) (e : End) (quo
     left = omega (arith, len', room_is)
 
     fresh : fresh_after s.lane (e.known_data - all_sent e) c ≡ after.known_data - all_sent after
-    fresh = omega (arith, chunk_known e n s t c allowed.chunk bytes count, chunk_sum e n s t c allowed.chunk bytes count, k.within, allowed.within_credit)
+    fresh = omega (arith, chunk_known e n s t c allowed.chunk bytes count, chunk_sum e n s t c allowed.chunk bytes count, it.within, allowed.within_credit)
 
     clear_before : (d : Chunk) → InPacket e (Data n d) → IsClear e n s.lane d
     clear_before d there = elim k.clear [ inl clear ↦ clear s.lane t.lane d there | inr none ↦ absurd (none s t c allowed) ]
@@ -319,48 +260,51 @@ module _ (wish : Wish) (room : ℕ) (old : End) (text : List ℕ) (e : End) (quo
 
     -- what the packet has then
     fills' : Fills old old (seen_all frames') after
-    fills' = subst (λ fs. Fills old old fs after) (sym (seen_push k.frames frame)) (fills_push old old e (seen_all k.frames) (Stream n c.offset bytes c.fin) k.fills (s.lane, may_carry e n s t c allowed.chunk bytes is count has clear_before))
+    fills' = subst (λ fs. Fills old old fs after) (sym (seen_push it.frames frame)) (fills_push old old e (seen_all it.frames) (Stream n c.offset bytes c.fin) it.fills (s.lane, may_carry e n s t c allowed.chunk bytes is count has clear_before))
 
     cap' : (rest : ℕ) → rest + c.len ≡ quota → stream_bytes (seen_all frames') + rest ≡ wish.want.most_bytes
-    cap' rest split = (let sum = ap stream_bytes (seen_push k.frames frame) ∙ bytes_push (seen_all k.frames) (Stream n c.offset bytes c.fin) in omega (arith, sum, k.cap, split, count))
+    cap' rest split = (let sum = ap stream_bytes (seen_push it.frames frame) ∙ bytes_push (seen_all it.frames) (Stream n c.offset bytes c.fin) in omega (arith, sum, it.cap, split, count))
 
     wished' : AllByRecursion (IsWished wish) (seen_all frames')
-    wished' = subst (AllByRecursion (IsWished wish)) (sym (seen_push k.frames frame)) (all_push (IsWished wish) (seen_all k.frames) (Stream n c.offset bytes c.fin) k.wished k.asked)
+    wished' = subst (AllByRecursion (IsWished wish)) (sym (seen_push it.frames frame)) (all_push (IsWished wish) (seen_all it.frames) (Stream n c.offset bytes c.fin) it.wished k.asked)
 
     turns' : AreInTurn first old (seen_all frames')
-    turns' = subst (AreInTurn first old) (sym (seen_push k.frames frame)) (turn_push first old old (seen_all k.frames) (Stream n c.offset bytes c.fin) e k.fills k.turns (λ m before. k.over m (comes_before around first m n k.on_way before)))
+    turns' = subst (AreInTurn first old) (sym (seen_push it.frames frame)) (turn_push first old old (seen_all it.frames) (Stream n c.offset bytes c.fin) e it.fills it.turns (λ m before. k.over m (comes_before around first m n k.on_way before)))
 
     within' : all_sent after ≤ after.known_data
-    within' = omega (arith, chunk_known e n s t c allowed.chunk bytes count, chunk_sum e n s t c allowed.chunk bytes count, k.within, allowed.within_credit)
+    within' = omega (arith, chunk_known e n s t c allowed.chunk bytes count, chunk_sum e n s t c allowed.chunk bytes count, it.within, allowed.within_credit)
 
-    more : (x : Seen) → Among x (seen_all k.frames) → Among x (seen_all frames')
-    more x there = subst (Among x) (sym (seen_push k.frames frame)) (among_more (seen_all k.frames) (Stream n c.offset bytes c.fin ∷ []) x there)
+    more : (x : Seen) → Among x (seen_all it.frames) → Among x (seen_all frames')
+    more x there = subst (Among x) (sym (seen_push it.frames frame)) (among_more (seen_all it.frames) (Stream n c.offset bytes c.fin ∷ []) x there)
 
     items' : wish.want.items ≡ true → (i : Item) → IsDueItem old i → Among (Control i) (seen_all frames')
-    items' on i due = more (Control i) (k.items on i due)
+    items' on i due = more (Control i) (k.so_far.items on i due)
 
     ack' : wish.ack_due ≡ true → (room < length text' + 25) ⊎ AcksAll old (seen_all frames')
-    ack' due = elim (k.ack due) [ inl full ↦ inl (omega (arith, len', full)) | inr (largest, ranges, there, all) ↦ inr (largest, ranges, more (Ack largest ranges) there, all) ]
+    ack' due = elim (k.so_far.ack due) [ inl full ↦ inl (omega (arith, len', full)) | inr (largest, ranges, there, all) ↦ inr (largest, ranges, more (Ack largest ranges) there, all) ]
 
     over' : (m : ℕ) → HadTurn around first n m → StreamGoes after m → ⊥
     over' m had goes = k.over m had (goes_other e n s t c allowed.chunk bytes count m (λ same. not_yet around first n k.on_way (subst (HadTurn around first n) same had)) goes)
+
+    abbrev content' : (rest : ℕ) → rest + c.len ≡ quota → Content first wish room old text' after rest
+    content' rest split =
+        record {
+          frames = frames';
+          fills = fills';
+          cap = cap' rest split;
+          spells = text_push wish.delay it.frames text frame it.spells chunk_fits tt;
+          acks = all_push (NamesMost old wish.delay room) it.frames frame it.acks tt;
+          wished = wished';
+          turns = turns';
+          order = λ on. order_chunk old e (seen_all it.frames) n c.offset bytes c.fin it.fills (k.so_far.items on) (it.order on);
+          within = within';
+        }
 
     -- one more chunk
     pub chunking_next : IsNextChunk s (room - length text) (e.known_data - all_sent e) c → (rest : ℕ) → rest + c.len ≡ quota → Chunking wish room old text' after rest around first n
     chunking_next next rest split =
         record {
-          frames = frames';
-          fills = fills';
-          cap = cap' rest split;
-          begins = k.begins;
-          spells = text_push wish.delay k.frames text frame k.spells chunk_fits tt;
-          acks = all_push (NamesMost old wish.delay room) k.frames frame k.acks tt;
-          wished = wished';
-          turns = turns';
-          order = λ on. order_chunk old e (seen_all k.frames) n c.offset bytes c.fin k.fills (k.items on) (k.order on);
-          within = within';
-          ack = ack';
-          items = items';
+          so_far = record { begins = k.so_far.begins; content = content' rest split; ack = ack'; items = items' };
           asked = k.asked;
           on_way = k.on_way;
           over = over';
@@ -372,34 +316,15 @@ module _ (wish : Wish) (room : ℕ) (old : End) (text : List ℕ) (e : End) (quo
     pub chunking_cut : c.len ≡ quota → BytesGo after n → Packed first wish room old text' after 0
     chunking_cut all goes =
         record {
-          frames = frames';
-          fills = fills';
-          cap = cap' 0 (omega (arith, all));
-          spells = text_push wish.delay k.frames text frame k.spells chunk_fits tt;
-          acks = all_push (NamesMost old wish.delay room) k.frames frame k.acks tt;
-          wished = wished';
-          turns = turns';
-          order = λ on. order_chunk old e (seen_all k.frames) n c.offset bytes c.fin k.fills (k.items on) (k.order on);
-          within = within';
-          whole = capped_whole wish room old text' after (seen_all frames') around first n k.on_way (omega (arith, cap' 0 (omega (arith, all)))) ack' items' over' goes k.begins;
+          content = content' 0 (omega (arith, all));
+          whole = capped_whole wish room old text' after (seen_all frames') around first n k.on_way (omega (arith, cap' 0 (omega (arith, all)))) ack' items' over' goes k.so_far.begins;
         }
 
 -- a stream that can't send
 pub flow_absent : (wish : Wish) (room : ℕ) (old : End) (text : List ℕ) (e : End) (quota : ℕ) (around : Bool) (first n : ℕ) → send_lane e n ≡ None → Flowing wish room old text e quota (turn_at around first n) → Flowing wish room old text e quota (turn_at around first (n + 1))
 flow_absent wish room old text e quota around first n none f =
     record {
-      frames = f.frames;
-      fills = f.fills;
-      cap = f.cap;
-      begins = f.begins;
-      spells = f.spells;
-      acks = f.acks;
-      wished = f.wished;
-      turns = f.turns;
-      order = f.order;
-      within = f.within;
-      ack = f.ack;
-      items = f.items;
+      so_far = f.so_far;
       over = λ m had goes. elim (had_before around first n (n + 1) m had) [ inl before ↦ f.over m before goes | inr (ge, lt) ↦ (let same : m ≡ n = omega (arith, lt, ge) in absurd (none-some goes.0 (sym none ∙ ap (send_lane e) (sym same) ∙ goes.1))) ];
       untouched = λ m no. f.untouched m (λ had. no (had_still around first n (n + 1) m (omega arith) had));
     }
@@ -409,18 +334,7 @@ pub flow_idle : (wish : Wish) (room : ℕ) (old : End) (text : List ℕ) (e : En
 flow_idle wish room old text e quota true around first done next le idle f = f
 flow_idle wish room old text e quota false around first done next le idle f =
     record {
-      frames = f.frames;
-      fills = f.fills;
-      cap = f.cap;
-      begins = f.begins;
-      spells = f.spells;
-      acks = f.acks;
-      wished = f.wished;
-      turns = f.turns;
-      order = f.order;
-      within = f.within;
-      ack = f.ack;
-      items = f.items;
+      so_far = f.so_far;
       over = λ m had goes. elim (had_before around first done next m had) [ inl before ↦ f.over m before goes | inr (ge, lt) ↦ absurd (idle m ge lt goes) ];
       untouched = λ m no. f.untouched m (λ had. no (had_still around first done next m le had));
     }
@@ -431,18 +345,7 @@ flow_way wish room old text e quota true false first done past f = f
 flow_way wish room old text e quota true true first done past f = f
 flow_way wish room old text e quota false false first done past f =
     record {
-      frames = f.frames;
-      fills = f.fills;
-      cap = f.cap;
-      begins = f.begins;
-      spells = f.spells;
-      acks = f.acks;
-      wished = f.wished;
-      turns = f.turns;
-      order = f.order;
-      within = f.within;
-      ack = f.ack;
-      items = f.items;
+      so_far = f.so_far;
       over = λ m had goes. elim had [
         | inl ge ↦ elim (cases_lt m done) [ inl lt ↦ f.over m (ge, lt) goes | inr le ↦ past m le ge goes ]
         | inr none ↦ absurd (omega (arith, none))
@@ -451,18 +354,7 @@ flow_way wish room old text e quota false false first done past f =
     }
 flow_way wish room old text e quota false true first done past f =
     record {
-      frames = f.frames;
-      fills = f.fills;
-      cap = f.cap;
-      begins = f.begins;
-      spells = f.spells;
-      acks = f.acks;
-      wished = f.wished;
-      turns = f.turns;
-      order = f.order;
-      within = f.within;
-      ack = f.ack;
-      items = f.items;
+      so_far = f.so_far;
       over = λ m had goes. elim had [
         | inl ge ↦ f.over m (inl ge) goes
         | inr on ↦ elim (cases_lt m done) [ inl lt ↦ f.over m (inr lt) goes | inr le ↦ past m le on goes ]
@@ -480,20 +372,12 @@ pub flow_packed : (first : ℕ) (wish : Wish) (room : ℕ) (old : End) (text : L
 flow_packed first wish room old text e quota true around at had f = f
 flow_packed first wish room old text e quota false around at had f =
     record {
-      frames = f.frames;
-      fills = f.fills;
-      cap = f.cap;
-      spells = f.spells;
-      acks = f.acks;
-      wished = f.wished;
-      turns = f.turns;
-      order = f.order;
-      within = f.within;
-      whole = λ left. record { ack = acked left; wanted = record { items = f.items; streams = λ n asked goes. f.over n (had n asked) (within_goes _ _ e n goes) } };
+      content = f.so_far.content;
+      whole = λ left. record { ack = acked left; wanted = record { items = f.so_far.items; streams = λ n asked goes. f.over n (had n asked) (within_goes _ _ e n goes) } };
     }
   where
-    acked : length text + 25 ≤ room → wish.ack_due ≡ true → AcksAll old (seen_all f.frames)
-    acked left due = elim (f.ack due) [ inl full ↦ absurd (omega (arith, left, full)) | inr all ↦ all ]
+    acked : length text + 25 ≤ room → wish.ack_due ≡ true → AcksAll old (seen_all f.so_far.content.frames)
+    acked left due = elim (f.so_far.ack due) [ inl full ↦ absurd (omega (arith, left, full)) | inr all ↦ all ]
 
 -- no stream is asked for
 pub had_none : (want : Fill) (first at : ℕ) → want.streams ≡ false → (n : ℕ) → IsAsked want n → HadTurn false first at n
@@ -588,7 +472,7 @@ flow_ends around first t recvs o e quota wish room old before len n left fresh s
 pub flow_few : (around : Bool) (first next : ℕ) (e : End) (quota : ℕ) (wish : Wish) (room : ℕ) (old : End) (before : List ℕ) (len n : ℕ) → len ≤ length before → room ≡ length before → length before - len < 25 →
     Chunking wish room old (take len before) e quota around first n → Flow wish room old (take len before) e quota true (turn_at around first next)
 flow_few around first next e quota wish room old before len n within at few k =
-    record { frames = k.frames; fills = k.fills; cap = k.cap; spells = k.spells; acks = k.acks; wished = k.wished; turns = k.turns; order = k.order; within = k.within; whole = λ left. absurd (omega (arith, few, left, at, length-take-le len before within)) }
+    record { content = k.so_far.content; whole = λ left. absurd (omega (arith, few, left, at, length-take-le len before within)) }
 
 -- the sum of the sent ends stays within the credit
 pub sum_within : (o : Outgoing) (n : ℕ) (s : Sending) (c : Chunk) (left fresh known : ℕ) → HasSending o n s → IsAllowed s left fresh c → fresh ≡ known - sent_sum o.sends → sent_sum o.sends ≤ known → sent_sum (chunk_put n c o).sends ≤ known

@@ -13,7 +13,7 @@ use Rattle.qs_send.specs.declared.piece.Piece.TheVariants.{Data, Told}
 use Rattle.qs_machine.specs.Tables.{Tables, lookup, update, updated, table, with_table, each, total}
 use Rattle.qs_machine.specs.Ends.{End, send_lane}
 use Rattle.qs_machine.specs.Credit.{all_sent}
-use Rattle.qs_machine.specs.Seen.{Seen, Ack, Stream, Control, Close, Plain}
+use Rattle.qs_machine.specs.Seen.{Seen, Stream, Control}
 use Rattle.qs_machine.specs.Due.{Among, IsOutstanding, IsAcked, IsCurrent, wanted, known_count}
 use Rattle.qs_machine.specs.Lawful.{Fills, MayPut, frame_put, chunk_of}
 use Rattle.qs_conn.specs.Filling.{unmarked, base}
@@ -114,7 +114,6 @@ fills_push old e mid [] f is may = (subst (λ x. MayPut old x f) is may, ap (fra
 fills_push old e mid (g ∷ fs) f (first, rest) may = (first, fills_push old (frame_put g e) mid fs f rest may)
 
 told_only : (f : Seen) (i : Item) → PieceOfFrame f (Told i) → Control i ≡ f
-told_only (Ack largest ranges) i x = absurd x
 told_only (Stream n offset bytes fin) i x = absurd (not_data x)
   where
     not_data : Told i ≡ Data n (chunk_of offset bytes fin) → ⊥
@@ -123,8 +122,7 @@ told_only (Control j) i x = same x
   where
     same : Told i ≡ Told j → Control i ≡ Control j
     same is = cc is
-told_only (Close code) i x = absurd x
-told_only (Plain asks) i x = absurd x
+told_only _ _ x = absurd x
 
 -- what is outstanding stays so
 pub out_old : (old e mid : End) (fs : List Seen) (x : Piece) → Fills old e fs mid → IsOutstanding e x → IsOutstanding mid x

@@ -1,5 +1,5 @@
 -- What holds of a new end, and of the credit of a peer.
-use Rattle.std.proofs.Common.{◌≡◌, ◌≤◌, ℕ, Bool, true, false, not, ◌&&◌, Option, Some, None, refl, ap, sym, ◌∙◌, arith, rules, subst, cond}
+use Rattle.std.proofs.Common.{◌≡◌, ◌≤◌, ℕ, Bool, true, false, not, ◌&&◌, Option, Some, None, refl, ap, sym, ◌∙◌, arith, rules, subst, cond, replicate}
 use Rattle.std.specs.FinSet as set
 use Rattle.std.proofs.lemmas.Bool.{true≢false}
 use Rattle.std.proofs.lemmas.Bool.Decides.{nat_tests}
@@ -18,6 +18,10 @@ use Rattle.qs_machine.specs.Standing.{KeepsCredit}
 use Rattle.qs_machine.specs.Outgoing.{Outgoing, no_packets, sent_sum}
 use Rattle.qs_conn.specs.declared.by_dir.ByDir.{ByDir}
 use Rattle.qs_conn.specs.Middle.{IsKept}
+use Rattle.qs_conn.specs.declared.carried.Carried.{Carried}
+use Rattle.qs_conn.specs.OwnCarried.{Kept}
+use Rattle.qs_conn.proofs.CarriedSteps.{carried_none}
+use Rattle.qs_conn.proofs.Owns.{own_new}
 use Rattle.qs_conn.proofs.Counted.{fit_new}
 use Rattle.qs_conn.proofs.Funded.{no_sum, no_runs}
 use Rattle.qs_conn.proofs.Runs.{idle_new}
@@ -34,12 +38,10 @@ record AllTrue (a b c : Bool) : Type 0 where
 
 all_true : (a b c : Bool) → cond (not (a && b)) (Some OutOfRange) (cond (not c) (Some TooManyStreams) None) ≡ None → AllTrue a b c
 all_true true true true h = record { first = refl; second = refl; third = refl }
-all_true true true false h = absurd (search (rules, h))
-all_true true false c h = absurd (search (rules, h))
-all_true false b c h = absurd (search (rules, h))
+all_true _ _ _ h = absurd (search (rules, h))
 
 -- a new end
-pub kept_new : (role : Role) (s : Settings) (tuned : Tuning) (p : PeerLimits) (wanted : ByDir (Option ℕ)) (o : Outgoing) (recvs : Tables RecvLane) (ins outs : Tables Bool) (done : NumberSet) → wide_setup_fault s p ≡ None → o ≡ no_packets → recvs ≡ no_streams → done ≡ set.empty
+pub kept_new : (role : Role) (s : Settings) (tuned : Tuning) (p : PeerLimits) (wanted : ByDir (Option ℕ)) (o : Outgoing) (recvs : Tables RecvLane) (ins outs : Tables Bool) (t : Carried) (xs : Kept) (done : NumberSet) → wide_setup_fault s p ≡ None → o ≡ no_packets → recvs ≡ no_streams → done ≡ set.empty → t ≡ record { stops = no_streams; limits = no_streams; resets = no_streams; blocks = no_streams } → xs ≡ replicate 6 None
     → IsKept
     (record {
       limits = record {
@@ -59,10 +61,12 @@ pub kept_new : (role : Role) (s : Settings) (tuned : Tuning) (p : PeerLimits) (w
       recvs = recvs;
       untold_recvs = ins;
       untold_sends = outs;
+      carried = t;
+      own = xs;
       ended = record { bidi = 0; uni = 0 };
     })
     p done false false None
-kept_new role s tuned p wanted o recvs ins outs done is empty none no_numbers =
+kept_new role s tuned p wanted o recvs ins outs t xs done is empty none no_numbers no_marks no_values =
     let h = all_true (are_in_wide_range s) (are_spellable p) (are_countable p) is in
     let in_range = h.first in
     let spellable = h.second in
@@ -85,6 +89,8 @@ kept_new role s tuned p wanted o recvs ins outs done is empty none no_numbers =
           counts = fit_new role s recvs o.sends in_range none;
           told_in = told_none (TellsAt role s) recvs _ _ ins none;
           told_out = told_none SendTells o.sends _ _ outs (ap (λ (x : Outgoing). x.sends) empty);
+          carried = carried_none recvs o.sends o.outstanding t none (ap (λ (x : Outgoing). x.sends) empty) (ap (λ (x : Outgoing). x.outstanding) empty) no_marks;
+          own = own_new _ o.outstanding xs (ap (λ (x : Outgoing). x.outstanding) empty) no_values;
         };
         idle = idle_new o empty;
       };

@@ -1,7 +1,7 @@
 -- Receiving lanes that are raised one by one, and marked; and those that were opened and are taken back.
-use Rattle.std.proofs.Common.{◌≡◌, ◌≢◌, ℕ, zero, suc, ◌+◌, ◌*◌, ◌/◌, ◌%◌, ◌<◌, ◌≤◌, nat_lt, Bool, true, false, cond, List, [], ◌++◌, ◌∷◌, length, map, take, drop, get_or, None, Some, slice_get, refl, sym, ap, ◌∙◌, subst, arith, inl, inr}
+use Rattle.std.proofs.Common.{◌≡◌, ℕ, zero, suc, ◌+◌, ◌*◌, ◌/◌, ◌%◌, ◌<◌, ◌≤◌, nat_lt, Bool, true, false, cond, List, [], ◌∷◌, length, map, get_or, None, Some, slice_get, refl, sym, ap, ◌∙◌, subst, arith, inl, inr}
 use Rattle.std.proofs.Math.ListN.{set, length-set}
-use Rattle.std.proofs.lemmas.Bool.{cases_lt, cases_eq}
+use Rattle.std.proofs.lemmas.Bool.{cases_eq}
 use Rattle.std.proofs.lemmas.Bool.Decides.{nat_tests}
 use Rattle.qs_machine.specs.Tables.{Tables, table, lookup, updated}
 use Rattle.qs_machine.specs.Sums.{tables_of, changed}
@@ -39,9 +39,6 @@ raised_none kind xs marks i x lt at none l there free = subst (λ k. raise k ≡
 pub raised_some : (kind : ℕ) (xs : List RecvLane) (marks marks' : Tables Bool) (i n : ℕ) → n ≡ i * 4 + kind → marks' ≡ updated marks n (λ b. true) (lookup marks n) → IsRaisedMarked kind xs marks' i
 raised_some kind xs marks marks' i n is are l there free =
     absurd (is_marked_now marks n (subst (λ (t : Tables Bool). lookup t n ≡ Some false) are (subst (λ k. lookup marks' k ≡ Some false) (sym is) free)))
-
-pub raised_past : (kind : ℕ) (xs : List RecvLane) (marks : Tables Bool) (i : ℕ) → length xs ≤ i → IsRaisedMarked kind xs marks i
-raised_past kind xs marks i le l there free = absurd (omega (arith, le, slice_get_within xs i l there))
 
 -- Lanes are raised one after the other, as they were touched
 

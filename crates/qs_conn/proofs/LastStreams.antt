@@ -1,15 +1,14 @@
 -- The last STREAM frame of a packet in the making has the stream of the last chunk in its record.
-use Rattle.std.proofs.Common.{◌≡◌, ℕ, zero, suc, ◌+◌, List, [], ◌∷◌, ◌++◌, length, slice_get, Option, Some, None, refl, sym, ap, ◌∙◌, subst, arith}
+use Rattle.std.proofs.Common.{◌≡◌, ℕ, zero, suc, ◌+◌, List, [], ◌∷◌, ◌++◌, length, slice_get, Option, Some, None, refl, ap, ◌∙◌, subst, arith}
 use Rattle.std.proofs.lemmas.Option.{same_Some}
-use Rattle.std.specs.FinMap as fmap
 use Rattle.qs_wire.specs.LastStream.{stream_or, last_stream_of}
-use Rattle.qs_wire.specs.Layout.{FrameValue, padding, ping, ack, reset_stream, stop_sending, crypto, new_token, stream, max_data, max_stream_data, max_streams, data_blocked, stream_data_blocked, streams_blocked, new_connection_id, retire_connection_id, path_challenge, path_response, connection_close, application_close, handshake_done}
+use Rattle.qs_wire.specs.Layout.{FrameValue, padding}
 use Rattle.qs_send.specs.Lane.{sent_lane}
 use Rattle.qs_send.specs.declared.parts.Chunk.{Chunk}
 use Rattle.qs_send.specs.declared.piece.Piece.{Piece}
 use Rattle.qs_send.specs.declared.piece.Piece.TheVariants.{Data, Told}
 use Rattle.qs_machine.specs.Ends.{End, Records, on_send}
-use Rattle.qs_machine.specs.Seen.{Seen, Ack, Stream, Control, Close, Plain, seen, seen_all}
+use Rattle.qs_machine.specs.Seen.{Seen, Stream, Control, seen, seen_all}
 use Rattle.qs_machine.specs.Lawful.{Fills, frame_put, noted, item_put, pieces_so_far, chunk_of}
 use Rattle.qs_machine.specs.Outgoing.{with_pending, AreBelow}
 use Rattle.qs_machine.proofs.Carried.{get_new}
@@ -29,56 +28,30 @@ last_more last (q ∷ ps) p = last_more (data_or last q) ps p
 
 -- the last one, where it is a chunk
 pub last_at : (last : Option ℕ) (ps : List Piece) (i n : ℕ) (c : Chunk) → i + 1 ≡ length ps → Some (Data n c) ≡ slice_get ps i → Some n ≡ last_data last ps
-last_at last [] i n c at is = absurd (omega (arith, at))
 last_at last (q ∷ []) zero n c at is = subst (λ p. Some n ≡ data_or last p) (same_Some (Data n c) q is) refl
-last_at last (q ∷ []) (suc i) n c at is = absurd (omega (arith, at))
-last_at last (q ∷ r ∷ ps) zero n c at is = absurd (omega (arith, at))
 last_at last (q ∷ r ∷ ps) (suc i) n c at is = last_at (data_or last q) (r ∷ ps) i n c (omega (arith, at)) is
+last_at _ _ _ _ _ at _ = absurd (omega (arith, at))
 
 last_noted : (p : Piece) (e : End) → last_data None (pieces_so_far (noted p e) (noted p e).next) ≡ data_or (last_data None (pieces_so_far e e.next)) p
 last_noted p e = ap (λ (o : Option (List Piece)). last_data None (elim o [ None ↦ [] | Some qs ↦ qs ])) (get_new e.outstanding e.next (pieces_so_far e e.next ++ p ∷ [])) ∙ last_more None (pieces_so_far e e.next) p
 
 -- the stream of a STREAM frame; of another frame what was before
 abbrev seen_or : Option ℕ → Seen → Option ℕ
-seen_or last (Ack largest ranges) = last
 seen_or last (Stream n offset bytes fin) = Some n
-seen_or last (Control i) = last
-seen_or last (Close code) = last
-seen_or last (Plain asks) = last
+seen_or last _ = last
 
 last_put : (f : Seen) (e : End) → last_data None (pieces_so_far (frame_put f e) (frame_put f e).next) ≡ seen_or (last_data None (pieces_so_far e e.next)) f
 unfolding frame_put
-last_put (Ack largest ranges) e = refl
 last_put (Stream n offset bytes fin) e = last_noted (Data n (chunk_of offset bytes fin)) (on_send n (λ l. sent_lane l (chunk_of offset bytes fin)) e)
 last_put (Control i) e =
     last_noted (Told i) (item_put i e)
     ∙ ap (λ k. last_data None (pieces_at (item_put i e).outstanding k)) (item_next i e)
     ∙ ap (λ m. last_data None (pieces_at m e.next)) (item_out i e)
-last_put (Close code) e = refl
-last_put (Plain asks) e = refl
+last_put _ _ = refl
 
 seen_is : (last : Option ℕ) (f : FrameValue) → seen_or last (seen f) ≡ stream_or last f
 seen_is last padding = refl
-seen_is last ping = refl
-seen_is last (ack largest delay ranges ecn) = refl
-seen_is last (reset_stream n code size) = refl
-seen_is last (stop_sending n code) = refl
-seen_is last (crypto offset bytes) = refl
-seen_is last (new_token bytes) = refl
-seen_is last (stream n offset fin bytes) = refl
-seen_is last (max_data maximum) = refl
-seen_is last (max_stream_data n maximum) = refl
-seen_is last (max_streams dir count) = refl
-seen_is last (data_blocked limit) = refl
-seen_is last (stream_data_blocked n limit) = refl
-seen_is last (streams_blocked dir count) = refl
-seen_is last (new_connection_id sequence retire identifier token) = refl
-seen_is last (retire_connection_id sequence) = refl
-seen_is last (path_challenge bytes) = refl
-seen_is last (path_response bytes) = refl
-seen_is last (connection_close code kind reason) = refl
-seen_is last (application_close code reason) = refl
-seen_is last handshake_done = refl
+seen_is _ _ = refl
 
 -- so it is of all frames of a packet
 pub last_filled : (old e mid : End) (fs : List FrameValue) → Fills old e (seen_all fs) mid → last_data None (pieces_so_far mid mid.next) ≡ last_stream_of (last_data None (pieces_so_far e e.next)) fs

@@ -1,14 +1,14 @@
 -- Searches for the least number with a property.
-use Rattle.std.proofs.Common.{◌≡◌, ℕ, zero, suc, ◌+◌, ◌-◌, ◌*◌, ◌/◌, ◌%◌, ◌<◌, ◌≤◌, ◌^◌, ◌⊎◌, min, Bool, false, List, length, get_or, Option, None, Some, slice_get, refl, sym, ap, ◌∙◌, subst, arith, inl, inr}
+use Rattle.std.proofs.Common.{◌≡◌, ℕ, zero, suc, ◌+◌, ◌-◌, ◌*◌, ◌/◌, ◌%◌, ◌<◌, ◌≤◌, ◌^◌, ◌⊎◌, min, Bool, false, List, length, get_or, Option, None, Some, slice_get, refl, sym, ◌∙◌, subst, arith, inl, inr}
 use Rattle.std.specs.Option.{IfSome, IfNone}
 use Rattle.std.proofs.lemmas.Bool.{cases_lt, both_ways}
 use Rattle.std.proofs.lemmas.Option.{none-some, same_Some, slice_get_read}
 use Rattle.qs_machine.specs.News.{IsLeast, IsHeld}
 use Rattle.qs_machine.specs.Sums.{tables_of}
-use Rattle.qs_machine.specs.Tables.{Tables, type_of}
+use Rattle.qs_machine.specs.Tables.{type_of}
 use Rattle.qs_machine.proofs.TableEdits.{lookup_is}
 use Rattle.qs_conn.specs.Marks.{is_marked, AreMarked, IsBefore, IsNextMark, IsAt, IsHeldOf, least_of}
-use Rattle.qs_conn.proofs.Marked.{mark_past, marked_len, unmarked_at, least_has, before_least}
+use Rattle.qs_conn.proofs.Marked.{mark_past, marked_len, unmarked_at, before_least, id_is}
 
 -- none below the answer has the property
 pub least_by : (P : ℕ → Type 0) (from : ℕ) (answer : Option ℕ) → ((n : ℕ) → answer ≡ Some n → (from ≤ n) × P n) → ((n : ℕ) → from ≤ n → IsBefore n answer → P n → ⊥) → IsLeast P from answer
@@ -142,16 +142,9 @@ kinds_four P from a b c d p q r s =
         go (suc (suc (suc zero))) e lt = inr (inr (e, held))
         go (suc (suc (suc (suc k)))) e lt = absurd (omega (arith, lt))
 
-pub of_four : {X : Type 0} (R : X → Type 0) (t : Tables X) (from : ℕ) (a b c d : Option ℕ) → IsLeast (IsHeldOf R t 0) from a → IsLeast (IsHeldOf R t 1) from b → IsLeast (IsHeldOf R t 2) from c → IsLeast (IsHeldOf R t 3) from d → IsLeast (IsHeld R t) from (least_of (least_of a b) (least_of c d))
-of_four R t = kinds_four (IsHeld R t)
-
 -- the number of the answer is a stream's
 pub least_id : (P : ℕ → Type 0) (from : ℕ) (id r : Option ℕ) (number : ℕ) → r ≡ Some number → IfSome r (λ n. n < 2 ^ 62) → IfSome id (λ m. (m ≡ number) × (number < 2 ^ 62)) → IfNone id (2 ^ 62 ≤ number) → IsLeast P from r → IsLeast P from id
-least_id P from (Some m) r number is small some none h = subst (IsLeast P from) (is ∙ ap Some (sym some.0)) h
-least_id P from None r number is small some none h = (let few : IfSome (Some number) (λ n. n < 2 ^ 62) = subst (λ x. IfSome x (λ n. n < 2 ^ 62)) is small in absurd (omega (arith, few, none)))
-
-pub small_two : (a b : Option ℕ) → IfSome a (λ n. n < 2 ^ 62) → IfSome b (λ n. n < 2 ^ 62) → IfSome (least_of a b) (λ n. n < 2 ^ 62)
-small_two a b p q = least_has (λ n. n < 2 ^ 62) a b p q
+least_id P from id r number is small some none h = subst (IsLeast P from) (sym (id_is id r number is small some none)) h
 
 -- A premise
 

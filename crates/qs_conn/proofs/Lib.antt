@@ -6,6 +6,9 @@ pub mod Asked
 pub mod Named
 pub mod Calm
 pub mod Capped
+pub mod Carrieds
+pub mod CarriedSteps
+pub mod Owns
 pub mod Chunks
 pub mod Cores
 pub mod Counting
@@ -24,9 +27,6 @@ pub mod MadePackets
 pub mod Halves
 pub mod Hearing
 pub mod Helds
-pub mod Indexed
-pub mod ItemOrders
-pub mod Ordered
 pub mod PacketOrder
 pub mod Passing
 pub mod OutboxAcks
@@ -72,6 +72,7 @@ pub mod Most
 pub mod Tasks
 pub mod Quiets
 pub mod LaneMarks
+pub mod LimitMarks
 pub mod RecvNews
 pub mod Least
 pub mod Sought

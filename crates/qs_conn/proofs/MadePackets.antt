@@ -78,7 +78,7 @@ module _ (v : End) (c new_c : Core) (wish : Wish) (room len quota : ℕ) (out : 
   packed = fills v left parts refl goes (fresh_of v idle)
 
   pub filled_next : new_c.outbox.next ≡ v.next
-  filled_next = fills_next v v filled (seen_all packed.frames) packed.fills
+  filled_next = fills_next v v filled (seen_all packed.content.frames) packed.content.fills
 
   same_is : len ≡ 0 → filled ≡ v
   same_is none = packed_same wish.want.first wish room v (take len out) filled quota packed (ap (λ k. take k out) none)
@@ -105,7 +105,7 @@ module _ (v : End) (c new_c : Core) (wish : Wish) (room len quota : ℕ) (out : 
     pub in_order : wish.want.items ≡ true → AreInOrder v [] (pieces_so_far new number)
     in_order asked =
         let pieces : pieces_so_far new number ≡ pieces_so_far filled filled.next = ap (λ (x : End). pieces_so_far x number) end ∙ ap (pieces_so_far filled) (is ∙ sym filled_next) in
-        subst (AreInOrder v []) (sym pieces) (packed.order asked)
+        subst (AreInOrder v []) (sym pieces) (packed.content.order asked)
 
 -- `make_packet` filled it
 module _ (v old : End) (same : v ≡ old) (c new_c : Core) (first delay room len quota : ℕ) (out : List ℕ) (idle : fmap.get v.outstanding v.next ≡ None) (parts : end_of c v ≡ v)
@@ -234,9 +234,9 @@ module _ (v old : End) (same : v ≡ old) (c new_c : Core) (want : Fill) (room l
         let inside : length text ≡ len = length-take-le len out (omega (arith, within, count)) in
         let there : text ≢ [] = λ none. omega (arith, some, inside, ap length none) in
         let mid : End = end_of new_c v in
-        let wanted : AllByRecursion (IsWanted want) (seen_all full.frames) = all_wanted (only_of want) refl (seen_all full.frames) full.wished in
-        let frames : seen_all full.frames ≢ [] = λ none. there (full.spells.canonical ∙ ap canonical_all (no_seen full.frames none)) in
-        let made = packed_made want.first (only_of want) room v text mid quota full token.number len true (sym (asks_all want (seen_all full.frames) frames wanted)) (ap (λ (t : Token). t.number) gives ∙ is) (sym inside) there (length text) (omega (arith, inside)) (names_less v 0 room (length text) full.frames (omega (arith, inside, within)) full.acks) (λ left. absurd (omega (arith, left))) in
+        let wanted : AllByRecursion (IsWanted want) (seen_all full.content.frames) = all_wanted (only_of want) refl (seen_all full.content.frames) full.content.wished in
+        let frames : seen_all full.content.frames ≢ [] = λ none. there (full.content.spells.canonical ∙ ap canonical_all (no_seen full.content.frames none)) in
+        let made = packed_made want.first (only_of want) room v text mid quota full token.number len true (sym (asks_all want (seen_all full.content.frames) frames wanted)) (ap (λ (t : Token). t.number) gives ∙ is) (sym inside) there (length text) (omega (arith, inside)) (names_less v 0 room (length text) full.content.frames (omega (arith, inside, within)) full.content.acks) (λ left. absurd (omega (arith, left))) in
         let filled : Filled = record { token = token; len = len; last_stream = last_one; more = more } in
         let all : IsFilled v want room filled text (settle (record mid { next = v.next + 1 })) =
         record {
@@ -244,10 +244,10 @@ module _ (v old : End) (same : v ≡ old) (c new_c : Core) (want : Fill) (room l
           token = gives ∙ ap (λ e. token_of e number) (sym same) ∙ ap (token_of v) is;
           fits = omega (arith, inside, within);
           wanted = wanted;
-          capped = omega (arith, full.cap);
+          capped = omega (arith, full.content.cap);
           whole = λ left. (let w = (full.whole left).wanted in record { items = w.items; streams = λ n asked goes. w.streams n asked (within_same mid (v.next + 1) _ want.first n goes) });
-          last_stream = read ∙ last_filled v v mid full.frames full.fills ∙ ap (λ (o : Option (List Piece)). last_stream_of (last_data None (elim o [ None ↦ [] | Some qs ↦ qs ])) full.frames) idle;
-          more = subst (λ k. (more ≡ true) ↔ WantedGoes (still_asked want k) (settle (record mid { next = v.next + 1 }))) (omega (arith, full.cap)) (subst (λ e. (more ≡ true) ↔ WantedGoes (still_asked want quota) e) fill_end goes);
+          last_stream = read ∙ last_filled v v mid full.content.frames full.content.fills ∙ ap (λ (o : Option (List Piece)). last_stream_of (last_data None (elim o [ None ↦ [] | Some qs ↦ qs ])) full.content.frames) idle;
+          more = subst (λ k. (more ≡ true) ↔ WantedGoes (still_asked want k) (settle (record mid { next = v.next + 1 }))) (omega (arith, full.content.cap)) (subst (λ e. (more ≡ true) ↔ WantedGoes (still_asked want quota) e) fill_end goes);
         } in
         subst (λ e. FillStep e want room (Ok (Some filled)) text new) same
         (subst (λ r. FillAt r v want room (Ok (Some filled)) text new) (sym (no_refusal v clear le)) (subst (IsFilled v want room filled text) (sym fill_end) all))

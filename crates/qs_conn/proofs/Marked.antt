@@ -22,9 +22,8 @@ mark_past ms i le = get_or_past ms i false le
 
 pub is_marked_taken : (marks : List Bool) (n i : ℕ) → is_marked marks i ≡ false → is_marked (take n marks) i ≡ false
 is_marked_taken marks zero i none = mark_past [] i (omega arith)
-is_marked_taken [] (suc n) i none = none
-is_marked_taken (m ∷ marks) (suc n) zero none = none
 is_marked_taken (m ∷ marks) (suc n) (suc i) none = is_marked_taken marks n i none
+is_marked_taken _ _ _ none = none
 
 -- a mark that is put where it stands already
 pub mark_kept : (ms : List Bool) (i : ℕ) → ms ≡ set ms i (is_marked ms i)
@@ -175,10 +174,6 @@ widened_is xs ys count is = is ∙ ap (λ zs. xs ++ zs) (all_false (length xs) (
 
 -- Answers of several types of streams
 
--- a number that a stream can have, from one on
-abbrev pub IsIn : ℕ → ℕ → Type 0
-IsIn from n = (from ≤ n) × (n < 2 ^ 62)
-
 pub before_least : (a b : Option ℕ) (n : ℕ) → IsBefore n (least_of a b) → IsBefore n a × IsBefore n b
 before_least None b n is = (tt, is)
 before_least (Some a) None n is = (is, tt)
@@ -233,12 +228,17 @@ has_each {X} Q ls d0 d1 d2 d3 len q0 q1 q2 q3 n x at = go (n % 4) refl (omega ar
     go (suc (suc (suc zero))) e lt = q3 (n / 4) x (there 3 d3 e)
     go (suc (suc (suc (suc k)))) e lt = absurd (omega (arith, lt))
 
--- the number of a stream
--- what holds of each holds of the least, as a stream's number too
-pub id_has : (P : ℕ → Type 0) (id a b c d : Option ℕ) (number : ℕ) → least_of (least_of a b) (least_of c d) ≡ Some number → IfSome a P → IfSome b P → IfSome c P → IfSome d P → IfSome id (λ m. (m ≡ number) × (number < 2 ^ 62)) → IfSome id P
-id_has P None a b c d number is pa pb pc pd some = tt
-id_has P (Some m) a b c d number is pa pb pc pd some =
-    subst P (sym some.0) (subst (λ r. IfSome r P) is (least_has P (least_of a b) (least_of c d) (least_has P a b pa pb) (least_has P c d pc pd)))
+-- what holds of each holds of the least
+pub four_have : (P : ℕ → Type 0) (a b c d : Option ℕ) → IfSome a P → IfSome b P → IfSome c P → IfSome d P → IfSome (least_of (least_of a b) (least_of c d)) P
+four_have P a b c d pa pb pc pd = least_has P (least_of a b) (least_of c d) (least_has P a b pa pb) (least_has P c d pc pd)
+
+pub small_four : (a b c d : Option ℕ) → IfSome a (λ n. n < 2 ^ 62) → IfSome b (λ n. n < 2 ^ 62) → IfSome c (λ n. n < 2 ^ 62) → IfSome d (λ n. n < 2 ^ 62) → IfSome (least_of (least_of a b) (least_of c d)) (λ n. n < 2 ^ 62)
+small_four = four_have (λ n. n < 2 ^ 62)
+
+-- a number that a stream can have is one's
+pub id_is : (id r : Option ℕ) (number : ℕ) → r ≡ Some number → IfSome r (λ n. n < 2 ^ 62) → IfSome id (λ m. (m ≡ number) × (number < 2 ^ 62)) → IfNone id (2 ^ 62 ≤ number) → id ≡ r
+id_is (Some m) r number is small some none = ap Some some.0 ∙ sym is
+id_is None r number is small some none = (let few : IfSome (Some number) (λ n. n < 2 ^ 62) = subst (λ x. IfSome x (λ n. n < 2 ^ 62)) is small in absurd (omega (arith, few, none)))
 
 -- a place in a table is one of a stream
 pub open_at : {X : Type 0} (ls : List (List X)) (k i : ℕ) (d : List X) → length ls ≡ 4 → k < 4 → i < length (get_or ls k d) → IsOpen (tables_of ls) (i * 4 + k)
@@ -247,11 +247,3 @@ open_at ls k i d len small there =
     let index : i ≡ (i * 4 + k) / 4 = omega (arith, small) in
     let within : nat_lt i (length (get_or ls k d)) ≡ true = grind (arith, nat_tests, there) in
     ap is_some (lookup_is ls (i * 4 + k) k i d len kind index) ∙ sym (some_tested (get_or ls k d) i _ refl) ∙ within
-
-pub before_id : (id : Option ℕ) (a b c d r : Option ℕ) (number from n : ℕ) → r ≡ least_of (least_of a b) (least_of c d) → r ≡ Some number → IfSome a (IsIn from) → IfSome b (IsIn from) → IfSome c (IsIn from) → IfSome d (IsIn from)
-    → IfSome id (λ m. (m ≡ number) × (number < 2 ^ 62)) → IfNone id (2 ^ 62 ≤ number) → IsBefore n id → IsBefore n (Some number)
-before_id (Some m) a b c d r number from n is at pa pb pc pd some none before = omega (arith, some.0, before)
-before_id None a b c d r number from n is at pa pb pc pd some none before =
-    let has : IfSome r (IsIn from) = subst (λ x. IfSome x (IsIn from)) (sym is) (least_has (IsIn from) (least_of a b) (least_of c d) (least_has (IsIn from) a b pa pb) (least_has (IsIn from) c d pc pd)) in
-    let here : IfSome (Some number) (IsIn from) = subst (λ x. IfSome x (IsIn from)) at has in
-    absurd (omega (arith, here.1, none))

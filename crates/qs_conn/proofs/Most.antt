@@ -12,10 +12,9 @@ use Rattle.qs_conn.specs.Marks.{is_marked, count_marked, IsClearBelow}
 use Rattle.qs_conn.specs.Untold.{IsClear}
 
 none_marked : (ms : List Bool) → count_marked ms ≡ 0 → IsClear ms
-none_marked [] none i = refl
 none_marked (true ∷ ms) none i = absurd (omega (arith, none))
-none_marked (false ∷ ms) none zero = refl
 none_marked (false ∷ ms) none (suc i) = none_marked ms none i
+none_marked _ _ _ = refl
 
 pub most_none : (ms : List Bool) (most : ℕ) → count_marked ms ≤ most → most ≤ 0 → IsClear ms
 most_none ms most le none = none_marked ms (omega (arith, le, none))
@@ -32,24 +31,20 @@ count_padded (true ∷ ms) n = ap (λ k. k + 1) (count_padded ms n)
 count_padded (false ∷ ms) n = count_padded ms n
 
 count_taken : (n : ℕ) (ms : List Bool) → count_marked (take n ms) ≤ count_marked ms
-count_taken zero ms = omega arith
-count_taken (suc n) [] = omega arith
 count_taken (suc n) (true ∷ ms) = omega (arith, count_taken n ms)
 count_taken (suc n) (false ∷ ms) = count_taken n ms
+count_taken _ _ = omega arith
 
 count_more : (ms : List Bool) (i : ℕ) → count_marked (set ms i true) ≤ count_marked ms + 1
-count_more [] i = omega arith
-count_more (true ∷ ms) zero = omega arith
-count_more (false ∷ ms) zero = omega arith
 count_more (true ∷ ms) (suc i) = omega (arith, count_more ms i)
 count_more (false ∷ ms) (suc i) = count_more ms i
+count_more _ _ = omega arith
 
 pub count_fewer : (ms : List Bool) (i : ℕ) → is_marked ms i ≡ true → count_marked (set ms i false) + 1 ≡ count_marked ms
-count_fewer [] i is = absurd (true≢false (sym is))
 count_fewer (true ∷ ms) zero is = refl
-count_fewer (false ∷ ms) zero is = absurd (true≢false (sym is))
 count_fewer (true ∷ ms) (suc i) is = ap (λ k. k + 1) (count_fewer ms i is)
 count_fewer (false ∷ ms) (suc i) is = count_fewer ms i is
+count_fewer _ _ is = absurd (true≢false (sym is))
 
 pub most_all : (ms : List Bool) (most : ℕ) → length ms ≤ most → count_marked ms ≤ most
 most_all ms most le = omega (arith, le, count_within ms)

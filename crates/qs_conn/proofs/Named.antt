@@ -10,9 +10,9 @@ use Rattle.qs_machine.specs.Asking.{IsNextOutstanding}
 use Rattle.qs_machine.specs.FrameStep.{is_named}
 use Rattle.qs_machine.specs.News.{IsLeast}
 use Rattle.qs_machine.specs.Newly.{IsNewlyAcked, payload_acks, acks_number}
-use Rattle.qs_machine.specs.Seen.{Seen, Ack, Stream, Control, Close, Plain, seen_all}
+use Rattle.qs_machine.specs.Seen.{Seen, Ack, Stream, Control, Plain, seen_all}
 use Rattle.qs_conn.specs.Named.{or_less, with_range, with_ranges, with_frames}
-use Rattle.qs_machine.proofs.Again.{or_false, or_twice}
+use Rattle.std.proofs.Math.Bool.{or-false, or_assoc}
 
 -- the answer is the least number of those that a test takes
 abbrev Least : (ℕ → Bool) → ℕ → Option ℕ → Type 0
@@ -82,20 +82,19 @@ range_step p from r least h = go (nat_lt r.1 (max r.0 from)) refl
     go false within = with_other p from (max r.0 from) r least refl within h
 
 ranges_step : (p : ℕ → Bool) (from : ℕ) (rs : List (ℕ × ℕ)) (least : Option ℕ) → Least p from least → Least (λ n. p n || is_named rs n) from (with_ranges from rs least)
-ranges_step p from [] least h = least_same p (λ n. p n || false) from least (λ n. or_false (p n)) h
+ranges_step p from [] least h = least_same p (λ n. p n || false) from least (λ n. sym (or-false (p n))) h
 ranges_step p from (r ∷ rs) least h =
-    least_same (λ n. (p n || in_range r n) || is_named rs n) (λ n. p n || (in_range r n || is_named rs n)) from (with_ranges from rs (with_range from r least)) (λ n. or_twice (p n) (in_range r n) (is_named rs n))
+    least_same (λ n. (p n || in_range r n) || is_named rs n) (λ n. p n || (in_range r n || is_named rs n)) from (with_ranges from rs (with_range from r least)) (λ n. or_assoc (p n) (in_range r n) (is_named rs n))
     (ranges_step (λ n. p n || in_range r n) from rs (with_range from r least) (range_step p from r least h))
 
 frames_step : (p : ℕ → Bool) (from : ℕ) (fs : List Seen) (least : Option ℕ) → Least p from least → Least (λ n. p n || acks_number fs n) from (with_frames from fs least)
-frames_step p from [] least h = least_same p (λ n. p n || false) from least (λ n. or_false (p n)) h
 frames_step p from (Ack largest rs ∷ fs) least h =
-    least_same (λ n. (p n || is_named rs n) || acks_number fs n) (λ n. p n || (is_named rs n || acks_number fs n)) from (with_frames from fs (with_ranges from rs least)) (λ n. or_twice (p n) (is_named rs n) (acks_number fs n))
+    least_same (λ n. (p n || is_named rs n) || acks_number fs n) (λ n. p n || (is_named rs n || acks_number fs n)) from (with_frames from fs (with_ranges from rs least)) (λ n. or_assoc (p n) (is_named rs n) (acks_number fs n))
     (frames_step (λ n. p n || is_named rs n) from fs (with_ranges from rs least) (ranges_step p from rs least h))
 frames_step p from (Stream n offset bytes fin ∷ fs) least h = frames_step p from fs least h
 frames_step p from (Control item ∷ fs) least h = frames_step p from fs least h
-frames_step p from (Close code ∷ fs) least h = least_same p (λ n. p n || false) from least (λ n. or_false (p n)) h
 frames_step p from (Plain asks ∷ fs) least h = frames_step p from fs least h
+frames_step p from _ least h = least_same p (λ n. p n || false) from least (λ n. sym (or-false (p n))) h
 
 pub least_named : (payload : List ℕ) (from : ℕ) (result : Option ℕ) → result ≡ with_frames from (seen_all (frames_of (reading_of payload).left)) None → IsLeast (λ n. payload_acks payload n ≡ true) from result
 least_named payload from result is =

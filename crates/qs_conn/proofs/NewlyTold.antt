@@ -95,19 +95,17 @@ packet_gone k o new full is = ap (λ (x : Outgoing). holds x k) is ∙ go (fmap.
 
 some_left : (k m : ℕ) (ps : List Piece) (o : Outgoing) → fmap.get o.outstanding k ≡ Some ps → is_some (slice_get (map (acked_at false k) ps) m) ≡ true → holds (acks_out (take m (map (acked_at false k) ps)) o) k ≡ true
 unfolding acks_out
-some_left k m [] o is there = absurd (both_ways false refl there)
 some_left k zero (p ∷ ps) o is there = ap is_some is
-some_left k (suc m) (p ∷ []) o is there = absurd (both_ways false refl there)
 some_left k (suc m) (p ∷ q ∷ ps) o is there = some_left k m (q ∷ ps) (first_acked_out (acked_at false k p) o) (first_left k p o ∙ ap rest_of is) there
+some_left _ _ _ _ _ there = absurd (both_ways false refl there)
 
 stops_some : (new : Outgoing) (x : Option AckedPiece) → StopsAt new.sends new.acked x → is_some x ≡ true
 stops_some new None stops = absurd stops
 stops_some new (Some a) stops = refl
 
 take_map : (k m : ℕ) (ps : List Piece) → take m (map (acked_at false k) ps) ≡ map (acked_at false k) (take m ps)
-take_map k zero ps = refl
-take_map k (suc m) [] = refl
 take_map k (suc m) (p ∷ ps) = ap (λ xs. acked_at false k p ∷ xs) (take_map k m ps)
+take_map _ _ _ = refl
 
 -- where memory was refused all packets that were outstanding are
 packet_stays : (k : ℕ) (o new : Outgoing) (e : NoMemory) (j : ℕ) → AcksPacket false k o (Err e) new → holds o j ≡ true → holds new j ≡ true
@@ -174,9 +172,8 @@ late_append [] qs all more = more
 late_append (p ∷ ps) qs all more = (all.0, late_append ps qs all.1 more)
 
 late_take : (m : ℕ) (ps : List AckedPiece) → AllLate ps → AllLate (take m ps)
-late_take zero ps all = tt
-late_take (suc m) [] all = tt
 late_take (suc m) (p ∷ ps) all = (all.0, late_take m ps all.1)
+late_take _ _ _ = tt
 
 late_map : (k : ℕ) (ps : List Piece) → AllLate (map (acked_at true k) ps)
 late_map k [] = tt

@@ -62,13 +62,7 @@ sent_piece t m k (Told (ResetStream n code size)) h first = reset_half (lookup t
     reset_half : (o : Option Sending) → lookup t n ≡ o → IsOfReset (elim o [ None ↦ None | Some s ↦ Some s.lane ]) → (s : Sending) × (lookup t n ≡ Some s) × (is_some s.lane.was_reset ≡ true)
     reset_half None e r = absurd r
     reset_half (Some s) e r = (s, e, r)
-sent_piece t m k (Told (MaxData x)) h first = tt
-sent_piece t m k (Told (MaxStreamData n x)) h first = tt
-sent_piece t m k (Told (MaxStreams d x)) h first = tt
-sent_piece t m k (Told (StopSending n x)) h first = tt
-sent_piece t m k (Told (DataBlocked x)) h first = tt
-sent_piece t m k (Told (StreamDataBlocked n x)) h first = tt
-sent_piece t m k (Told (StreamsBlocked d x)) h first = tt
+sent_piece _ _ _ _ _ _ = tt
 
 -- Halves
 
@@ -111,13 +105,7 @@ late_follow : (t : Tables Sending) (m : Records) (p : Piece) → AreTied t m →
 late_follow t m (Data n c) h sent = at_half t m n sent.0 (λ s. after_acked s c) sent.1 (ties_updated t m n sent.0 (after_acked sent.0 c) h sent.1 (tied_late m n sent.0 c (h.lanes n sent.0 sent.1)) (λ r. r)) refl
 late_follow t m (Told (ResetStream n code size)) h sent =
     at_half t m n sent.0 after_reset_acked sent.1 (ties_updated t m n sent.0 (after_reset_acked sent.0) h sent.1 (tied_reset_acked m n sent.0 (h.lanes n sent.0 sent.1)) (λ r. r)) refl
-late_follow t m (Told (MaxData x)) h sent = (h, refl)
-late_follow t m (Told (MaxStreamData n x)) h sent = (h, refl)
-late_follow t m (Told (MaxStreams d x)) h sent = (h, refl)
-late_follow t m (Told (StopSending n x)) h sent = (h, refl)
-late_follow t m (Told (DataBlocked x)) h sent = (h, refl)
-late_follow t m (Told (StreamDataBlocked n x)) h sent = (h, refl)
-late_follow t m (Told (StreamsBlocked d x)) h sent = (h, refl)
+late_follow _ _ _ h _ = (h, refl)
 
 pub box_late : (t t' : Tables Sending) (m : Records) (r : Bool) (ps : List Piece) (next sent spare free : ℕ) (p : Piece) → IsOutbox t m r ps next sent spare free → t' ≡ halves_acked p t → IsSentPiece t p → IsOutbox t' m r ps next sent spare free
 box_late t t' m r ps next sent spare free p h halves was =
@@ -156,13 +144,7 @@ acked_in k (Data n c) e t t' m' a' sends halves out items =
     three e _ _ _ _ _ _ (ap lanes_of halves ∙ lanes_updated t n (λ s. after_acked s c) (λ l. acked_lane l c) (λ s there. refl) ∙ ap (λ x. updated x n (λ l. acked_lane l c) (lookup x n)) (sym sends)) out items
 acked_in k (Told (ResetStream n code size)) e t t' m' a' sends halves out items =
     three e _ _ _ _ _ _ (ap lanes_of halves ∙ lanes_updated t n after_reset_acked reset_acked_lane (λ s there. refl) ∙ ap (λ x. updated x n reset_acked_lane (lookup x n)) (sym sends)) out items
-acked_in k (Told (MaxData x)) e t t' m' a' sends halves out items = three e _ _ _ _ _ _ (ap lanes_of halves ∙ sym sends) out items
-acked_in k (Told (MaxStreamData n x)) e t t' m' a' sends halves out items = three e _ _ _ _ _ _ (ap lanes_of halves ∙ sym sends) out items
-acked_in k (Told (MaxStreams d x)) e t t' m' a' sends halves out items = three e _ _ _ _ _ _ (ap lanes_of halves ∙ sym sends) out items
-acked_in k (Told (StopSending n x)) e t t' m' a' sends halves out items = three e _ _ _ _ _ _ (ap lanes_of halves ∙ sym sends) out items
-acked_in k (Told (DataBlocked x)) e t t' m' a' sends halves out items = three e _ _ _ _ _ _ (ap lanes_of halves ∙ sym sends) out items
-acked_in k (Told (StreamDataBlocked n x)) e t t' m' a' sends halves out items = three e _ _ _ _ _ _ (ap lanes_of halves ∙ sym sends) out items
-acked_in k (Told (StreamsBlocked d x)) e t t' m' a' sends halves out items = three e _ _ _ _ _ _ (ap lanes_of halves ∙ sym sends) out items
+acked_in _ _ e _ _ _ _ sends halves out items = three e _ _ _ _ _ _ (ap lanes_of halves ∙ sym sends) out items
 
 -- the records without the piece, with no packet in the making
 out_gone : (m m' : Records) (next k : ℕ) (ps : List Piece) → ps ≡ [] → m' ≡ without_first m k (fmap.get m k) → with_pending m' next ps ≡ without_first (with_pending m next ps) k (fmap.get (with_pending m next ps) k)
@@ -214,13 +196,7 @@ piece_in (Data n c) e t t' a' sends halves items =
     two e _ _ _ _ (ap lanes_of halves ∙ lanes_updated t n (λ s. after_acked s c) (λ l. acked_lane l c) (λ s there. refl) ∙ ap (λ x. updated x n (λ l. acked_lane l c) (lookup x n)) (sym sends)) items
 piece_in (Told (ResetStream n code size)) e t t' a' sends halves items =
     two e _ _ _ _ (ap lanes_of halves ∙ lanes_updated t n after_reset_acked reset_acked_lane (λ s there. refl) ∙ ap (λ x. updated x n reset_acked_lane (lookup x n)) (sym sends)) items
-piece_in (Told (MaxData x)) e t t' a' sends halves items = two e _ _ _ _ (ap lanes_of halves ∙ sym sends) items
-piece_in (Told (MaxStreamData n x)) e t t' a' sends halves items = two e _ _ _ _ (ap lanes_of halves ∙ sym sends) items
-piece_in (Told (MaxStreams d x)) e t t' a' sends halves items = two e _ _ _ _ (ap lanes_of halves ∙ sym sends) items
-piece_in (Told (StopSending n x)) e t t' a' sends halves items = two e _ _ _ _ (ap lanes_of halves ∙ sym sends) items
-piece_in (Told (DataBlocked x)) e t t' a' sends halves items = two e _ _ _ _ (ap lanes_of halves ∙ sym sends) items
-piece_in (Told (StreamDataBlocked n x)) e t t' a' sends halves items = two e _ _ _ _ (ap lanes_of halves ∙ sym sends) items
-piece_in (Told (StreamsBlocked d x)) e t t' a' sends halves items = two e _ _ _ _ (ap lanes_of halves ∙ sym sends) items
+piece_in _ e _ _ _ sends halves items = two e _ _ _ _ (ap lanes_of halves ∙ sym sends) items
 
 pub late_value : (k : ℕ) (p : Piece) (e now : Outgoing) (t t' : Tables Sending) (a' : AckedItems) (l : LostPackets) → e ≡ now → e.sends ≡ lanes_of t → t' ≡ halves_acked p t → a' ≡ items_acked p e.acked → l ≡ lost_less k e.lost
     → ◌≡◌ {A = Outgoing} (record e { sends = lanes_of t'; acked = a'; lost = l }) (first_acked_out (acked_at true k p) now)

@@ -21,7 +21,7 @@ use Rattle.qs_machine.specs.Tables.{Tables, lookup, update, updated}
 use Rattle.qs_machine.specs.Ends.{Records}
 use Rattle.qs_machine.specs.Outgoing.{Outgoing, on_lane, sent_sum, lanes_of, with_pending, IsCarried, AreBelow, AreTied, IsTied, IsOutbox, HasSending, ChunkFound, MayTell, chunk_put, item_put_out, halves_told, blocked_noted}
 use Rattle.qs_machine.specs.Sums.{or_none}
-use Rattle.qs_machine.proofs.TableLaws.{total_update, lookup_same}
+use Rattle.qs_machine.proofs.TableLaws.{total_update}
 use Rattle.qs_machine.proofs.Carried.{some_is, get_new, get_other, with_piece}
 use Rattle.qs_machine.proofs.Tied.{tied_blocked}
 use Rattle.qs_machine.proofs.LaneTables.{lane_there, lanes_updated, update_lanes}

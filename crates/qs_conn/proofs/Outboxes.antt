@@ -1,5 +1,5 @@
 -- An outbox: what each call is to its value, and that it keeps what holds of it.
-use Rattle.std.proofs.Common.{◌≡◌, ℕ, ◌<◌, ◌%◌, Bool, true, false, List, [], length, take, Option, Some, None, is_some, Result, Ok, Err, cond, unwrap_or, option_map, refl, sym, ap, ◌∙◌, subst, arith, nat_cmp}
+use Rattle.std.proofs.Common.{◌≡◌, ℕ, ◌<◌, ◌%◌, Bool, true, false, List, [], length, take, Option, Some, None, is_some, Result, Ok, Err, cond, unwrap_or, refl, sym, ap, ◌∙◌, subst, arith, nat_cmp}
 use Rattle.std.proofs.lemmas.Bool.{both_ways}
 use Rattle.std.specs.Option.{IfSome}
 use Rattle.qs_conn.specs.Tasks.{IsOpen}
@@ -13,8 +13,6 @@ use Rattle.qs_send.specs.Lane.{SendLane, Sending, new_sending, new_lane, accepte
 use Rattle.qs_send.specs.Sound.{IsLawful}
 use Rattle.qs_machine.specs.Tables.{Tables, table, with_table, lookup, update, updated, open_to, no_streams, total}
 use Rattle.qs_machine.specs.Ends.{Records}
-use Rattle.qs_calls.specs.declared.report.SendReport.{SendReport}
-use Rattle.qs_machine.specs.Reports.{send_report}
 use Rattle.qs_machine.specs.Sums.{or_none, or_no_sending}
 use Rattle.qs_machine.specs.Outgoing.{Outgoing, with_sends, on_lane, sent_sum, lanes_of, with_pending, AreOfOpen, AreTied, IsTied, IsOutbox, HasSending}
 use Rattle.qs_machine.proofs.TablesAfter.{updated_back}
@@ -278,13 +276,3 @@ open_now e now t n is sends = go (lookup t n) ∙ ap is_some (sym (lookup_lanes 
 pub some_open : (e now : Outgoing) (t : Tables Sending) (r : Option ℕ) → e ≡ now → e.sends ≡ lanes_of t → IfSome r (IsOpen t) → IfSome r (IsOpen now.sends)
 some_open e now t None is sends there = tt
 some_open e now t (Some n) is sends there = sym (open_now e now t n is sends) ∙ there
-
-pub report_none : (e now : Outgoing) (t : Tables Sending) (n : ℕ) → e ≡ now → e.sends ≡ lanes_of t → is_some (lookup t n) ≡ false → ◌≡◌ {A = Option SendReport} None (option_map send_report (lookup now.sends n))
-report_none e now t n is sends none = go (lookup now.sends n) (sym (open_now e now t n is sends) ∙ none)
-  where
-    go : (o : Option SendLane) → is_some o ≡ false → ◌≡◌ {A = Option SendReport} None (option_map send_report o)
-    go None h = refl
-    go (Some l) h = absurd (both_ways true h refl)
-
-pub report_some : (e now : Outgoing) (t : Tables Sending) (n : ℕ) (s : Sending) → e ≡ now → e.sends ≡ lanes_of t → lookup t n ≡ Some s → ◌≡◌ {A = Option SendReport} (Some (send_report s.lane)) (option_map send_report (lookup now.sends n))
-report_some e now t n s is sends there = ap (option_map send_report) (sym (lane_there t n s there) ∙ ap (λ x. lookup x n) (sym sends ∙ ap (λ (o : Outgoing). o.sends) is))

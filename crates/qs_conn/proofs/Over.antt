@@ -1,5 +1,5 @@
 -- Whether a sending half came to its end, by its state.
-use Rattle.std.proofs.Common.{◌≡◌, true, false, Option, Some, None, ◌⊎◌, inl, inr, refl, sym, ap, ◌∙◌}
+use Rattle.std.proofs.Common.{◌≡◌, true, false, Option, Some, ◌⊎◌, inl, inr, refl, sym, ap, ◌∙◌}
 use Rattle.qs_send.specs.Lane.{SendLane, Sending, state}
 use Rattle.qs_send.specs.Sound.{IsLawful}
 use Rattle.qs_send.specs.declared.parts.SendState.{SendState}
@@ -7,9 +7,6 @@ use Rattle.qs_send.specs.declared.parts.SendState.TheVariants.{Ready, Send, Data
 use Rattle.qs_machine.specs.Laws.{is_last_send}
 use Rattle.qs_machine.proofs.EndedHalves.{ended_is_last}
 use Rattle.qs_conn.specs.Ended.{send_over}
-
-pub over_none : (o : Option SendLane) → o ≡ None → false ≡ send_over o
-over_none o is = sym (ap send_over is)
 
 by_state : (o : Option SendLane) (s : Sending) → o ≡ Some s.lane → IsLawful s → send_over o ≡ is_last_send (state s.lane)
 by_state o s there h = ap send_over there ∙ ended_is_last.send s h

@@ -1,5 +1,5 @@
 -- A sending half that is over: no call but those that set its limit, its buffer or that it was blocked changes it.
-use Rattle.std.proofs.Common.{◌≡◌, ℕ, ◌+◌, ◌-◌, ◌<◌, ◌≤◌, ◌^◌, ◌==◌, ◌&&◌, ◌||◌, not, max, Bool, true, false, cond, List, [], length, drop, get_or, Option, None, Some, is_some, Ok, Err, refl, sym, ap, ◌∙◌, subst, arith, inl, inr}
+use Rattle.std.proofs.Common.{◌≡◌, ℕ, ◌+◌, ◌<◌, ◌≤◌, ◌^◌, ◌==◌, ◌&&◌, Bool, true, false, cond, List, length, get_or, Option, None, Some, is_some, refl, sym, ap, ◌∙◌, subst, arith}
 use Rattle.std.specs.FinSet as set
 use Rattle.std.specs.Ordering.{nat_cmp}
 use Rattle.std.specs.Prelude.{slice_get}
@@ -7,7 +7,7 @@ use Rattle.std.proofs.Math.ListN.{set as set_list}
 use Rattle.std.proofs.lemmas.Bool.{true≢false}
 use Rattle.std.proofs.lemmas.Bool.Decides.{nat_tests}
 use Rattle.std.proofs.lemmas.List.{get_or_default, set-get_or, get_or-set_same}
-use Rattle.qs_ranges.specs.Numbers.{NumberSet, numbers, missing_from, contains-numbers, same_numbers}
+use Rattle.qs_ranges.specs.Numbers.{numbers, missing_from}
 use Rattle.qs_send.specs.declared.parts.Chunk.{Chunk}
 use Rattle.qs_send.specs.declared.parts.SendFault.{SendFault}
 use Rattle.qs_send.specs.declared.parts.SendFault.TheVariants.{Finished}
@@ -15,7 +15,7 @@ use Rattle.qs_send.specs.declared.parts.SendState.{SendState}
 use Rattle.qs_send.specs.declared.parts.SendState.TheVariants.{DataRecvd, DataSent, ResetSent}
 use Rattle.qs_send.specs.Chunks.{IsDueChunk, WasSent}
 use Rattle.qs_send.specs.Halves.{over_sending, IsOver, half_at}
-use Rattle.qs_send.specs.Lane.{Sending, refusal, reset_refusal, is_whole, state, after_finish, after_reset, after_stopped, after_told, after_stop, after_acked, after_lost, SendLane, finish_lane, broken_off, first_code}
+use Rattle.qs_send.specs.Lane.{Sending, refusal, reset_refusal, state, after_finish, after_reset, after_stopped, after_told, after_stop, after_acked, after_lost, finish_lane, broken_off, first_code}
 use Rattle.qs_send.proofs.AtRest.{rest_missing, rest_acked, rest_lost}
 use Rattle.qs_send.proofs.Overs.{none_goes}
 use Rattle.qs_send.specs.Offsets.{Parts}
@@ -113,9 +113,8 @@ is_end other = false
 over_quiet : (t : Task) (id n limit : ℕ) (blocked : Bool) (buffer widest : ℕ) → (t ≡ tasks.Ended → ⊥) → IsQuiet t (over_sending id n limit blocked buffer widest)
 over_quiet tasks.Bytes id n limit blocked buffer widest other = record { no_offset = λ q lt. set.contains-empty nat_cmp q; no_end = λ whole. refl; sent = λ none lt. omega arith }
 over_quiet tasks.Again id n limit blocked buffer widest other = record { no_offset = λ q lt. set.contains-empty nat_cmp q; no_end = λ whole. refl }
-over_quiet tasks.Writable id n limit blocked buffer widest other = refl
 over_quiet tasks.Ended id n limit blocked buffer widest other = absurd (other refl)
-over_quiet tasks.Stopped id n limit blocked buffer widest other = refl
+over_quiet _ _ _ _ _ _ _ _ = refl
 
 pub over_has : (t : Task) (s : Sending) → IsOver s → (b : Bool) → (b ≡ true → t ≡ tasks.Ended) → (b ≡ false → t ≡ tasks.Ended → ⊥) → (b ≡ true → HasTask t s) × (b ≡ false → IsQuiet t s)
 over_has t s o b is isnt = (

@@ -49,9 +49,8 @@ refusal_half : (e : End) (n : ℕ) (says : SendLane → Option SendFault) → no
 refusal_half e n says is = refusal_is e n says ∙ ap (λ o. first_refusal o (half_refusal (says (or_none (send_lane e n))))) is
 
 there_by : (b c : Bool) (o : Option SendLane) → first_refusal (refuse_if b Closed) (refuse_if (is_none o) (no_half c)) ≡ None → o ≡ Some (or_none o)
-there_by true c o h = absurd (search (rules, h))
-there_by false c None h = absurd (search (rules, h))
 there_by false c (Some l) h = refl
+there_by _ _ _ h = absurd (search (rules, h))
 
 -- the half is there
 pub sender_there : (e : End) (n : ℕ) → no_sender e n ≡ None → send_lane e n ≡ Some (or_none (send_lane e n))
@@ -90,9 +89,8 @@ recv_refusal_is : (is_shut : Bool) (e : End) (n : ℕ) → recv_refusal is_shut 
 recv_refusal_is is_shut e n = recv_parts is_shut (is_some (send_lane e n)) (recv_lane e n)
 
 received_by : (b c : Bool) (o : Option RecvLane) → first_refusal (refuse_if b Closed) (refuse_if (is_none o) (no_half c)) ≡ None → o ≡ Some (or_new o 0 Half)
-received_by true c o h = absurd (search (rules, h))
-received_by false c None h = absurd (search (rules, h))
 received_by false c (Some l) h = refl
+received_by _ _ _ h = absurd (search (rules, h))
 
 pub receiver_there : (e : End) (n : ℕ) → no_receiver (is_read_no_more e) e n ≡ None → recv_lane e n ≡ Some (or_new (recv_lane e n) 0 Half)
 receiver_there e n is = received_by (is_read_no_more e) (is_some (send_lane e n)) (recv_lane e n) is

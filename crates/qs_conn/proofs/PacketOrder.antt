@@ -6,7 +6,7 @@ use Rattle.qs_send.specs.declared.piece.Item.{Item}
 use Rattle.qs_send.specs.declared.piece.Piece.{Piece}
 use Rattle.qs_send.specs.declared.piece.Piece.TheVariants.{Data, Told}
 use Rattle.qs_machine.specs.Ends.{End, on_send}
-use Rattle.qs_machine.specs.Seen.{Seen, Ack, Stream, Control, Close, Plain}
+use Rattle.qs_machine.specs.Seen.{Seen, Stream, Control}
 use Rattle.qs_machine.specs.Due.{Among, IsDueItem}
 use Rattle.qs_machine.specs.Lawful.{Fills, frame_put, item_put, noted, pieces_so_far, chunk_of}
 use Rattle.qs_machine.specs.InOrder.{IsLower, item_place, LeavesNoneOut, AreInOrder}
@@ -33,11 +33,9 @@ stream_pieces n offset bytes fin e = noted_pieces (Data n (chunk_of offset bytes
 
 stays_in : (f : Seen) (e : End) (x : Piece) → InPacket e x → InPacket (frame_put f e) x
 unfolding frame_put
-stays_in (Ack largest ranges) e x there = there
 stays_in (Stream n offset bytes fin) e x there = subst (Among x) (sym (stream_pieces n offset bytes fin e)) (among_more (pieces_so_far e e.next) (Data n (chunk_of offset bytes fin) ∷ []) x there)
 stays_in (Control i) e x there = subst (Among x) (sym (control_pieces i e)) (among_more (pieces_so_far e e.next) (Told i ∷ []) x there)
-stays_in (Close code) e x there = there
-stays_in (Plain asks) e x there = there
+stays_in _ _ _ there = there
 
 all_stay_in : (old e mid : End) (fs : List Seen) (x : Piece) → Fills old e fs mid → InPacket e x → InPacket mid x
 all_stay_in old e mid [] x is there = subst (λ y. InPacket y x) (sym is) there

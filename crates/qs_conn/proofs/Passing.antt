@@ -44,15 +44,11 @@ of_number k s is = ap (λ j. slot_by j (slot_place s).1) (sym is) ∙ by_place s
 
 by_kind : (kind : Kind) (n : ℕ) → slot_by (kind_place kind) n ≡ slot_at kind n
 by_kind kinds.ResetStream n = refl
-by_kind kinds.StopSending n = refl
-by_kind kinds.MaxStreamData n = refl
-by_kind kinds.StreamDataBlocked n = refl
+by_kind _ _ = refl
 
 place_at : (kind : Kind) (n : ℕ) → slot_place (slot_at kind n) ≡ (kind_place kind, n)
 place_at kinds.ResetStream n = refl
-place_at kinds.StopSending n = refl
-place_at kinds.MaxStreamData n = refl
-place_at kinds.StreamDataBlocked n = refl
+place_at _ _ = refl
 
 -- One kind after the other
 

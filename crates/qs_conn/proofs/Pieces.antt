@@ -11,7 +11,7 @@ use Rattle.qs_send.specs.declared.piece.Item.{Item}
 use Rattle.qs_send.specs.declared.piece.Piece.{Piece}
 use Rattle.qs_send.specs.declared.piece.Piece.TheVariants.{Data, Told}
 use Rattle.qs_machine.specs.Ends.{End, on_send}
-use Rattle.qs_machine.specs.Seen.{Seen, Ack, Stream, Control, Close, Plain}
+use Rattle.qs_machine.specs.Seen.{Seen, Stream, Control}
 use Rattle.qs_machine.specs.Due.{Among, IsOutstanding, IsDue, IsEndDue}
 use Rattle.qs_machine.specs.Lawful.{frame_put, item_put, noted, pieces_so_far, chunk_of}
 use Rattle.qs_machine.proofs.Carried.{get_new, get_other, among_push, among_more, among_last, so_far}
@@ -84,52 +84,38 @@ item_out i e = each_item (λ j. (item_put j e).outstanding ≡ e.outstanding) (�
 pub item_next : (i : Item) (e : End) → (item_put i e).next ≡ e.next
 item_next i e = each_item (λ j. (item_put j e).next ≡ e.next) (λ m. refl) (λ n m. refl) (λ d m. refl) (λ n code size. refl) (λ n code. refl) (λ m. refl) (λ n m. refl) (λ d m. refl) i
 
-pub item_ack_due : (i : Item) (e : End) → (item_put i e).ack_due ≡ e.ack_due
-item_ack_due i e = each_item (λ j. (item_put j e).ack_due ≡ e.ack_due) (λ m. refl) (λ n m. refl) (λ d m. refl) (λ n code size. refl) (λ n code. refl) (λ m. refl) (λ n m. refl) (λ d m. refl) i
-
 -- what a frame leaves in the packet's record
 abbrev pub PieceOfFrame : Seen → Piece → Type 0
 PieceOfFrame (Stream n offset bytes fin) x = x ≡ Data n (chunk_of offset bytes fin)
 PieceOfFrame (Control i) x = x ≡ Told i
-PieceOfFrame (Ack largest ranges) x = ⊥
-PieceOfFrame (Close code) x = ⊥
-PieceOfFrame (Plain asks) x = ⊥
+PieceOfFrame _ _ = ⊥
 
 moved : (e e' : End) (x : Piece) → e'.outstanding ≡ e.outstanding → IsOutstanding e x → IsOutstanding e' x
 moved e e' x is (k, ps, there, a) = (k, ps, ap (λ m. fmap.get m k) is ∙ there, a)
 
 pub put_old : (f : Seen) (e : End) (x : Piece) → IsOutstanding e x → IsOutstanding (frame_put f e) x
 unfolding frame_put
-put_old (Ack largest ranges) e x out = out
 put_old (Stream n offset bytes fin) e x out = noted_old (Data n (chunk_of offset bytes fin)) (on_send n (λ l. sent_lane l (chunk_of offset bytes fin)) e) x out
 put_old (Control i) e x out = noted_old (Told i) (item_put i e) x (moved e (item_put i e) x (item_out i e) out)
-put_old (Close code) e x out = out
-put_old (Plain asks) e x out = out
+put_old _ _ _ out = out
 
 pub put_is : (f : Seen) (e : End) (x : Piece) → IsOutstanding (frame_put f e) x → IsOutstanding e x ⊎ PieceOfFrame f x
 unfolding frame_put
-put_is (Ack largest ranges) e x out = inl out
 put_is (Stream n offset bytes fin) e x out = noted_is (Data n (chunk_of offset bytes fin)) (on_send n (λ l. sent_lane l (chunk_of offset bytes fin)) e) x out
 put_is (Control i) e x out = elim (noted_is (Told i) (item_put i e) x out) [ inl old ↦ inl (moved (item_put i e) e x (sym (item_out i e)) old) | inr new ↦ inr new ]
-put_is (Close code) e x out = inl out
-put_is (Plain asks) e x out = inl out
+put_is _ _ _ out = inl out
 
 pub put_packet : (f : Seen) (e : End) (x : Piece) → InPacket (frame_put f e) x → InPacket e x ⊎ PieceOfFrame f x
 unfolding frame_put
-put_packet (Ack largest ranges) e x out = inl out
 put_packet (Stream n offset bytes fin) e x out = noted_packet (Data n (chunk_of offset bytes fin)) (on_send n (λ l. sent_lane l (chunk_of offset bytes fin)) e) x out
 put_packet (Control i) e x out =
     elim (noted_packet (Told i) (item_put i e) x out) [
       | inl old ↦ inl (subst (λ k. Among x (pieces_so_far e k)) (item_next i e) (subst (λ m. Among x (elim (fmap.get m (item_put i e).next) [ None ↦ [] | Some ps ↦ ps ])) (item_out i e) old))
       | inr new ↦ inr new
     ]
-put_packet (Close code) e x out = inl out
-put_packet (Plain asks) e x out = inl out
+put_packet _ _ _ out = inl out
 
 pub put_next : (f : Seen) (e : End) → (frame_put f e).next ≡ e.next
 unfolding frame_put
-put_next (Ack largest ranges) e = refl
-put_next (Stream n offset bytes fin) e = refl
 put_next (Control i) e = item_next i e
-put_next (Close code) e = refl
-put_next (Plain asks) e = refl
+put_next _ _ = refl

@@ -1,5 +1,5 @@
 -- A frame on a stream of which nothing was told moves no limit and no count of streams.
-use Rattle.std.proofs.Common.{◌≡◌, ℕ, zero, suc, ◌/◌, ◌%◌, ◌<◌, ◌≤◌, Bool, true, false, ◌&&◌, ◌||◌, List, [], ◌∷◌, length, map, option_map, Option, None, Some, is_some, slice_set, refl, sym, ap, ◌∙◌, subst, arith}
+use Rattle.std.proofs.Common.{◌≡◌, ℕ, zero, suc, ◌/◌, ◌%◌, ◌<◌, ◌≤◌, Bool, true, false, ◌&&◌, ◌||◌, List, ◌∷◌, length, map, option_map, Option, None, Some, is_some, slice_set, refl, sym, ap, ◌∙◌, subst, arith}
 use Rattle.std.specs.Prelude.{IsOk}
 use Rattle.std.proofs.lemmas.Bool.Decides.{nat_tests}
 use Rattle.std.proofs.lemmas.Option.{none-some, same_Some}
@@ -11,9 +11,7 @@ use Rattle.qs_send.specs.Lane.{SendLane}
 use Rattle.qs_calls.specs.declared.settings.Settings.{Settings}
 use Rattle.qs_calls.specs.declared.settings.Tuning.{Tuning}
 use Rattle.qs_machine.specs.Credit.{recv_ended}
-use Rattle.qs_machine.specs.Ends.{End, Present, on_recv, opened_by_peer, is_uni, recv_lane, send_lane}
-use Rattle.qs_machine.specs.FrameStep.{frame_taken}
-use Rattle.qs_machine.specs.Seen.{Stream}
+use Rattle.qs_machine.specs.Ends.{End, Present, is_uni, recv_lane, send_lane}
 use Rattle.qs_machine.specs.Standing.{KeepsCredit}
 use Rattle.qs_machine.specs.Tables.{Tables, table, with_table, lookup, update, updated, each, total}
 use Rattle.qs_machine.specs.Verdicts.{or_new}
@@ -31,9 +29,8 @@ use Rattle.qs_conn.proofs.Settling.{settled_raise, stream_settled}
 -- each stream's part changed, and one of them another
 
 map_set : (f : RecvLane → RecvLane) (xs : List RecvLane) (i : ℕ) (y : RecvLane) → map f (slice_set xs i y) ≡ slice_set (map f xs) i (f y)
-map_set f [] i y = refl
-map_set f (x ∷ xs) zero y = refl
 map_set f (x ∷ xs) (suc i) y = ap (λ zs. f x ∷ zs) (map_set f xs i y)
+map_set _ _ _ _ = refl
 
 each_with : (f : RecvLane → RecvLane) (t : Tables RecvLane) (k i : ℕ) (y : RecvLane) → each f (with_table t k (slice_set (table t k) i y)) ≡ with_table (each f t) k (slice_set (table (each f t) k) i (f y))
 unfolding each
@@ -94,11 +91,6 @@ module _ (recvs now : Tables RecvLane) (n offset : ℕ) (bytes : List ℕ) (fin 
   fit_plain role s sends e b u h pr g k passed =
       let was = is_over role recvs sends n in
       fit_streamed role s recvs sends e b u h pr g k now n offset bytes fin e was was passed after refl (over_plain role sends) (sym (nothing_recounted n was e))
-
--- the end with what came
-pub plain_frame : (e mid : End) (n offset : ℕ) (bytes : List ℕ) (fin : Bool) (now : Tables RecvLane) → mid ≡ opened_by_peer n e → now ≡ updated mid.recvs n (λ l. take_stream l offset bytes fin) (lookup mid.recvs n) → record mid { recvs = now } ≡ frame_taken (Stream n offset bytes fin) e
-unfolding frame_taken
-plain_frame e mid n offset bytes fin now opened after = ap (λ (t : Tables RecvLane). record mid { recvs = t }) after ∙ ap (on_recv n (λ l. take_stream l offset bytes fin)) opened
 
 -- Which stream is one
 

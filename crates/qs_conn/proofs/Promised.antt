@@ -1,6 +1,6 @@
 -- How many bytes halves promise and keep: one half changes, some open, some leave.
 use Rattle.std.proofs.Common.{◌≡◌, ℕ, zero, suc, ◌+◌, ◌-◌, ◌*◌, ◌%◌, ◌^◌, ◌<◌, ◌≤◌, Bool, true, false, not, ◌&&◌, ◌||◌, List, [], ◌∷◌, ◌++◌, length, take, map, get_or, Option, Some, None, is_some, Result, Ok, Err, cond, unwrap_or, refl, sym, ap, ◌∙◌, subst, arith}
-use Rattle.std.specs.Result.{OnOk, OnErr, IfOk, IfErr, result_unwrap_or}
+use Rattle.std.specs.Result.{IfOk, IfErr, result_unwrap_or}
 use Rattle.std.specs.List.{sum_by}
 use Rattle.std.proofs.lemmas.List.{length-take, length-append}
 use Rattle.std.proofs.lemmas.List.Sums.{sum_by-cons, sum_by-append, sum_by-set, get_or-le-sum_by}
@@ -11,7 +11,7 @@ use Rattle.qs_send.specs.declared.parts.SendFault.{SendFault}
 use Rattle.qs_send.specs.declared.parts.SendFault.TheVariants.{NoMemory, WasReset, Finished}
 use Rattle.qs_send.specs.declared.parts.Reset.{Reset}
 use Rattle.std.proofs.lemmas.Option.{none-some}
-use Rattle.qs_send.specs.Lane.{SendLane, Sending, new_sending, new_lane as new_send_lane, accepted, refusal, after_write, after_finish, after_sent, after_acked, after_lost, lost_due, finish_lane}
+use Rattle.qs_send.specs.Lane.{SendLane, Sending, new_sending, new_lane as new_send_lane, accepted, refusal, after_write, after_sent}
 use Rattle.qs_send.specs.Chunks.{IsDueChunk}
 use Rattle.qs_send.specs.Sound.{IsLawful}
 use Rattle.qs_send.proofs.Steps.{due_within, none_due}
@@ -92,40 +92,6 @@ sums_moved xs n k i before after had has s y there at was is small kept_was kept
     record { promised = sum_moved promised_of xs n i before after s y there at was is small h.promised; kept = sum_moved kept_of xs k i had has s y there at kept_was kept_is kept_small h.kept }
 
 -- The changes of a half
-
-pub finish_keeps : (s y : Sending) → y ≡ after_finish s → kept_of y ≡ kept_of s
-finish_keeps s y is = ap kept_of is ∙ go (is_some (refusal s.lane))
-  where
-    go : (b : Bool) → kept_of (cond b s (record { lane = finish_lane s.lane; due = record { offsets = s.due.offsets; fin = true } })) ≡ kept_of s
-    go true = refl
-    go false = refl
-
-pub lost_keeps : {E : Type 0} (r : Result (Unit {0}) E) (s y : Sending) (c : Chunk) → OnOk r (y ≡ after_lost s c) → OnErr r (y ≡ s) → kept_of y ≡ kept_of s
-lost_keeps (Ok a) s y c ok err = ap kept_of ok ∙ go (is_some s.lane.was_reset)
-  where
-    go : (b : Bool) → kept_of (cond b s (record s { due = lost_due s.lane s.due c })) ≡ kept_of s
-    go true = refl
-    go false = refl
-lost_keeps (Err e) s y c ok err = ap kept_of err
-
-pub finish_promises : (s y : Sending) → y ≡ after_finish s → promised_of y ≡ promised_of s
-finish_promises s y is = ap promised_of is ∙ go (is_some (refusal s.lane))
-  where
-    go : (b : Bool) → promised_of (cond b s (record { lane = finish_lane s.lane; due = record { offsets = s.due.offsets; fin = true } })) ≡ promised_of s
-    go true = refl
-    go false = refl
-
-pub lost_promises : {E : Type 0} (r : Result (Unit {0}) E) (s y : Sending) (c : Chunk) → OnOk r (y ≡ after_lost s c) → OnErr r (y ≡ s) → promised_of y ≡ promised_of s
-lost_promises (Ok a) s y c ok err = ap promised_of ok ∙ go (is_some s.lane.was_reset)
-  where
-    go : (b : Bool) → promised_of (cond b s (record s { due = lost_due s.lane s.due c })) ≡ promised_of s
-    go true = refl
-    go false = refl
-lost_promises (Err e) s y c ok err = ap promised_of err
-
-pub acked_promises : {E : Type 0} (r : Result (Unit {0}) E) (s y : Sending) (c : Chunk) → OnOk r (y ≡ after_acked s c) → OnErr r (y ≡ s) → promised_of y ≡ promised_of s
-acked_promises (Ok a) s y c ok err = ap promised_of ok
-acked_promises (Err e) s y c ok err = ap promised_of err
 
 unsent_and_sent : (b : Bool) (written before after : ℕ) → before ≤ written → after ≤ written → b ≡ false → cond b 0 (written - after) + after ≡ cond b 0 (written - before) + before
 unsent_and_sent b written before after low high is = rw is (omega (arith, low, high))

@@ -2,17 +2,17 @@
 use Rattle.std.proofs.Common.{◌≡◌, ℕ, ◌<◌, ◌^◌, Bool, true, false, Option, Some, None, Result, Ok, Err, length, arith, cond, subst, sym, ap, ◌∙◌}
 use Rattle.std.specs.Prelude.{⊤}
 use Rattle.std.proofs.lemmas.Option.{none-some}
-use Rattle.qs_send.specs.declared.piece.Item.TheVariants.{MaxData, MaxStreamData, MaxStreams, ResetStream, StopSending, DataBlocked, StreamDataBlocked, StreamsBlocked}
+use Rattle.qs_send.specs.declared.piece.Item.TheVariants.{MaxStreamData, ResetStream, StopSending, StreamDataBlocked}
 use Rattle.qs_recv.specs.Lane.{check_stream, check_bytes}
 use Rattle.qs_recv.specs.declared.half.Highest.{Highest}
 use Rattle.qs_recv.specs.declared.half.RecvFault.{RecvFault}
-use Rattle.qs_recv.specs.declared.half.RecvFault.TheVariants.{FinalSize, StreamCredit, NoMemory, ChangedByte}
+use Rattle.qs_recv.specs.declared.half.RecvFault.TheVariants.{FinalSize, NoMemory}
 use Rattle.qs_wire.specs.Layout.{PlacedValue}
 use Rattle.qs_calls.specs.declared.closing.Received.TheVariants as received
 use Rattle.qs_calls.specs.declared.closing.Closing.{Closing}
 use Rattle.qs_calls.specs.declared.closing.Closed.TheVariants.{ByUs}
 use Rattle.qs_machine.specs.Ends.{End, is_own, is_uni, closes}
-use Rattle.qs_machine.specs.Seen.{Seen, Ack, Stream, Control, Close, Plain}
+use Rattle.qs_machine.specs.Seen.{Seen, Ack, Stream, Control, Close}
 use Rattle.qs_machine.specs.Verdicts.{STREAM_LIMIT_ERROR, STREAM_STATE_ERROR, verdict, or_else, fault_if, state_fault_in, state_fault_out, credit_fault, bytes_fault, fault_code, fault_of, lane_of}
 use Rattle.qs_machine.specs.Receiving.{Stops, GoesOn, RunsOut, closing_at}
 
@@ -44,9 +44,7 @@ small_out e n = small_choice (is_own e n) _ _ (small_if _ STREAM_STATE_ERROR (om
 
 small_code : (fault : RecvFault) → fault_code fault < 2 ^ 62
 small_code FinalSize = omega arith
-small_code StreamCredit = omega arith
-small_code NoMemory = omega arith
-small_code ChangedByte = omega arith
+small_code _ = omega arith
 
 small_credit : (e : End) (r : Result Highest RecvFault) → Small (credit_fault e r)
 small_credit e (Ok h) = small_if _ _ (omega arith)
@@ -62,36 +60,25 @@ small e (Ack largest ranges) = small_if _ _ (omega arith)
 small e (Stream n offset bytes fin) =
     let credit = check_stream (lane_of e n) offset (length bytes) fin in
     small_or _ _ (small_in e n) (small_or (credit_fault e credit) (bytes_fault e n offset bytes) (small_credit e credit) (small_told (check_bytes (lane_of e n) offset bytes)))
-small e (Control (MaxData m)) = tt
 small e (Control (MaxStreamData n m)) = small_out e n
-small e (Control (MaxStreams d m)) = tt
 small e (Control (ResetStream n code size)) = small_or _ _ (small_in e n) (small_credit e _)
 small e (Control (StopSending n code)) = small_out e n
-small e (Control (DataBlocked m)) = tt
 small e (Control (StreamDataBlocked n m)) = small_in e n
-small e (Control (StreamsBlocked d m)) = tt
-small e (Close code) = tt
-small e (Plain asks) = tt
+small _ _ = tt
 
 pub code_fits : (e : End) (f : Seen) (code : ℕ) → verdict e f ≡ Some code → code < 2 ^ 62
 code_fits e f code is = subst Small is (small e f)
 
 -- a frame that found no memory ends the processing
 pub runs_out : (p : PlacedValue) (f : Seen) (e new : End) → GoesOn e f → RunsOut e f new → Stops p f e (Ok received.NoMemory) new
-runs_out p (Ack largest ranges) e new goes is = (goes, is)
-runs_out p (Stream n offset bytes fin) e new goes is = (goes, is)
-runs_out p (Control item) e new goes is = (goes, is)
 runs_out p (Close code) e new goes is = absurd goes
-runs_out p (Plain asks) e new goes is = (goes, is)
+runs_out _ _ _ _ goes is = (goes, is)
 
 -- a frame that has a fault ends it, and the connection
 refused_as : (p : PlacedValue) (f : Seen) (e new : End) (closing : Closing) → verdict e f ≡ Some closing.code → closing ≡ closing_at p closing.code → new ≡ closes (ByUs closing) e → Stops p f e (Err closing) new
 unfolding verdict
-refused_as p (Ack largest ranges) e new closing is same after = (is, same, after)
-refused_as p (Stream n offset bytes fin) e new closing is same after = (is, same, after)
-refused_as p (Control item) e new closing is same after = (is, same, after)
 refused_as p (Close code) e new closing is same after = absurd (none-some closing.code is)
-refused_as p (Plain asks) e new closing is same after = (is, same, after)
+refused_as _ _ _ _ _ is same after = (is, same, after)
 
 pub is_refused : (p : PlacedValue) (f : Seen) (e new : End) (code : ℕ) (closing : Closing) → verdict e f ≡ Some code → closing ≡ closing_at p code → new ≡ closes (ByUs closing) e → Stops p f e (Err closing) new
 is_refused p f e new code closing is same after =

@@ -71,8 +71,7 @@ pub begins_quiet : (t : Task) → begins t ≡ false → (id limit buffer : ℕ)
 begins_quiet tasks.Bytes unmarked id limit buffer = record { no_offset = λ q lt. set.contains-empty nat_cmp q; no_end = λ whole. refl; sent = λ none lt. omega arith }
 begins_quiet tasks.Again unmarked id limit buffer = record { no_offset = λ q lt. set.contains-empty nat_cmp q; no_end = λ whole. refl }
 begins_quiet tasks.Writable unmarked id limit buffer = absurd (true≢false unmarked)
-begins_quiet tasks.Ended unmarked id limit buffer = refl
-begins_quiet tasks.Stopped unmarked id limit buffer = refl
+begins_quiet _ _ _ _ _ = refl
 
 -- bytes that are written weren't sent before
 written_again : (s : Sending) (bytes : List ℕ) → s.lane.sent_end ≤ s.lane.written → IsQuiet tasks.Again s → IsQuiet tasks.Again (after_write s bytes)
@@ -125,8 +124,7 @@ not_asked false false is = refl
 no_end : (acked kept asked was is : Bool) → asked ≡ false → (acked || (kept && asked && was)) ≡ false → (acked || (kept && asked && is)) ≡ false
 no_end true kept asked was is not_yet before = before
 no_end false true true was is not_yet before = absurd (true≢false not_yet)
-no_end false true false was is not_yet before = refl
-no_end false false asked was is not_yet before = refl
+no_end _ _ _ _ _ _ _ = refl
 
 -- a half that took bytes, or refused them, has as much to send again, and its end as far as before
 pub wrote_keeps : (r : Result ℕ SendFault) (x y : Sending) (bytes : List ℕ) → IfOk r (λ n. (refusal x.lane ≡ None) × (n ≡ accepted x.lane (length bytes)) × (y ≡ after_write x (take n bytes))) → IfErr r (λ fault. (y ≡ x) × (fault ≡ unwrap_or (refusal x.lane) SendFaults.NoMemory))
@@ -138,17 +136,31 @@ wrote_keeps (Ok n) x y bytes ok err sent = (
 )
 wrote_keeps (Err e) x y bytes ok err sent = (λ q. subst (IsQuiet tasks.Again) (sym err.0) q, λ q. subst (IsQuiet tasks.Ended) (sym err.0) q)
 
+-- What a call leaves of a half, whatever it is
+
+pub finish_leaves : {X : Type 0} (f : Sending → X) (s y : Sending) → f (record { lane = finish_lane s.lane; due = record { offsets = s.due.offsets; fin = true } }) ≡ f s → y ≡ after_finish s → f y ≡ f s
+finish_leaves f s y same is = ap f is ∙ go (is_some (refusal s.lane))
+  where
+    go : (b : Bool) → f (cond b s (record { lane = finish_lane s.lane; due = record { offsets = s.due.offsets; fin = true } })) ≡ f s
+    go true = refl
+    go false = same
+
+pub lost_leaves : {X E : Type 0} (f : Sending → X) (r : Result (Unit {0}) E) (s y : Sending) (c : Chunk) → f (record s { due = lost_due s.lane s.due c }) ≡ f s → OnOk r (y ≡ after_lost s c) → OnErr r (y ≡ s) → f y ≡ f s
+lost_leaves f (Ok a) s y c same ok err = ap f ok ∙ go (is_some s.lane.was_reset)
+  where
+    go : (b : Bool) → f (cond b s (record s { due = lost_due s.lane s.due c })) ≡ f s
+    go true = refl
+    go false = same
+lost_leaves f (Err e) s y c same ok err = ap f err
+
+pub acked_leaves : {X A E : Type 0} (f : Sending → X) (r : Result A E) (s y : Sending) (c : Chunk) → f (after_acked s c) ≡ f s → OnOk r (y ≡ after_acked s c) → OnErr r (y ≡ s) → f y ≡ f s
+acked_leaves f (Ok a) s y c same ok err = ap f ok ∙ same
+acked_leaves f (Err e) s y c same ok err = ap f err
+
 -- Only a STOP_SENDING moves whether one came
 
 abbrev pub stop_of : Sending → Option ℕ
 stop_of s = s.lane.stopped
-
-pub finish_stop : (s y : Sending) → y ≡ after_finish s → stop_of y ≡ stop_of s
-finish_stop s y is = ap stop_of is ∙ go (is_some (refusal s.lane))
-  where
-    go : (b : Bool) → stop_of (cond b s (record { lane = finish_lane s.lane; due = record { offsets = s.due.offsets; fin = true } })) ≡ stop_of s
-    go true = refl
-    go false = refl
 
 pub reset_stop : (s y : Sending) (code : ℕ) → y ≡ after_reset s code → stop_of y ≡ stop_of s
 reset_stop s y code is = ap stop_of is ∙ go (is_some (reset_refusal s.lane)) (Some (record { code = code; size = if s.lane.fin_sent then s.lane.written else s.lane.sent_end }))
@@ -156,18 +168,6 @@ reset_stop s y code is = ap stop_of is ∙ go (is_some (reset_refusal s.lane)) (
     go : (b : Bool) (r : Option Reset) → (cond b s.lane (record s.lane { kept = []; was_reset = r })).stopped ≡ s.lane.stopped
     go true r = refl
     go false r = refl
-
-pub lost_stop : {E : Type 0} (r : Result (Unit {0}) E) (s y : Sending) (c : Chunk) → OnOk r (y ≡ after_lost s c) → OnErr r (y ≡ s) → stop_of y ≡ stop_of s
-lost_stop (Ok a) s y c ok err = ap stop_of ok ∙ go (is_some s.lane.was_reset)
-  where
-    go : (b : Bool) → stop_of (cond b s (record s { due = lost_due s.lane s.due c })) ≡ stop_of s
-    go true = refl
-    go false = refl
-lost_stop (Err e) s y c ok err = ap stop_of err
-
-pub acked_stop : {A E : Type 0} (r : Result A E) (s y : Sending) (c : Chunk) → OnOk r (y ≡ after_acked s c) → OnErr r (y ≡ s) → stop_of y ≡ stop_of s
-acked_stop (Ok a) s y c ok err = ap stop_of ok
-acked_stop (Err e) s y c ok err = ap stop_of err
 
 pub wrote_stop : (r : Result ℕ SendFault) (s y : Sending) (bytes : List ℕ) → IfOk r (λ n. (refusal s.lane ≡ None) × (n ≡ accepted s.lane (length bytes)) × (y ≡ after_write s (take n bytes))) → IfErr r (λ fault. (y ≡ s) × (fault ≡ unwrap_or (refusal s.lane) SendFaults.NoMemory)) → stop_of y ≡ stop_of s
 wrote_stop (Ok n) s y bytes ok err = ap stop_of ok.2

@@ -14,7 +14,7 @@ use Rattle.qs_conn.specs.declared.slot.Slot.{Slot}
 use Rattle.qs_conn.specs.declared.slot.Kind.{Kind}
 use Rattle.qs_conn.specs.declared.limits.Limits.{Limits}
 use Rattle.qs_calls.specs.declared.filling.Fill.{Fill}
-use Rattle.qs_machine.specs.Filling.{IsAsked, WantedGoes, still_asked}
+use Rattle.qs_machine.specs.Filling.{WantedGoes, still_asked}
 use Rattle.qs_machine.specs.Tables.{Tables, lookup}
 use Rattle.qs_machine.specs.Ends.{End}
 use Rattle.qs_machine.specs.Due.{IsCovered, StreamGoes, Sendable}

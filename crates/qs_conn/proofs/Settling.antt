@@ -1,5 +1,5 @@
 -- A lane whose limit is the next one already.
-use Rattle.std.proofs.Common.{◌≡◌, ◌≢◌, ℕ, zero, suc, ◌+◌, ◌/◌, ◌<◌, ◌≤◌, ◌⊎◌, inl, inr, Bool, true, false, ◌&&◌, ◌||◌, List, [], ◌∷◌, ◌++◌, length, map, take, replicate, Option, Some, None, is_some, refl, ap, sym, ◌∙◌, arith, subst, min, max, nat_le, nat_lt, cond, eqb, get_or}
+use Rattle.std.proofs.Common.{◌≡◌, ◌≢◌, ℕ, zero, suc, ◌+◌, ◌<◌, ◌≤◌, ◌⊎◌, inl, inr, Bool, true, false, ◌&&◌, ◌||◌, List, [], ◌∷◌, ◌++◌, length, map, take, replicate, Option, Some, None, is_some, refl, ap, sym, ◌∙◌, arith, subst, min, nat_le, nat_lt, cond, eqb, get_or}
 use Rattle.std.proofs.lemmas.Option.{none-some, same_Some, slice_get_read, slice_get_within}
 use Rattle.std.proofs.lemmas.Bool.Decides.{nat_tests}
 use Rattle.std.proofs.lemmas.Bool.{both_ways, cases_eq}
@@ -12,11 +12,10 @@ use Rattle.qs_recv.specs.Lane.{MAX_WINDOW, RecvLane, new_lane, step, raise, take
 use Rattle.qs_recv.specs.Lawful.{IsLawful}
 use Rattle.qs_recv.specs.declared.credit.Share.{Share}
 use Rattle.qs_conn.specs.declared.touches.Touches.{Touches}
-use Rattle.qs_machine.specs.Sums.{changed}
 use Rattle.qs_machine.proofs.Again.{next_twice}
 use Rattle.qs_conn.specs.Marks.{is_marked}
 use Rattle.qs_conn.specs.declared.touches.Touched.{Touched}
-use Rattle.qs_conn.specs.declared.touches.Touched.TheVariants.{Nothing, Lane, Several}
+use Rattle.qs_conn.specs.declared.touches.Touched.TheVariants.{Several}
 use Rattle.qs_conn.specs.Touches.{is_among, is_touched, IsSettled, AreSettled}
 
 -- One lane
@@ -79,11 +78,9 @@ raised_once (x ∷ xs) = ap (λ y. y ∷ map raise (map raise xs)) (settled_rais
 -- one lane becomes another
 
 pub get_other : {X : Type 0} (xs : List X) (i j : ℕ) (y : X) → j ≢ i → slice_get (set xs i y) j ≡ slice_get xs j
-get_other [] i j y ne = refl
 get_other (x ∷ xs) zero zero y ne = absurd (ne refl)
-get_other (x ∷ xs) zero (suc j) y ne = refl
-get_other (x ∷ xs) (suc i) zero y ne = refl
 get_other (x ∷ xs) (suc i) (suc j) y ne = get_other xs i j y (λ e. ne (ap suc e))
+get_other _ _ _ _ _ = refl
 
 pub get_same : {X : Type 0} (xs : List X) (i : ℕ) (y l : X) → slice_get (set xs i y) i ≡ Some l → (y ≡ l) × (i < length xs)
 get_same [] i y l at = absurd (none-some l at)
@@ -120,16 +117,13 @@ get_begun w share (i ∷ ks) zero l at = same_Some (new_lane w share) l at
 get_begun w share (i ∷ ks) (suc k) l at = get_begun w share ks k l at
 
 marked_more : (ms : List Bool) (n i : ℕ) → is_marked ms i ≡ is_marked (ms ++ replicate n false) i
-marked_more [] zero i = refl
-marked_more [] (suc n) zero = refl
 marked_more [] (suc n) (suc i) = marked_more [] n i
-marked_more (m ∷ ms) n zero = refl
 marked_more (m ∷ ms) n (suc i) = marked_more ms n i
+marked_more _ _ _ = refl
 
 among_more : (k : Touched) (ms : List Bool) (n i : ℕ) → is_among k ms i ≡ is_among k (ms ++ replicate n false) i
-among_more Nothing ms n i = refl
-among_more (Lane k) ms n i = refl
 among_more Several ms n i = marked_more ms n i
+among_more _ _ _ _ = refl
 
 pub are_opened : (t new : Touches) (xs : List RecvLane) (w n : ℕ) (share : Share) (ks : List ℕ) → 1 ≤ w → w ≤ MAX_WINDOW → new.lanes ≡ t.lanes → new.marks ≡ t.marks ++ replicate n false → AreSettled t xs → AreSettled new (xs ++ map (λ (i : ℕ). new_lane w share) ks)
 are_opened t new xs w n share ks some small lanes marks each j l there free =
@@ -141,21 +135,18 @@ are_opened t new xs w n share ks some small lanes marks each j l there free =
 -- lanes are taken away
 
 get_taken : {X : Type 0} (n : ℕ) (xs : List X) (j : ℕ) (l : X) → slice_get (take n xs) j ≡ Some l → (slice_get xs j ≡ Some l) × (j < n)
-get_taken zero xs j l at = absurd (none-some l at)
-get_taken (suc n) [] j l at = absurd (none-some l at)
 get_taken (suc n) (x ∷ xs) zero l at = (at, omega arith)
 get_taken (suc n) (x ∷ xs) (suc j) l at = let (there, lt) = get_taken n xs j l at in (there, omega (arith, lt))
+get_taken _ _ _ l at = absurd (none-some l at)
 
 marked_taken : (n : ℕ) (ms : List Bool) (i : ℕ) → i < n → is_marked ms i ≡ is_marked (take n ms) i
 marked_taken zero ms i lt = absurd (omega (arith, lt))
-marked_taken (suc n) [] i lt = refl
-marked_taken (suc n) (m ∷ ms) zero lt = refl
 marked_taken (suc n) (m ∷ ms) (suc i) lt = marked_taken n ms i (omega (arith, lt))
+marked_taken _ _ _ _ = refl
 
 among_taken : (k : Touched) (n : ℕ) (ms : List Bool) (i : ℕ) → i < n → is_among k ms i ≡ is_among k (take n ms) i
-among_taken Nothing n ms i lt = refl
-among_taken (Lane k) n ms i lt = refl
 among_taken Several n ms i lt = marked_taken n ms i lt
+among_taken _ _ _ _ _ = refl
 
 pub are_taken : (t new : Touches) (n : ℕ) (xs : List RecvLane) → new.lanes ≡ t.lanes → new.marks ≡ take n t.marks → AreSettled t xs → AreSettled new (take n xs)
 are_taken t new n xs lanes marks each j l there free =

@@ -2,7 +2,6 @@
 use Rattle.std.proofs.Common.{◌≡◌, ℕ, ◌<◌, ◌≤◌, Bool, true, false, refl, sym, ap, ◌∙◌, subst, arith, Option, None, Some, is_some, cond}
 use Rattle.std.proofs.lemmas.Option.{same_Some, none-some}
 use Rattle.qs_wire.specs.declared.stream_id.Dir.{Dir}
-use Rattle.qs_wire.specs.declared.stream_id.Dir.TheVariants.{Bidi, Uni}
 use Rattle.qs_recv.specs.Lane.{RecvLane, is_whole}
 use Rattle.qs_send.specs.Lane.{SendLane}
 use Rattle.qs_send.specs.declared.parts.Reset.{Reset}
@@ -158,52 +157,24 @@ streams_blocked_none e d none = of_slot (λ j. IsCurrent e j → ⊥) (slots.Str
 
 -- a RESET_STREAM that is current tells of a half that was reset
 pub may_tell : (e : End) (i : Item) → IsCurrent e i → MayTell e.sends i
-may_tell e (MaxData m) c = tt
-may_tell e (MaxStreamData n m) c = tt
-may_tell e (MaxStreams d m) c = tt
 may_tell e (ResetStream n code size) (l, there, is) = subst IsOfReset (sym there) (ap is_some is)
-may_tell e (StopSending n code) c = tt
-may_tell e (DataBlocked m) c = tt
-may_tell e (StreamDataBlocked n m) c = tt
-may_tell e (StreamsBlocked d m) c = tt
+may_tell _ _ _ = tt
 
 -- what the sending side knows as acknowledged
 pub acked_out : (t : Limits) (recvs : Tables RecvLane) (o : Outgoing) (e : End) (i : Item) → IsAckedOut o i → IsAcked (end_by t recvs o e) i
-acked_out t recvs o e (MaxData m) a = a
-acked_out t recvs o e (MaxStreamData n m) a = a
-acked_out t recvs o e (MaxStreams Bidi m) a = a
-acked_out t recvs o e (MaxStreams Uni m) a = a
 acked_out t recvs o e (ResetStream n code size) a = go (lookup o.sends n) refl a
   where
     go : (x : Option SendLane) → lookup o.sends n ≡ x → IsAckedReset x → (l : SendLane) × (lookup o.sends n ≡ Some l) × (l.reset_acked ≡ true)
     go None there b = absurd b
     go (Some l) there b = (l, there, b)
-acked_out t recvs o e (StopSending n code) a = a
-acked_out t recvs o e (DataBlocked m) a = a
-acked_out t recvs o e (StreamDataBlocked n m) a = a
-acked_out t recvs o e (StreamsBlocked Bidi m) a = a
-acked_out t recvs o e (StreamsBlocked Uni m) a = a
+acked_out _ _ _ _ _ a = a
 
 pub acked_in : (t : Limits) (recvs : Tables RecvLane) (o : Outgoing) (e : End) (i : Item) → IsAcked (end_by t recvs o e) i → IsAckedOut o i
-acked_in t recvs o e (MaxData m) a = a
-acked_in t recvs o e (MaxStreamData n m) a = a
-acked_in t recvs o e (MaxStreams Bidi m) a = a
-acked_in t recvs o e (MaxStreams Uni m) a = a
 acked_in t recvs o e (ResetStream n code size) (l, there, is) = subst IsAckedReset (sym there) is
-acked_in t recvs o e (StopSending n code) a = a
-acked_in t recvs o e (DataBlocked m) a = a
-acked_in t recvs o e (StreamDataBlocked n m) a = a
-acked_in t recvs o e (StreamsBlocked Bidi m) a = a
-acked_in t recvs o e (StreamsBlocked Uni m) a = a
+acked_in _ _ _ _ _ a = a
 
 -- An item put by the sending side is put by the end.
 pub end_put : (t : Limits) (recvs : Tables RecvLane) (o : Outgoing) (e : End) (i : Item) → end_by t recvs (item_put_out i o) e ≡ frame_put (Control i) (end_by t recvs o e)
 unfolding frame_put
 end_put t recvs o e (MaxData m) = refl
-end_put t recvs o e (MaxStreamData n m) = refl
-end_put t recvs o e (MaxStreams d m) = refl
-end_put t recvs o e (ResetStream n code size) = refl
-end_put t recvs o e (StopSending n code) = refl
-end_put t recvs o e (DataBlocked m) = refl
-end_put t recvs o e (StreamDataBlocked n m) = refl
-end_put t recvs o e (StreamsBlocked d m) = refl
+end_put _ _ _ _ _ = refl

@@ -1,7 +1,7 @@
 -- The stages of a packet in the making, and what comes of the last one.
 use Rattle.std.proofs.Common.{◌≡◌, ◌≢◌, ℕ, ◌+◌, ◌-◌, ◌<◌, ◌≤◌, Bool, true, false, ◌||◌, List, [], ◌∷◌, ◌++◌, ◌⊎◌, length, refl, sym, ap, ◌∙◌, subst, arith, inl, inr, None, is_some}
 use Rattle.std.specs.FinMap as fmap
-use Rattle.std.proofs.lemmas.Bool.{true≢false, false_from_ne_true}
+use Rattle.std.proofs.lemmas.Bool.{true≢false}
 use Rattle.std.proofs.lemmas.List.{length-append}
 use Rattle.std.specs.List.{AllByRecursion}
 use Rattle.qs_wire.specs.Layout.{FrameValue, stream}
@@ -16,19 +16,19 @@ use Rattle.qs_conn.specs.declared.filling.Wish.{Wish}
 use Rattle.qs_conn.specs.declared.slot.Slot.{Slot}
 use Rattle.qs_machine.specs.Ends.{End}
 use Rattle.qs_machine.specs.Credit.{all_sent, settle}
-use Rattle.qs_machine.specs.Seen.{Seen, Ack, Stream, Control, Close, Plain, seen, seen_all, asks_ack, any_asks}
-use Rattle.qs_machine.specs.Due.{Among, IsCurrent, IsCovered, IsDueItem, StreamGoes, Sendable}
+use Rattle.qs_machine.specs.Seen.{Seen, Ack, Control, Close, Plain, seen, seen_all, asks_ack, any_asks}
+use Rattle.qs_machine.specs.Due.{Among, IsCurrent, IsCovered, IsDueItem, StreamGoes}
 use Rattle.qs_machine.specs.Lawful.{MayPut, Fills, AcksAll, HasAll, IsInTurn, AreInTurn, frame_put}
 use Rattle.qs_machine.specs.Making.{IsMade, NamesMost}
 use Rattle.qs_machine.specs.Filling.{IsAsked, bytes_in, stream_bytes, bytes_left, EndGoesAlone}
 use Rattle.qs_machine.specs.InOrder.{IsLower, item_place}
 use Rattle.qs_machine.proofs.Carried.{get_new, among_more, among_last}
-use Rattle.qs_conn.specs.Filling.{InPacket, slot_of, frame_of_item, no_slot, IsPassed, IsWished, HasWished, Begun, Packed}
-use Rattle.qs_conn.proofs.Pieces.{put_packet, due_more, end_due_more, item_ack_due}
+use Rattle.qs_conn.specs.Filling.{InPacket, slot_of, frame_of_item, no_slot, IsPassed, IsWished, HasWished, Begun, Content, Packed}
+use Rattle.qs_conn.proofs.Pieces.{put_packet, due_more, end_due_more}
 use Rattle.qs_conn.proofs.PacketOrder.{order_first, order_item}
 use Rattle.qs_conn.proofs.Items.{current_by_base, acked_by_base, sum_by_base, known_by_base, base_item, fills_push, out_old, out_is}
 use Rattle.qs_conn.proofs.Texts.{all_push, no_text, no_frames, text_push, seen_push, seen_item, item_most, plain_item, control_item}
-use Rattle.qs_machine.proofs.Again.{or_false}
+use Rattle.std.proofs.Math.Bool.{or-false}
 
 -- the frames with one more
 pushed : (frames : List FrameValue) (f : FrameValue) (s : Seen) → seen f ≡ s → (P : List Seen → Type 0) → P (seen_all frames ++ s ∷ []) → P (seen_all (frames ++ f ∷ []))
@@ -53,10 +53,9 @@ bytes_push (g ∷ fs) f = omega (arith, bytes_push fs f)
 asks_put : (f : Seen) (old e : End) → MayPut old e f → is_some (fmap.get (frame_put f e).outstanding (frame_put f e).next) ≡ (asks_ack f || is_some (fmap.get e.outstanding e.next))
 unfolding frame_put
 asks_put (Ack largest ranges) old e may = refl
-asks_put (Stream n offset bytes fin) old e may = ap is_some (get_new _ _ _)
-asks_put (Control i) old e may = ap is_some (get_new _ _ _)
 asks_put (Close code) old e may = absurd may
 asks_put (Plain asks) old e may = absurd may
+asks_put _ _ _ _ = ap is_some (get_new _ _ _)
 
 turned : (a b c : Bool) → (a || (b || c)) ≡ ((b || a) || c)
 turned true true c = refl
@@ -167,9 +166,8 @@ module _ (wish : Wish) (room : ℕ) (old : End) (text : List ℕ) (e : End) (P :
         not_told : (n : ℕ) (c : Chunk) → Data n c ≡ Told i → ⊥
         not_told n c is = cc is
 
-  -- Less than 25 bytes are left: nothing more is asked.
-  pub begun_full : room < length text + 25 → (first : ℕ) → Packed first wish room old text e wish.want.most_bytes
-  begun_full full first =
+  abbrev pub begun_content : (first : ℕ) → Content first wish room old text e wish.want.most_bytes
+  begun_content first =
       record {
         frames = b.frames;
         fills = b.fills;
@@ -180,8 +178,11 @@ module _ (wish : Wish) (room : ℕ) (old : End) (text : List ℕ) (e : End) (P :
         turns = b.turns first;
         order = λ on. b.order;
         within = (let same = sum_by_base e old b.steady in let known = known_by_base e old b.steady in omega (arith, same, known, b.within));
-        whole = λ left. absurd (omega (arith, full, left));
       }
+
+  -- Less than 25 bytes are left: nothing more is asked.
+  pub begun_full : room < length text + 25 → (first : ℕ) → Packed first wish room old text e wish.want.most_bytes
+  begun_full full first = record { content = begun_content first; whole = λ left. absurd (omega (arith, full, left)) }
 
   -- as where an item doesn't fit
   pub begun_too_long : (i : Item) → Fits (frame_of_item i) → length text ≤ room → room - length text < length (canonical (frame_of_item i)) → (first : ℕ) → Packed first wish room old text e wish.want.most_bytes
@@ -223,43 +224,43 @@ goes_alone e k first n a =
 module _ (first : ℕ) (wish : Wish) (room : ℕ) (old : End) (text : List ℕ) (e : End) (quota : ℕ) (p : Packed first wish room old text e quota) where
   -- a packet without a byte changed nothing
   pub packed_same : text ≡ [] → e ≡ old
-  packed_same none = subst (λ fs. Fills old old (seen_all fs) e) (no_frames wish.delay p.frames text p.spells none) p.fills
+  packed_same none = subst (λ fs. Fills old old (seen_all fs) e) (no_frames wish.delay p.content.frames text p.content.spells none) p.content.fills
 
   -- and where there was room, there was nothing to send
   pub packed_none : 25 ≤ room → text ≡ [] → HasWished wish old [] old
   packed_none enough none =
-      let frames : p.frames ≡ [] = no_frames wish.delay p.frames text p.spells none in
+      let frames : p.content.frames ≡ [] = no_frames wish.delay p.content.frames text p.content.spells none in
       let w : HasWished wish old [] e = subst (λ fs. HasWished wish old (seen_all fs) e) frames (p.whole (omega (arith, enough, ap length none))) in
       subst (HasWished wish old []) (packed_same none) w
 
   -- it asks for an ACK where it has a piece
-  pub packed_asks : (asks : Bool) → fmap.get old.outstanding old.next ≡ None → asks ≡ is_some (fmap.get e.outstanding e.next) → asks ≡ any_asks (seen_all p.frames)
-  packed_asks asks idle asked = asked ∙ fills_ask old old e (seen_all p.frames) p.fills ∙ ap (λ o. any_asks (seen_all p.frames) || is_some o) idle ∙ sym (or_false (any_asks (seen_all p.frames)))
+  pub packed_asks : (asks : Bool) → fmap.get old.outstanding old.next ≡ None → asks ≡ is_some (fmap.get e.outstanding e.next) → asks ≡ any_asks (seen_all p.content.frames)
+  packed_asks asks idle asked = asked ∙ fills_ask old old e (seen_all p.content.frames) p.content.fills ∙ ap (λ o. any_asks (seen_all p.content.frames) || is_some o) idle ∙ or-false (any_asks (seen_all p.content.frames))
 
   -- a packet with some
-  module _ (number len : ℕ) (asks : Bool) (asked : asks ≡ any_asks (seen_all p.frames)) (is : number ≡ old.next) (count : len ≡ length text) (some : text ≢ []) where
+  module _ (number len : ℕ) (asks : Bool) (asked : asks ≡ any_asks (seen_all p.content.frames)) (is : number ≡ old.next) (count : len ≡ length text) (some : text ≢ []) where
     abbrev last : End
     last = record e { next = old.next + 1 }
 
-    pub not_empty : (fs : List FrameValue) → p.frames ≡ fs → seen_all fs ≢ []
-    not_empty [] none is = some (p.spells.canonical ∙ ap canonical_all none)
+    pub not_empty : (fs : List FrameValue) → p.content.frames ≡ fs → seen_all fs ≢ []
+    not_empty [] none is = some (p.content.spells.canonical ∙ ap canonical_all none)
     not_empty (f ∷ fs) there is = cc is
 
     -- in any room that it fits, if it leaves nothing out there
-    abbrev pub packed_made : (less : ℕ) → len ≤ less → AllByRecursion (NamesMost old wish.delay less) p.frames → HasAll less (length text) old (seen_all p.frames) last
+    abbrev pub packed_made : (less : ℕ) → len ≤ less → AllByRecursion (NamesMost old wish.delay less) p.content.frames → HasAll less (length text) old (seen_all p.content.frames) last
         → IsMade old first wish.delay less (record { number = number; len = len; is_ack_eliciting = asks }) text (settle last)
     packed_made less fits acks whole =
         record {
           number = is;
           len = count;
           fits = omega (arith, count, fits);
-          frames = p.frames;
+          frames = p.content.frames;
           asks = asked;
-          spells = p.spells;
+          spells = p.content.spells;
           acks = acks;
-          turn = p.turns;
+          turn = p.content.turns;
           mid = last;
-          lawful = record { some = not_empty p.frames refl; filled = (e, p.fills, refl); within = p.within };
+          lawful = record { some = not_empty p.content.frames refl; filled = (e, p.content.fills, refl); within = p.content.within };
           whole = whole;
           after = refl;
         }
@@ -268,9 +269,9 @@ module _ (first : ℕ) (wish : Wish) (room : ℕ) (old : End) (text : List ℕ) 
     pub packed_some : len ≤ room → wish.ack_due ≡ old.ack_due → wish.want.items ≡ true → ((n : ℕ) → IsAsked wish.want n) → room < wish.want.most_bytes → e.ack_due ≡ false
         → IsMade old first wish.delay room (record { number = number; len = len; is_ack_eliciting = asks }) text (settle last)
     packed_some fits due items all wide quiet =
-        packed_made room fits p.acks (λ left. (
+        packed_made room fits p.content.acks (λ left. (
         let w = p.whole left in
         record { ack = λ is. w.ack (due ∙ is); items = w.wanted.items items; no_ack = quiet; no_stream = λ n goes. w.wanted.streams n (all n) (inl (below wide, goes_same e (old.next + 1) n goes)) }))
       where
-        below : room < wish.want.most_bytes → 0 < bytes_left wish.want (seen_all p.frames)
-        below wide = (let le = bytes_within p.frames in let same = ap length p.spells.canonical in omega (arith, le, same, count, fits, wide))
+        below : room < wish.want.most_bytes → 0 < bytes_left wish.want (seen_all p.content.frames)
+        below wide = (let le = bytes_within p.content.frames in let same = ap length p.content.spells.canonical in omega (arith, le, same, count, fits, wide))

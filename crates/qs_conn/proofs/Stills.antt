@@ -14,6 +14,7 @@ use Rattle.qs_machine.specs.Seen.{Control}
 use Rattle.qs_machine.specs.Lawful.{frame_put}
 use Rattle.qs_machine.specs.Outgoing.{Outgoing, HasSending, item_put_out, sent_sum}
 use Rattle.qs_machine.specs.Tables.{Tables, lookup}
+use Rattle.qs_conn.specs.declared.carried.Carried.{Carried}
 use Rattle.qs_conn.specs.declared.middle.Core.{Core}
 use Rattle.qs_conn.specs.declared.slot.Kind.{Kind}
 use Rattle.qs_conn.specs.declared.slot.Kind.TheVariants as kinds
@@ -24,6 +25,7 @@ use Rattle.qs_conn.specs.Marks.{IsIdle}
 use Rattle.qs_conn.specs.Middle.{IsCore, IsStill, HasMemory, HoldsAtMost, own_items, end_of}
 use Rattle.qs_conn.specs.Tasks.{IsQuietAt}
 use Rattle.qs_conn.specs.declared.send_marks.Task.TheVariants as tasks
+use Rattle.qs_conn.specs.OwnCarried.{Kept}
 use Rattle.qs_conn.proofs.Chunks.{chunk_goes, ties_of}
 use Rattle.qs_conn.proofs.Items.{current_by_base, acked_by_base, base_item}
 use Rattle.qs_conn.proofs.Pieces.{put_old}
@@ -45,6 +47,9 @@ pub memory_on : (c : Core) (room len room' len' left : ℕ) → room' ≡ room �
 memory_on c room len room' len' left same le h = elim h [ inl all ↦ inl (omega (arith, same, le, all)) | inr few ↦ inr few ]
 
 -- marks are no part of what is due
+pub memory_carried : (c : Core) (t : Carried) (xs : Kept) (room len left : ℕ) → HasMemory c room len left → HasMemory (record c { carried = t; own = xs }) room len left
+memory_carried c t xs room len left h = elim h [ inl all ↦ inl all | inr (few, still) ↦ inr (few, record { no_item = still.no_item; no_stream = still.no_stream }) ]
+
 pub memory_marks : (c : Core) (ins outs : Tables Bool) (room len left : ℕ) → HasMemory c room len left → HasMemory (record c { untold_recvs = ins; untold_sends = outs }) room len left
 memory_marks c ins outs room len left h = elim h [ inl all ↦ inl all | inr (few, still) ↦ inr (few, record { no_item = still.no_item; no_stream = still.no_stream }) ]
 
@@ -87,13 +92,10 @@ IsOwn i = own_items (slot_of i) ≡ 1
 own_goes : (i : Item) (e : End) (n : ℕ) → IsOwn i → StreamGoes (frame_put (Control i) e) n → StreamGoes e n
 unfolding frame_put
 own_goes (MaxData m) e n own = goes_less (frame_put (Control (MaxData m)) e) e n refl refl (put_old (Control (MaxData m)) e)
-own_goes (MaxStreamData k m) e n own = absurd (omega (arith, own))
 own_goes (MaxStreams d m) e n own = goes_less (frame_put (Control (MaxStreams d m)) e) e n refl refl (put_old (Control (MaxStreams d m)) e)
-own_goes (ResetStream k code size) e n own = absurd (omega (arith, own))
-own_goes (StopSending k code) e n own = absurd (omega (arith, own))
 own_goes (DataBlocked m) e n own = goes_less (frame_put (Control (DataBlocked m)) e) e n refl refl (put_old (Control (DataBlocked m)) e)
-own_goes (StreamDataBlocked k m) e n own = absurd (omega (arith, own))
 own_goes (StreamsBlocked d m) e n own = goes_less (frame_put (Control (StreamsBlocked d m)) e) e n refl refl (put_old (Control (StreamsBlocked d m)) e)
+own_goes _ _ _ own = absurd (omega (arith, own))
 
 idle_put : (i : Item) (e : End) (slot : Slot) → IsIdle e slot → IsIdle (frame_put (Control i) e) slot
 idle_put i e slot idle j at is =
@@ -113,14 +115,11 @@ still_put c i o own is h =
 
 -- an item that is due is one of the connection's own, where nothing of a stream is
 own_due : (c : Core) (e : End) (slot : Slot) (i : Item) → IsStill c → slot_of i ≡ slot → IsCurrent (end_of c e) i → (IsCovered (end_of c e) i → ⊥) → own_items slot ≡ 1
-own_due c e slots.MaxData i h at is free = refl
 own_due c e (slots.MaxStreamData n) i h at is free = absurd (free (h.no_item e kinds.MaxStreamData n i at is))
-own_due c e (slots.MaxStreams d) i h at is free = refl
 own_due c e (slots.ResetStream n) i h at is free = absurd (free (h.no_item e kinds.ResetStream n i at is))
 own_due c e (slots.StopSending n) i h at is free = absurd (free (h.no_item e kinds.StopSending n i at is))
-own_due c e slots.DataBlocked i h at is free = refl
 own_due c e (slots.StreamDataBlocked n) i h at is free = absurd (free (h.no_item e kinds.StreamDataBlocked n i at is))
-own_due c e (slots.StreamsBlocked d) i h at is free = refl
+own_due _ _ _ _ _ _ _ _ = refl
 
 -- there is memory for an item that is due
 pub item_spare : (c : Core) (e : End) (slot : Slot) (i : Item) (room len : ℕ) → HasMemory c room len (own_items slot) → slot_of i ≡ slot → IsCurrent (end_of c e) i → (IsCovered (end_of c e) i → ⊥) → HasOneSpare room len c.outbox.spare
@@ -162,16 +161,8 @@ module _ (c : Core) (n : ℕ) (s : Sending) (chunk : Chunk) (left fresh : ℕ) (
 -- how many items of the connection itself a slot has
 pub own_kind : (kind : Kind) (n : ℕ) → own_items (slot_at kind n) ≡ 0
 own_kind kinds.ResetStream n = refl
-own_kind kinds.StopSending n = refl
-own_kind kinds.MaxStreamData n = refl
-own_kind kinds.StreamDataBlocked n = refl
+own_kind _ _ = refl
 
 pub own_most : (slot : Slot) → own_items slot ≤ 1
 own_most slots.MaxData = omega arith
-own_most (slots.MaxStreamData n) = omega arith
-own_most (slots.MaxStreams d) = omega arith
-own_most (slots.ResetStream n) = omega arith
-own_most (slots.StopSending n) = omega arith
-own_most slots.DataBlocked = omega arith
-own_most (slots.StreamDataBlocked n) = omega arith
-own_most (slots.StreamsBlocked d) = omega arith
+own_most _ = omega arith

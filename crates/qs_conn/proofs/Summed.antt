@@ -1,11 +1,11 @@
 -- Marks and the flags that sum them up by words.
-use Rattle.std.proofs.Common.{◌≡◌, ℕ, zero, suc, ◌+◌, ◌-◌, ◌*◌, ◌/◌, ◌^◌, ◌<◌, ◌≤◌, Bool, true, false, List, [], ◌∷◌, ◌++◌, take, length, replicate, Result, Ok, Err, Option, None, Some, max, sym, ap, ◌∙◌, subst, refl, inl, inr, arith}
+use Rattle.std.proofs.Common.{◌≡◌, ℕ, ◌+◌, ◌-◌, ◌*◌, ◌/◌, ◌^◌, ◌<◌, ◌≤◌, Bool, true, false, List, ◌++◌, take, length, replicate, Result, Ok, Err, Option, None, Some, max, sym, ap, ◌∙◌, subst, refl, inl, inr, arith}
 use Rattle.std.specs.Result.{OnOk, OnErr}
 use Rattle.std.proofs.lemmas.Bool.{cases_lt, both_ways}
 use Rattle.std.proofs.lemmas.Grind.{get_or-set_at}
 use Rattle.std.proofs.lemmas.List.{length-append, length-replicate, length-set, length-take, get_or_past, get_or-set_other}
 use Rattle.std.proofs.lemmas.Option.{none-some, same_Some}
-use Rattle.qs_conn.proofs.Marked.{mark_past, is_marked_taken}
+use Rattle.qs_conn.proofs.Marked.{is_marked_taken}
 use Rattle.qs_conn.proofs.Words.{padded}
 use Rattle.std.proofs.Math.ListN.{set}
 use Rattle.qs_conn.specs.Marks.{is_marked, IsNextMark, IsNextInWord, HasNoMark, AreSummed, IsClearBelow}

@@ -15,9 +15,8 @@ use Rattle.qs_conn.proofs.Words.{flags_len, marked_is, flag_past, padded}
 use Rattle.qs_conn.proofs.Boths.{both_len, both_is}
 
 pub untold_len : (ms ts : List Bool) → length (untold ms ts) ≡ length ms
-untold_len [] ts = refl
-untold_len (m ∷ ms) [] = refl
 untold_len (m ∷ ms) (t ∷ ts) = ap suc (untold_len ms ts)
+untold_len _ _ = refl
 
 no_more : (b : Bool) → (b && false) ≡ false
 no_more true = refl
@@ -28,10 +27,9 @@ not_told true = refl
 not_told false = refl
 
 pub untold_is : (ms ts : List Bool) (i : ℕ) → is_marked (untold ms ts) i ≡ (is_marked ms i && not (is_marked ts i))
-untold_is [] ts i = refl
 untold_is (m ∷ ms) [] i = not_told (is_marked (m ∷ ms) i)
-untold_is (m ∷ ms) (t ∷ ts) zero = refl
 untold_is (m ∷ ms) (t ∷ ts) (suc i) = untold_is ms ts i
+untold_is _ _ _ = refl
 
 -- One word
 
@@ -56,13 +54,11 @@ word_full marks place word of all i at =
 
 -- a bit of two words and not of a third
 left_bit : (a b c d e : ℕ) → d ≡ min a b → e ≡ min d (1 - c) → a < 2 → b < 2 → c < 2 → (e == 1) ≡ (((a == 1) && (b == 1)) && not (c == 1))
-left_bit zero b c d e d_is e_is la lb lc = let none : e ≡ 0 = omega (arith, d_is, e_is) in ap (λ x. x == 1) none
-left_bit (suc zero) zero c d e d_is e_is la lb lc = let none : e ≡ 0 = omega (arith, d_is, e_is) in ap (λ x. x == 1) none
 left_bit (suc zero) (suc zero) zero d e d_is e_is la lb lc = let one : e ≡ 1 = omega (arith, d_is, e_is) in ap (λ x. x == 1) one
-left_bit (suc zero) (suc zero) (suc zero) d e d_is e_is la lb lc = let none : e ≡ 0 = omega (arith, d_is, e_is) in ap (λ x. x == 1) none
 left_bit (suc zero) (suc zero) (suc (suc c)) d e d_is e_is la lb lc = absurd (omega (arith, lc))
 left_bit (suc zero) (suc (suc b)) c d e d_is e_is la lb lc = absurd (omega (arith, lb))
 left_bit (suc (suc a)) b c d e d_is e_is la lb lc = absurd (omega (arith, la))
+left_bit _ _ _ _ e d_is e_is _ _ _ = let none : e ≡ 0 = omega (arith, d_is, e_is) in ap (λ x. x == 1) none
 
 pub word_left : (ms os ts : List Bool) (place a b c : ℕ) → IsWordOf ms place a → IsWordOf os place b → IsWordOf ts place c → c < 2 ^ 64 → IsWordOf (untold (both ms os) ts) place (bit_and (bit_and a b) (bit_not w64 c))
 word_left ms os ts place a b c of_a of_b of_c fits i lt =

@@ -1,17 +1,15 @@
 -- Searches for the least stream that has an answer of which its owner wasn't told.
-use Rattle.std.proofs.Common.{◌≡◌, ℕ, ◌+◌, ◌*◌, ◌/◌, ◌<◌, ◌≤◌, ◌&&◌, not, Bool, true, false, List, [], ◌∷◌, length, get_or, Option, None, Some, slice_get, refl, sym, ap, ◌∙◌, subst, arith, inl, inr}
-use Rattle.std.proofs.lemmas.Bool.{cases_lt, both_ways, true≢false}
-use Rattle.std.proofs.lemmas.Option.{none-some, same_Some, unwrap_or-slice_get}
+use Rattle.std.proofs.Common.{◌≡◌, ℕ, ◌+◌, ◌*◌, ◌/◌, ◌<◌, ◌≤◌, ◌&&◌, not, Bool, true, false, List, [], ◌∷◌, length, get_or, Option, None, Some, refl, sym, ap, ◌∙◌, subst, arith, inl, inr}
+use Rattle.std.proofs.lemmas.Bool.{cases_lt, true≢false}
+use Rattle.std.proofs.lemmas.Option.{none-some, unwrap_or-slice_get}
 use Rattle.qs_machine.specs.News.{IsLeast, IsHeld}
 use Rattle.qs_machine.specs.Heard.{is_told}
 use Rattle.qs_machine.specs.Sums.{tables_of}
 use Rattle.qs_machine.specs.Tables.{Tables, type_of, table, lookup}
 use Rattle.qs_machine.proofs.TableEdits.{lookup_is}
-use Rattle.qs_conn.specs.Marks.{is_marked, both, untold, AreMarked, IsNextMark, IsUntold, IsUntoldOf, IsUntoldAt}
-use Rattle.qs_conn.proofs.Least.{IsClear, least_by, clear_marked, none_marked, clear_over, least_here, row_none, row_some}
-use Rattle.qs_conn.proofs.Marked.{marked_len, unmarked_at}
-use Rattle.qs_conn.proofs.Summed.{marked_below}
-use Rattle.qs_conn.proofs.UntoldMarks.{untold_is, untold_len}
+use Rattle.qs_conn.specs.Marks.{is_marked, both, untold, IsNextMark, IsUntold, IsUntoldOf, IsUntoldAt}
+use Rattle.qs_conn.proofs.Least.{IsClear, least_by, row_none, row_some}
+use Rattle.qs_conn.proofs.UntoldMarks.{untold_is}
 
 -- One row as both
 
@@ -38,37 +36,18 @@ module _ (P : ℕ → Type 0) (from next : ℕ) (c : IsClear P from next) where
 -- a mark is left only where there was one, and none was told
 left_mark : (a b : Bool) → (a && not b) ≡ true → (a ≡ true) × (b ≡ false)
 left_mark true false is = (refl, refl)
-left_mark true true is = absurd (true≢false (sym is))
-left_mark false b is = absurd (true≢false (sym is))
+left_mark _ _ is = absurd (true≢false (sym is))
 
--- Parts of one list
+pub left_at : (ms ts : List Bool) (i : ℕ) → is_marked (untold ms ts) i ≡ true → (is_marked ms i ≡ true) × (is_marked ts i ≡ false)
+left_at ms ts i is = left_mark (is_marked ms i) (is_marked ts i) (sym (untold_is ms ts i) ∙ is)
 
-module _ {X : Type 0} (Q R : X → Type 0) (apart : (x : X) → Q x → R x → ⊥) (xs : List X) (ms ts : List Bool) (marked : AreMarked Q xs ms) where
-  pub unmarked_none : (i : ℕ) → is_marked (untold ms ts) i ≡ false → IsUntoldAt R xs ts i → ⊥
-  unmarked_none i is ((x, at, r), free) = go (is_marked ms i) refl
-    where
-      go : (b : Bool) → is_marked ms i ≡ b → ⊥
-      go true e = both_ways (is_marked (untold ms ts) i) is (untold_is ms ts i ∙ ap (λ b. b && not (is_marked ts i)) e ∙ ap not free)
-      go false e = apart x (unmarked_at Q xs ms i x marked at e) r
-
-  pub next_there : (next index : ℕ) → IsNextMark (untold ms ts) next (Some index) → index < length xs
-  next_there next index h = omega (arith, marked_below (untold ms ts) index (h.found index refl).1, untold_len ms ts, marked_len Q xs ms marked)
-
-  pub free_there : (next index : ℕ) → IsNextMark (untold ms ts) next (Some index) → is_marked ts index ≡ false
-  free_there next index h = (left_mark (is_marked ms index) (is_marked ts index) (sym (untold_is ms ts index) ∙ (h.found index refl).1)).1
-
-  pub clear_here : (from next index : ℕ) → IsClear (IsUntoldAt R xs ts) from next → IsNextMark (untold ms ts) next (Some index) → IsClear (IsUntoldAt R xs ts) from index
-  clear_here = clear_marked (IsUntoldAt R xs ts) (untold ms ts) unmarked_none
-
-  pub clear_left : (from next : ℕ) → IsClear (IsUntoldAt R xs ts) from next → IsNextMark (untold ms ts) next None → IsLeast (IsUntoldAt R xs ts) from None
-  clear_left = none_marked (IsUntoldAt R xs ts) (untold ms ts) unmarked_none
-
-  module _ (from next index : ℕ) (x : X) (c : IsClear (IsUntoldAt R xs ts) from next) (h : IsNextMark (untold ms ts) next (Some index)) (at : slice_get xs index ≡ Some x) where
-    pub part_found : R x → IsLeast (IsUntoldAt R xs ts) from (Some index)
-    part_found r = least_here (IsUntoldAt R xs ts) from index (clear_here from next index c h) ((x, at, r), free_there next index h)
-
-    pub part_passed : (R x → ⊥) → IsClear (IsUntoldAt R xs ts) from (index + 1)
-    part_passed without = clear_over (IsUntoldAt R xs ts) from index (clear_here from next index c h) (λ p. without (subst R (same_Some p.0.0 x (sym p.0.1 ∙ at)) p.0.2))
+-- and none is left of what wasn't told only where there was none
+pub one_told : (ms ts : List Bool) (i : ℕ) → is_marked (untold ms ts) i ≡ false → is_marked ts i ≡ false → is_marked ms i ≡ false
+one_told ms ts i none free = go (is_marked ms i) (ap (λ b. is_marked ms i && not b) (sym free) ∙ sym (untold_is ms ts i) ∙ none)
+  where
+    go : (b : Bool) → (b && true) ≡ false → b ≡ false
+    go true is = absurd (true≢false is)
+    go false is = refl
 
 -- Streams of a type
 

@@ -80,19 +80,17 @@ module _ {L : Type 0} (T : L → Item → Type 0) where
 -- Marks
 
 more_same : (k : Option Bool) → HasMoreAt k k
-more_same None = tt
 more_same (Some true) = refl
-more_same (Some false) = tt
+more_same _ = tt
 
 more_twice : (a b c : Option Bool) → HasMoreAt a b → HasMoreAt b c → HasMoreAt a c
-more_twice None None None p q = tt
 more_twice None None (Some z) p q = absurd q
 more_twice None (Some y) c p q = absurd p
 more_twice (Some x) None c p q = absurd p
 more_twice (Some x) (Some y) None p q = absurd q
-more_twice (Some false) (Some y) (Some z) p q = tt
 more_twice (Some true) (Some true) (Some z) p q = q
 more_twice (Some true) (Some false) (Some z) p q = absurd (true≢false (sym p))
+more_twice _ _ _ _ _ = tt
 
 pub has_same : (t : Tables Bool) → HasMore t t
 has_same t n = more_same (lookup t n)
@@ -118,10 +116,9 @@ has_new t u k is = subst (HasMore t) (sym is) (has_marked t k)
 
 unmarked_at : (k k' : Option Bool) → HasMoreAt k k' → k' ≡ Some false → k ≡ Some false
 unmarked_at None None more is = is
-unmarked_at None (Some b) more is = absurd more
-unmarked_at (Some b) None more is = absurd more
 unmarked_at (Some true) (Some b) more is = absurd (true≢false (sym more ∙ same_Some b false is))
 unmarked_at (Some false) (Some b) more is = refl
+unmarked_at _ _ more _ = absurd more
 
 -- what has no mark had none
 pub unmarked_before : (t u : Tables Bool) (n : ℕ) → HasMore t u → lookup u n ≡ Some false → lookup t n ≡ Some false
@@ -227,7 +224,7 @@ widened_some (y ∷ xs) begin lo k zero lt = refl
 widened_some (y ∷ xs) begin lo k (suc i) lt = widened_some xs begin lo k i (omega (arith, lt))
 
 -- each stream up to the one that was opened has a place
-opened_some : (t : Tables Bool) (n m : ℕ) (begin : ℕ → Bool) → m % 4 ≡ n % 4 → m ≤ n → is_some (lookup (open_to t n begin) m) ≡ true
+pub opened_some : (t : Tables Bool) (n m : ℕ) (begin : ℕ → Bool) → m % 4 ≡ n % 4 → m ≤ n → is_some (lookup (open_to t n begin) m) ≡ true
 unfolding open_to
 opened_some t n m begin e le =
     ap is_some (with_same t n m _ e)

@@ -1,5 +1,5 @@
 -- Flags as bits of words: one word, and a list of them.
-use Rattle.std.proofs.Common.{◌≡◌, ◌≢◌, ℕ, ◌+◌, ◌-◌, ◌*◌, ◌/◌, ◌%◌, ◌^◌, ◌<◌, ◌≤◌, ◌==◌, Bool, true, false, List, [], ◌∷◌, ◌++◌, length, get_or, set, take, replicate, zero, suc, Option, None, Some, bit_and, sym, ap, ◌∙◌, subst, refl, inl, inr, arith}
+use Rattle.std.proofs.Common.{◌≡◌, ◌≢◌, ℕ, ◌+◌, ◌-◌, ◌*◌, ◌/◌, ◌%◌, ◌^◌, ◌<◌, ◌≤◌, ◌==◌, Bool, true, false, List, [], ◌∷◌, ◌++◌, length, get_or, set, take, replicate, suc, Option, None, Some, bit_and, sym, ap, ◌∙◌, subst, refl, inl, inr, arith}
 use Rattle.std.specs.Int.{bit_at}
 use Rattle.std.proofs.lemmas.Bool.{cases_lt, cases_eq, both_ways}
 use Rattle.std.proofs.lemmas.List.{length-append, length-replicate, length-set, length-take, get_or-set_same, get_or-set_other, get_or-take, get_or_past, get_or_read, take_all, append-nil, ext_get_or}
@@ -22,11 +22,9 @@ bits_cut word bit small =
 -- Words
 
 pub padded : {A : Type 0} (xs : List A) (n k : ℕ) (d : A) → get_or (xs ++ replicate n d) k d ≡ get_or xs k d
-padded [] zero k d = refl
-padded [] (suc n) zero d = refl
 padded [] (suc n) (suc k) d = padded [] n k d
-padded (x ∷ xs) n zero d = refl
 padded (x ∷ xs) n (suc k) d = padded xs n k d
+padded _ _ _ _ = refl
 
 flag_of : (ws vs : List ℕ) (i : ℕ) → bit_at (get_or ws (i / 64) 0) (i % 64) ≡ bit_at (get_or vs (i / 64) 0) (i % 64) → flag ws i ≡ flag vs i
 flag_of ws vs i is = rw is refl

@@ -289,26 +289,8 @@ abbrev pub way_end : Bool → ℕ → Turn
 way_end false first = turn_at true first 0
 way_end true first = turn_at true first first
 
--- A packet so far, with all control items that were due and are asked for, and so many bytes of streams left of the cap. Streams that had
--- their turn have nothing to send any more; of the others nothing is in it.
-pub record Flowing (wish : Wish) (room : ℕ) (old : End) (text : List ℕ) (e : End) (quota : ℕ) (t : Turn) : Type 0 where
-  pub frames : List FrameValue
-  pub fills : Fills old old (seen_all frames) e
-  pub cap : stream_bytes (seen_all frames) + quota ≡ wish.want.most_bytes
-  pub begins : t.first ≡ wish.want.first
-  pub spells : IsText wish.delay frames text
-  pub acks : AllByRecursion (NamesMost old wish.delay room) frames
-  pub wished : AllByRecursion (IsWished wish) (seen_all frames)
-  pub turns : AreInTurn t.first old (seen_all frames)
-  pub order : wish.want.items ≡ true → AreInOrder old [] (pieces_so_far e e.next)
-  pub within : all_sent e ≤ e.known_data
-  pub ack : wish.ack_due ≡ true → (room < length text + 25) ⊎ AcksAll old (seen_all frames)
-  pub items : wish.want.items ≡ true → (i : Item) → IsDueItem old i → Among (Control i) (seen_all frames)
-  pub over : (n : ℕ) → HadTurn t.around t.first t.at n → StreamGoes e n → ⊥
-  pub untouched : (n : ℕ) → (HadTurn t.around t.first t.at n → ⊥) → (c : Chunk) → InPacket e (Data n c) → ⊥
-
--- A packet that needs no more: it has all that the cap of bytes lets in, or no room for an item more.
-pub record Packed (first : ℕ) (wish : Wish) (room : ℕ) (old : End) (text : List ℕ) (e : End) (quota : ℕ) : Type 0 where
+-- A packet so far, with so many bytes of streams left of the cap: its frames, what they make of the end, and that each may stand in it.
+pub record Content (first : ℕ) (wish : Wish) (room : ℕ) (old : End) (text : List ℕ) (e : End) (quota : ℕ) : Type 0 where
   pub frames : List FrameValue
   pub fills : Fills old old (seen_all frames) e
   pub cap : stream_bytes (seen_all frames) + quota ≡ wish.want.most_bytes
@@ -318,7 +300,24 @@ pub record Packed (first : ℕ) (wish : Wish) (room : ℕ) (old : End) (text : L
   pub turns : AreInTurn first old (seen_all frames)
   pub order : wish.want.items ≡ true → AreInOrder old [] (pieces_so_far e e.next)
   pub within : all_sent e ≤ e.known_data
-  pub whole : length text + 25 ≤ room → HasWished wish old (seen_all frames) e
+
+-- The same, with all control items that were due and are asked for, before the bytes of streams.
+pub record WithItems (first : ℕ) (wish : Wish) (room : ℕ) (old : End) (text : List ℕ) (e : End) (quota : ℕ) : Type 0 where
+  pub begins : first ≡ wish.want.first
+  pub content : Content first wish room old text e quota
+  pub ack : wish.ack_due ≡ true → (room < length text + 25) ⊎ AcksAll old (seen_all content.frames)
+  pub items : wish.want.items ≡ true → (i : Item) → IsDueItem old i → Among (Control i) (seen_all content.frames)
+
+-- The same, where streams that had their turn have nothing to send any more; of the others nothing is in it.
+pub record Flowing (wish : Wish) (room : ℕ) (old : End) (text : List ℕ) (e : End) (quota : ℕ) (t : Turn) : Type 0 where
+  pub so_far : WithItems t.first wish room old text e quota
+  pub over : (n : ℕ) → HadTurn t.around t.first t.at n → StreamGoes e n → ⊥
+  pub untouched : (n : ℕ) → (HadTurn t.around t.first t.at n → ⊥) → (c : Chunk) → InPacket e (Data n c) → ⊥
+
+-- A packet that needs no more: it has all that the cap of bytes lets in, or no room for an item more.
+pub record Packed (first : ℕ) (wish : Wish) (room : ℕ) (old : End) (text : List ℕ) (e : End) (quota : ℕ) : Type 0 where
+  pub content : Content first wish room old text e quota
+  pub whole : length text + 25 ≤ room → HasWished wish old (seen_all content.frames) e
 
 -- a packet with the streams that had their turn, or one that is full
 abbrev pub Flow : (wish : Wish) (room : ℕ) → End → List ℕ → End → (quota : ℕ) → Bool → Turn → Type 0

@@ -2,7 +2,6 @@ pub mod Touches
 pub mod Layers
 pub mod ByDir
 pub mod Ended
-pub mod ItemOrder
 pub mod Written
 pub mod Filling
 pub mod Runs
@@ -12,6 +11,8 @@ pub mod RecvTasks
 pub mod Words
 pub mod Sending
 pub mod Untold
+pub mod Carried
+pub mod OwnCarried
 pub mod Named
 pub mod Seen
 pub mod Held

@@ -11,6 +11,8 @@ use Rattle.qs_machine.specs.Ends.{End}
 use Rattle.qs_machine.specs.Outgoing.{IsIdle, sent_sum}
 use Rattle.qs_machine.specs.Standing.{KeepsCredit}
 use Rattle.qs_conn.specs.declared.middle.Core.{Core}
+use Rattle.qs_conn.specs.Carried.{AreCarried}
+use Rattle.qs_conn.specs.OwnCarried.{AreOwn}
 use Rattle.qs_conn.specs.Ended.{CountsFit}
 use Rattle.qs_conn.specs.declared.slot.Kind.{Kind}
 use Rattle.qs_conn.specs.declared.slot.Slot.{Slot}
@@ -22,7 +24,8 @@ use Rattle.qs_conn.specs.Settled.{AreNextWhere}
 use Rattle.qs_conn.specs.Untold.{AreTold, TellsAt, SendTells}
 
 -- What holds of the tables also while a packet is in the making: the peer is within its credit and this end within the peer's, the limits
--- have a text, the counts of ended streams are right, and of a half without a mark nothing is to be told that wasn't.
+-- have a text, the counts of ended streams are right, of a half without a mark nothing is to be told that wasn't, which present items of
+-- halves are outstanding is marked, and of the connection's own items their values tell it.
 pub record IsCore (c : Core) : Type 0 where
   pub sound : KeepsCredit c.limits.role c.limits.settings (present_of c.limits) c.recvs c.limits.granted
   pub fits : LimitsFit c.limits
@@ -30,6 +33,8 @@ pub record IsCore (c : Core) : Type 0 where
   pub counts : CountsFit c.limits.role c.limits.settings c.recvs c.outbox.sends c.ended c.limits.granted_streams.bidi c.limits.granted_streams.uni
   pub told_in : AreTold (TellsAt c.limits.role c.limits.settings) c.recvs c.outbox.outstanding c.outbox.acked c.untold_recvs
   pub told_out : AreTold SendTells c.outbox.sends c.outbox.outstanding c.outbox.acked c.untold_sends
+  pub carried : AreCarried c.recvs c.outbox.sends c.outbox.outstanding c.carried
+  pub own : AreOwn c.limits c.outbox.outstanding c.own
 
 -- no packet is in the making
 pub record IsAtRest (c : Core) : Type 0 where

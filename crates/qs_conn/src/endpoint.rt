@@ -11,10 +11,12 @@ ghost use Rattle.qs_conn.specs.Held.{IsHeldBy};
 ghost use Rattle.qs_machine.specs.Standing.{IsSound, IsWithinCredit};
 
 use crate::by_dir::ByDir;
+use crate::carried::Carried;
 use crate::held::Held;
 use crate::limits::Limits;
 use crate::middle::Core;
 use crate::outbox::Outbox;
+use crate::own_carried::OwnCarried;
 use crate::places::type_of;
 use crate::recv_tables::RecvTables;
 use crate::setup::{setup_fault, wide_setup_fault};
@@ -175,6 +177,8 @@ impl Endpoint {
                 recvs: RecvTables::new(alloc),
                 untold_recvs: Untold::new(alloc),
                 untold_sends: Untold::new(alloc),
+                carried: Carried::new(alloc),
+                own: OwnCarried::new(),
                 ended: ByDir::new(0, 0),
             },
             peer,
@@ -252,7 +256,9 @@ impl Endpoint {
         if self.is_settled {
             return;
         }
-        self.core.recvs.raise_all(&mut self.core.untold_recvs);
+        self.core
+            .recvs
+            .raise_all(&mut self.core.untold_recvs, &mut self.core.carried.limits);
         let taken = self.core.recvs.tally().taken;
         let settings = &self.core.limits.settings;
         let step = self.core.limits.tuning.count_step;

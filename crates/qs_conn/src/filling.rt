@@ -153,18 +153,6 @@ pub(crate) fn put_item(outbox: &mut Outbox, item: &Item, out: &mut [u8], packet:
     }
 }
 
-/// Whether an outstanding or acknowledged packet told the item with this value.
-#[tactic(auto, using(crate::proofs::Slots::acked_out, crate::proofs::Slots::acked_in))]
-pub(crate) fn is_covered(outbox: &Outbox, item: &Item) -> bool
-    ensures yes { (t : Limits) (recvs : Tables RecvLane) (e : End) → result ≡ true → IsCovered (end_by t recvs outbox.now e) item.now }
-    ensures no { (t : Limits) (recvs : Tables RecvLane) (e : End) → result ≡ false → IsCovered (end_by t recvs outbox.now e) item.now → ⊥ }
-{
-    if outbox.tells(*item) {
-        return true;
-    }
-    outbox.is_acked(*item)
-}
-
 /// A packet that is full, with so many bytes of streams left of the cap.
 pub(crate) fn full_at(len: usize, quota: usize) -> Course
     ensures { result ≡ record { len = len; quota = quota; is_full = true } }

@@ -10,11 +10,12 @@ ghost use Rattle.qs_conn.specs.declared.limits.Limits.{Limits};
 ghost use Rattle.qs_machine.specs.Outgoing.{Outgoing};
 ghost use Rattle.qs_conn.specs.Filling.{end_by, IsCurrentIn, ItemFits, LimitsFit, with_window, with_grant, AnyWantsMore};
 ghost use Rattle.qs_conn.specs.Marks.{IsIdle};
+ghost use Rattle.qs_conn.specs.OwnCarried.{AreOwn};
 
 use crate::by_dir::ByDir;
 use crate::endpoint::{is_uni, role_bit};
-use crate::filling::is_covered;
 use crate::outbox::Outbox;
+use crate::own_carried::OwnCarried;
 use crate::places::type_of;
 use crate::recv_tables::RecvTables;
 use crate::send_marks::Task;
@@ -61,14 +62,15 @@ impl Limits {
     }
 
     /// Whether a look at few numbers tells that of a slot of the connection no item is due.
-    pub(crate) fn has_told(&self, outbox: &Outbox, slot: &Slot) -> bool
-        requires { LimitsFit self.now }
+    pub(crate) fn has_told(&self, outbox: &Outbox, own: &OwnCarried, slot: &Slot) -> bool
+        requires fits { LimitsFit self.now }
+        requires own { AreOwn self.now outbox.now.outstanding own.now }
         ensures { result ≡ true → (recvs : Tables RecvLane) (e : End) → IsIdle (end_by self.now recvs outbox.now e) slot.now }
     {
         match *slot {
             Slot::MaxData => self.max_data().is_none(),
             Slot::MaxStreams(dir) => self.max_streams(dir).is_none(),
-            Slot::DataBlocked => self.has_told_blocked(outbox),
+            Slot::DataBlocked => self.has_told_blocked(outbox, own),
             Slot::StreamsBlocked(dir) => self.streams_blocked(dir).is_none(),
             _ => false,
         }
@@ -76,15 +78,15 @@ impl Limits {
 
     // The connection's limit holds nothing back, or was told. No stream is looked at.
     #[inline(always)]
-    fn has_told_blocked(&self, outbox: &Outbox) -> bool
-        requires { LimitsFit self.now }
+    fn has_told_blocked(&self, outbox: &Outbox, own: &OwnCarried) -> bool
+        requires { AreOwn self.now outbox.now.outstanding own.now }
         ensures { result ≡ true → (recvs : Tables RecvLane) (e : End) → IsIdle (end_by self.now recvs outbox.now e) slots.DataBlocked }
     {
         if outbox.sent_sum() < self.known_data {
             return true;
         }
         let limit = self.known_data;
-        is_covered(outbox, &Item::DataBlocked { limit })
+        own.is_told(outbox, &Item::DataBlocked { limit })
     }
 
     /// Sets the connection's window where so much was taken. A greater one moves the limit at once (RFC 9000, section 4.1).

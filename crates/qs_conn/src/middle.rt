@@ -4,15 +4,18 @@ ghost use Rattle.qs_machine.specs.Tables.{table};
 ghost use Rattle.qs_conn.specs.Ended.{is_over};
 
 use crate::by_dir::ByDir;
+use crate::carried::Carried;
 use crate::endpoint::{is_uni, role_bit};
 use crate::limits::Limits;
 use crate::outbox::Outbox;
+use crate::own_carried::OwnCarried;
 use crate::places::type_of;
 use crate::recv_tables::RecvTables;
 use crate::untold::Untold;
 use qs_wire::StreamId;
 
 mod acking;
+mod carrying;
 mod filling;
 mod losing;
 mod sendable;
@@ -28,6 +31,10 @@ pub(crate) struct Core {
     pub untold_recvs: Untold,
     /// Of which sending halves a reset or a limit may still have to be told.
     pub untold_sends: Untold,
+    /// Which items of halves are outstanding.
+    pub carried: Carried,
+    /// Which items of the connection itself are.
+    pub own: OwnCarried,
     /// How many of the peer's streams came to their end, of each direction.
     pub ended: ByDir<u64>,
 }

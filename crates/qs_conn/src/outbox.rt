@@ -1,7 +1,8 @@
 //! The sending side of an end.
-ghost use Rattle.std.specs.Prelude.{◌≡◌, ◌-◌, ◌≤◌, ◌^◌, ◌<◌, length, min, take, is_some, option_map, unwrap_or, true, OnOk, OnErr, IfOk, IfErr};
+ghost use Rattle.std.specs.Prelude.{◌≡◌, ◌-◌, ◌≤◌, ◌^◌, ◌<◌, length, min, take, is_some, option_map, unwrap_or, true, OnOk, OnErr, IfOk, IfErr, IfSome, IfNone};
 ghost use Rattle.qs_ranges.specs.Numbers.{MAX_VARINT};
 ghost use Rattle.qs_send.specs.Lane.{Sending, new_lane, accepted, refusal, reset_refusal, answer_of, write_lane, finish_lane, reset_lane, stop_taken, allow_lane, buffer_lane};
+ghost use Rattle.qs_send.specs.Sound.{IsLawful};
 ghost use Rattle.qs_machine.specs.Tables.{table, with_table, lookup, open_to, total, type_of};
 ghost use Rattle.qs_machine.specs.Asking.{kept_on, stop_of};
 ghost use Rattle.qs_machine.specs.Reports.{send_report};
@@ -10,17 +11,16 @@ ghost use Rattle.qs_conn.specs.Ended.{send_over};
 ghost use Rattle.qs_conn.specs.Held.{most_buffered};
 ghost use Rattle.qs_conn.specs.Promised.{promised_on};
 ghost use Rattle.qs_machine.specs.Credit.{unsent_on};
-ghost use Rattle.qs_machine.specs.Outgoing.{no_packets, with_sends, on_lane, sent_sum, HasSending, AreOfOpen};
+ghost use Rattle.qs_machine.specs.Outgoing.{AreApartIn, no_packets, with_sends, on_lane, sent_sum, HasSending, AreOfOpen};
 
 use crate::piece_room::PieceRoom;
 use crate::places::{index_of, type_of};
 use crate::send_lanes::SendLanes;
 use crate::told::ToldItems;
-use crate::told_index::ToldIndex;
 use halves::{half_of, is_open};
 use qs_calls::SendReport;
 use qs_ranges::NoMemory;
-use qs_send::{LostRecords, Piece, Records, SendFault, SendState};
+use qs_send::{LostRecords, Piece, Records, SendFault, SendState, SendView};
 use qs_wire::StreamId;
 use std::alloc::Global;
 use std::marker::Model;
@@ -46,8 +46,6 @@ pub(crate) struct Outbox {
     pending: Vec<Piece>,
     // Memory in which they will be kept.
     room: PieceRoom,
-    // The items that outstanding packets and the one in the making told.
-    index: ToldIndex,
     // For how many more pieces there is memory.
     spare: usize,
     next: u64,
@@ -57,7 +55,7 @@ pub(crate) struct Outbox {
 // Clauses see the lanes. What of them is due stays inside: what was written and is neither acknowledged nor outstanding.
 impl Model for Outbox {
     ghost use Rattle.std.specs.Prelude.{◌≡◌, ◌-◌, length, nat_lt, vec_len, vec_capacity};
-    ghost use Rattle.qs_machine.specs.Outgoing.{Outgoing, IsOutbox, IsIndexed, AreSent, lanes_of, with_pending};
+    ghost use Rattle.qs_machine.specs.Outgoing.{Outgoing, IsOutbox, AreSent, lanes_of, with_pending};
     ghost use Rattle.qs_machine.specs.EndCodes.{outgoing_code};
     ghost use Rattle.qs_machine.specs.Sums.{tables_of};
 
@@ -74,7 +72,7 @@ impl Model for Outbox {
       spare = o.spare;
     } };
 
-    ghost invariant = { λ o. IsOutbox (tables_of o.types) o.records.pieces (nat_lt o.next o.records.room) o.pending.items o.next o.sent o.spare (vec_capacity o.pending - vec_len o.pending) × IsIndexed (with_pending o.records.pieces o.next o.pending.items) o.index.items o.spare o.index.spare × AreSent (tables_of o.types) o.lost.pieces × (length o.types ≡ 4) };
+    ghost invariant = { λ o. IsOutbox (tables_of o.types) o.records.pieces (nat_lt o.next o.records.room) o.pending.items o.next o.sent o.spare (vec_capacity o.pending - vec_len o.pending) × AreSent (tables_of o.types) o.lost.pieces × (length o.types ≡ 4) };
 }
 
 impl Outbox {
@@ -92,7 +90,6 @@ impl Outbox {
             records: Records::new(alloc),
             lost: LostRecords::new(alloc),
             pending: Vec::new(alloc),
-            index: ToldIndex::new(alloc),
             spare: 0,
             next: 0,
             told: ToldItems::new(alloc),
@@ -104,6 +101,13 @@ impl Outbox {
     pub(crate) fn learn_of_open(&self)
         ensures outstanding { AreOfOpen self.now.sends self.now.outstanding }
         ensures lost { AreOfOpen self.now.sends self.now.lost.pieces }
+    {
+        let _next = self.next;
+    }
+
+    /// Any two outstanding pieces are apart. It does nothing: a caller learns the clause.
+    pub(crate) fn learn_apart(&self)
+        ensures { AreApartIn self.now.outstanding }
     {
         let _next = self.next;
     }
@@ -122,6 +126,21 @@ impl Outbox {
         ensures { result ≡ is_some (lookup self.now.sends stream) }
     {
         is_open(&self.types, stream)
+    }
+
+    /// A stream's sending half, where it is open.
+    #[inline(always)]
+    pub(crate) fn half(&self, stream: StreamId) -> Option<SendView<'_>>
+        ensures found { IfSome result (λ s. lookup self.now.sends stream ≡ Some s.lane) }
+        ensures lawful { IfSome result IsLawful }
+        ensures none { IfNone result (lookup self.now.sends stream ≡ None) }
+    {
+        if !is_open(&self.types, stream) {
+            return None;
+        }
+        let half = half_of(&self.types, stream);
+        half.learn_lawful();
+        Some(half)
     }
 
     /// How many streams of the type of this one are open.
@@ -145,10 +164,9 @@ impl Outbox {
     pub(crate) fn has_ended(&self, stream: StreamId) -> bool
         ensures { result ≡ send_over (lookup self.now.sends stream) }
     {
-        if !is_open(&self.types, stream) {
+        let Some(half) = self.half(stream) else {
             return false;
-        }
-        let half = half_of(&self.types, stream);
+        };
         half.learn_lawful();
         matches!(half.state(), SendState::DataRecvd | SendState::ResetRecvd)
     }
@@ -157,10 +175,7 @@ impl Outbox {
     pub(crate) fn report(&self, stream: StreamId) -> Option<SendReport>
         ensures { result ≡ option_map send_report (lookup self.now.sends stream) }
     {
-        if !is_open(&self.types, stream) {
-            return None;
-        }
-        let half = half_of(&self.types, stream);
+        let half = self.half(stream)?;
         Some(SendReport {
             state: half.state(),
             written: half.written(),
@@ -316,10 +331,7 @@ impl Outbox {
     pub(crate) fn stop_code(&self, stream: StreamId) -> Option<u64>
         ensures { result ≡ stop_of (lookup self.now.sends stream) }
     {
-        if !is_open(&self.types, stream) {
-            return None;
-        }
-        let half = half_of(&self.types, stream);
+        let half = self.half(stream)?;
         half.stop_code()
     }
 

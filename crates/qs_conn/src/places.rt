@@ -1,8 +1,9 @@
 //! Where a stream stands in a table.
-ghost use Rattle.std.specs.Prelude.{◌≡◌, ◌+◌, ◌-◌, ◌/◌, ◌≤◌, ◌<◌, ◌^◌};
+ghost use Rattle.std.specs.Prelude.{◌≡◌, ◌+◌, ◌-◌, ◌/◌, ◌≤◌, ◌<◌, ◌^◌, IfSome};
 ghost use Rattle.qs_machine.specs.Tables.{type_of, index_of};
 ghost use Rattle.qs_conn.specs.Marks.{least_of};
 
+use crate::marks::least;
 use qs_wire::StreamId;
 use std::marker::Model;
 
@@ -74,5 +75,27 @@ pub(crate) fn lesser(a: Option<StreamId>, b: Option<StreamId>) -> Option<StreamI
         (Some(first), Some(second)) if second.value() < first.value() => b,
         (Some(_first), _) => a,
         (None, _) => b,
+    }
+}
+
+/// The stream of the least of four numbers, one for each type, where there are some.
+#[inline(always)]
+pub(crate) fn least_stream(
+    a: Option<u64>,
+    b: Option<u64>,
+    c: Option<u64>,
+    d: Option<u64>,
+) -> Option<StreamId>
+    requires a { IfSome a (λ n. n < 2 ^ 62) }
+    requires b { IfSome b (λ n. n < 2 ^ 62) }
+    requires c { IfSome c (λ n. n < 2 ^ 62) }
+    requires d { IfSome d (λ n. n < 2 ^ 62) }
+    ensures { result ≡ least_of (least_of a b) (least_of c d) }
+{
+    let bidi = least(a, b);
+    let uni = least(c, d);
+    match least(bidi, uni) {
+        Some(number) => StreamId::new(number),
+        None => None,
     }
 }

@@ -1,36 +1,30 @@
 //! The receiving halves of the streams of one type.
-ghost use Rattle.std.specs.Prelude.{◌≡◌, ◌+◌, ◌-◌, ◌≤◌, ◌<◌, ◌^◌, ◌++◌, ◌∷◌, [], length, drop, map, min, take, slice_get, slice_index_or, option_map, ℕ, false, None, Some, IfSome, IfNone, OnOk, OnErr, IsOk, IfOk, Ok};
+ghost use Rattle.std.specs.Prelude.{◌≡◌, ◌+◌, ◌-◌, ◌≤◌, ◌<◌, ◌^◌, ◌++◌, ◌∷◌, [], length, drop, map, min, take, slice_get, slice_index_or, ℕ, false, None, Some, IfSome, IfNone, OnOk, OnErr, IsOk};
 ghost use Rattle.std.specs.List.{sum_by};
 ghost use Rattle.qs_ranges.specs.Numbers.{MAX_VARINT};
-ghost use Rattle.qs_recv.specs.Lane.{MAX_WINDOW, RecvLane, new_lane, check_stream, check_reset, check_bytes, highest, highest_after, taken, take_stream, take_reset, read_answer, bytes_read, after_read, raise, stop, stop_and_forget, set_window};
+ghost use Rattle.qs_recv.specs.Lane.{MAX_WINDOW, RecvLane, new_lane, check_stream, check_reset, check_bytes, highest, highest_after, take_stream, take_reset, read_answer, bytes_read, after_read, raise, stop, stop_and_forget, set_window};
 ghost use Rattle.qs_recv.specs.Lawful.{IsLawful};
-ghost use Rattle.qs_recv.specs.Changes.{stream_changes};
-ghost use Rattle.qs_recv.specs.Peek.{IsPeek};
 ghost use Rattle.qs_machine.specs.Tables.{widened};
 ghost use Rattle.qs_machine.specs.Memory.{HasNews};
-ghost use Rattle.qs_machine.specs.Changes.{half_changes, reset_changes};
-ghost use Rattle.qs_machine.specs.Reports.{recv_report};
 ghost use Rattle.qs_machine.specs.Verdicts.{or_new};
 ghost use Rattle.qs_machine.specs.Sums.{changed, tally_of, tally_on, stored_on, moved, IsPart, IsPaid, EachLawful};
-ghost use Rattle.qs_conn.specs.Ended.{recv_over};
 ghost use Rattle.qs_conn.specs.Held.{most_held};
-ghost use Rattle.qs_conn.specs.Layers.{limit_to_tell, stop_to_tell};
 ghost use Rattle.qs_conn.specs.Touches.{AreSettled};
 ghost use Rattle.qs_machine.specs.News.{IsLeast};
 ghost use Rattle.qs_conn.specs.Marks.{AreMarked, IsAt, IsUntoldAt};
 ghost use Rattle.qs_conn.specs.declared.recv_marks.RecvTask.TheVariants as tasks;
 ghost use Rattle.qs_conn.specs.Untold.{HasMore, IsRaisedMarked, AreRaisedMarked};
-ghost use Rattle.qs_conn.specs.RecvTasks.{has_news, HasOne, HasNone};
+ghost use Rattle.qs_conn.specs.RecvTasks.{HasOne, HasNone};
+ghost use Rattle.qs_conn.specs.Carried.{StayExactOf};
 
 use crate::marks::Marks;
-use crate::recv_marks::{RecvMarks, RecvTask, has};
+use crate::recv_marks::{RecvMarks, RecvTask};
 use crate::told_marks::ToldMarks;
 use crate::touches::Touches;
 use crate::untold::Untold;
-use qs_calls::RecvReport;
 use qs_machine::Tally;
 use qs_ranges::NoMemory;
-use qs_recv::{Highest, Peek, Read, RecvFault, RecvHalf, RecvState, RingAssembly, Share};
+use qs_recv::{Highest, Read, RecvFault, RecvHalf, RingAssembly, Share};
 use qs_wire::StreamId;
 use std::alloc::Global;
 use std::marker::Model;
@@ -45,7 +39,7 @@ pub(crate) struct RecvLanes {
     tally: Tally,
     // A lane that wasn't touched has no limit that is to be raised.
     touched: Touches,
-    // A lane without a mark has no answer for its owner.
+    // Which lanes have an answer for their owner.
     news: RecvMarks,
 }
 
@@ -121,46 +115,6 @@ impl RecvLanes {
         held_of(&self.halves)
     }
 
-    /// Whether a frame may be taken at an index, whose lane may have yet to be opened.
-    pub(crate) fn check_stream(
-        &self,
-        window: u64,
-        index: usize,
-        offset: u64,
-        len: u64,
-        fin: bool,
-    ) -> Result<Highest, RecvFault>
-        requires in_range { offset + len ≤ MAX_VARINT }
-        requires some { 1 ≤ window }
-        requires small { window ≤ MAX_WINDOW }
-        ensures value { (share : Share) → result ≡ check_stream (or_new (slice_get self.now index) window share) offset len fin }
-        ensures in_range { IfOk result (λ h. h.after ≤ MAX_VARINT) }
-    {
-        match self.halves.get(index) {
-            Some(half) => half.check_stream(offset, len, fin),
-            None => Half::check_first(self.alloc, window, offset, len, fin),
-        }
-    }
-
-    /// Whether a frame's bytes are those that are stored at an index, whose lane may have yet to be opened.
-    pub(crate) fn check_bytes(
-        &self,
-        window: u64,
-        index: usize,
-        offset: u64,
-        bytes: &[u8],
-    ) -> Result<(), RecvFault>
-        requires in_range { offset + length bytes.now ≤ MAX_VARINT }
-        requires some { 1 ≤ window }
-        requires small { window ≤ MAX_WINDOW }
-        ensures { (share : Share) → result ≡ check_bytes (or_new (slice_get self.now index) window share) offset bytes.now }
-    {
-        match self.halves.get(index) {
-            Some(half) => half.check_bytes(offset, bytes),
-            None => Half::check_first_bytes(self.alloc, window, offset, bytes),
-        }
-    }
-
     /// Whether a reset may be taken at an index, whose lane may have yet to be opened.
     pub(crate) fn check_reset(
         &self,
@@ -177,27 +131,6 @@ impl RecvLanes {
             Some(half) => half.check_reset(size),
             None => Half::check_first_reset(self.alloc, window, size),
         }
-    }
-
-    /// Whether a frame that passed both checks would change an open lane.
-    pub(crate) fn stream_changes(&self, index: usize, offset: u64, len: u64, fin: bool) -> bool
-        requires { offset + len ≤ MAX_VARINT }
-        ensures { result ≡ half_changes (λ l. stream_changes l offset len fin) (slice_get self.now index) }
-    {
-        let Some(half) = self.halves.get(index) else {
-            return false;
-        };
-        half.stream_changes(offset, len, fin)
-    }
-
-    /// Whether a reset that passed the check would change an open lane.
-    pub(crate) fn reset_changes(&self, index: usize) -> bool
-        ensures { result ≡ half_changes reset_changes (slice_get self.now index) }
-    {
-        let Some(half) = self.halves.get(index) else {
-            return false;
-        };
-        matches!(half.state(), RecvState::Recv | RecvState::SizeKnown)
     }
 
     /// Opens the lanes of all indexes below a count.
@@ -311,16 +244,6 @@ impl RecvLanes {
         self.news.may_tell(index)
     }
 
-    /// Whether a read of one byte of a lane tells something new.
-    pub(crate) fn is_readable(&self, index: usize) -> bool
-        ensures { result ≡ has_news (slice_get self.now index) }
-    {
-        match self.halves.get(index) {
-            Some(half) => half.is_readable(),
-            None => false,
-        }
-    }
-
     /// Reads at an open lane.
     pub(crate) fn read(&mut self, index: usize, into: &mut [u8]) -> Read
         requires there { index < length self.old }
@@ -356,15 +279,6 @@ impl RecvLanes {
         self.tally = moved(self.tally, was, is);
         self.touched.touch(index);
         answer
-    }
-
-    /// Tells what a read at an open lane would, and changes nothing.
-    pub(crate) fn peek(&self, index: usize) -> Peek<'_>
-        requires { index < length self.now }
-        ensures { IsPeek (slice_index_or self.now index (new_lane 0 Share.Half)) result }
-    {
-        let half = &self.halves[index];
-        half.peek()
     }
 
     /// Stops an open lane.
@@ -419,76 +333,31 @@ impl RecvLanes {
         self.touched.touch(index);
     }
 
-    /// Whether a lane is in Data Read or Reset Read (RFC 9000, section 3.2).
-    pub(crate) fn has_ended(&self, index: usize) -> bool
-        ensures { result ≡ recv_over (slice_get self.now index) }
-    {
-        match self.halves.get(index) {
-            Some(half) => half.has_ended(),
-            None => false,
-        }
-    }
-
-    /// How a lane stands, where it is open.
-    pub(crate) fn report(&self, index: usize) -> Option<RecvReport>
-        ensures { result ≡ option_map recv_report (slice_get self.now index) }
-    {
-        let half = self.halves.get(index)?;
-        Some(RecvReport {
-            state: half.state(),
-            read_count: half.read_count(),
-            highest: half.sizes().spent,
-            limit: half.limit(),
-            final_size: half.final_size(),
-            reset_code: half.reset_code(),
-            stop_code: half.stop_code(),
-        })
-    }
-
-    /// How many bytes of a lane count as taken, where it is open.
-    pub(crate) fn taken(&self, index: usize) -> Option<u64>
-        ensures { result ≡ option_map taken (slice_get self.now index) }
-    {
-        let half = self.halves.get(index)?;
-        Some(half.sizes().taken)
-    }
-
-    /// The limit of an open lane of which no final size is known.
-    pub(crate) fn limit_to_tell(&self, index: usize) -> Option<u64>
-        ensures value { result ≡ limit_to_tell (slice_get self.now index) }
-        ensures small { IfSome result (λ limit. limit ≤ MAX_VARINT) }
-    {
-        let half = self.halves.get(index)?;
-        match half.final_size() {
-            Some(_known) => None,
-            None => Some(half.limit()),
-        }
-    }
-
-    /// The code of a stop that the peer is to be told of.
-    pub(crate) fn stop_to_tell(&self, index: usize) -> Option<u64>
-        ensures value { result ≡ stop_to_tell (slice_get self.now index) }
-        ensures small { IfSome result (λ code. code ≤ MAX_VARINT) }
-    {
-        let half = self.halves.get(index)?;
-        match half.state() {
-            RecvState::Recv | RecvState::SizeKnown => half.stop_code(),
-            _ => None,
-        }
-    }
-
-    /// Each limit becomes the next one, and a stream whose limit rises is marked. Only lanes that were touched are looked at.
+    /// Each limit becomes the next one, and a stream whose limit rises is marked: the new one is untold, and none that is outstanding is
+    /// the present one. Only lanes that were touched are looked at.
     #[inline]
-    pub(crate) fn raise_all(&mut self, stream_type: usize, untold: &mut Untold)
+    pub(crate) fn raise_all(
+        &mut self,
+        stream_type: usize,
+        untold: &mut Untold,
+        carried: &mut Untold,
+    )
         requires { stream_type < 4 }
         ensures after { self.new ≡ map raise self.old }
         ensures marks { HasMore untold.old untold.new }
         ensures marked { AreRaisedMarked stream_type self.old untold.new }
+        ensures exact { StayExactOf stream_type self.old self.new carried.old carried.new }
     {
         if self.touched.is_none() {
             return;
         }
-        raise_touched(&mut self.halves, &mut self.touched, stream_type, untold);
+        raise_touched(
+            &mut self.halves,
+            &mut self.touched,
+            stream_type,
+            untold,
+            carried,
+        );
     }
 
     /// The marks of the lanes that may have come to their end. One without a mark hasn't.
@@ -504,14 +373,7 @@ impl RecvLanes {
         ensures least { IsLeast (IsAt (HasOne task) self.now) from result }
         ensures small { IfSome result (λ n. n < 2 ^ 60) }
     {
-        let mut next = from;
-        while let Some(index) = self.news.next(task, next) {
-            if has(task, &self.halves[index]) {
-                return Some(index);
-            }
-            next = index + 1;
-        }
-        None
+        self.news.next(task, from)
     }
 }
 
@@ -530,14 +392,7 @@ impl RecvLanes {
         ensures least { IsLeast (IsUntoldAt (HasOne task) self.now told.now) 0 result }
         ensures small { IfSome result (λ n. n < 2 ^ 60) }
     {
-        let mut next = 0;
-        while let Some(index) = self.news.next_untold(task, told, next) {
-            if has(task, &self.halves[index]) {
-                return Some(index);
-            }
-            next = index + 1;
-        }
-        None
+        self.news.next_untold(task, told, 0)
     }
 }
 
@@ -612,6 +467,7 @@ fn raise_touched(
     touched: &mut Touches,
     stream_type: usize,
     untold: &mut Untold,
+    carried: &mut Untold,
 )
     requires stream_type { stream_type < 4 }
     requires few { length halves.old.items ≤ 2 ^ 60 }
@@ -621,16 +477,23 @@ fn raise_touched(
     ensures settled { AreSettled touched.new halves.new.items }
     ensures marks { HasMore untold.old untold.new }
     ensures marked { AreRaisedMarked stream_type halves.old.items untold.new }
+    ensures exact { StayExactOf stream_type halves.old.items halves.new.items carried.old carried.new }
 {
     while let Some(index) = touched.pop() {
         if index < halves.len() {
-            raise_at(halves, index, stream_type, untold);
+            raise_at(halves, index, stream_type, untold, carried);
         }
     }
 }
 
 #[tactic(auto, using(crate::proofs::Untolds::has_same, crate::proofs::Untolds::has_marked, crate::proofs::LaneMarks::raised_none, crate::proofs::LaneMarks::raised_some, crate::proofs::LaneEdits::changed_at))]
-fn raise_at(halves: &mut Vec<Half>, index: usize, stream_type: usize, untold: &mut Untold)
+fn raise_at(
+    halves: &mut Vec<Half>,
+    index: usize,
+    stream_type: usize,
+    untold: &mut Untold,
+    carried: &mut Untold,
+)
     requires there { index < length halves.old.items }
     requires stream_type { stream_type < 4 }
     requires few { length halves.old.items ≤ 2 ^ 60 }
@@ -638,10 +501,12 @@ fn raise_at(halves: &mut Vec<Half>, index: usize, stream_type: usize, untold: &m
     ensures len { length halves.new.items ≡ length halves.old.items }
     ensures marks { HasMore untold.old untold.new }
     ensures marked { IsRaisedMarked stream_type halves.old.items untold.new index }
+    ensures exact { StayExactOf stream_type halves.old.items halves.new.items carried.old carried.new }
 {
     let half = &mut halves[index];
     if let Some(_limit) = half.raise() {
         let stream = StreamId::new((index * 4 + stream_type) as u64).unwrap();
         untold.set(stream, true);
+        carried.set(stream, false);
     }
 }

@@ -20,7 +20,7 @@ pub(crate) enum RecvTask {
     Ended,
 }
 
-/// The halves of one type with an answer for their owner, for each task. A half without a mark has none.
+/// The halves of one type with an answer for their owner, for each task.
 #[derive(Drop)]
 pub(crate) struct RecvMarks {
     readable: Marks,
@@ -113,15 +113,5 @@ impl RecvMarks {
             RecvTask::Readable => self.readable.next_untold(&self.readable, told, from),
             RecvTask::Ended => self.ended.next_untold(&self.ended, told, from),
         }
-    }
-}
-
-/// Whether a half has an answer of that kind.
-pub(crate) fn has(task: RecvTask, half: &RecvHalf<RingAssembly>) -> bool
-    ensures { result ≡ has task half.now }
-{
-    match task {
-        RecvTask::Readable => half.is_readable(),
-        RecvTask::Ended => half.has_ended(),
     }
 }

@@ -1,5 +1,5 @@
 //! The receiving halves of an end.
-ghost use Rattle.std.specs.Prelude.{◌≡◌, ◌+◌, ◌≤◌, ◌<◌, ◌^◌, ◌++◌, ℕ, length, drop, take, is_some, option_map, true, false, Some, None, OnOk, OnErr, IsOk, IfOk, IfSome, IfNone};
+ghost use Rattle.std.specs.Prelude.{◌≡◌, ◌+◌, ◌≤◌, ◌<◌, ◌^◌, ◌++◌, ℕ, length, drop, take, is_some, option_map, true, false, Some, None, OnOk, OnErr, IsOk, IfSome, IfNone};
 ghost use Rattle.qs_ranges.specs.Numbers.{MAX_VARINT};
 ghost use Rattle.qs_recv.specs.Lane.{RecvLane, new_lane, check_stream, check_reset, check_bytes, highest, taken, noted, take_stream, take_reset, read_answer, bytes_read, after_read, raise, stop, stop_and_forget, MAX_WINDOW, set_window};
 ghost use Rattle.qs_machine.specs.Tables.{no_streams, table, with_table, lookup, updated, open_to, each, total, type_of};
@@ -17,10 +17,11 @@ ghost use Rattle.qs_machine.specs.News.{IsLeast, IsHeld};
 ghost use Rattle.qs_conn.specs.Marks.{IsHeldOf, AreEndsMarked, IsUntold, IsUntoldOf};
 ghost use Rattle.qs_conn.specs.declared.recv_marks.RecvTask.TheVariants as tasks;
 ghost use Rattle.qs_conn.specs.Untold.{HasMore};
+ghost use Rattle.qs_conn.specs.Carried.{StayExact};
 ghost use Rattle.qs_conn.specs.RecvTasks.{HasOne, HasNone, has_news};
 
-use crate::marks::{Marks, least};
-use crate::places::{Place, index_from, index_of, type_of};
+use crate::marks::Marks;
+use crate::places::{Place, index_from, index_of, least_stream, type_of};
 use crate::recv_lanes::{Half, RecvLanes};
 use crate::recv_marks::RecvTask;
 use crate::told_streams::ToldStreams;
@@ -28,7 +29,7 @@ use crate::untold::Untold;
 use qs_calls::RecvReport;
 use qs_machine::Tally;
 use qs_ranges::NoMemory;
-use qs_recv::{Highest, Peek, Read, RecvFault, Share};
+use qs_recv::{Highest, Peek, Read, RecvFault, RecvState, Share};
 use qs_wire::StreamId;
 use std::alloc::Global;
 use std::marker::Model;
@@ -88,42 +89,6 @@ impl RecvTables {
         lanes.half(stream.index)
     }
 
-    /// Whether a frame may be taken, at a stream that may have yet to be opened with that window.
-    pub(crate) fn check_stream(
-        &self,
-        window: u64,
-        stream: StreamId,
-        offset: u64,
-        len: u64,
-        fin: bool,
-    ) -> Result<Highest, RecvFault>
-        requires in_range { offset + len ≤ MAX_VARINT }
-        requires some { 1 ≤ window }
-        requires small { window ≤ MAX_WINDOW }
-        ensures value { (share : Share) → result ≡ check_stream (or_new (lookup self.now stream) window share) offset len fin }
-        ensures in_range { IfOk result (λ h. h.after ≤ MAX_VARINT) }
-    {
-        let lanes = &self.types[type_of(stream)];
-        lanes.check_stream(window, index_of(stream), offset, len, fin)
-    }
-
-    /// Whether a frame's bytes are those that are stored, at a stream that may have yet to be opened with that window.
-    pub(crate) fn check_bytes(
-        &self,
-        window: u64,
-        stream: StreamId,
-        offset: u64,
-        bytes: &[u8],
-    ) -> Result<(), RecvFault>
-        requires in_range { offset + length bytes.now ≤ MAX_VARINT }
-        requires some { 1 ≤ window }
-        requires small { window ≤ MAX_WINDOW }
-        ensures { (share : Share) → result ≡ check_bytes (or_new (lookup self.now stream) window share) offset bytes.now }
-    {
-        let lanes = &self.types[type_of(stream)];
-        lanes.check_bytes(window, index_of(stream), offset, bytes)
-    }
-
     /// Whether a reset may be taken, at a stream that may have yet to be opened with that window.
     pub(crate) fn check_reset(
         &self,
@@ -145,16 +110,20 @@ impl RecvTables {
         requires { offset + len ≤ MAX_VARINT }
         ensures { result ≡ half_changes (λ l. stream_changes l offset len fin) (lookup self.now stream) }
     {
-        let lanes = &self.types[type_of(stream)];
-        lanes.stream_changes(index_of(stream), offset, len, fin)
+        let Some(half) = self.half(Place::of(stream)) else {
+            return false;
+        };
+        half.stream_changes(offset, len, fin)
     }
 
     /// Whether a reset that passed the check would change an open stream.
     pub(crate) fn reset_changes(&self, stream: StreamId) -> bool
         ensures { result ≡ half_changes reset_changes (lookup self.now stream) }
     {
-        let lanes = &self.types[type_of(stream)];
-        lanes.reset_changes(index_of(stream))
+        let Some(half) = self.half(Place::of(stream)) else {
+            return false;
+        };
+        matches!(half.state(), RecvState::Recv | RecvState::SizeKnown)
     }
 
     /// How many streams of the type of this one are open.
@@ -253,8 +222,10 @@ impl RecvTables {
     pub(crate) fn is_readable(&self, stream: StreamId) -> bool
         ensures { result ≡ has_news (lookup self.now stream) }
     {
-        let lanes = &self.types[type_of(stream)];
-        lanes.is_readable(index_of(stream))
+        match self.half(Place::of(stream)) {
+            Some(half) => half.is_readable(),
+            None => false,
+        }
     }
 
     /// Reads at an open stream.
@@ -285,8 +256,8 @@ impl RecvTables {
         requires { is_some (lookup self.now stream) ≡ true }
         ensures { IsPeek (or_new (lookup self.now stream) 0 Share.Half) result }
     {
-        let lanes = &self.types[type_of(stream)];
-        lanes.peek(index_of(stream))
+        let half = self.half(Place::of(stream)).unwrap();
+        half.peek()
     }
 
     /// Stops an open stream.
@@ -327,8 +298,10 @@ impl RecvTables {
     pub(crate) fn has_ended(&self, stream: StreamId) -> bool
         ensures { result ≡ recv_over (lookup self.now stream) }
     {
-        let lanes = &self.types[type_of(stream)];
-        lanes.has_ended(index_of(stream))
+        match self.half(Place::of(stream)) {
+            Some(half) => half.has_ended(),
+            None => false,
+        }
     }
 
     /// No type has more streams than have a number. It does nothing: a caller learns the clause.
@@ -345,16 +318,32 @@ impl RecvTables {
     pub(crate) fn report(&self, stream: StreamId) -> Option<RecvReport>
         ensures { result ≡ option_map recv_report (lookup self.now stream) }
     {
-        let lanes = &self.types[type_of(stream)];
-        lanes.report(index_of(stream))
+        let half = self.half(Place::of(stream))?;
+        Some(RecvReport {
+            state: half.state(),
+            read_count: half.read_count(),
+            highest: half.sizes().spent,
+            limit: half.limit(),
+            final_size: half.final_size(),
+            reset_code: half.reset_code(),
+            stop_code: half.stop_code(),
+        })
     }
 
     /// How many bytes of a stream count as taken, where it is open.
     pub(crate) fn taken(&self, stream: StreamId) -> Option<u64>
         ensures { result ≡ option_map taken (lookup self.now stream) }
     {
-        let lanes = &self.types[type_of(stream)];
-        lanes.taken(index_of(stream))
+        let half = self.half(Place::of(stream))?;
+        Some(half.sizes().taken)
+    }
+
+    /// The limit of an open stream.
+    pub(crate) fn limit_of(&self, stream: StreamId) -> Option<u64>
+        ensures { result ≡ option_map (λ l. l.limit) (lookup self.now stream) }
+    {
+        let half = self.half(Place::of(stream))?;
+        Some(half.limit())
     }
 
     /// The limit of an open stream of which no final size is known.
@@ -362,8 +351,11 @@ impl RecvTables {
         ensures value { result ≡ limit_to_tell (lookup self.now stream) }
         ensures small { IfSome result (λ limit. limit ≤ MAX_VARINT) }
     {
-        let lanes = &self.types[type_of(stream)];
-        lanes.limit_to_tell(index_of(stream))
+        let half = self.half(Place::of(stream))?;
+        match half.final_size() {
+            Some(_known) => None,
+            None => Some(half.limit()),
+        }
     }
 
     /// The code of a stop that the peer is to be told of.
@@ -371,8 +363,11 @@ impl RecvTables {
         ensures value { result ≡ stop_to_tell (lookup self.now stream) }
         ensures small { IfSome result (λ code. code ≤ MAX_VARINT) }
     {
-        let lanes = &self.types[type_of(stream)];
-        lanes.stop_to_tell(index_of(stream))
+        let half = self.half(Place::of(stream))?;
+        match half.state() {
+            RecvState::Recv | RecvState::SizeKnown => half.stop_code(),
+            _ => None,
+        }
     }
 
     /// The least number from one on of a stream whose receiving half has an answer for its owner.
@@ -380,18 +375,12 @@ impl RecvTables {
         requires { from ≤ 2 ^ 62 }
         ensures { IsLeast (IsHeld (HasOne task) self.now) from result }
     {
-        let bidi = least(
+        least_stream(
             self.next_with_of(task, 0, from),
             self.next_with_of(task, 1, from),
-        );
-        let uni = least(
             self.next_with_of(task, 2, from),
             self.next_with_of(task, 3, from),
-        );
-        match least(bidi, uni) {
-            Some(number) => StreamId::new(number),
-            None => None,
-        }
+        )
     }
 
     // The least such number among the streams of a type.
@@ -413,18 +402,12 @@ impl RecvTables {
     pub(crate) fn next_untold(&self, task: RecvTask, told: &ToldStreams) -> Option<StreamId>
         ensures { IsLeast (IsUntold (IsHeld (HasOne task) self.now) told.now) 0 result }
     {
-        let bidi = least(
+        least_stream(
             self.next_untold_of(task, 0, told),
             self.next_untold_of(task, 1, told),
-        );
-        let uni = least(
             self.next_untold_of(task, 2, told),
             self.next_untold_of(task, 3, told),
-        );
-        match least(bidi, uni) {
-            Some(number) => StreamId::new(number),
-            None => None,
-        }
+        )
     }
 
     // The least such number among the streams of a type.
@@ -483,16 +466,18 @@ impl RecvTables {
         bidi.saturating_add(uni)
     }
 
-    /// Each limit becomes the next one, and a stream whose limit rises is marked.
-    pub(crate) fn raise_all(&mut self, untold: &mut Untold)
+    /// Each limit becomes the next one, and a stream whose limit rises is marked: the new one is untold, and none that is outstanding is
+    /// the present one.
+    pub(crate) fn raise_all(&mut self, untold: &mut Untold, carried: &mut Untold)
         ensures after { self.new ≡ each raise self.old }
         ensures marks { HasMore untold.old untold.new }
         ensures marked { (n : ℕ) (l : RecvLane) → lookup self.old n ≡ Some l → lookup untold.new n ≡ Some false → raise l ≡ l }
+        ensures exact { StayExact self.old self.new carried.old carried.new }
     {
-        self.types[0].raise_all(0, untold);
-        self.types[1].raise_all(1, untold);
-        self.types[2].raise_all(2, untold);
-        self.types[3].raise_all(3, untold);
+        self.types[0].raise_all(0, untold, carried);
+        self.types[1].raise_all(1, untold, carried);
+        self.types[2].raise_all(2, untold, carried);
+        self.types[3].raise_all(3, untold, carried);
     }
 }
 

@@ -2,13 +2,14 @@
 ghost use Rattle.std.specs.Prelude.{◌≡◌, ◌+◌, ◌-◌, ◌++◌, ◌≤◌, ◌<◌, ◌^◌, [], ℕ, Bool, true, false, length, slice_get, replicate, IfSome, OnOk, OnErr};
 ghost use Rattle.qs_machine.specs.Tables.{no_streams, lookup, updated, open_to};
 ghost use Rattle.qs_machine.specs.Sums.{changed};
-ghost use Rattle.qs_conn.specs.Marks.{IsBefore, IsNextMark, HaveTo};
+ghost use Rattle.qs_conn.specs.Marks.{IsBefore, IsNextMark, HaveTo, is_marked};
+ghost use Rattle.qs_machine.specs.Heard.{is_told};
 ghost use Rattle.qs_machine.specs.Outgoing.{IsBlockedAt};
 ghost use Rattle.qs_conn.specs.Untold.{IsClear, IsUnmarked, HasMore, marked_for, told_by_recv, told_by_send};
 
-use crate::marks::{Marks, least};
+use crate::marks::Marks;
 use crate::outbox::Outbox;
-use crate::places::{index_from, index_of, type_of};
+use crate::places::{index_from, index_of, least_stream, type_of};
 use qs_ranges::NoMemory;
 use qs_send::{Item, Piece};
 use qs_wire::StreamId;
@@ -58,6 +59,15 @@ impl UntoldLanes {
             return;
         }
         self.marks.set(index, is_marked);
+    }
+
+    fn has(&self, index: usize) -> bool
+        ensures { result ≡ is_marked self.now index }
+    {
+        if index >= self.marks.len() {
+            return false;
+        }
+        self.marks.has(index)
     }
 
     #[inline(always)]
@@ -129,6 +139,14 @@ impl Untold {
         lanes.set(index_of(stream), is_marked);
     }
 
+    /// Whether a stream is marked.
+    pub(crate) fn has(&self, stream: StreamId) -> bool
+        ensures { result ≡ is_told self.now stream }
+    {
+        let lanes = &self.types[type_of(stream)];
+        lanes.has(index_of(stream))
+    }
+
     /// A sending half was written to, or its bytes went into a packet: it is marked where it stands at its limit with more written
     /// (RFC 9000, section 4.1).
     #[inline(always)]
@@ -160,9 +178,12 @@ impl Untold {
         ensures from { IfSome result (λ n. from ≤ n) }
         ensures unmarked { (n : ℕ) (b : Bool) → from ≤ n → IsBefore n result → lookup self.now n ≡ Some b → b ≡ false }
     {
-        let bidi = least(self.next_of(0, from), self.next_of(1, from));
-        let uni = least(self.next_of(2, from), self.next_of(3, from));
-        StreamId::new(least(bidi, uni)?)
+        least_stream(
+            self.next_of(0, from),
+            self.next_of(1, from),
+            self.next_of(2, from),
+            self.next_of(3, from),
+        )
     }
 
     /// Whether any stream may be marked.
@@ -186,7 +207,8 @@ impl Untold {
     fn next_of(&self, stream_type: usize, from: u64) -> Option<u64>
         requires stream_type { stream_type < 4 }
         requires from { from ≤ 2 ^ 62 }
-        ensures found { IfSome result (λ n. (from ≤ n) × (n < 2 ^ 62)) }
+        ensures from { IfSome result (λ n. from ≤ n) }
+        ensures small { IfSome result (λ n. n < 2 ^ 62) }
         ensures unmarked { HaveTo IsUnmarked self.now from result stream_type }
     {
         let lanes = &self.types[stream_type];

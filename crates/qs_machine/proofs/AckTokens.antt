@@ -2,7 +2,7 @@
 use Rattle.std.proofs.Common.{◌≡◌, ℕ, suc, ◌+◌, ◌-◌, ◌*◌, ◌/◌, ◌%◌, ◌<◌, ◌≤◌, Bool, true, false, ◌||◌, List, [], ◌∷◌, drop, Option, Some, None, option_map, slice_get, ◌⊎◌, refl, sym, ap, ◌∙◌, subst, arith, inl, inr, cond, nat_eq, is_some, not, ◌&&◌, ◌++◌, append-nil, map, nat_lt, Result, Ok, Err}
 use Rattle.std.specs.FinSet as set
 use Rattle.std.proofs.lemmas.Option.{none-some, same_Some}
-use Rattle.std.proofs.lemmas.Bool.{cases_eq, or_left, both_ways, and_parts}
+use Rattle.std.proofs.lemmas.Bool.{cases_eq, or_left, both_ways, and_parts, true_from_ne_false}
 use Rattle.std.proofs.lemmas.List.{drop-drop, reverse-append}
 use Rattle.qs_ranges.specs.Numbers.{NumberSet, missing_from, same_numbers, contains-with_range, is_within, numbers}
 use Rattle.qs_ranges.proofs.Sets.{missing_from-more}
@@ -32,7 +32,7 @@ use Rattle.std.specs.List.{filter}
 use Rattle.std.proofs.lemmas.List.Concat.{flat_map-append}
 use Rattle.qs_machine.proofs.AcksAgain.{held_piece, acks_append, piece_list, bare_none, named_bare}
 use Rattle.qs_machine.proofs.Named.{filter_within, filter_both, filter_held}
-use Rattle.qs_machine.proofs.NewlyTold.{AllNamed, all_named}
+use Rattle.qs_machine.proofs.NewlyTold.{each_named, others_stay}
 use Rattle.qs_wire.specs.declared.stream_id.Dir.{Dir}
 use Rattle.qs_calls.specs.declared.settings.Settings.{Settings}
 use Rattle.qs_calls.specs.declared.settings.Tuning.{Tuning}
@@ -55,17 +55,14 @@ use Rattle.qs_machine.specs.Receiving.{RunsOut}
 use Rattle.qs_machine.specs.Repeats.{SentWasWritten}
 use Rattle.qs_machine.proofs.Leaves.{acks_leave}
 use Rattle.qs_calls.specs.Tokens.{joined}
+use Rattle.std.proofs.Math.Bool.{or_assoc, or_comm}
 
 -- Two acknowledged pieces may change places: what halves, tables and control items keep of them.
 
 -- Halves
 
 or_swap : (a b c : Bool) → ((a || b) || c) ≡ ((a || c) || b)
-or_swap true b c = refl
-or_swap false true true = refl
-or_swap false true false = refl
-or_swap false false true = refl
-or_swap false false false = refl
+or_swap a b c = or_assoc a b c ∙ ap (λ d. a || d) (or_comm b c) ∙ sym (or_assoc a c b)
 
 union_swap : (s : NumberSet) (a b c d : ℕ) → set.union (set.union s (numbers a b)) (numbers c d) ≡ set.union (set.union s (numbers c d)) (numbers a b)
 union_swap s a b c d =
@@ -203,26 +200,8 @@ items_swap (MaxStreams Bidi m) (MaxStreams Bidi n) a = ap (λ o. record a { bidi
 items_swap (MaxStreams Uni m) (MaxStreams Uni n) a = ap (λ o. record a { uni_streams = o }) (greatest_swap a.uni_streams n m)
 items_swap (StreamsBlocked Bidi m) (StreamsBlocked Bidi n) a = ap (λ o. record a { bidi_blocked = o }) (greatest_swap a.bidi_blocked n m)
 items_swap (StreamsBlocked Uni m) (StreamsBlocked Uni n) a = ap (λ o. record a { uni_blocked = o }) (greatest_swap a.uni_blocked n m)
-items_swap (MaxStreams Bidi m) (MaxStreams Uni n) a = refl
-items_swap (MaxStreams Uni m) (MaxStreams Bidi n) a = refl
-items_swap (StreamsBlocked Bidi m) (StreamsBlocked Uni n) a = refl
-items_swap (StreamsBlocked Uni m) (StreamsBlocked Bidi n) a = refl
-items_swap (MaxStreams Bidi m) (StreamsBlocked Bidi n) a = refl
-items_swap (MaxStreams Bidi m) (StreamsBlocked Uni n) a = refl
-items_swap (MaxStreams Uni m) (StreamsBlocked Bidi n) a = refl
-items_swap (MaxStreams Uni m) (StreamsBlocked Uni n) a = refl
-items_swap (StreamsBlocked Bidi m) (MaxStreams Bidi n) a = refl
-items_swap (StreamsBlocked Bidi m) (MaxStreams Uni n) a = refl
-items_swap (StreamsBlocked Uni m) (MaxStreams Bidi n) a = refl
-items_swap (StreamsBlocked Uni m) (MaxStreams Uni n) a = refl
-items_swap (MaxStreams Bidi m) j a = refl
-items_swap (MaxStreams Uni m) j a = refl
-items_swap (StreamsBlocked Bidi m) j a = refl
-items_swap (StreamsBlocked Uni m) j a = refl
 items_swap i (MaxStreams Bidi n) a = refl
-items_swap i (MaxStreams Uni n) a = refl
 items_swap i (StreamsBlocked Bidi n) a = refl
-items_swap i (StreamsBlocked Uni n) a = refl
 items_swap i j a = refl
 
 -- Pieces: what each does to the sending halves, and to the items
@@ -240,12 +219,9 @@ abbrev both_after : Piece → End → End
 both_after p e = record e { sends = sends_after p e.sends; acked = items_after p e.acked }
 
 piece_parts : (p : Piece) (e : End) → piece_acked p e ≡ both_after p e
-piece_parts (Data n c) e = refl
 piece_parts (Told (MaxStreams Bidi m)) e = refl
-piece_parts (Told (MaxStreams Uni m)) e = refl
 piece_parts (Told (StreamsBlocked Bidi m)) e = refl
-piece_parts (Told (StreamsBlocked Uni m)) e = refl
-piece_parts (Told i) e = refl
+piece_parts _ e = refl
 
 sends_swap : (p q : Piece) (t : Tables SendLane) → sends_after p (sends_after q t) ≡ sends_after q (sends_after p t)
 sends_swap (Data n c) (Data m d) t = table_swap t n m (λ l. acked_lane l c) (λ l. acked_lane l d) (λ l. lane_swap l d c)
@@ -255,9 +231,8 @@ sends_swap (Told (ResetStream n code size)) (Told (ResetStream m other more)) t 
 sends_swap p q t = refl
 
 noted_swap : (p q : Piece) (a : AckedItems) → items_after p (items_after q a) ≡ items_after q (items_after p a)
-noted_swap (Data n c) q a = refl
-noted_swap (Told i) (Data m d) a = refl
 noted_swap (Told i) (Told j) a = items_swap i j a
+noted_swap _ q a = refl
 
 piece_swap : (p q : Piece) (e : End) → piece_acked p (piece_acked q e) ≡ piece_acked q (piece_acked p e)
 piece_swap p q e = twice p q ∙ (λ i. record e { sends = sends_swap p q e.sends i; acked = noted_swap p q e.acked i }) ∙ sym (twice q p)
@@ -308,9 +283,8 @@ abbrev order_less : Bool → List ℕ → ℕ → List ℕ
 order_less left order k = cond left order (without_number order k)
 
 order_swap : (b c : Bool) (xs : List ℕ) (j k : ℕ) → order_less c (order_less b xs j) k ≡ order_less b (order_less c xs k) j
-order_swap true c xs j k = refl
-order_swap false true xs j k = refl
 order_swap false false xs j k = without_swap xs j k
+order_swap _ c xs j k = refl
 
 lost_swap : (l : LostPackets) (j k : ℕ) → lost_less k (lost_less j l) ≡ lost_less j (lost_less k l)
 lost_swap l j k =
@@ -334,9 +308,8 @@ lost_swap l j k =
 
 record_swap : (b c : Bool) (j k : ℕ) (e : End) → without_piece b j (without_piece c k e) ≡ without_piece c k (without_piece b j e)
 record_swap true true j k e = ap (λ l. record e { lost = l }) (lost_swap e.lost k j)
-record_swap true false j k e = refl
-record_swap false true j k e = refl
 record_swap false false j k e = ap (λ m. record e { outstanding = m }) (less_swap e.outstanding k j)
+record_swap _ _ j k e = refl
 
 piece_without : (p : Piece) (late : Bool) (k : ℕ) (e : End) → piece_acked p (without_piece late k e) ≡ without_piece late k (piece_acked p e)
 piece_without p late k e = piece_parts p (without_piece late k e) ∙ ap (without_piece late k) (sym (piece_parts p e))
@@ -419,22 +392,6 @@ alike of by f g (k ∷ ks) same = head of f (f k) ks ∙ (λ i. same k i ++ alik
 
 -- What is left after an ACK
 
--- packets that it doesn't name stay as they are
-stays : (late : Bool) (r : List (ℕ × ℕ)) (ps : List AckedPiece) (e : End) (j : ℕ) → AllNamed r ps → is_named r j ≡ false → fmap.get (held late (acks ps e)) j ≡ fmap.get (held late e) j
-unfolding acks
-stays late r [] e j all off = refl
-stays late r (a ∷ ps) e j all off =
-    stays late r ps (first_acked a e) j all.1 off ∙ ap (λ (m : Records). fmap.get m j) (held_piece late a.piece (without_piece a.late a.number e)) ∙ go late a.late
-  where
-    apart : j ≡ a.number → ⊥
-    apart same = both_ways _ off (ap (is_named r) same ∙ all.0)
-
-    go : (late b : Bool) → fmap.get (held late (without_piece b a.number e)) j ≡ fmap.get (held late e) j
-    go true true = get_other-without_first e.lost.pieces a.number j apart
-    go true false = refl
-    go false true = refl
-    go false false = get_other-without_first e.outstanding a.number j apart
-
 -- no packet is held that wasn't
 unheld : (late : Bool) (ps : List AckedPiece) (e : End) (j : ℕ) → is_some (fmap.get (held late e) j) ≡ false → is_some (fmap.get (held late (acks ps e)) j) ≡ false
 unfolding acks
@@ -444,16 +401,11 @@ unheld late (a ∷ ps) e j none =
   where
     go : (late b : Bool) → is_some (fmap.get (held late e) j) ≡ false → is_some (fmap.get (held late (without_piece b a.number e)) j) ≡ false
     go true true none = unheld-without_first e.lost.pieces a.number j none
-    go true false none = none
-    go false true none = none
     go false false none = unheld-without_first e.outstanding a.number j none
+    go _ _ none = none
 
 held_before : (late : Bool) (ps : List AckedPiece) (e : End) (j : ℕ) → is_some (fmap.get (held late (acks ps e)) j) ≡ true → is_some (fmap.get (held late e) j) ≡ true
-held_before late ps e j is = go (is_some (fmap.get (held late e) j)) refl
-  where
-    go : (b : Bool) → is_some (fmap.get (held late e) j) ≡ b → is_some (fmap.get (held late e) j) ≡ true
-    go true was = was
-    go false was = absurd (both_ways _ (unheld late ps e j was) is)
+held_before late ps e j is = true_from_ne_false _ (λ was. both_ways _ (unheld late ps e j was) is)
 
 -- What an ACK takes of an end
 
@@ -497,9 +449,8 @@ taken_later late e r rs =
 
     go : (j : ℕ) (b c : Bool) → is_named r j ≡ b → cond (is_some (fmap.get n j) && c) (pieces_of late n j) [] ≡ cond (c && not b) (pieces_of late m j) []
     go j true true is = none (is_some (fmap.get n j) && true) (pieces_of late n j) (bare_none late n j (named_bare e r late j is))
-    go j false true is = all (fmap.get n j) j ∙ ap (piece_list late j) (stays late r (named e r) e j (all_named e r) is)
-    go j true false is = nothing (is_some (fmap.get n j)) (pieces_of late n j)
-    go j false false is = nothing (is_some (fmap.get n j)) (pieces_of late n j)
+    go j false true is = all (fmap.get n j) j ∙ ap (piece_list late j) (others_stay late r (named e r) e j (each_named e r) is)
+    go j _ false is = nothing (is_some (fmap.get n j)) (pieces_of late n j)
 
 -- An ACK of the packets of two others is the one, and then the other.
 pub acks_parts : (e : End) (r rs both : List (ℕ × ℕ)) → ((j : ℕ) → is_named both j ≡ (is_named r j || is_named rs j)) → acks (named e both) e ≡ acks (named (acks (named e r) e) rs) (acks (named e r) e)
@@ -709,8 +660,7 @@ parts t next whole is = go (nat_eq next.epoch t.epoch) (nat_eq next.first (t.num
     go true true follows is =
         let same = same_Some both whole is in
         record { follows = grind (arith, nat_tests, follows); first = ap (λ (x : Token). x.first) (sym same); last = ap (λ (x : Token). x.number) (sym same) }
-    go true false follows is = absurd (none-some whole is)
-    go false b follows is = absurd (none-some whole is)
+    go _ b follows is = absurd (none-some whole is)
 
 -- a number lies in the one range or the other, and so in both as one
 within : (a b c k : ℕ) → a ≤ b → b + 1 ≤ c → ((nat_le a k && nat_le k b) || ((nat_le (b + 1) k && nat_le k c) || false)) ≡ ((nat_le a k && nat_le k c) || false)

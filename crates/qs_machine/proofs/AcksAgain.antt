@@ -195,9 +195,8 @@ pub bare_none : (late : Bool) (m : Records) (k : ℕ) → IsBare (fmap.get m k) 
 bare_none late m k h = go (fmap.get m k) h
   where
     go : (o : Option (List Piece)) → IsBare o → piece_list late k o ≡ []
-    go None h = refl
-    go (Some []) h = refl
     go (Some (p ∷ ps)) h = absurd h
+    go _ h = refl
 
 none_flat : (f : ℕ → List AckedPiece) (ks : List ℕ) → ((k : ℕ) → Among k ks → f k ≡ []) → flat_map f ks ≡ []
 none_flat f [] h = refl

@@ -23,14 +23,15 @@ use Rattle.qs_machine.specs.Verdicts.{verdict, item_verdict, state_fault_in, sta
 use Rattle.qs_machine.specs.FrameStep.{frame_taken, item_taken, frames_taken, held, is_named, NoFault, named, acks}
 use Rattle.qs_machine.specs.Receiving.{GoesOn, Takes, EndsBy, AtEnd, RunsOut, TakesPayload, told_receive, Stops, OpenReceive, ReceiveBy, ReceiveStep}
 use Rattle.qs_machine.specs.Standing.{IsInCredit, IsSound}
-use Rattle.qs_machine.specs.Repeats.{SentWasWritten, AreAmong, Resumes, OnlyRecords}
+use Rattle.qs_machine.specs.Repeats.{SentWasWritten, AreAmong, Resumes, OnlyRecords, WasWritten}
 use Rattle.qs_machine.proofs.EveryCall.{not_chosen, no_fault_there, stops_by, by_open}
 use Rattle.qs_machine.proofs.TableLaws.{lookup_same, open_at, total_each}
-use Rattle.qs_machine.proofs.CallsSound.{sound_frame, sound_opened, sound_acks, sound_settle}
+use Rattle.qs_machine.proofs.CallsSound.{sound_frame, sound_opened, sound_acks, sound_settle, no_fault}
 use Rattle.qs_machine.proofs.Taken.{out_there, in_there, stream_in, reset_in, stream_checked, stream_unchanged, reset_checked}
 use Rattle.qs_machine.proofs.LanesAgain.{LaneAfter, HasData, HasReset, data_stays, data_taken, data_again, reset_stays, reset_taken, reset_again}
 use Rattle.qs_machine.proofs.TablesAfter.{still_open, updated_back, open_back}
-use Rattle.qs_machine.proofs.EndsAfter.{HalfAfter, IsAfter, IsBare, after_same, after_twice, after_opened, after_frame, mid_stream, mid_reset, mid_allow, mid_stop, has_code, lawful_in, sent_stays, after_closes, after_recorded, after_settle, after_acks, all_take, named_written}
+use Rattle.qs_machine.proofs.Pieces.{All_take}
+use Rattle.qs_machine.proofs.EndsAfter.{HalfAfter, IsAfter, IsBare, after_same, after_twice, after_opened, after_frame, mid_stream, mid_reset, mid_allow, mid_stop, has_code, lawful_in, sent_stays, after_closes, after_recorded, after_settle, after_acks, named_written}
 use Rattle.qs_machine.proofs.AcksAgain.{named_bare, named_again, named_nothing}
 use Rattle.qs_wire.specs.Layout.{PlacedValue}
 use Rattle.qs_wire.specs.Grammar.{frames_of}
@@ -48,6 +49,7 @@ use Rattle.qs_calls.specs.declared.closing.Closer.TheVariants.{Us, Peer}
 use Rattle.qs_calls.specs.declared.closing.Closed.TheVariants.{ByUs, ByPeer, Told}
 use Rattle.qs_machine.proofs.Leaves.{frame_leaves}
 use Rattle.qs_machine.proofs.Counts.{next_settle}
+use Rattle.std.proofs.Math.Bool.{or-false, or_assoc}
 
 -- Frames that took effect and come again have no fault and change nothing.
 
@@ -122,13 +124,9 @@ count_stays bidi uni more_bidi more_uni n le_bidi le_uni = go (is_uni n)
   where
     within : (few more : ℕ) → few ≤ more → fault_if (nat_le few (n / 4)) 0x04 ≡ None → fault_if (nat_le more (n / 4)) 0x04 ≡ None
     within few more le h =
-        let below : nat_le few (n / 4) ≡ false = passed (nat_le few (n / 4)) h in
+        let below : nat_le few (n / 4) ≡ false = no_fault (nat_le few (n / 4)) 0x04 h in
         let still : nat_le more (n / 4) ≡ false = grind (arith, nat_tests) in
         ap (λ c. fault_if c 0x04) still
-      where
-        passed : (c : Bool) → fault_if c 0x04 ≡ None → c ≡ false
-        passed true h = absurd (none-some 0x04 (sym h))
-        passed false h = refl
 
     go : (u : Bool) → fault_if (nat_le (cond u uni bidi) (n / 4)) 0x04 ≡ None → fault_if (nat_le (cond u more_uni more_bidi) (n / 4)) 0x04 ≡ None
     go true h = within uni more_uni le_uni h
@@ -163,14 +161,10 @@ out_stays n a b x h =
 
 ack_stays : (largest : ℕ) (a b : End) → IsAfter a b → ack_fault a largest ≡ None → ack_fault b largest ≡ None
 ack_stays largest a b x h =
-    let below : nat_le a.next largest ≡ false = go (nat_le a.next largest) h in
+    let below : nat_le a.next largest ≡ false = no_fault (nat_le a.next largest) 0x0a h in
     let more = x.next in
     let still : nat_le b.next largest ≡ false = grind (arith, nat_tests) in
     ap (λ c. fault_if c 0x0a) still
-  where
-    go : (c : Bool) → fault_if c 0x0a ≡ None → c ≡ false
-    go true h = absurd (none-some 0x0a (sym h))
-    go false h = refl
 
 -- What a frame that took effect leaves
 
@@ -185,9 +179,8 @@ ItemDone (MaxStreams Bidi m) e = m ≤ e.known_bidi
 ItemDone (MaxStreams Uni m) e = m ≤ e.known_uni
 ItemDone (ResetStream n code size) e = (state_fault_in e n ≡ None) × WasOpened e n × (l : RecvLane) × (lookup e.recvs n ≡ Some l) × HasReset l size
 ItemDone (StopSending n code) e = (state_fault_out e n ≡ None) × WasOpened e n × (l : SendLane) × (lookup e.sends n ≡ Some l) × IsStopped e.tuning.answers_stops l
-ItemDone (DataBlocked m) e = ⊤
 ItemDone (StreamDataBlocked n m) e = (state_fault_in e n ≡ None) × WasOpened e n
-ItemDone (StreamsBlocked d m) e = ⊤
+ItemDone _ e = ⊤
 
 abbrev pub IsDone : Seen → End → Type 0
 IsDone (Ack largest ranges) e = (ack_fault e largest ≡ None) × ((late : Bool) (k : ℕ) → is_named ranges k ≡ true → IsBare (fmap.get (held late e) k))
@@ -215,9 +208,8 @@ item_stays (ResetStream n code size) a b x (fine, was, l, is, has) =
 item_stays (StopSending n code) a b x (fine, was, l, is, done) =
     let (k, there, r) = x.sends n l is in
     (out_stays n a b x fine, opened_stays n a b x was, k, there, subst (λ t. IsStopped t.answers_stops k) (sym x.tuning) (stopped_stays a.tuning.answers_stops l k r done))
-item_stays (DataBlocked m) a b x h = tt
 item_stays (StreamDataBlocked n m) a b x (fine, was) = (in_stays n a b x fine, opened_stays n a b x was)
-item_stays (StreamsBlocked d m) a b x h = tt
+item_stays _ a b x h = tt
 
 pub done_stays : (f : Seen) (a b : End) → IsAfter a b → IsDone f a → IsDone f b
 done_stays (Ack largest ranges) a b x (fine, bare) = (ack_stays largest a b x fine, λ late k is. x.bare late k (bare late k is))
@@ -245,14 +237,12 @@ stopped_then false l code =
 
 item_done : (i : Item) (e : End) → verdict e (Control i) ≡ None → IsInCredit e → ItemDone i (item_taken i e)
 unfolding verdict
-item_done (MaxData m) e v sound = omega arith
 item_done (MaxStreamData n m) e v sound =
     let mid = opened_by_peer n e in
     let x = mid_allow n m e in
     let (l, is) = the_half (lookup mid.sends n) (out_there e mid n v refl) in
     (out_stays n e _ (after_twice e mid _ (after_opened n e) x) v, opened_stays n mid _ x (was_opened n e), allow_lane l m, changed mid.sends n (λ k. allow_lane k m) l is, omega arith)
 item_done (MaxStreams Bidi m) e v sound = omega arith
-item_done (MaxStreams Uni m) e v sound = omega arith
 item_done (ResetStream n code size) e v sound =
     let mid = opened_by_peer n e in
     let x = mid_reset n code size e v sound in
@@ -275,6 +265,7 @@ item_done (StopSending n code) e v sound =
 item_done (DataBlocked m) e v sound = tt
 item_done (StreamDataBlocked n m) e v sound = (in_stays n e _ (after_opened n e) v, was_opened n e)
 item_done (StreamsBlocked d m) e v sound = tt
+item_done _ e v sound = omega arith
 
 ack_done : (largest : ℕ) (ranges : List (ℕ × ℕ)) (e : End) → verdict e (Ack largest ranges) ≡ None → IsInCredit e → SentWasWritten e → ack_fault (frame_taken (Ack largest ranges) e) largest ≡ None
 unfolding verdict
@@ -345,9 +336,8 @@ item_again (ResetStream n code size) e (fine, was, l, is, has) sound =
     let h = reset_again l code size has in
     (in_again n l e (λ k. check_reset k size) fine is h.0 sound, recv_back n (λ k. take_reset k code size) l e was is h.1)
 item_again (StopSending n code) e (fine, was, l, is, done) sound = (fine, send_back n (λ k. stop_taken e.tuning.answers_stops k code) l e was is (stopped_back e.tuning.answers_stops l code done))
-item_again (DataBlocked m) e h sound = (refl, refl)
 item_again (StreamDataBlocked n m) e (fine, was) sound = (fine, opened_back n e was)
-item_again (StreamsBlocked d m) e h sound = (refl, refl)
+item_again _ e h sound = (refl, refl)
 
 pub frame_again : (f : Seen) (e : End) → IsDone f e → IsInCredit e → GoesOn e f × (frame_taken f e ≡ e)
 unfolding verdict frame_taken
@@ -364,18 +354,12 @@ frame_again (Plain asks) e h sound = (refl, refl)
 -- Lists of frames
 
 pub first_goes : (e : End) (f : Seen) (fs : List Seen) → NoFault e (f ∷ fs) → GoesOn e f × NoFault (frame_taken f e) fs
-first_goes e (Ack largest ranges) fs h = h
-first_goes e (Stream n offset bytes fin) fs h = h
-first_goes e (Control i) fs h = h
 first_goes e (Close code) fs h = absurd h
-first_goes e (Plain asks) fs h = h
+first_goes e _ fs h = h
 
 pub one_more : (e : End) (f : Seen) (fs : List Seen) → GoesOn e f → NoFault (frame_taken f e) fs → NoFault e (f ∷ fs)
-one_more e (Ack largest ranges) fs goes rest = (goes, rest)
-one_more e (Stream n offset bytes fin) fs goes rest = (goes, rest)
-one_more e (Control i) fs goes rest = (goes, rest)
 one_more e (Close code) fs goes rest = absurd goes
-one_more e (Plain asks) fs goes rest = (goes, rest)
+one_more e _ fs goes rest = (goes, rest)
 
 -- what frames leave
 pub record IsLeft (e new : End) : Type 0 where
@@ -425,21 +409,13 @@ frames_repeat e frames again sound sent h among =
 
 -- The first frames of a payload took effect, for some number of them.
 
-pub or_false : (a : Bool) → a ≡ (a || false)
-or_false true = refl
-or_false false = refl
-
-pub or_twice : (a b c : Bool) → ((a || b) || c) ≡ (a || (b || c))
-or_twice true b c = refl
-or_twice false b c = refl
-
 abbrev pub seen_in : List PlacedValue → List Seen
 seen_in ps = seen_all (frames_of ps)
 
 pub takes_prefix : (number : ℕ) (fault : Option WireFault) (asks : Bool) (e : End) (ps : List PlacedValue) (result : Result Received Closing) (new : End) → Takes number fault asks e ps result new
     → (taken : List PlacedValue) × (left : List PlacedValue) × (ps ≡ taken ++ left) × NoFault e (seen_in taken) × EndsBy number fault (asks || any_asks (seen_in taken)) left (frames_taken (seen_in taken) e) result new
 unfolding frames_taken
-takes_prefix number fault asks e [] result new takes = ([], [], refl, tt, subst (λ a. EndsBy number fault a [] e result new) (or_false asks) takes)
+takes_prefix number fault asks e [] result new takes = ([], [], refl, tt, subst (λ a. EndsBy number fault a [] e result new) (sym (or-false asks)) takes)
 takes_prefix number fault asks e (p ∷ ps) result new takes =
     elim takes [
       | inl stops ↦ ([], p ∷ ps, refl, tt, stops)
@@ -450,7 +426,7 @@ takes_prefix number fault asks e (p ∷ ps) result new takes =
             left,
             ap (λ qs. p ∷ qs) parts,
             one_more e f (seen_in taken) goes.0 fine,
-            subst (λ a. EndsBy number fault a left (frames_taken (seen_in taken) (frame_taken f e)) result new) (or_twice asks (asks_ack f) (any_asks (seen_in taken))) ends,
+            subst (λ a. EndsBy number fault a left (frames_taken (seen_in taken) (frame_taken f e)) result new) (or_assoc asks (asks_ack f) (any_asks (seen_in taken))) ends,
           )
     ]
 
@@ -480,7 +456,7 @@ left_runs_out : (e : End) (f : Seen) (new : End) → IsSound e → SentWasWritte
 left_runs_out e (Ack largest ranges) new sound sent (m, after, asks) =
     becomes e _ new after
     (left_by e (acks (take m (named e ranges)) e) sound sent
-    (after_acks (take m (named e ranges)) e (all_take e.sends m (named e ranges) (named_written e ranges sent)))
+    (after_acks (take m (named e ranges)) e (All_take (λ a. WasWritten e.sends a.piece) m (named e ranges) (named_written e ranges sent)))
     (sound_acks (take m (named e ranges)) e sound.0))
 left_runs_out e f new sound sent after = becomes e e new after.0 (left_same e sound sent)
 
@@ -506,7 +482,7 @@ out_again f e new done after = after.0
 
 takes_again : (number : ℕ) (fault : Option WireFault) (asks : Bool) (e : End) (taken left : List PlacedValue) (result : Result Received Closing) (new : End)
     → IsInCredit e → ((f : Seen) → Among f (seen_in taken) → IsDone f e) → Takes number fault asks e (taken ++ left) result new → Resumes number fault (asks || any_asks (seen_in taken)) e left result new
-takes_again number fault asks e [] left result new sound done takes = inr (subst (λ a. Takes number fault a e left result new) (or_false asks) takes)
+takes_again number fault asks e [] left result new sound done takes = inr (subst (λ a. Takes number fault a e left result new) (sym (or-false asks)) takes)
 takes_again number fault asks e (p ∷ taken) left result new sound done takes =
     let f = seen p.frame in
     let here : IsDone f e = done f (inl refl) in
@@ -517,7 +493,7 @@ takes_again number fault asks e (p ∷ taken) left result new sound done takes =
           (λ c closed fault. absurd (fault goes))
           (λ is out. inl (is, out_again f e new here out))
       | inr on ↦
-          subst (λ a. Resumes number fault a e left result new) (or_twice asks (asks_ack f) (any_asks (seen_in taken)))
+          subst (λ a. Resumes number fault a e left result new) (or_assoc asks (asks_ack f) (any_asks (seen_in taken)))
           (takes_again number fault (asks || asks_ack f) e taken left result new sound (λ g a. done g (inr a))
           (subst (λ k. Takes number fault (asks || asks_ack f) k (taken ++ left) result new) same on.1))
     ]

@@ -17,9 +17,8 @@ use Rattle.qs_machine.proofs.Carried.{some_is, none_some, IsShorter, with_piece,
 pub apart_sym : (p q : Piece) → Apart p q → Apart q p
 apart_sym (Data n c) (Data k d) h =
     λ same. (let a = h (sym same) in record { offsets = λ q low high low' high'. a.offsets q low' high' low high; ends = λ x y. a.ends y x })
-apart_sym (Data n c) (Told i) h = tt
-apart_sym (Told i) (Data n c) h = tt
 apart_sym (Told i) (Told j) h = λ same. h (sym same)
+apart_sym _ _ h = tt
 
 pub apart_among : (p q : Piece) (ps : List Piece) → ApartFrom p ps → Among q ps → Apart p q
 apart_among p q [] h a = absurd a

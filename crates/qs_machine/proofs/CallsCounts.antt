@@ -12,7 +12,7 @@ use Rattle.qs_machine.specs.EndStep.{Call, Answer, EndStep}
 use Rattle.qs_machine.specs.Setting.{Setting, ConnWindow, Grant, with_setting, StreamWindow, SendBuffer}
 use Rattle.qs_machine.proofs.Leaves.{put_leaves}
 use Rattle.qs_machine.specs.Standing.{IsSound, IsInCredit, CountsAreSettled, CountsRise}
-use Rattle.qs_machine.specs.Repeats.{SentWasWritten}
+use Rattle.qs_machine.specs.Repeats.{SentWasWritten, WasWritten}
 use Rattle.qs_machine.proofs.EveryCall.{Change, changed, Comes, each_call, ends_by, Wanted, Opened, Stopped, WasRead, WasSet, Took, Acked, Put, Settled, Forgotten, Lost, Numbered}
 use Rattle.qs_machine.proofs.TablesAfter.{KeptIn, kept_same, kept_twice, kept_updated, kept_open, kept_each}
 use Rattle.qs_machine.proofs.Counts.{counts_settle, counts_rise}
@@ -21,7 +21,8 @@ use Rattle.qs_machine.proofs.SentCalls.{keeps_change}
 use Rattle.qs_recv.specs.Lawful.{IsLawful}
 use Rattle.qs_machine.proofs.LanesAgain.{LaneAfter, lane_same, lane_twice, raise_after, stop_after, read_after, forget_after, window_after}
 use Rattle.qs_machine.specs.Credit.{ended, settle}
-use Rattle.qs_machine.proofs.EndsAfter.{IsAfter, lawful_in, after_frame, after_acks, all_take, named_written}
+use Rattle.qs_machine.proofs.Pieces.{All_take}
+use Rattle.qs_machine.proofs.EndsAfter.{IsAfter, lawful_in, after_frame, after_acks, named_written}
 
 -- A packet that is lost changes no count, and a number that is claimed none either.
 
@@ -93,7 +94,7 @@ moves_change old call (WasRead n size) e comes sound sent = moves_recv n (λ m. 
 moves_change old call (WasSet x) e comes sound sent = moves_set x e
 moves_change old call (Took f) e comes sound sent = moves_after e (frame_taken f e) (after_frame f e comes.0 sound sent)
 moves_change old call (Acked count ranges) e comes sound sent =
-    moves_after e (acks (take count (named e ranges)) e) (after_acks (take count (named e ranges)) e (all_take e.sends count (named e ranges) (named_written e ranges sent)))
+    moves_after e (acks (take count (named e ranges)) e) (after_acks (take count (named e ranges)) e (All_take (λ a. WasWritten e.sends a.piece) count (named e ranges) (named_written e ranges sent)))
 moves_change old call (Put f) e comes sound sent = moves_none e (frame_put f e) (ap (λ (x : End). x.granted_bidi) (put_leaves f e)) (ap (λ (x : End). x.granted_uni) (put_leaves f e)) (ap (λ (x : End). x.recvs) (put_leaves f e))
 moves_change old call Settled e comes sound sent = (counts_rise e (settle e) (omega arith) (omega arith), kept_each LaneAfter lane_same e.recvs raise raise_after)
 moves_change old call c e comes sound sent = moves_none e (changed c e) refl refl refl

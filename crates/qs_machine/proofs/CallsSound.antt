@@ -30,7 +30,7 @@ use Rattle.qs_machine.specs.Seen.{Seen, Ack, Stream, Control}
 use Rattle.qs_machine.specs.Verdicts.{verdict, item_verdict, or_else, fault_if, state_fault_in, credit_fault, bytes_fault, lane_of, or_new, fault_code}
 use Rattle.qs_machine.specs.FrameStep.{frame_taken, item_taken, AckedPiece, acks, named}
 use Rattle.qs_machine.proofs.Leaves.{acks_leave, frame_leaves, put_leaves}
-use Rattle.qs_machine.proofs.EveryCall.{not_chosen, Change, changed, Comes, relates, Wanted, Opened, Stopped, WasRead, WasSet, Took, Acked, Put, Settled, Forgotten}
+use Rattle.qs_machine.proofs.EveryCall.{not_chosen, Change, changed, Comes, relates, Wanted, Opened, Stopped, WasRead, WasSet, Took, Acked, Put, Settled, Forgotten, same_either}
 use Rattle.qs_recv.specs.declared.half.Read.{Read}
 use Rattle.qs_recv.specs.declared.half.Read.TheVariants as reads
 use Rattle.qs_calls.specs.declared.settings.SetFault.{SetFault}
@@ -160,9 +160,8 @@ credit_passed e (Err fault) p = absurd (none-some (fault_code fault) (sym p))
 credit_passed e (Ok h) p = (let low = no_fault _ _ p in (h, refl, grind (arith, nat_tests)))
 
 two_checks : (b c : Bool) (f g : RecvFault) (x h : Highest) → cond b (Err f) (cond c (Err g) (Ok x)) ≡ Ok h → (x ≡ h) × IsOk (cond b (Err f) (cond c (Err g) (Ok x)))
-two_checks true c f g x h e = absurd (cc)
-two_checks false true f g x h e = absurd (cc)
 two_checks false false f g x h e = (cc, refl)
+two_checks _ c f g x h e = absurd (cc)
 
 -- Opening
 
@@ -206,10 +205,6 @@ opened_lane n e passed = go (is_own e n) refl passed
 
 -- Frames with data and resets
 
-assembled_window : (b : Bool) (a a' : Assembled) → a'.window ≡ a.window → (cond b a a').window ≡ a.window
-assembled_window true a a' e = refl
-assembled_window false a a' e = e
-
 -- a change of the lane that a frame names, by a call that passed its check
 on_named : (n : ℕ) (e : End) (f : RecvLane → RecvLane) (h : Highest) → IsInCredit e → state_fault_in e n ≡ None
     → (IsLawful (lane_of e n) → IsLawful (f (lane_of e n)) × (taken (lane_of e n) ≤ taken (f (lane_of e n))) × (highest (lane_of e n) ≤ highest (f (lane_of e n))))
@@ -242,7 +237,7 @@ sound_stream n offset bytes fin e v sound =
     (λ lawful.
     let g = grows_after_call lane (TakeStream offset bytes fin) lawful allowed in
     (lawful_after_call lane (TakeStream offset bytes fin) lawful allowed, g.taken_grows, g.highest_grows))
-    (assembled_window (is_some lane.reset_code) lane.arrived (put lane.arrived offset bytes) refl)
+    (same_either (λ (a : Assembled). a.window) (is_some lane.reset_code) lane.arrived (put lane.arrived offset bytes) refl)
     (λ lawful.
     let after : highest (take_stream lane offset bytes fin) ≡ h.after = highest-take_stream lane offset bytes fin lawful ∙ ap (λ (x : Highest). x.after) same in
     let most : highest (take_stream lane offset bytes fin) ≤ max h.before h.after = omega (arith, after) in
@@ -294,10 +289,6 @@ sound_frame f e v h = h
 pub sound_settle : (e : End) → IsInCredit e → IsInCredit (settle e)
 sound_settle e h = keeps_settle e.role e.settings e.present e.recvs e.granted h e.tuning.credit_step
 
-stopped_lane : (b : Bool) (l m : RecvLane) → m.arrived.window ≡ l.arrived.window → (cond b l m).arrived.window ≡ l.arrived.window
-stopped_lane true l m e = refl
-stopped_lane false l m e = e
-
 read_window : (answer : Read) (l : RecvLane) (size : ℕ) → (after_answer answer l size).arrived.window ≡ l.arrived.window
 read_window (reads.Bytes n) l size = refl
 read_window answer l size = refl
@@ -312,16 +303,12 @@ sound_read n size e h =
     let g = grows_after_call l (ReadUpTo size) lawful tt in
     (lawful_after_call l (ReadUpTo size) lawful tt, read_window (read_answer l size) l size, g.taken_grows, omega (arith, read_highest (read_answer l size) l size, h.spent)))
 
-stop_highest : (b : Bool) (l m : RecvLane) → highest m ≡ highest l → highest (cond b l m) ≡ highest l
-stop_highest true l m e = refl
-stop_highest false l m e = e
-
 pub sound_stop : (n code : ℕ) (e : End) → IsInCredit e → IsInCredit (on_recv n (λ l. stop l code) e)
 sound_stop n code e h =
     let stopped : RecvLane → RecvLane = λ l. record l { arrived = discard l.arrived; stop_code = Some code } in
     keeps_updated e.role e.settings e.present e.recvs e.granted h n (λ l. stop l code) (λ l is lawful.
     let g = grows_after_call l (StopWith code) lawful tt in
-    (lawful_after_call l (StopWith code) lawful tt, stopped_lane (is_some l.stop_code || is_over l) l (stopped l) refl, g.taken_grows, omega (arith, stop_highest (is_some l.stop_code || is_over l) l (stopped l) refl, h.spent)))
+    (lawful_after_call l (StopWith code) lawful tt, same_either (λ (m : RecvLane). m.arrived.window) (is_some l.stop_code || is_over l) l (stopped l) refl, g.taken_grows, omega (arith, same_either highest (is_some l.stop_code || is_over l) l (stopped l) refl, h.spent)))
 
 -- a setting that isn't refused lies in its range
 settable : (closed b : Bool) (f g : SetFault) (o : Option SetFault) → first_refusal (refuse_if closed f) (first_refusal (refuse_if (not b) g) o) ≡ None → b ≡ true
@@ -367,7 +354,7 @@ sound_forget n code e h =
     let stopped : RecvLane → RecvLane = λ l. record l { arrived = discard l.arrived; stop_code = Some code } in
     keeps_updated e.role e.settings e.present e.recvs e.granted h n (λ l. stop_and_forget l code) (λ l is lawful.
     let g = grows_after_call l (ForgetWith code) lawful tt in
-    (lawful_after_call l (ForgetWith code) lawful tt, stopped_lane (is_some l.stop_code || is_over l) l (stopped l) refl, g.taken_grows, omega (arith, stop_highest (is_some l.stop_code || is_over l) l (stopped l) refl, h.spent)))
+    (lawful_after_call l (ForgetWith code) lawful tt, same_either (λ (m : RecvLane). m.arrived.window) (is_some l.stop_code || is_over l) l (stopped l) refl, g.taken_grows, omega (arith, same_either highest (is_some l.stop_code || is_over l) l (stopped l) refl, h.spent)))
 
 pub sound_change : (old : End) (call : Call) (c : Change) (e : End) → Comes old call e c → IsInCredit e → IsInCredit (changed c e)
 sound_change old call (Wanted Uni count) e comes h = h
@@ -395,11 +382,9 @@ pub grant_within : (present g all ended n : ℕ) → g ≤ all → count_with pr
 grant_within present g all ended n h = grind (arith, nat_tests, h)
 
 stand_set : (x : Setting) (e : End) → CountsStand e → CountsStand (with_setting x e)
-stand_set (ConnWindow w) e h = h
 stand_set (Grant Bidi n) e h = (grant_within e.present.grant_bidi e.granted_bidi e.settings.lifetime_bidi (ended e Bidi) n h.0, h.1)
 stand_set (Grant Uni n) e h = (h.0, grant_within e.present.grant_uni e.granted_uni e.settings.lifetime_uni (ended e Uni) n h.1)
-stand_set (SendBuffer n size) e h = h
-stand_set (StreamWindow n w) e h = h
+stand_set _ e h = h
 
 stand_change : (old : End) (call : Call) (c : Change) (e : End) → Comes old call e c → CountsStand e → CountsStand (changed c e)
 stand_change old call (Wanted Uni count) e comes h = h

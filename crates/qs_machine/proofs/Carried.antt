@@ -70,8 +70,6 @@ pub shortened_is : (m : Records) (k : ℕ) (p : Piece) → first_piece (fmap.get
 shortened_is m k p first = go (fmap.get m k) refl first
   where
     go : (o : Option (List Piece)) → fmap.get m k ≡ o → first_piece o ≡ Some p → IsShorter m k p (without_first m k o)
-    go None is f = absurd (none_some p f)
-    go (Some []) is f = absurd (none_some p f)
     go (Some (q ∷ [])) is f =
         let same : q ≡ p = some_is (Some q) q p refl f in
         record {
@@ -84,6 +82,7 @@ shortened_is m k p first = go (fmap.get m k) refl first
           was = (r ∷ rs, is ∙ ap (λ x. Some (x ∷ r ∷ rs)) same, (λ qs e. some_is _ qs (r ∷ rs) e (get_new m k (r ∷ rs))), (λ x a. get_new m k (r ∷ rs)));
           others = λ j ne. get_other m k (r ∷ rs) j ne;
         }
+    go _ is f = absurd (none_some p f)
 
 module _ (m m' : Records) (k : ℕ) (p : Piece) (h : IsShorter m k p m') where
   -- what is carried still was carried before

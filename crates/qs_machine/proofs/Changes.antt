@@ -21,10 +21,10 @@ use Rattle.qs_send.specs.declared.parts.Reset.{Reset}
 use Rattle.qs_send.specs.declared.parts.SendFault.{SendFault}
 use Rattle.qs_send.specs.declared.parts.SendFault.TheVariants.{WasReset, Finished}
 use Rattle.qs_send.specs.declared.piece.Item.{Item}
-use Rattle.qs_send.specs.declared.piece.Item.TheVariants.{MaxData, MaxStreamData, MaxStreams, ResetStream, StopSending, DataBlocked, StreamDataBlocked, StreamsBlocked}
+use Rattle.qs_send.specs.declared.piece.Item.TheVariants.{MaxData, MaxStreamData, MaxStreams, ResetStream, StopSending, StreamDataBlocked}
 use Rattle.qs_machine.specs.Tables.{Tables, lookup, updated, open_to}
 use Rattle.qs_machine.specs.Ends.{End, is_own, is_uni, send_lane, recv_lane, on_send, on_recv, opens, opened_by_peer, window}
-use Rattle.qs_machine.specs.Seen.{Seen, Ack, Stream, Control, Close, Plain}
+use Rattle.qs_machine.specs.Seen.{Seen, Ack, Stream, Control}
 use Rattle.qs_machine.specs.Verdicts.{verdict, state_fault_in, state_fault_out, or_new}
 use Rattle.qs_machine.specs.FrameStep.{frame_taken, item_taken}
 use Rattle.qs_machine.specs.Alone.{is_ours}
@@ -34,6 +34,7 @@ use Rattle.qs_machine.proofs.TablesAfter.{open_back}
 use Rattle.qs_machine.proofs.Taken.{out_there, in_there, stream_in, reset_in, stream_checked, mid_sends}
 use Rattle.qs_machine.proofs.LanesAgain.{put_again}
 use Rattle.qs_machine.proofs.Again.{WasOpened, opens_it, opened_back, recv_back, send_back, changed, stopped_back, allow_back}
+use Rattle.std.proofs.Math.Bool.{and-false}
 
 -- Tests
 
@@ -105,9 +106,8 @@ data_differs l offset bytes fin some same =
     ]
   where
     no_size : (b : Bool) (f : Option ℕ) → (b && is_none f) ≡ true → cond b (Some (offset + length bytes)) f ≡ f → ⊥
-    no_size false f h is = both_ways false refl h
     no_size true None h is = none-some _ (sym is)
-    no_size true (Some s) h is = both_ways false refl h
+    no_size _ f h is = both_ways false refl h
 
 reset_differs : (l : RecvLane) (code size : ℕ) → reset_changes l ≡ true → take_reset l code size ≡ l → ⊥
 reset_differs l code size some same =
@@ -150,17 +150,14 @@ stop_differs false l code some same =
 
 halves_open : (own uni : Bool) (r : Option RecvLane) (s : Option SendLane) → (not own && (is_none r || (not uni && is_none s))) ≡ false → own ≡ false → (is_some r ≡ true) × ((uni && not own) ≡ false → is_some s ≡ true)
 halves_open true uni r s h other = absurd (both_ways true other refl)
-halves_open false uni None s h other = absurd (both_ways true h refl)
 halves_open false true (Some l) s h other = (refl, λ c. absurd (both_ways true c refl))
-halves_open false false (Some l) None h other = absurd (both_ways true h refl)
 halves_open false false (Some l) (Some k) h other = (refl, λ c. refl)
+halves_open false uni r s h other = absurd (both_ways true h refl)
 
 half_missing : (own uni : Bool) (r : Option RecvLane) (s : Option SendLane) → (not own && (is_none r || (not uni && is_none s))) ≡ true → (own ≡ false) × ((r ≡ None) ⊎ ((uni ≡ false) × (s ≡ None)))
-half_missing true uni r s h = absurd (both_ways false refl h)
 half_missing false uni None s h = (refl, inl refl)
-half_missing false true (Some l) s h = absurd (both_ways false refl h)
 half_missing false false (Some l) None h = (refl, inr (refl, refl))
-half_missing false false (Some l) (Some k) h = absurd (both_ways false refl h)
+half_missing _ uni r s h = absurd (both_ways false refl h)
 
 was_opened : (n : ℕ) (e : End) → is_yet_to_open e n ≡ false → WasOpened e n
 was_opened n e none other =
@@ -182,15 +179,11 @@ open_differs n e k yet recvs sends same =
     elim missing [
       | inl none ↦
           both_ways (is_some (recv_lane e n)) (ap is_some none)
-          (sym (ap (λ (x : End). is_some (lookup x.recvs n)) same) ∙ recvs (ap (λ (x : End). is_some (lookup x.recvs n)) opened ∙ at.recvs (ap (λ b. is_uni n && b) other ∙ and_false (is_uni n))))
+          (sym (ap (λ (x : End). is_some (lookup x.recvs n)) same) ∙ recvs (ap (λ (x : End). is_some (lookup x.recvs n)) opened ∙ at.recvs (ap (λ b. is_uni n && b) other ∙ and-false (is_uni n))))
       | inr (bidi, none) ↦
           both_ways (is_some (send_lane e n)) (ap is_some none)
           (sym (ap (λ (x : End). is_some (lookup x.sends n)) same) ∙ sends (ap (λ (x : End). is_some (lookup x.sends n)) opened ∙ at.sends (ap (λ b. b && not (is_own e n)) bidi)))
     ]
-  where
-    and_false : (b : Bool) → (b && false) ≡ false
-    and_false true = refl
-    and_false false = refl
 
 recv_same : (n : ℕ) (f : RecvLane → RecvLane) (e : End) → state_fault_in e n ≡ None → is_yet_to_open e n ≡ false → ((l : RecvLane) → lookup e.recvs n ≡ Some l → f l ≡ l) → on_recv n f (opened_by_peer n e) ≡ e
 recv_same n f e fine none stays =
@@ -246,9 +239,8 @@ item_same (StopSending n code) e v none =
     let (yet, half) = neither _ _ none in
     let answers = e.tuning.answers_stops in
     send_same n (λ l. stop_taken answers l code) e v yet (λ l is. stop_same answers l code (half_false (changes_by_stop answers) (send_lane e n) l is half))
-item_same (DataBlocked m) e v none = refl
 item_same (StreamDataBlocked n m) e v none = opened_back n e (was_opened n e none)
-item_same (StreamsBlocked d m) e v none = refl
+item_same _ e v none = refl
 
 item_differs : (i : Item) (e : End) → verdict e (Control i) ≡ None → item_changes e i ≡ true → item_taken i e ≡ e → ⊥
 unfolding verdict
@@ -273,9 +265,8 @@ item_differs (StopSending n code) e v some same =
           let (l, is, more) = half_true (changes_by_stop answers) (send_lane e n) half in
           send_differs n (λ l. stop_taken answers l code) e l is (stop_differs answers l code more) same
     ]
-item_differs (DataBlocked m) e v some same = both_ways false refl some
 item_differs (StreamDataBlocked n m) e v some same = open_differs n e (opened_by_peer n e) some (λ is. is) (λ is. is) same
-item_differs (StreamsBlocked d m) e v some same = both_ways false refl some
+item_differs _ e v some same = both_ways false refl some
 
 -- a frame of which the test says so changes nothing
 pub frame_same : (f : Seen) (e : End) → is_ours f ≡ true → verdict e f ≡ None → changes e f ≡ false → frame_taken f e ≡ e
@@ -289,8 +280,7 @@ frame_same (Stream n offset bytes fin) e ours v none =
     data_same l offset bytes fin (subst (λ o. IsOk (check_stream (or_new o 0 Half) offset (length bytes) fin)) is (stream_checked e e n offset bytes fin v (sym back)))
     (half_false (λ k. stream_changes k offset (length bytes) fin) (recv_lane e n) l is half))
 frame_same (Control i) e ours v none = item_same i e v none
-frame_same (Close code) e ours v none = refl
-frame_same (Plain asks) e ours v none = refl
+frame_same _ e ours v none = refl
 
 -- and one of which it says so changes something
 pub frame_differs : (f : Seen) (e : End) → verdict e f ≡ None → changes e f ≡ true → frame_taken f e ≡ e → ⊥

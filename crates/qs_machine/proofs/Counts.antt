@@ -1,9 +1,9 @@
 -- How many streams ended and what is stored: bounds, sums over the halves of a type, and counts that never fall.
 use Rattle.std.proofs.Common.{◌≡◌, ℕ, zero, suc, ◌+◌, ◌-◌, ◌*◌, ◌/◌, ◌%◌, ◌<◌, ◌≤◌, Bool, true, false, cond, List, [], ◌∷◌, length, map, Option, None, Some, slice_get, refl, sym, ap, ◌∙◌, subst, arith, not, ◌&&◌, ◌||◌, is_some, ◌++◌, get_or, take}
-use Rattle.std.specs.Prelude.{max, zip, Ok, if◌then◌else◌}
+use Rattle.std.specs.Prelude.{max, zip, Ok}
 use Rattle.std.specs.List.{filter, sum_by}
 use Rattle.std.proofs.lemmas.Option.{none-some, same_Some}
-use Rattle.std.proofs.lemmas.Bool.{both_ways, and_parts, and_from}
+use Rattle.std.proofs.lemmas.Bool.{both_ways, and_parts, and_from, cond_both}
 use Rattle.std.proofs.lemmas.Nat.{le-div, mod_below}
 use Rattle.std.proofs.Math.Nat.{mul-le-mul_right}
 use Rattle.qs_wire.specs.declared.stream_id.Dir.{Dir}
@@ -35,7 +35,6 @@ use Rattle.qs_machine.proofs.TableLaws.{value, total_le, total_both}
 use Rattle.std.specs.FinSet as set
 use Rattle.std.proofs.lemmas.List.Sums.{sum_by-set, sum_by-cons, sum_by-append, get_or-le-sum_by}
 use Rattle.std.proofs.Math.ListN.{set}
-use Rattle.qs_ranges.specs.Numbers.{run_starts}
 use Rattle.qs_ranges.proofs.Starts.{starts_below_end}
 use Rattle.qs_machine.specs.declared.tally.Tally.{Tally}
 use Rattle.qs_machine.specs.Sums.{stored_on, tally_of, tally_on, moved, IsPaid, EachLawful}
@@ -71,23 +70,21 @@ recvs_grow (x ∷ xs) (y ∷ ys) kept =
     one_more (recv_ended x) (recv_ended y) x y (filter recv_ended xs) (filter recv_ended ys) (first_kept RecvStays x y xs ys kept) (recvs_grow xs ys (λ i. kept (suc i)))
 
 both_grow : (rs ts : List RecvLane) (xs ys : List SendLane) → KeptAt RecvStays rs ts → KeptAt SendStays xs ys → length (filter both_ended (zip rs xs)) ≤ length (filter both_ended (zip ts ys))
-both_grow [] ts xs ys a b = omega arith
-both_grow (r ∷ rs) ts [] ys a b = omega arith
 both_grow (r ∷ rs) [] (x ∷ xs) ys a b = absurd (none_kept RecvStays r rs a)
 both_grow (r ∷ rs) (t ∷ ts) (x ∷ xs) [] a b = absurd (none_kept SendStays x xs b)
 both_grow (r ∷ rs) (t ∷ ts) (x ∷ xs) (y ∷ ys) a b =
     one_more (both_ended (r, x)) (both_ended (t, y)) (r, x) (t, y) (filter both_ended (zip rs xs)) (filter both_ended (zip ts ys))
     (λ h. (let (p, q) = and_parts (recv_ended r) (send_ended x) h in and_from (recv_ended t) (send_ended y) (first_kept RecvStays r t rs ts a p) (first_kept SendStays x y xs ys b q)))
     (both_grow rs ts xs ys (λ i. a (suc i)) (λ i. b (suc i)))
+both_grow _ ts xs ys a b = omega arith
 
 pub recvs_raised : (xs : List RecvLane) → length (filter recv_ended (map raise xs)) ≡ length (filter recv_ended xs)
 recvs_raised [] = refl
 recvs_raised (x ∷ xs) = same_more (recv_ended x) (raise x) x (filter recv_ended (map raise xs)) (filter recv_ended xs) (recvs_raised xs)
 
 both_raised : (rs : List RecvLane) (xs : List SendLane) → length (filter both_ended (zip (map raise rs) xs)) ≡ length (filter both_ended (zip rs xs))
-both_raised [] xs = refl
-both_raised (r ∷ rs) [] = refl
 both_raised (r ∷ rs) (x ∷ xs) = same_more (both_ended (r, x)) (raise r, x) (r, x) (filter both_ended (zip (map raise rs) xs)) (filter both_ended (zip rs xs)) (both_raised rs xs)
+both_raised _ xs = refl
 
 -- Tables
 
@@ -100,10 +97,8 @@ kept_table {X} R t u k few kept i x is = let (y, there, r) = kept (i * 4 + k) x 
 
 each_table : {X : Type 0} (f : X → X) (t : Tables X) (k : ℕ) → table (each f t) k ≡ map f (table t k)
 unfolding each
-each_table f t zero = refl
-each_table f t (suc zero) = refl
-each_table f t (suc (suc zero)) = refl
 each_table f t (suc (suc (suc k))) = refl
+each_table f t _ = refl
 
 -- Whole steps
 
@@ -218,12 +213,10 @@ within_credit e h =
 -- A new end
 
 pub no_table : {X : Type 0} (k : ℕ) → table (no_streams {X = X}) k ≡ []
-no_table zero = refl
-no_table (suc zero) = refl
-no_table (suc (suc zero)) = refl
 no_table (suc (suc (suc k))) = refl
+no_table _ = refl
 
-pub no_lane : (n : ℕ) → lookup (no_streams {X = RecvLane}) n ≡ None
+pub no_lane : {X : Type 0} (n : ℕ) → lookup (no_streams {X = X}) n ≡ None
 unfolding lookup
 no_lane n = ap (λ xs. slice_get xs (n / 4)) (no_table (n % 4))
 
@@ -319,11 +312,8 @@ pub tally_set : (xs : List RecvLane) (i : ℕ) (x y : RecvLane) → i < length x
 tally_set xs i x y there is = same_tally _ _ (sum_set highest xs i x y there is) (sum_set taken xs i x y there is) (sum_set stored_on xs i x y there is) (sum_set noted xs i x y there is)
 
 noted_within : (l : RecvLane) → IsLawful l → noted l ≤ highest l
-noted_within l h = go ((l.told && is_whole l) || is_some l.reset_code)
-  where
-    go : (b : Bool) → (if b then 0 else set.len (run_starts l.arrived.received)) ≤ highest l
-    go true = omega arith
-    go false = omega (arith, starts_below_end l.arrived.received, h.received_within)
+noted_within l h =
+    cond_both ((l.told && is_whole l) || is_some l.reset_code) 0 _ (λ k. k ≤ highest l) (λ _. omega arith) (λ _. omega (arith, starts_below_end l.arrived.received, h.received_within))
 
 pub each_paid : (xs : List RecvLane) → EachLawful xs → IsPaid (tally_on xs)
 each_paid [] each = record { moved = omega arith; noted = omega arith }
@@ -343,9 +333,8 @@ lawful_set (x ∷ xs) zero y is each = (is, each.1)
 lawful_set (x ∷ xs) (suc i) y is each = (each.0, lawful_set xs i y is each.1)
 
 pub lawful_take : (n : ℕ) (xs : List RecvLane) → EachLawful xs → EachLawful (take n xs)
-lawful_take zero xs each = tt
-lawful_take (suc n) [] each = tt
 lawful_take (suc n) (x ∷ xs) each = (each.0, lawful_take n xs each.1)
+lawful_take _ xs each = tt
 
 pub lawful_append : (xs ys : List RecvLane) → EachLawful xs → EachLawful ys → EachLawful (xs ++ ys)
 lawful_append [] ys a b = b

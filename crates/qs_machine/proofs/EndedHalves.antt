@@ -56,10 +56,9 @@ reset_stays_ended l code size =
     (λ _ h. h) (λ not h. absurd (both_ways (is_some l.reset_code || recv_whole l) not (and_parts l.told _ h).1))
 
 answer_stays : (answer : Read) (l : RecvLane) (size : ℕ) → RecvStays l (after_answer answer l size)
-answer_stays (reads.Bytes n) l size h = h
 answer_stays reads.End l size h = (and_parts l.told _ h).1
 answer_stays (reads.Reset code) l size h = (and_parts l.told _ h).1
-answer_stays reads.Wait l size h = h
+answer_stays _ l size h = h
 
 pub read_stays : (size : ℕ) (l : RecvLane) → RecvStays l (after_read l size)
 read_stays size l = answer_stays (read_answer l size) l size
@@ -92,8 +91,7 @@ pub record HasData (l : SendLane) : Type 0 where
 
 data_parts : (a b c : Bool) → (a && b && c) ≡ true → (a ≡ true) × (b ≡ true) × (c ≡ true)
 data_parts true true c h = (refl, refl, h)
-data_parts true false c h = absurd (both_ways false refl h)
-data_parts false b c h = absurd (both_ways false refl h)
+data_parts _ b c h = absurd (both_ways false refl h)
 
 data_of : (l : SendLane) → by_data l ≡ true → HasData l
 data_of l h = let (a, b, c) = data_parts (is_none l.was_reset) l.finished (send_whole l) h in record { no_reset = a; finished = b; whole = c }
@@ -106,9 +104,8 @@ data_from false b c p q r = absurd (both_ways false refl p)
 -- a half of which all was acknowledged isn't reset, and one that was finished isn't written to
 
 refused_whole : (a b : Bool) → b ≡ true → is_some {T = SendFault} (cond a (Some WasReset) (cond b (Some Finished) None)) ≡ true
-refused_whole true b h = refl
-refused_whole false true h = refl
 refused_whole false false h = absurd (both_ways false refl h)
+refused_whole _ b h = refl
 
 -- the half as a reset leaves it
 abbrev pub reset_by : ℕ → SendLane → SendLane
@@ -140,14 +137,10 @@ recv_last : (l : RecvLane) → recv_ended l ≡ is_last_recv (recv_state l)
 recv_last l = go l.told (is_some l.reset_code) (recv_whole l) (is_some l.final_size)
   where
     go : (told reset whole known : Bool) → (told && (reset || whole)) ≡ is_last_recv (cond reset (cond told ResetRead at_reset) (cond whole (cond told DataRead at_data) (cond known SizeKnown Recv)))
-    go true true whole known = refl
-    go true false true known = refl
     go true false false true = refl
     go true false false false = refl
-    go false true whole known = refl
-    go false false true known = refl
     go false false false true = refl
-    go false false false false = refl
+    go _ _ whole known = refl
 
 send_last : (s : Sending) → IsLawful s → send_ended s.lane ≡ is_last_send (send_state s.lane)
 send_last s h = by_reset s.lane.was_reset s.lane.reset_acked
@@ -167,10 +160,8 @@ send_last s h = by_reset s.lane.was_reset s.lane.reset_acked
     asked = sym (finished from s.lane.fin_acked s.lane.finished (λ is. h.ends.sent_asked (h.ends.acked_sent is)))
 
     last : (whole sent some : Bool) → is_last_send (cond whole DataRecvd (cond sent DataSent (cond some Send Ready))) ≡ whole
-    last true sent some = refl
-    last false true some = refl
     last false false true = refl
-    last false false false = refl
+    last _ sent some = refl
 
     by_reset : (o : Option Reset) (acked : Bool) → (acked || (is_none o && s.lane.finished && send_whole s.lane))
         ≡ is_last_send (cond acked ResetRecvd (cond (is_some o) ResetSent (cond (send_whole s.lane) DataRecvd (cond s.lane.fin_sent DataSent (cond (nat_lt 0 s.lane.sent_end || s.lane.blocked_sent) Send Ready)))))

@@ -1,6 +1,6 @@
 -- What an end keeps as frames come and as a call ends.
-use Rattle.std.proofs.Common.{◌≡◌, ℕ, zero, suc, take, ◌+◌, ◌≤◌, Bool, true, false, not, ◌&&◌, cond, nat_eq, List, [], ◌∷◌, ◌++◌, length, map, Option, Some, None, is_some, refl, sym, ap, ◌∙◌, subst, arith, inl, inr}
-use Rattle.std.specs.Prelude.{⊤, flat_map, IsOk}
+use Rattle.std.proofs.Common.{◌≡◌, ℕ, ◌+◌, ◌≤◌, Bool, true, false, not, ◌&&◌, cond, nat_eq, List, [], ◌∷◌, length, Option, Some, None, is_some, refl, sym, ap, ◌∙◌, subst, arith}
+use Rattle.std.specs.Prelude.{⊤, IsOk}
 use Rattle.std.specs.FinMap as fmap
 use Rattle.std.proofs.lemmas.Bool.{both_ways, cond_both}
 use Rattle.std.proofs.lemmas.Bool.Decides.{nat_tests}
@@ -9,12 +9,12 @@ use Rattle.qs_recv.specs.Lane.{RecvLane, new_lane as new_recv_lane, check_stream
 use Rattle.qs_recv.specs.declared.credit.Share.TheVariants.{Half}
 use Rattle.qs_recv.specs.Lawful.{IsLawful}
 use Rattle.qs_send.specs.Lane.{SendLane, new_lane as new_send_lane, reset_refusal, is_whole, acked_lane, first_code, stop_taken, reset_acked_lane, allow_lane}
-use Rattle.qs_send.specs.Records.{Among, IsCarried, without_first}
+use Rattle.qs_send.specs.Records.{IsCarried, without_first}
 use Rattle.qs_send.specs.declared.parts.Chunk.{Chunk}
 use Rattle.qs_send.specs.declared.parts.SendFault.{SendFault}
 use Rattle.qs_send.specs.declared.parts.SendFault.TheVariants.{Finished, WasReset}
 use Rattle.qs_send.specs.declared.piece.Item.{Item}
-use Rattle.qs_send.specs.declared.piece.Item.TheVariants.{MaxData, MaxStreamData, MaxStreams, ResetStream, StopSending, DataBlocked, StreamDataBlocked, StreamsBlocked}
+use Rattle.qs_send.specs.declared.piece.Item.TheVariants.{MaxData, MaxStreamData, MaxStreams, ResetStream, StopSending, StreamDataBlocked, StreamsBlocked}
 use Rattle.qs_send.specs.declared.piece.Piece.{Piece}
 use Rattle.qs_send.specs.declared.piece.Piece.TheVariants.{Data, Told}
 use Rattle.qs_send.proofs.Carrying.{rest_of, get-without_first, carried-without_first}
@@ -23,17 +23,20 @@ use Rattle.qs_calls.specs.declared.closing.Closed.{Closed}
 use Rattle.qs_machine.specs.Recording.{recorded}
 use Rattle.qs_machine.specs.Ends.{End, Records, AckedItems, closes, is_own, is_uni, on_send, on_recv, opens, opened_by_peer, first_send_limit, window}
 use Rattle.qs_machine.specs.Credit.{settle}
-use Rattle.qs_machine.specs.Seen.{Seen, Ack, Stream, Control, Close, Plain}
+use Rattle.qs_machine.specs.Seen.{Seen, Ack, Stream, Control}
 use Rattle.qs_machine.specs.Verdicts.{verdict, or_new}
-use Rattle.qs_machine.specs.FrameStep.{frame_taken, item_taken, AckedPiece, acked_at, held, without_piece, pieces_of, acked_numbers, named_in, named, acks, first_acked, piece_acked, item_acked}
+use Rattle.qs_machine.specs.FrameStep.{frame_taken, item_taken, AckedPiece, held, without_piece, named, acks, first_acked, piece_acked, item_acked}
 use Rattle.qs_machine.specs.Standing.{IsInCredit, CountsStand, HasLawfulLane}
 use Rattle.qs_machine.specs.Repeats.{IsWritten, WasWritten, SentWasWritten}
+use Rattle.std.specs.List.{AllByRecursion}
+use Rattle.qs_machine.proofs.Pieces.{All_more, all_named}
 use Rattle.qs_machine.proofs.EndedHalves.{RecvStays, SendStays, reset_by, new_reset_keeps, reset_acked_keeps, whole_acked, acked_keeps}
 use Rattle.qs_machine.proofs.Counts.{counts_stand}
 use Rattle.qs_machine.proofs.CallsSound.{sound_opened}
 use Rattle.qs_machine.proofs.Taken.{stream_checked, reset_checked}
 use Rattle.qs_machine.proofs.LanesAgain.{LaneAfter, lane_same, lane_twice, data_after, reset_after, raise_after}
 use Rattle.qs_machine.proofs.TablesAfter.{KeptIn, kept_same, kept_twice, kept_updated, kept_open, kept_each}
+use Rattle.qs_machine.specs.LostPackets.{LostPackets}
 
 -- Sending halves
 
@@ -83,9 +86,8 @@ half_acked l c within =
 
 -- no piece of a packet is outstanding
 abbrev pub IsBare : Option (List Piece) → Type 0
-IsBare None = ⊤
-IsBare (Some []) = ⊤
 IsBare (Some (p ∷ ps)) = ⊥
+IsBare _ = ⊤
 
 -- what an end keeps as frames come
 pub record IsAfter (a b : End) : Type 0 where
@@ -117,10 +119,13 @@ lanes_stay t u kept n l is = let (m, there, r) = kept n l is in (m, there, r.end
 pub halves_stay : (t u : Tables SendLane) → KeptIn HalfAfter t u → KeptIn SendStays t u
 halves_stay t u kept n l is = let (m, there, r) = kept n l is in (m, there, r.ended)
 
--- an end whose tables and known limits moved
-after_parts : (e : End) (s : Tables SendLane) (r : Tables RecvLane) (g d b u : ℕ) → KeptIn HalfAfter e.sends s → KeptIn LaneAfter e.recvs r → e.known_data ≤ d → e.known_bidi ≤ b → e.known_uni ≤ u
-    → IsAfter e (record e { sends = s; recvs = r; granted = g; known_data = d; known_bidi = b; known_uni = u })
-after_parts e s r g d b u ss rr dd bb uu =
+-- an end whose tables, limits, counts and records moved
+after_by : {e : End} {s : Tables SendLane} {r : Tables RecvLane} {g x y d b u : ℕ} {out : Records} {lost : LostPackets} → KeptIn HalfAfter e.sends s → KeptIn LaneAfter e.recvs r
+    → e.known_data ≤ d → e.known_bidi ≤ b → e.known_uni ≤ u → e.granted_bidi ≤ x → e.granted_uni ≤ y → (CountsStand e → CountsStand (record e { granted_bidi = x; granted_uni = y }))
+    → ((late : Bool) (k : ℕ) → IsBare (fmap.get (held late e) k) → IsBare (fmap.get (held late (record e { outstanding = out; lost = lost })) k))
+    → ((late : Bool) (p : Piece) → IsCarried (held late (record e { outstanding = out; lost = lost })) p → IsCarried (held late e) p)
+    → IsAfter e (record e { sends = s; recvs = r; granted = g; granted_bidi = x; granted_uni = y; known_data = d; known_bidi = b; known_uni = u; outstanding = out; lost = lost })
+after_by ss rr dd bb uu xx yy counts bare carried =
     record {
       role = refl;
       settings = refl;
@@ -129,14 +134,19 @@ after_parts e s r g d b u ss rr dd bb uu =
       credit = dd;
       bidi = bb;
       uni = uu;
-      bidi_granted = omega arith;
-      uni_granted = omega arith;
-      counts = λ h. h;
+      bidi_granted = xx;
+      uni_granted = yy;
+      counts = counts;
       recvs = rr;
       sends = ss;
-      bare = λ late k is. is;
-      carried = λ late p is. is;
+      bare = bare;
+      carried = carried;
     }
+
+-- an end whose tables and known limits moved
+after_parts : (e : End) (s : Tables SendLane) (r : Tables RecvLane) (g d b u : ℕ) → KeptIn HalfAfter e.sends s → KeptIn LaneAfter e.recvs r → e.known_data ≤ d → e.known_bidi ≤ b → e.known_uni ≤ u
+    → IsAfter e (record e { sends = s; recvs = r; granted = g; known_data = d; known_bidi = b; known_uni = u })
+after_parts e s r g d b u ss rr dd bb uu = after_by ss rr dd bb uu (omega arith) (omega arith) (λ h. h) (λ late k is. is) (λ late p is. is)
 
 after_tables : (e : End) (s : Tables SendLane) (r : Tables RecvLane) (g : ℕ) → KeptIn HalfAfter e.sends s → KeptIn LaneAfter e.recvs r → IsAfter e (record e { sends = s; recvs = r; granted = g })
 after_tables e s r g ss rr = after_parts e s r g e.known_data e.known_bidi e.known_uni ss rr (omega arith) (omega arith) (omega arith)
@@ -193,30 +203,14 @@ after_recv n f e kept = after_tables e e.sends _ e.granted (sends_same e.sends) 
 -- as a call ends, no count falls
 pub after_settle : (e : End) → IsAfter e (settle e)
 after_settle e =
-    record {
-      role = refl;
-      settings = refl;
-      tuning = refl;
-      next = omega arith;
-      credit = omega arith;
-      bidi = omega arith;
-      uni = omega arith;
-      bidi_granted = omega arith;
-      uni_granted = omega arith;
-      counts = counts_stand e;
-      recvs = kept_each LaneAfter lane_same e.recvs raise raise_after;
-      sends = sends_same e.sends;
-      bare = λ late k is. is;
-      carried = λ late p is. is;
-    }
+    after_by (sends_same e.sends) (kept_each LaneAfter lane_same e.recvs raise raise_after) (omega arith) (omega arith) (omega arith) (omega arith) (omega arith) (counts_stand e)
+    (λ late k is. is) (λ late p is. is)
 
 -- Acknowledgements
 
 bare_rest : (o : Option (List Piece)) → IsBare o → IsBare (rest_of o)
-bare_rest None h = tt
-bare_rest (Some []) h = tt
-bare_rest (Some (p ∷ [])) h = tt
 bare_rest (Some (p ∷ q ∷ ps)) h = absurd h
+bare_rest _ h = tt
 
 pub bare_less : (m : Records) (k n : ℕ) → IsBare (fmap.get m n) → IsBare (fmap.get (without_first m k (fmap.get m k)) n)
 bare_less m k n h = subst IsBare (sym (get-without_first m k n)) (go (nat_eq n k) refl)
@@ -229,34 +223,21 @@ bare_less m k n h = subst IsBare (sym (get-without_first m k n)) (go (nat_eq n k
 
 pub bare_without : (late b : Bool) (k : ℕ) (e : End) (j : ℕ) → IsBare (fmap.get (held late e) j) → IsBare (fmap.get (held late (without_piece b k e)) j)
 bare_without true true k e j h = bare_less e.lost.pieces k j h
-bare_without true false k e j h = h
-bare_without false true k e j h = h
 bare_without false false k e j h = bare_less e.outstanding k j h
+bare_without _ _ k e j h = h
 
 pub carried_without : (late b : Bool) (k : ℕ) (e : End) (p : Piece) → IsCarried (held late (without_piece b k e)) p → IsCarried (held late e) p
 carried_without true true k e p is = carried-without_first e.lost.pieces k p is
-carried_without true false k e p is = is
-carried_without false true k e p is = is
 carried_without false false k e p is = carried-without_first e.outstanding k p is
+carried_without _ _ k e p is = is
 
 after_without : (late : Bool) (k : ℕ) (e : End) → IsAfter e (without_piece late k e)
-after_without late k e =
-    record {
-      role = refl;
-      settings = refl;
-      tuning = refl;
-      next = omega arith;
-      credit = omega arith;
-      bidi = omega arith;
-      uni = omega arith;
-      bidi_granted = omega arith;
-      uni_granted = omega arith;
-      counts = λ h. h;
-      recvs = recvs_same e.recvs;
-      sends = sends_same e.sends;
-      bare = λ b j is. bare_without b late k e j is;
-      carried = λ b p is. carried_without b late k e p is;
-    }
+after_without true k e =
+    after_by (sends_same e.sends) (recvs_same e.recvs) (omega arith) (omega arith) (omega arith) (omega arith) (omega arith) (λ h. h)
+    (λ b j is. bare_without b true k e j is) (λ b p is. carried_without b true k e p is)
+after_without false k e =
+    after_by (sends_same e.sends) (recvs_same e.recvs) (omega arith) (omega arith) (omega arith) (omega arith) (omega arith) (λ h. h)
+    (λ b j is. bare_without b false k e j is) (λ b p is. carried_without b false k e p is)
 
 after_acked_items : (e : End) (a : AckedItems) → IsAfter e (record e { acked = a })
 after_acked_items e a = record { role = refl; settings = refl; tuning = refl; next = omega arith; credit = omega arith; bidi = omega arith; uni = omega arith; bidi_granted = omega arith; uni_granted = omega arith; counts = λ h. h; recvs = recvs_same e.recvs; sends = sends_same e.sends; bare = λ late k is. is; carried = λ late p is. is }
@@ -293,49 +274,20 @@ sent_stays a b x h late p is = written_stays HalfAfter half_longer a.sends b.sen
 
 -- all data of the list was written
 abbrev pub AllWritten : Tables SendLane → List AckedPiece → Type 0
-AllWritten t [] = ⊤
-AllWritten t (p ∷ ps) = WasWritten t p.piece × AllWritten t ps
-
-all_stay : (t u : Tables SendLane) → KeptIn HalfAfter t u → (ps : List AckedPiece) → AllWritten t ps → AllWritten u ps
-all_stay t u kept [] h = tt
-all_stay t u kept (p ∷ ps) h = (written_stays HalfAfter half_longer t u kept p.piece h.0, all_stay t u kept ps h.1)
+AllWritten t = AllByRecursion (λ a. WasWritten t a.piece)
 
 pub after_acks : (ps : List AckedPiece) (e : End) → AllWritten e.sends ps → IsAfter e (acks ps e)
 unfolding acks
 after_acks [] e h = after_same e
 after_acks (p ∷ ps) e h =
     let one = after_first p e h.0 in
-    after_twice e (first_acked p e) _ one (after_acks ps (first_acked p e) (all_stay e.sends (first_acked p e).sends one.sends ps h.1))
-
-pub all_append : (t : Tables SendLane) (ps qs : List AckedPiece) → AllWritten t ps → AllWritten t qs → AllWritten t (ps ++ qs)
-all_append t [] qs a b = b
-all_append t (p ∷ ps) qs a b = (a.0, all_append t ps qs a.1 b)
-
-pub all_take : (t : Tables SendLane) (m : ℕ) (ps : List AckedPiece) → AllWritten t ps → AllWritten t (take m ps)
-all_take t zero ps h = tt
-all_take t (suc m) [] h = tt
-all_take t (suc m) (p ∷ ps) h = (h.0, all_take t m ps h.1)
+    after_twice e (first_acked p e) _ one
+    (after_acks ps (first_acked p e) (All_more (λ a. WasWritten e.sends a.piece) (λ a. WasWritten (first_acked p e).sends a.piece) ps (λ a is. written_stays HalfAfter half_longer e.sends (first_acked p e).sends one.sends a.piece is) h.1))
 
 -- what an ACK takes was outstanding, or lost
 
-all_mapped : (t : Tables SendLane) (late : Bool) (k : ℕ) (ps : List Piece) → ((p : Piece) → Among p ps → WasWritten t p) → AllWritten t (map (acked_at late k) ps)
-all_mapped t late k [] h = tt
-all_mapped t late k (p ∷ ps) h = (h p (inl refl), all_mapped t late k ps (λ q a. h q (inr a)))
-
-pieces_written : (e : End) (late : Bool) (k : ℕ) → SentWasWritten e → AllWritten e.sends (pieces_of late (held late e) k)
-pieces_written e late k h = go (fmap.get (held late e) k) refl
-  where
-    go : (o : Option (List Piece)) → fmap.get (held late e) k ≡ o → AllWritten e.sends (elim o [ None ↦ [] | Some ps ↦ map (acked_at late k) ps ])
-    go None is = tt
-    go (Some ps) is = all_mapped e.sends late k ps (λ p a. h late p (k, ps, is, a))
-
-numbers_written : (e : End) (late : Bool) (ks : List ℕ) → SentWasWritten e → AllWritten e.sends (flat_map (pieces_of late (held late e)) ks)
-numbers_written e late [] h = tt
-numbers_written e late (k ∷ ks) h = all_append e.sends (pieces_of late (held late e) k) (flat_map (pieces_of late (held late e)) ks) (pieces_written e late k h) (numbers_written e late ks h)
-
 pub named_written : (e : End) (ranges : List (ℕ × ℕ)) → SentWasWritten e → AllWritten e.sends (named e ranges)
-named_written e ranges h =
-    all_append e.sends (named_in false e.outstanding ranges) (named_in true e.lost.pieces ranges) (numbers_written e false (acked_numbers e.outstanding ranges) h) (numbers_written e true (acked_numbers e.lost.pieces ranges) h)
+named_written e ranges h = all_named (λ a. WasWritten e.sends a.piece) ranges e (λ late k ps named at p a. h late p (k, ps, at, a))
 
 -- Frames
 
@@ -370,14 +322,12 @@ after_item (MaxStreams Bidi m) e v h = after_known e e.known_data _ e.known_uni 
 after_item (MaxStreams Uni m) e v h = after_known e e.known_data e.known_bidi _ (omega arith) (omega arith) (omega arith)
 after_item (ResetStream n code size) e v h = after_twice e (opened_by_peer n e) _ (after_opened n e) (mid_reset n code size e v h)
 after_item (StopSending n code) e v h = after_twice e (opened_by_peer n e) _ (after_opened n e) (mid_stop e.tuning.answers_stops n code e)
-after_item (DataBlocked m) e v h = after_same e
 after_item (StreamDataBlocked n m) e v h = after_opened n e
-after_item (StreamsBlocked d m) e v h = after_same e
+after_item _ e v h = after_same e
 
 pub after_frame : (f : Seen) (e : End) → verdict e f ≡ None → IsInCredit e → SentWasWritten e → IsAfter e (frame_taken f e)
 unfolding frame_taken
 after_frame (Ack largest ranges) e v sound sent = after_acks (named e ranges) e (named_written e ranges sent)
 after_frame (Stream n offset bytes fin) e v sound sent = after_twice e (opened_by_peer n e) _ (after_opened n e) (mid_stream n offset bytes fin e v sound)
 after_frame (Control i) e v sound sent = after_item i e v sound
-after_frame (Close code) e v sound sent = after_same e
-after_frame (Plain asks) e v sound sent = after_same e
+after_frame _ e v sound sent = after_same e

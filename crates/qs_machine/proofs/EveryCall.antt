@@ -1,7 +1,7 @@
 -- One induction over all calls of an end: each is made of a few changes, and most end as the limits move; after a closing nothing changes.
 use Rattle.std.proofs.Common.{◌≡◌, Bool, true, false, Option, Some, None, refl, sym, ℕ, ◌≤◌, ◌-◌, List, length, take, min, arith, ◌+◌, ◌*◌, ◌||◌, ◌&&◌, [], ◌∷◌, ◌++◌, drop, append-nil, is_some, ap, ◌∙◌, subst, inl, inr, zero, suc}
 use Rattle.std.specs.Prelude.{MatchBool, Result, cond, ⊤, not, nat_eq, nat_lt, nat_le, Ok, Err}
-use Rattle.std.proofs.lemmas.Bool.{false≢true}
+use Rattle.std.proofs.lemmas.Bool.{false≢true, cond_both}
 use Rattle.qs_machine.specs.Ends.{End, send_lane, recv_lane, on_send, on_recv, opens, closes}
 use Rattle.qs_machine.specs.Owner.{Certain, at_most, accepted_by, OpenStep, AcceptStep, AcceptOfStep, ReadBy, ConsumeStep, with_wanted, first_refusal, refuse_if, no_half, half_refusal, send_refusal, recv_refusal, is_read_no_more, IsBlocked, IsOpened, GivesNone, GivesBidi, GivesUni, AcceptOpen, AcceptOpenOf, peer_type, next_stream}
 use Rattle.std.proofs.lemmas.List.{length-take, take-append-drop}
@@ -26,7 +26,6 @@ use Rattle.qs_send.proofs.Carrying.{rest_of, get_same-without_first}
 use Rattle.qs_calls.specs.declared.closing.Closing.{Closing}
 use Rattle.qs_calls.specs.declared.closing.Closed.{Closed}
 use Rattle.qs_calls.specs.declared.closing.Closed.TheVariants.{ByUs, ByPeer}
-use Rattle.qs_calls.specs.declared.closing.Closed.TheVariants as closings
 use Rattle.qs_calls.specs.declared.closing.Received.{Received}
 use Rattle.qs_calls.specs.declared.closing.Received.TheVariants as received
 use Rattle.qs_calls.specs.declared.filling.Fill.{Fill}
@@ -58,11 +57,8 @@ use Rattle.qs_machine.specs.Alone.{is_ours, TakesOne, TakeBy, TakesEach, TakeAll
 use Rattle.qs_machine.specs.Raising.{limits_raised, raise_refusal}
 use Rattle.qs_machine.specs.Setting.{Setting, SetStep, set_refusal, with_setting}
 use Rattle.qs_machine.specs.EndStep.{Call, Answer, EndStep, Open, Accept, AcceptOf, Write, Finish, Reset, Stop, ReadUpTo, Consume, Receive, TakeFrame, TakeFrames, TokenAcked, TokenLost, Make, MakeAck, FillIn, Lose, Claim, RaiseLimits, Set, StopAndForget}
-use Rattle.qs_calls.specs.declared.making.LostFault.TheVariants as losing
 use Rattle.qs_machine.specs.Tables.{Tables}
 use Rattle.qs_machine.specs.Laws.{StaysOnceClosed, StaysButRead}
-use Rattle.qs_calls.specs.declared.settings.RaiseFault.TheVariants as raising
-use Rattle.qs_calls.specs.declared.settings.SetFault.TheVariants as setting
 
 -- The cases of a call: what is refused, what is tested.
 
@@ -80,6 +76,11 @@ pub by_test : (P : Type 0) (b : Bool) (Yes No : Type 0) → MatchBool b Yes No �
 by_test P true Yes No h if_so if_not = if_so h
 by_test P false Yes No h if_so if_not = if_not h
 
+-- what both branches have alike, either has
+pub same_either : {X Y : Type 0} (f : X → Y) (b : Bool) (x y : X) → f y ≡ f x → f (cond b x y) ≡ f x
+same_either f true x y e = refl
+same_either f false x y e = e
+
 -- what is chosen by a test that failed
 pub not_chosen : {A : Type 0} (b : Bool) (x y : A) → b ≡ false → cond b x y ≡ y
 not_chosen true x y e = absurd (false≢true (sym e))
@@ -94,11 +95,8 @@ at_most_few (Some left) n = omega arith
 pub accepted_few : (e : End) (l : SendLane) (n : ℕ) → accepted_by e l n ≤ accepted l n
 accepted_few e l n =
     let few = at_most_few (window_left e) (cond e.tuning.within_credit (min (accepted l n) (credit_for e l)) (accepted l n)) in
-    omega (arith, few, cut e.tuning.within_credit (accepted l n) (credit_for e l))
-  where
-    cut : (b : Bool) (n m : ℕ) → cond b (min n m) n ≤ n
-    cut true n m = omega arith
-    cut false n m = omega arith
+    let cut = cond_both e.tuning.within_credit (min (accepted l n) (credit_for e l)) (accepted l n) (λ k. k ≤ accepted l n) (λ _. omega arith) (λ _. omega arith) in
+    omega (arith, few, cut)
 
 -- no offset past the greatest integer is written
 pub few_taken : (e : End) (l : SendLane) (bytes : List ℕ) → length (take (accepted_by e l (length bytes)) bytes) ≤ MAX_VARINT - l.written
@@ -214,10 +212,8 @@ given_is_no_fault e t allowed = (let made : nat_le e.next t.number ≡ false = g
     by false h = absurd (none-some _ (sym h))
 
     go : (closed own ordered : Bool) → first_refusal (refuse_if closed tokens.Closed) (refuse_if (not (own && (ordered && nat_lt t.number e.next))) tokens.NotGiven) ≡ None → nat_le e.next t.number ≡ false
-    go true own ordered h = absurd (none-some _ (sym h))
-    go false false ordered h = absurd (none-some _ (sym h))
-    go false true false h = absurd (none-some _ (sym h))
     go false true true h = grind (arith, nat_tests, (by (nat_lt t.number e.next) h))
+    go _ own ordered h = absurd (none-some _ (sym h))
 
 -- what comes of a payload at an end that is open: it isn't taken and changes nothing, or it is taken
 pub by_open : (P : Type 0) (number : ℕ) (payload : List ℕ) (old : End) (result : Result Received Closing) (new : End) → OpenReceive number payload old result new
@@ -300,12 +296,11 @@ module _ (old : End) (call : Call) (Q P : End → Type 0) (c : Cases old call Q 
 
   module _ (comes : MovesStanding call) where
     takes_one : (f : FrameValue) (e : End) (answer : Result Taken TakeFault) (new : End) → Q e → TakesOne e f answer new → Q new
-    takes_one f e (Ok taken.Took) new h took = becomes _ new took.1 (c.goes (Took (seen f)) e (took.0.1, hears call comes) h)
-    takes_one f e (Ok taken.Unchanged) new h took = becomes _ new took.1 (c.goes (Took (seen f)) e (took.0.1, hears call comes) h)
     takes_one f e (Ok taken.NotOurs) new h took = absurd took
     takes_one f e (Err faults.NoMemory) new h took = runs_out (hears call comes) (seen f) e new h took.1
     takes_one f e (Err (faults.Closing closing)) new h took = becomes _ new took.2 (c.goes (Shut (ByUs closing)) e comes h)
     takes_one f e (Err (faults.PeerClosed code)) new h took = absurd took
+    takes_one f e _ new h took = becomes _ new took.1 (c.goes (Took (seen f)) e (took.0.1, hears call comes) h)
 
     take_by : (o : Option Closed) (f : FrameValue) (answer : Result Taken TakeFault) (new : End) → TakeBy o f old answer new → P new
     take_by (Some closed) f answer new step = same new step.1

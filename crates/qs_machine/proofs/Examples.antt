@@ -32,6 +32,7 @@ use Rattle.qs_send.specs.declared.piece.Piece.{Piece}
 use Rattle.qs_send.specs.declared.piece.Piece.TheVariants.{Data}
 use Rattle.std.specs.Cmp.{nat_cmp_total}
 use Rattle.std.proofs.lemmas.Bool.{and_right, both_ways, false≢true}
+use Rattle.std.proofs.Math.Bool.{and-true}
 
 -- what came on a stream that begins ends there
 came_to : (n : ℕ) → 0 < n → end_of (set.union set.empty (numbers 0 n)) ≡ n
@@ -141,11 +142,7 @@ stored_at q =
     get-store set.empty nothing 0 abc q
     ∙ ap (λ b. cond (is_in_run q 0 3 && not b) (byte_at 0 abc q) (fmap.get nothing q)) (set.contains-empty nat_cmp q)
     ∙ (λ i. cond (is_in_run q 0 3 && true) (byte_at 0 abc q) (fmap.get-empty nat_cmp q i))
-    ∙ by_test (is_in_run q 0 3)
-  where
-    by_test : (b : Bool) → cond (b && true) (byte_at 0 abc q) None ≡ cond b (byte_at 0 abc q) None
-    by_test true = refl
-    by_test false = refl
+    ∙ ap (λ b. cond b (byte_at 0 abc q) None) (and-true (is_in_run q 0 3))
 
 first_came : set.contains (set.union set.empty (numbers 0 3)) 0 ≡ true
 first_came = contains-with_run set.empty 0 3 0 ∙ ap (λ b. b || is_in_run 0 0 3) (set.contains-empty nat_cmp 0)

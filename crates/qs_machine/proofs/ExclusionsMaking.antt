@@ -65,9 +65,8 @@ data_of (Data n c) = c
 data_of (Told i) = chunk 0 0 false
 
 abbrev value_of : (p : Piece) → ℕ
-value_of (Data n c) = 0
 value_of (Told (MaxData m)) = m
-value_of (Told i) = 0
+value_of _ = 0
 
 -- only the offsets of the one piece are in flight
 flying : (c d : Chunk) → IsCarried (fmap.insert fmap.empty 0 (Data 0 c ∷ [])) (Data 0 d) → d ≡ c
@@ -417,16 +416,14 @@ largest_alone (inr next) = (let most = next_fits next.gap next.len next.fits in 
 -- a server without a stream has nothing to tell
 pub no_item : (i : Item) → IsCurrent (server standard) i → ⊥
 unfolding total
-no_item (MaxData m) c = omega (arith, c.0, c.1)
 no_item (MaxStreamData n m) (l, there, at, low, size) = none-some l (sym (nowhere n) ∙ there)
-no_item (MaxStreams Bidi m) c = omega (arith, c.0, c.1)
-no_item (MaxStreams Uni m) c = omega (arith, c.0, c.1)
 no_item (ResetStream n code size) (l, there, is) = none-some l (sym (nowhere n) ∙ there)
 no_item (StopSending n code) (l, there, at, reset, whole) = none-some l (sym (nowhere n) ∙ there)
 no_item (DataBlocked m) (is, all, some) = omega (arith, is, all)
 no_item (StreamDataBlocked n m) (l, there, reset, at, more, end) = none-some l (sym (nowhere n) ∙ there)
 no_item (StreamsBlocked Bidi m) c = none-some m c.0
 no_item (StreamsBlocked Uni m) c = none-some m c.0
+no_item _ c = omega (arith, c.0, c.1)
 
 pub none_due : Sendable (server standard) → ⊥
 none_due (inl due) = false≢true due
@@ -436,10 +433,9 @@ none_due (inr (inr (n, (l, there, goes)))) = none-some l (sym (nowhere n) ∙ th
 -- a packet that has a frame asks for an ACK, where none is due
 asks_first : (old : End) (f : Seen) → old.ack_due ≡ false → MayPut old old f → asks_ack f ≡ true
 asks_first old (Ack largest ranges) none may = absurd (true≢false (sym may.due ∙ none))
-asks_first old (Stream n offset bytes fin) none may = refl
-asks_first old (Control i) none may = refl
 asks_first old (Close code) none may = absurd may
 asks_first old (Plain asks) none may = absurd may
+asks_first old _ none may = refl
 
 asks_some : (old mid : End) (fs : List Seen) → old.ack_due ≡ false → fs ≢ [] → Fills old old fs mid → any_asks fs ≡ true
 asks_some old mid [] none some fills = absurd (some refl)

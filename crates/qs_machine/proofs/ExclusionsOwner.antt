@@ -48,6 +48,7 @@ use Rattle.qs_calls.specs.declared.news.News.{News}
 use Rattle.qs_calls.specs.declared.news.News.TheVariants.{Opened, Readable, Writable, Stopped, Finished, ResetAcked, Ended}
 use Rattle.qs_machine.specs.Heard.{Hearing, heard_nothing, IsNews, HasFinished, WasResetAcked, ComesBefore, IsFirstNews, TakesMemory, is_told}
 use Rattle.qs_machine.specs.ExclusionsHeard.{heard_one, reset_came, NoNews, NotFirst, NotRefused, NotNoted, NotHeard}
+use Rattle.std.proofs.Math.Bool.{and-false}
 
 -- Which answers an end's owner isn't given, and what its calls don't leave.
 
@@ -511,8 +512,7 @@ not_found = record { search = search; readable = readable; sendable = sendable; 
 -- What is no news, and what an owner didn't hear by it.
 
 no_and : (b : Bool) → (b && false) ≡ true → ⊥
-no_and true is = false≢true is
-no_and false is = false≢true is
+no_and b is = both_ways _ (and-false b) is
 
 news : NoNews
 unfolding lookup

@@ -6,7 +6,7 @@ use Rattle.std.specs.FinSet as set
 use Rattle.std.specs.Ordering.{nat_cmp, eq_by_cmp}
 use Rattle.std.specs.Cmp.{nat_cmp_total, unsigned_tied}
 use Rattle.std.proofs.lemmas.Option.{same_Some, none-some}
-use Rattle.std.proofs.lemmas.Bool.{true≢false, both_ways, and_right, or_cases, eqb-true, eq-eqb, cases_lt, false≢true}
+use Rattle.std.proofs.lemmas.Bool.{true≢false, both_ways, and_right, or_cases, eqb-true, eq-eqb, cases_lt, false≢true, false_from_ne_true}
 use Rattle.qs_ranges.specs.Numbers.{NumberSet, numbers, is_within, has_predecessor, run_starts, contains-without_range, same_numbers, contains-numbers, contains-with_range}
 use Rattle.qs_ranges.proofs.Sets.{end_of-empty, end_of-with_range}
 use Rattle.qs_wire.specs.Layout.{PlacedValue, FrameValue, max_data}
@@ -206,11 +206,7 @@ evens_at (suc n) j lt = set.contains-insert nat_cmp_total (evens n) (n + n) (j +
         before (elim (cases_lt j n) [ inl less ↦ less | inr ge ↦ absurd (both_ways _ is (unsigned_tied (j + j) (n + n) ∙ eq-eqb (j + j) (n + n) (omega (arith, ge, lt)))) ])
 
 not_at : (n q : ℕ) → ((j : ℕ) → j < n → q ≡ j + j → ⊥) → set.contains (evens n) q ≡ false
-not_at n q none = by_test (set.contains (evens n) q) refl
-  where
-    by_test : (b : Bool) → set.contains (evens n) q ≡ b → b ≡ false
-    by_test true is = absurd (let (j, lt, e) = evens_have n q is in none j lt e)
-    by_test false is = refl
+not_at n q none = false_from_ne_true _ (λ is. let (j, lt, e) = evens_have n q is in none j lt e)
 
 evens_len : (n : ℕ) → set.len (evens n) ≡ n
 evens_len zero = set.len-empty nat_cmp
@@ -353,10 +349,9 @@ fault_in (Ok taken) = None
 fault_in (Err fault) = Some fault
 
 abbrev closing_in : Result Taken TakeFault → ℕ
-closing_in (Ok taken) = 0
 closing_in (Err (faults.Closing closing)) = closing.code
 closing_in (Err (faults.PeerClosed code)) = code
-closing_in (Err faults.NoMemory) = 0
+closing_in _ = 0
 
 abbrev is_took : Result Taken TakeFault → Bool
 is_took (Ok Took) = true
@@ -375,9 +370,8 @@ frame =
 
 -- what is answered of a frame that was taken
 was_taken : (e : End) (f : FrameValue) (one : Taken) (new : End) → TakesOne e f (Ok one) new → MayTake e f × (new ≡ frame_taken (seen f) e)
-was_taken e f Took new h = (h.0, h.1)
-was_taken e f Unchanged new h = (h.0, h.1)
 was_taken e f NotOurs new h = absurd h
+was_taken e f _ new h = (h.0, h.1)
 
 -- a limit that no text has takes no effect behind another frame
 behind : (mid : End) (one : Taken) (later : Result Taken TakeFault) (new : End) → TakesEach (past_all ∷ []) mid later new → ◌≡◌ {A = Result Taken TakeFault} (Ok Took) (after_one one later) → ⊥
@@ -404,7 +398,6 @@ is_other r = false
 after_took : (e : End) (f : FrameValue) (one : Taken) (mid : End) (later : Result Taken TakeFault) → TakesOne e f (Ok one) mid → ◌≡◌ {A = Result Taken TakeFault} (Ok NotOurs) (after_one one later) → ⊥
 after_took e f one mid (Err fault) h is = none-some fault (ap fault_in is)
 after_took e f NotOurs mid (Ok later) h is = absurd h
-after_took e f Took mid (Ok later) h is = false≢true (sym (ap is_other is))
 after_took e f Unchanged mid (Ok Took) h is = false≢true (sym (ap is_other is))
 after_took e f one mid later h is = false≢true (sym (ap is_other is))
 
@@ -476,22 +469,19 @@ is_closing answer = false
 
 -- no declared loss is answered so
 not_given : (declared : Result (Unit {0}) LostFault) → ◌≡◌ {A = Result (Unit {0}) TokenFault} (Err tokens.NotGiven) (lost_answer declared) → ⊥
-not_given (Ok done) is = none-some _ (sym (ap told_fault is))
-not_given (Err losing.NotOutstanding) is = none-some _ (sym (ap told_fault is))
 not_given (Err losing.NoMemory) is = false≢true (ap is_memory is)
 not_given (Err losing.Closed) is = false≢true (ap is_closing is)
+not_given _ is = none-some _ (sym (ap told_fault is))
 
 lost_part : (declared : Result (Unit {0}) LostFault) (new : End) → LoseStep two_flying 0 declared new → ◌≡◌ {A = Result (Unit {0}) TokenFault} (Ok tt) (lost_answer declared) → IsCarried new.outstanding (Data 0 (chunk 0 3 false)) → ⊥
 lost_part (Ok done) new lose is carried = not_made.losses.in_part new lose carried
 lost_part (Err losing.NotOutstanding) new lose is carried = not_made.losses.known new lose
-lost_part (Err losing.NoMemory) new lose is carried = none-some _ (ap told_fault is)
-lost_part (Err losing.Closed) new lose is carried = none-some _ (ap told_fault is)
+lost_part _ new lose is carried = none-some _ (ap told_fault is)
 
 lost_whole : (declared : Result (Unit {0}) LostFault) (new : End) → LoseStep two_flying 0 declared new → ◌≡◌ {A = Result (Unit {0}) TokenFault} (Err tokens.NoMemory) (lost_answer declared) → fmap.get new.outstanding 0 ≡ None → ⊥
-lost_whole (Ok done) new lose is none = none-some _ (sym (ap told_fault is))
-lost_whole (Err losing.NotOutstanding) new lose is none = none-some _ (sym (ap told_fault is))
 lost_whole (Err losing.NoMemory) new lose is none = not_made.losses.whole new lose none
 lost_whole (Err losing.Closed) new lose is none = false≢true (sym (ap is_memory is))
+lost_whole _ new lose is none = none-some _ (sym (ap told_fault is))
 
 -- a packet that isn't outstanding changes nothing
 none_there : (e : End) (k : ℕ) (declared : Result (Unit {0}) LostFault) (new : End) → fmap.get e.outstanding k ≡ None → LoseStep e k declared new → new ≡ e

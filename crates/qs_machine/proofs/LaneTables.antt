@@ -1,5 +1,5 @@
 -- The lanes of halves in tables: what a change of a half is to its lane.
-use Rattle.std.proofs.Common.{◌≡◌, ℕ, zero, suc, ◌+◌, ◌-◌, ◌*◌, ◌/◌, ◌%◌, List, [], ◌∷◌, ◌++◌, length, map, take, Option, Some, None, is_some, option_map, refl, sym, ap, ◌∙◌, true}
+use Rattle.std.proofs.Common.{◌≡◌, ℕ, suc, ◌+◌, ◌-◌, ◌*◌, ◌/◌, ◌%◌, List, [], ◌∷◌, ◌++◌, length, map, take, Option, Some, None, is_some, option_map, refl, sym, ap, ◌∙◌, true}
 use Rattle.std.specs.List.{slice_get, slice_set, range_with_len}
 use Rattle.qs_send.specs.Lane.{SendLane, Sending}
 use Rattle.qs_machine.specs.Tables.{Tables, table, with_table, lookup, update, updated, open_to, widened}
@@ -9,26 +9,20 @@ abbrev lane : Sending → SendLane
 lane s = s.lane
 
 table_lanes : (t : Tables Sending) (k : ℕ) → table (lanes_of t) k ≡ map lane (table t k)
-table_lanes t zero = refl
-table_lanes t (suc zero) = refl
-table_lanes t (suc (suc zero)) = refl
 table_lanes t (suc (suc (suc k))) = refl
+table_lanes t _ = refl
 
 with_lanes : (t : Tables Sending) (k : ℕ) (xs : List Sending) → lanes_of (with_table t k xs) ≡ with_table (lanes_of t) k (map lane xs)
-with_lanes t zero xs = refl
-with_lanes t (suc zero) xs = refl
-with_lanes t (suc (suc zero)) xs = refl
 with_lanes t (suc (suc (suc k))) xs = refl
+with_lanes t _ xs = refl
 
 get_lanes : (xs : List Sending) (i : ℕ) → slice_get (map lane xs) i ≡ option_map lane (slice_get xs i)
-get_lanes [] i = refl
-get_lanes (x ∷ xs) zero = refl
 get_lanes (x ∷ xs) (suc i) = get_lanes xs i
+get_lanes _ i = refl
 
 set_lanes : (xs : List Sending) (i : ℕ) (y : Sending) → map lane (slice_set xs i y) ≡ slice_set (map lane xs) i y.lane
-set_lanes [] i y = refl
-set_lanes (x ∷ xs) zero y = refl
 set_lanes (x ∷ xs) (suc i) y = ap (λ ys. x.lane ∷ ys) (set_lanes xs i y)
+set_lanes _ i y = refl
 
 append_lanes : (xs ys : List Sending) → map lane (xs ++ ys) ≡ map lane xs ++ map lane ys
 append_lanes [] ys = refl
@@ -43,9 +37,8 @@ len_lanes [] = refl
 len_lanes (x ∷ xs) = ap suc (len_lanes xs)
 
 pub take_lanes : (n : ℕ) (xs : List Sending) → map lane (take n xs) ≡ take n (map lane xs)
-take_lanes zero xs = refl
-take_lanes (suc n) [] = refl
 take_lanes (suc n) (x ∷ xs) = ap (λ ys. x.lane ∷ ys) (take_lanes n xs)
+take_lanes _ xs = refl
 
 pub lookup_lanes : (t : Tables Sending) (n : ℕ) → lookup (lanes_of t) n ≡ option_map lane (lookup t n)
 unfolding lookup

@@ -1,5 +1,5 @@
 -- A frame that took effect on a receiving half and comes again passes its checks and leaves the half as it is.
-use Rattle.std.proofs.Common.{◌≡◌, ℕ, zero, suc, ◌+◌, ◌-◌, ◌<◌, ◌≤◌, Bool, true, false, ◌||◌, cond, List, [], ◌∷◌, length, Option, Some, None, is_some, ◌⊎◌, refl, sym, ap, ◌∙◌, arith, inl, inr}
+use Rattle.std.proofs.Common.{◌≡◌, ℕ, suc, ◌+◌, ◌-◌, ◌<◌, ◌≤◌, Bool, true, false, ◌||◌, cond, List, [], ◌∷◌, length, Option, Some, None, is_some, ◌⊎◌, refl, sym, ap, ◌∙◌, arith, inl, inr}
 use Rattle.std.specs.Prelude.{max, nat_lt, ◌==◌, unwrap_or, Result, Ok, Err, IsOk}
 use Rattle.std.specs.Ordering.{nat_cmp}
 use Rattle.std.specs.FinMap as fmap
@@ -25,6 +25,7 @@ use Rattle.qs_recv.proofs.SameLaws.{byte_in, same_none, same_true}
 use Rattle.qs_recv.proofs.LawfulLaws.{unbroken, reset_known, raised_grows, under_grows}
 use Rattle.qs_recv.proofs.GrowthLaws.{grows_after_call}
 use Rattle.qs_machine.proofs.EndedHalves.{RecvStays, recv_stays, whole_stays, reset_stays_ended, read_stays, stop_stays, forget_stays}
+use Rattle.qs_machine.proofs.EveryCall.{same_either}
 
 -- a byte that is stored at an offset that came before was stored there before
 abbrev StaysStored : RecvLane → RecvLane → Type 0
@@ -180,9 +181,8 @@ not_broken (Some s) end n false before sized small =
 
 same_highest : (f : Option ℕ) (h end n : ℕ) (fin : Bool) → (fin ≡ true → end ≡ h) → (0 < n → end ≤ h) → cond fin end (cond (is_some f || (n == 0)) h (max h end)) ≡ h
 same_highest f h end n true all small = all refl
-same_highest (Some s) h end n false all small = refl
-same_highest None h end zero false all small = refl
 same_highest None h end (suc n) false all small = let le = small (omega arith) in let some : (suc n == 0) ≡ false = grind (arith, nat_tests) in ap (λ b. cond b h (max h end)) some ∙ omega (arith, le)
+same_highest f h end n false all small = refl
 
 -- a check whose tests both pass
 both_pass : (b c : Bool) (h : Highest) → b ≡ false → c ≡ false → ◌≡◌ {A = Result Highest _} (cond b (Err FinalSize) (cond c (Err StreamCredit) (Ok h))) (Ok h)
@@ -197,13 +197,9 @@ stored_before r m at (byte ∷ bytes) all =
 
 pub put_again : (a : Assembled) (offset : ℕ) (bytes : List ℕ) → ContainsRange a.received offset (offset + length bytes) → put a offset bytes ≡ a
 put_again a offset bytes all =
-    let stored : cond a.discarding a.stored (store a.received a.stored offset bytes) ≡ a.stored = kept a.discarding (stored_before a.received a.stored offset bytes all) in
+    let stored : cond a.discarding a.stored (store a.received a.stored offset bytes) ≡ a.stored = same_either (λ x. x) a.discarding a.stored _ (stored_before a.received a.stored offset bytes all) in
     let received : set.union a.received (numbers offset (offset + length bytes)) ≡ a.received = with_range-covered a.received offset (offset + length bytes) all in
     λ i. record a { stored = stored i; received = received i }
-  where
-    kept : {X : Type 0} (b : Bool) {x y : X} → y ≡ x → cond b x y ≡ x
-    kept true e = refl
-    kept false e = e
 
 -- after a reset nothing is stored
 none_stored : (m : RecvLane) → IsLawful m → is_some m.reset_code ≡ true → (q : ℕ) → fmap.get m.arrived.stored q ≡ None
@@ -245,12 +241,8 @@ data_again m offset bytes fin lawful h = (passes, unchanged, (λ i. record m { a
     arrived : cond (is_some m.reset_code) m.arrived (put m.arrived offset bytes) ≡ m.arrived
     arrived = elim h.came [
       | inl p ↦ ap (λ b. cond b m.arrived (put m.arrived offset bytes)) p.reset
-      | inr all ↦ ap (λ a. cond (is_some m.reset_code) m.arrived a) (put_again m.arrived offset bytes all.received) ∙ either (is_some m.reset_code) m.arrived
+      | inr all ↦ ap (λ a. cond (is_some m.reset_code) m.arrived a) (put_again m.arrived offset bytes all.received) ∙ same_either (λ x. x) (is_some m.reset_code) m.arrived m.arrived refl
     ]
-      where
-        either : {X : Type 0} (b : Bool) (x : X) → cond b x x ≡ x
-        either true x = refl
-        either false x = refl
 
     size : cond fin (Some (offset + n)) m.final_size ≡ m.final_size
     size = by_end fin h.sized
@@ -285,9 +277,8 @@ reset_within : (l : RecvLane) (size : ℕ) → IsOk (check_reset l size) → siz
 reset_within l size ok = let c : nat_lt l.limit size ≡ false = passed _ _ _ ok in grind (arith, nat_tests)
   where
     passed : (b c : Bool) (h : Highest) → IsOk (cond b (Err FinalSize) (cond c (Err StreamCredit) (Ok h))) → c ≡ false
-    passed true c h is = absurd (both_ways false refl is)
-    passed false true h is = absurd (both_ways false refl is)
     passed false false h is = refl
+    passed _ c h is = absurd (both_ways false refl is)
 
 known_size : (f : Option ℕ) (e size : ℕ) → is_some f ≡ true → unwrap_or f e ≡ size → f ≡ Some size
 known_size None e size known is = absurd (both_ways false refl known)

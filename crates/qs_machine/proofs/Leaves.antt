@@ -5,8 +5,7 @@ use Rattle.std.specs.FinMap as fmap
 use Rattle.std.proofs.lemmas.Bool.{cond_both}
 use Rattle.qs_wire.specs.Layout.{PlacedValue}
 use Rattle.qs_wire.specs.declared.fault.WireFault.{WireFault}
-use Rattle.qs_wire.specs.declared.stream_id.Dir.{Dir}
-use Rattle.qs_wire.specs.declared.stream_id.Dir.TheVariants.{Bidi, Uni}
+use Rattle.qs_wire.specs.declared.stream_id.Dir.TheVariants.{Uni}
 use Rattle.qs_send.specs.declared.piece.Item.{Item}
 use Rattle.qs_send.specs.declared.piece.Item.TheVariants.{MaxStreamData, MaxStreams, ResetStream, StopSending, StreamDataBlocked, StreamsBlocked}
 use Rattle.qs_send.specs.declared.piece.Piece.{Piece}
@@ -20,7 +19,6 @@ use Rattle.qs_machine.specs.Ends.{End, is_own, opens, opened_by_peer, no_items}
 use Rattle.qs_machine.specs.Seen.{Seen, Ack, Stream, Control}
 use Rattle.qs_machine.specs.FrameStep.{frame_taken, item_taken, AckedPiece, without_piece, acks, first_acked, piece_acked, named}
 use Rattle.qs_machine.specs.Lawful.{Fills, frame_put}
-use Rattle.qs_machine.specs.Owner.{with_wanted}
 use Rattle.qs_machine.specs.Receiving.{AtEnd, RunsOut, Stops}
 use Rattle.qs_machine.proofs.EveryCall.{stops_by}
 
@@ -83,7 +81,3 @@ end_leaves number asks None e (Ok Done) new is = ap (λ (x : End). x.recvs) is
 end_leaves number asks None e (Ok NoMemory) new out = ap (λ (x : End). x.recvs) out.0
 end_leaves number asks (Some fault) e (Err closing) new ends = ap (λ (x : End). x.recvs) ends.1
 end_leaves number asks fault e result new none = absurd none
-
-pub wanted_leaves : (d : Dir) (count : ℕ) (e : End) → (with_wanted d count e).recvs ≡ e.recvs
-wanted_leaves Bidi count e = refl
-wanted_leaves Uni count e = refl

@@ -1,4 +1,5 @@
 pub mod EachHalf
+pub mod Pieces
 pub mod Apart
 pub mod CallsSound
 pub mod Carried

@@ -1,8 +1,7 @@
 -- What lost packets carried was sent: each call of an outbox keeps it.
-use Rattle.std.proofs.Common.{◌≡◌, ℕ, ◌≤◌, ◌%◌, Bool, true, false, List, [], ◌∷◌, ◌++◌, ◌⊎◌, length, take, Option, Some, None, is_some, Result, Ok, Err, cond, unwrap_or, refl, sym, ap, ◌∙◌, subst, inl, inr, arith, leb, nat_cmp}
-use Rattle.std.proofs.lemmas.Bool.{cases_eq, or_left}
+use Rattle.std.proofs.Common.{◌≡◌, ℕ, ◌≤◌, ◌%◌, Bool, true, false, List, [], ◌∷◌, ◌++◌, ◌⊎◌, length, take, Option, Some, None, is_some, Result, Ok, Err, unwrap_or, refl, sym, ap, ◌∙◌, subst, inl, inr, arith, leb, nat_cmp}
+use Rattle.std.proofs.lemmas.Bool.{cases_eq, cond_both, or_left}
 use Rattle.std.specs.FinMap as fmap
-use Rattle.std.specs.FinSet as set
 use Rattle.std.specs.Result.{OnOk, OnErr, IfOk, IfErr}
 use Rattle.qs_send.specs.declared.parts.Chunk.{Chunk}
 use Rattle.qs_send.specs.declared.parts.SendFault.{SendFault}
@@ -11,7 +10,7 @@ use Rattle.qs_send.specs.declared.piece.Item.{Item}
 use Rattle.qs_send.specs.declared.piece.Item.TheVariants.{ResetStream, StreamDataBlocked}
 use Rattle.qs_send.specs.declared.piece.Piece.{Piece}
 use Rattle.qs_send.specs.declared.piece.Piece.TheVariants.{Data, Told}
-use Rattle.qs_send.specs.Lane.{SendLane, Sending, new_sending, accepted, refusal, reset_refusal, finish_lane, lost_due, after_write, after_finish, after_reset, broken_off, first_code, after_stopped, after_told, after_stop, after_allow, after_buffer, after_blocked, after_reset_acked, after_sent, after_acked, after_lost}
+use Rattle.qs_send.specs.Lane.{SendLane, Sending, new_sending, accepted, refusal, reset_refusal, after_write, after_finish, after_reset, after_stopped, after_told, after_stop, after_allow, after_buffer, after_blocked, after_reset_acked, after_sent, after_acked, after_lost}
 use Rattle.qs_send.specs.Records.{without_first}
 use Rattle.qs_send.specs.LostRecords.{MOST_LOST, with_number, with_piece, without_oldest}
 use Rattle.qs_send.proofs.Carrying.{carried-remove, carried-without_first}
@@ -25,84 +24,59 @@ use Rattle.qs_machine.proofs.LaneTables.{lookup_lanes, lane_there, half_of, lane
 use Rattle.qs_machine.proofs.Ties.{closed_at}
 
 -- what was sent of a half, and that it was reset, lasts
-record Lasts (s s' : Sending) : Type 0 where
-  sent : s.lane.sent_end ≤ s'.lane.sent_end
-  ended : s.lane.fin_sent ≡ true → s'.lane.fin_sent ≡ true
-  reset : is_some s.lane.was_reset ≡ true → is_some s'.lane.was_reset ≡ true
+record Lasts (l m : SendLane) : Type 0 where
+  sent : l.sent_end ≤ m.sent_end
+  ended : l.fin_sent ≡ true → m.fin_sent ≡ true
+  reset : is_some l.was_reset ≡ true → is_some m.was_reset ≡ true
 
 abbrev AllLast : Tables Sending → Tables Sending → Type 0
-AllLast t t' = (n : ℕ) (s : Sending) → lookup t n ≡ Some s → (s' : Sending) × (lookup t' n ≡ Some s') × Lasts s s'
+AllLast t t' = (n : ℕ) (s : Sending) → lookup t n ≡ Some s → (s' : Sending) × (lookup t' n ≡ Some s') × Lasts s.lane s'.lane
 
-lasts_same : (s : Sending) → Lasts s s
-lasts_same s = record { sent = omega arith; ended = λ x. x; reset = λ x. x }
+lasts_same : (l : SendLane) → Lasts l l
+lasts_same l = record { sent = omega arith; ended = λ x. x; reset = λ x. x }
 
 piece_lasts : (t t' : Tables Sending) → AllLast t t' → (p : Piece) → IsSentPiece t p → IsSentPiece t' p
 piece_lasts t t' all (Data n c) (s, at, w) = (let l = all n s at in (l.0, l.1, record { offsets = omega (arith, w.offsets, l.2.sent); end = λ fin. l.2.ended (w.end fin) }))
 piece_lasts t t' all (Told (ResetStream n code size)) (s, at, r) = (let l = all n s at in (l.0, l.1, l.2.reset r))
 piece_lasts t t' all p h = tt
 
-all_updated : (t : Tables Sending) (n : ℕ) (f : Sending → Sending) → ((s : Sending) → Lasts s (f s)) → AllLast t (updated t n f (lookup t n))
+all_updated : (t : Tables Sending) (n : ℕ) (f : Sending → Sending) → ((s : Sending) → Lasts s.lane (f s).lane) → AllLast t (updated t n f (lookup t n))
 all_updated t n f lasts = go (lookup t n) refl
   where
     go : (o : Option Sending) → lookup t n ≡ o → AllLast t (updated t n f o)
-    go None e k x is = (x, is, lasts_same x)
+    go None e k x is = (x, is, lasts_same x.lane)
     go (Some s) e k x is =
         elim (cases_eq k n) [
           | inl same ↦
               (let at : x ≡ s = some_is (lookup t n) x s (ap (lookup t) (sym same) ∙ is) e in
-              (f s, ap (lookup (update t n (f s))) same ∙ lookup_same t n s (f s) e, subst (λ (y : Sending). Lasts y (f s)) (sym at) (lasts s)))
-          | inr ne ↦ (x, lookup_other t n k (f s) ne ∙ is, lasts_same x)
+              (f s, ap (lookup (update t n (f s))) same ∙ lookup_same t n s (f s) e, subst (λ (y : Sending). Lasts y.lane (f s).lane) (sym at) (lasts s)))
+          | inr ne ↦ (x, lookup_other t n k (f s) ne ∙ is, lasts_same x.lane)
         ]
 
 all_same : (t : Tables Sending) → AllLast t t
-all_same t n s is = (s, is, lasts_same s)
+all_same t n s is = (s, is, lasts_same s.lane)
 
 -- The changes of a half
 
-lasts_finish : (s : Sending) → Lasts s (after_finish s)
-lasts_finish s = go (is_some (refusal s.lane))
-  where
-    go : (b : Bool) → Lasts s (cond b s (record { lane = finish_lane s.lane; due = record { offsets = s.due.offsets; fin = true } }))
-    go true = lasts_same s
-    go false = record { sent = omega arith; ended = λ x. x; reset = λ x. x }
+lasts_finish : (s : Sending) → Lasts s.lane (after_finish s).lane
+lasts_finish s = cond_both (is_some (refusal s.lane)) s _ (λ x. Lasts s.lane x.lane) (λ _. lasts_same s.lane) (λ _. record { sent = omega arith; ended = λ x. x; reset = λ x. x })
 
-lasts_reset : (code : ℕ) (s : Sending) → Lasts s (after_reset s code)
-lasts_reset code s = go (is_some (reset_refusal s.lane))
-  where
-    go : (b : Bool)
-        → Lasts s
-        (record {
-          lane = cond b s.lane (record s.lane { kept = []; was_reset = Some (record { code = code; size = cond s.lane.fin_sent s.lane.written s.lane.sent_end }) });
-          due = cond b s.due (record { offsets = set.empty; fin = false });
-        })
-    go true = record { sent = omega arith; ended = λ x. x; reset = λ x. x }
-    go false = record { sent = omega arith; ended = λ x. x; reset = λ x. refl }
+lasts_reset : (code : ℕ) (s : Sending) → Lasts s.lane (after_reset s code).lane
+lasts_reset code s = cond_both (is_some (reset_refusal s.lane)) s.lane _ (Lasts s.lane) (λ _. lasts_same s.lane) (λ _. record { sent = omega arith; ended = λ x. x; reset = λ x. refl })
 
-lasts_stopped : (code : ℕ) (s : Sending) → Lasts s (after_stopped s code)
-lasts_stopped code s = go (is_some (reset_refusal s.lane))
-  where
-    go : (b : Bool) → Lasts s (record { lane = cond b s.lane (record (broken_off s.lane code) { stopped = first_code s.lane.stopped code }); due = cond b s.due (record { offsets = set.empty; fin = false }) })
-    go true = record { sent = omega arith; ended = λ x. x; reset = λ x. x }
-    go false = record { sent = omega arith; ended = λ x. x; reset = λ x. refl }
+lasts_stopped : (code : ℕ) (s : Sending) → Lasts s.lane (after_stopped s code).lane
+lasts_stopped code s = cond_both (is_some (reset_refusal s.lane)) s.lane _ (Lasts s.lane) (λ _. lasts_same s.lane) (λ _. record { sent = omega arith; ended = λ x. x; reset = λ x. refl })
 
-lasts_told_stop : (code : ℕ) (s : Sending) → Lasts s (after_told s code)
-lasts_told_stop code s = go (is_some (reset_refusal s.lane))
-  where
-    go : (b : Bool) → Lasts s (record s { lane = cond b s.lane (record s.lane { stopped = first_code s.lane.stopped code }) })
-    go true = record { sent = omega arith; ended = λ x. x; reset = λ x. x }
-    go false = record { sent = omega arith; ended = λ x. x; reset = λ x. x }
+lasts_told_stop : (code : ℕ) (s : Sending) → Lasts s.lane (after_told s code).lane
+lasts_told_stop code s = cond_both (is_some (reset_refusal s.lane)) s.lane _ (Lasts s.lane) (λ _. lasts_same s.lane) (λ _. record { sent = omega arith; ended = λ x. x; reset = λ x. x })
 
-lasts_lost : (c : Chunk) (s : Sending) → Lasts s (after_lost s c)
-lasts_lost c s = go (is_some s.lane.was_reset)
-  where
-    go : (b : Bool) → Lasts s (cond b s (record s { due = lost_due s.lane s.due c }))
-    go true = lasts_same s
-    go false = record { sent = omega arith; ended = λ x. x; reset = λ x. x }
+lasts_lost : (c : Chunk) (s : Sending) → Lasts s.lane (after_lost s c).lane
+lasts_lost c s = cond_both (is_some s.lane.was_reset) s _ (λ x. Lasts s.lane x.lane) (λ _. lasts_same s.lane) (λ _. lasts_same s.lane)
 
-lasts_sent : (c : Chunk) (s : Sending) → Lasts s (after_sent s c)
+lasts_sent : (c : Chunk) (s : Sending) → Lasts s.lane (after_sent s c).lane
 lasts_sent c s = record { sent = omega arith; ended = λ x. or_left _ _ x; reset = λ x. x }
 
-lasts_acked : (c : Chunk) (s : Sending) → Lasts s (after_acked s c)
+lasts_acked : (c : Chunk) (s : Sending) → Lasts s.lane (after_acked s c).lane
 lasts_acked c s = record { sent = omega arith; ended = λ x. x; reset = λ x. x }
 
 all_acked : (t : Tables Sending) (p : Piece) → AllLast t (halves_acked p t)
@@ -129,11 +103,7 @@ with_is m k p = go (fmap.get m k)
 
 carried_oldest : (m : Records) (order : List ℕ) (q : Piece) → IsCarried (without_oldest m order) q → IsCarried m q
 carried_oldest m [] q out = out
-carried_oldest m (k ∷ ks) q out = go (leb MOST_LOST (length ks)) out
-  where
-    go : (b : Bool) → IsCarried (cond b (fmap.remove m k) m) q → IsCarried m q
-    go true h = carried-remove m k q h
-    go false h = h
+carried_oldest m (k ∷ ks) q out = cond_both (leb MOST_LOST (length ks)) (fmap.remove m k) m (λ r. IsCarried r q → IsCarried m q) (λ _ h. carried-remove m k q h) (λ _ h. h) out
 
 pub lost_carried : (k : ℕ) (p : Piece) (l : LostPackets) (q : Piece) → IsCarried (lost_with k p l).pieces q → IsCarried l.pieces q ⊎ (q ≡ p)
 lost_carried k p l q out = carried_is l.pieces k p q (subst (λ (m : Records). IsCarried m q) (with_is l.pieces k p) (carried_oldest (with_piece l.pieces k p (fmap.get l.pieces k)) (with_number l.order k (fmap.contains_key l.pieces k)) q out))
@@ -147,7 +117,7 @@ module _ (t t' : Tables Sending) (m : Records) (h : AreSent t m) where
   sent_all : AllLast t t' → AreSent t' m
   sent_all all p out = piece_lasts t t' all p (h p out)
 
-  sent_half : (n : ℕ) (f : Sending → Sending) → ((s : Sending) → Lasts s (f s)) → t' ≡ updated t n f (lookup t n) → AreSent t' m
+  sent_half : (n : ℕ) (f : Sending → Sending) → ((s : Sending) → Lasts s.lane (f s).lane) → t' ≡ updated t n f (lookup t n) → AreSent t' m
   sent_half n f lasts is = sent_all (subst (AllLast t) (sym is) (all_updated t n f lasts))
 
   pub sent_same : t' ≡ t → AreSent t' m
@@ -196,7 +166,7 @@ module _ (t t' : Tables Sending) (m : Records) (h : AreSent t m) where
       opened : AllLast t (open_to t n (λ j. new_sending j limit buffer))
       opened k s is =
           elim (lookup_open t n k (λ j. new_sending j limit buffer)) [
-            | inl same ↦ (s, same ∙ is, lasts_same s)
+            | inl same ↦ (s, same ∙ is, lasts_same s.lane)
             | inr new ↦ absurd (none_some s (sym new.0 ∙ is))
           ]
   sent_open n limit buffer (Err e) ok err = sent_same err

@@ -7,7 +7,7 @@ use Rattle.std.specs.declared.cmp.Ordering.TheVariants.{Less, Equal, Greater}
 use Rattle.std.specs.Cmp.{unsigned_tied}
 use Rattle.std.specs.FinMap as fmap
 use Rattle.std.specs.FinMap.Entries.{below_all}
-use Rattle.std.proofs.lemmas.Bool.{both_ways, eq-eqb}
+use Rattle.std.proofs.lemmas.Bool.{both_ways, eq-eqb, true_from_ne_false, or_parts}
 use Rattle.std.proofs.lemmas.Bool.Decides.{nat_tests}
 use Rattle.std.proofs.lemmas.List.{reverse-append}
 use Rattle.std.proofs.lemmas.List.Elements.{filter-append}
@@ -97,22 +97,14 @@ module _ {X : Type 0} where
 any_among : (k : ℕ) (xs : List ℕ) → list_any (eq_by_cmp nat_cmp k) xs ≡ false → Among k xs → ⊥
 any_among k [] h a = a
 any_among k (x ∷ xs) h (inl e) = both_ways _ h (ap (λ b. b || list_any (eq_by_cmp nat_cmp k) xs) (unsigned_tied k x ∙ eq-eqb k x e))
-any_among k (x ∷ xs) h (inr a) = any_among k xs (rest _ _ h) a
-  where
-    rest : (a b : Bool) → (a || b) ≡ false → b ≡ false
-    rest true b e = absurd (both_ways true e refl)
-    rest false b e = e
+any_among k (x ∷ xs) h (inr a) = any_among k xs (or_parts _ _ h).1 a
 
 module _ {X : Type 0} (m : fmap.FinMap nat_cmp X) where
   held : (k : ℕ) → is_some (fmap.get m k) ≡ true → Among k (fmap.keys m)
   held k is = among_any k (fmap.keys m) (sym (fmap.contains_key-keys m k) ∙ is)
 
   is_held : (j : ℕ) → Among j (fmap.keys m) → is_some (fmap.get m j) ≡ true
-  is_held j a = go (is_some (fmap.get m j)) refl
-    where
-      go : (b : Bool) → is_some (fmap.get m j) ≡ b → is_some (fmap.get m j) ≡ true
-      go true is = is
-      go false is = absurd (any_among j (fmap.keys m) (sym (fmap.contains_key-keys m j) ∙ is) a)
+  is_held j a = true_from_ne_false _ (λ is. any_among j (fmap.keys m) (sym (fmap.contains_key-keys m j) ∙ is) a)
 
   -- The greatest held number that f takes comes first, and then those that g takes.
   pub filter_first : (f g : ℕ → Bool) (k : ℕ) → is_some (fmap.get m k) ≡ true → f k ≡ true → ((j : ℕ) → k ≤ j → g j ≡ false) → ((j : ℕ) → j < k → f j ≡ g j) → ((j : ℕ) → k < j → is_some (fmap.get m j) ≡ true → f j ≡ false)

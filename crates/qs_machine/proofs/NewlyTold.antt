@@ -1,21 +1,23 @@
 -- What the frames of a payload newly acknowledge, one after the other.
-use Rattle.std.proofs.Common.{◌≡◌, ℕ, Bool, true, false, not, ◌&&◌, cond, nat_eq, List, [], ◌∷◌, ◌++◌, map, take, zero, suc, Option, Some, None, is_some, refl, sym, ap, ◌∙◌, subst, inl, inr}
-use Rattle.std.specs.Prelude.{⊤, reverse, flat_map}
-use Rattle.std.specs.List.{filter, FoldsTo}
+use Rattle.std.proofs.Common.{◌≡◌, ℕ, Bool, true, false, not, ◌&&◌, cond, nat_eq, List, [], ◌∷◌, ◌++◌, take, Option, Some, None, is_some, refl, sym, ap, ◌∙◌, subst}
+use Rattle.std.specs.Prelude.{reverse}
+use Rattle.std.specs.List.{AllByRecursion, filter, FoldsTo}
 use Rattle.std.specs.FinMap as fmap
-use Rattle.std.proofs.lemmas.Bool.{both_ways}
-use Rattle.qs_wire.specs.declared.stream_id.Dir.TheVariants.{Bidi, Uni}
+use Rattle.std.proofs.Math.Bool.{and-false, and-true}
+use Rattle.std.proofs.lemmas.Bool.{both_ways, true_from_ne_false, false_from_ne_true}
+use Rattle.qs_wire.specs.declared.stream_id.Dir.TheVariants.{Bidi}
 use Rattle.qs_send.specs.declared.piece.Item.{Item}
-use Rattle.qs_send.specs.declared.piece.Item.TheVariants.{MaxData, MaxStreamData, MaxStreams, ResetStream, StopSending, DataBlocked, StreamDataBlocked, StreamsBlocked}
+use Rattle.qs_send.specs.declared.piece.Item.TheVariants.{MaxStreamData, MaxStreams, ResetStream, StopSending, StreamDataBlocked}
 use Rattle.qs_send.specs.declared.piece.Piece.{Piece}
-use Rattle.qs_send.specs.Records.{Among, NoneEmpty, without_first}
+use Rattle.qs_send.specs.Records.{NoneEmpty, without_first}
 use Rattle.qs_send.proofs.Carrying.{rest_of, get-without_first, get_other-without_first}
 use Rattle.qs_machine.specs.Ends.{End, Records, is_own}
-use Rattle.qs_machine.specs.FrameStep.{AckedPiece, acked_at, without_piece, pieces_of, acks, first_acked, named_in, named, acked_numbers, is_named, frame_taken, item_taken}
+use Rattle.qs_machine.specs.FrameStep.{AckedPiece, without_piece, acks, first_acked, named, acked_numbers, is_named, frame_taken, item_taken, held}
 use Rattle.qs_machine.specs.Newly.{gone, in_turn}
-use Rattle.qs_machine.specs.Seen.{Seen, Ack, Stream, Control, Close, Plain}
+use Rattle.qs_machine.specs.Seen.{Seen, Ack, Stream, Control, Plain}
 use Rattle.qs_machine.proofs.EndsAfter.{IsBare}
-use Rattle.qs_machine.proofs.AcksAgain.{held_piece, stays_bare, named_bare, reverse_among, filter_among}
+use Rattle.qs_machine.proofs.Pieces.{All_take, all_named}
+use Rattle.qs_machine.proofs.AcksAgain.{held_piece, stays_bare, named_bare}
 use Rattle.qs_machine.proofs.Named.{filter_reverse, filters_held, filter_within, filters_nothing, filter_empty}
 use Rattle.qs_machine.proofs.Taken.{out_peer}
 
@@ -41,10 +43,8 @@ held_bare None is = tt
 held_bare (Some ps) is = absurd (both_ways true is refl)
 
 rest_full : (o : Option (List Piece)) → rest_of o ≡ Some [] → ⊥
-rest_full None is = absurd (both_ways false refl (ap is_some is))
-rest_full (Some []) is = absurd (both_ways false refl (ap is_some is))
-rest_full (Some (p ∷ [])) is = absurd (both_ways false refl (ap is_some is))
 rest_full (Some (p ∷ q ∷ ps)) is = absurd (both_ways false refl (ap (λ o. elim o [ None ↦ true | Some xs ↦ elim xs [ [] ↦ true | x ∷ ys ↦ false ] ]) is))
+rest_full _ is = absurd (both_ways false refl (ap is_some is))
 
 none_less : (m : Records) (k : ℕ) → NoneEmpty m → NoneEmpty (without_first m k (fmap.get m k))
 none_less m k none j is = go (nat_eq j k) (sym (get-without_first m k j) ∙ is)
@@ -68,45 +68,25 @@ none_acks (a ∷ ps) e none = none_acks ps (first_acked a e) (none_first a e non
 -- Pieces of packets that ranges name
 
 abbrev pub AllNamed : List (ℕ × ℕ) → List AckedPiece → Type 0
-AllNamed r [] = ⊤
-AllNamed r (a ∷ ps) = (is_named r a.number ≡ true) × AllNamed r ps
+AllNamed r = AllByRecursion (λ a. is_named r a.number ≡ true)
 
-all_append : (r : List (ℕ × ℕ)) (ps qs : List AckedPiece) → AllNamed r ps → AllNamed r qs → AllNamed r (ps ++ qs)
-all_append r [] qs all more = more
-all_append r (p ∷ ps) qs all more = (all.0, all_append r ps qs all.1 more)
+pub each_named : (e : End) (r : List (ℕ × ℕ)) → AllNamed r (named e r)
+each_named e r = all_named (λ a. is_named r a.number ≡ true) r e (λ late k ps is at p a. is)
 
-all_take : (r : List (ℕ × ℕ)) (m : ℕ) (ps : List AckedPiece) → AllNamed r ps → AllNamed r (take m ps)
-all_take r zero ps all = tt
-all_take r (suc m) [] all = tt
-all_take r (suc m) (p ∷ ps) all = (all.0, all_take r m ps all.1)
-
-all_map : (r : List (ℕ × ℕ)) (late : Bool) (k : ℕ) (ps : List Piece) → is_named r k ≡ true → AllNamed r (map (acked_at late k) ps)
-all_map r late k [] is = tt
-all_map r late k (p ∷ ps) is = (is, all_map r late k ps is)
-
-all_flat : (r : List (ℕ × ℕ)) (late : Bool) (m : Records) (ks : List ℕ) → ((k : ℕ) → Among k ks → is_named r k ≡ true) → AllNamed r (flat_map (pieces_of late m) ks)
-all_flat r late m [] each = tt
-all_flat r late m (k ∷ ks) each = all_append r (pieces_of late m k) (flat_map (pieces_of late m) ks) (go (fmap.get m k)) (all_flat r late m ks (λ j a. each j (inr a)))
-  where
-    go : (o : Option (List Piece)) → AllNamed r (elim o [ None ↦ [] | Some ps ↦ map (acked_at late k) ps ])
-    go None = tt
-    go (Some ps) = all_map r late k ps (each k (inl refl))
-
-pub all_named : (e : End) (r : List (ℕ × ℕ)) → AllNamed r (named e r)
-all_named e r = all_append r (named_in false e.outstanding r) (named_in true e.lost.pieces r) (part false e.outstanding) (part true e.lost.pieces)
-  where
-    part : (late : Bool) (m : Records) → AllNamed r (named_in late m r)
-    part late m = all_flat r late m (acked_numbers m r) (λ k a. filter_among (is_named r) k (fmap.keys m) (reverse_among k _ a))
-
-pub others_stay : (r : List (ℕ × ℕ)) (ps : List AckedPiece) (e : End) (j : ℕ) → AllNamed r ps → is_named r j ≡ false → fmap.get (acks ps e).outstanding j ≡ fmap.get e.outstanding j
+-- packets that they don't name stay as they are
+pub others_stay : (late : Bool) (r : List (ℕ × ℕ)) (ps : List AckedPiece) (e : End) (j : ℕ) → AllNamed r ps → is_named r j ≡ false → fmap.get (held late (acks ps e)) j ≡ fmap.get (held late e) j
 unfolding acks
-others_stay r [] e j all off = refl
-others_stay r (a ∷ ps) e j all off =
-    others_stay r ps (first_acked a e) j all.1 off ∙ ap (λ (m : Records). fmap.get m j) (held_piece false a.piece (without_piece a.late a.number e)) ∙ go a.late
+others_stay late r [] e j all off = refl
+others_stay late r (a ∷ ps) e j all off =
+    others_stay late r ps (first_acked a e) j all.1 off ∙ ap (λ (m : Records). fmap.get m j) (held_piece late a.piece (without_piece a.late a.number e)) ∙ go late a.late
   where
-    go : (b : Bool) → fmap.get (without_piece b a.number e).outstanding j ≡ fmap.get e.outstanding j
-    go true = refl
-    go false = get_other-without_first e.outstanding a.number j (λ same. both_ways _ off (ap (is_named r) same ∙ all.0))
+    apart : j ≡ a.number → ⊥
+    apart same = both_ways _ off (ap (is_named r) same ∙ all.0)
+
+    go : (late b : Bool) → fmap.get (held late (without_piece b a.number e)) j ≡ fmap.get (held late e) j
+    go true true = get_other-without_first e.lost.pieces a.number j apart
+    go false false = get_other-without_first e.outstanding a.number j apart
+    go _ _ = refl
 
 -- some pieces of packets that the ranges name were acknowledged
 pub record AcksSome (r : List (ℕ × ℕ)) (e new : End) : Type 0 where
@@ -118,19 +98,15 @@ some_of : (r : List (ℕ × ℕ)) (ps : List AckedPiece) (e : End) → NoneEmpty
 some_of r ps e none all =
     record {
       none = none_acks ps e none;
-      within = λ j is. go j is (holds e j) refl;
-      others = λ j off. ap is_some (others_stay r ps e j all off);
+      within = λ j is. true_from_ne_false _ (λ was. both_ways _ (bare_held (acks ps e).outstanding j (none_acks ps e none) (stays_bare false ps e j (held_bare (fmap.get e.outstanding j) was))) is);
+      others = λ j off. ap is_some (others_stay false r ps e j all off);
     }
-  where
-    go : (j : ℕ) → holds (acks ps e) j ≡ true → (b : Bool) → holds e j ≡ b → holds e j ≡ true
-    go j is true held = held
-    go j is false held = absurd (both_ways _ (bare_held (acks ps e).outstanding j (none_acks ps e none) (stays_bare false ps e j (held_bare (fmap.get e.outstanding j) held))) is)
 
 pub acks_some : (r : List (ℕ × ℕ)) (e : End) (m : ℕ) → NoneEmpty e.outstanding → AcksSome r e (acks (take m (named e r)) e)
-acks_some r e m none = some_of r (take m (named e r)) e none (all_take r m (named e r) (all_named e r))
+acks_some r e m none = some_of r (take m (named e r)) e none (All_take (λ a. is_named r a.number ≡ true) m (named e r) (each_named e r))
 
 pub acks_all : (r : List (ℕ × ℕ)) (e : End) → NoneEmpty e.outstanding → AcksSome r e (acks (named e r) e)
-acks_all r e none = some_of r (named e r) e none (all_named e r)
+acks_all r e none = some_of r (named e r) e none (each_named e r)
 
 pub none_named : (r : List (ℕ × ℕ)) (e : End) (j : ℕ) → NoneEmpty e.outstanding → is_named r j ≡ true → holds (acks (named e r) e) j ≡ false
 none_named r e j none is = bare_held (acks (named e r) e).outstanding j (none_acks (named e r) e none) (named_bare e r false j is)
@@ -138,27 +114,17 @@ none_named r e j none is = bare_held (acks (named e r) e).outstanding j (none_ac
 -- What is told in turn
 
 pub turn_none : (fs : List Seen) → in_turn fs [] ≡ []
-turn_none [] = refl
 turn_none (Ack largest r ∷ fs) = turn_none fs
 turn_none (Stream n offset bytes fin ∷ fs) = turn_none fs
 turn_none (Control item ∷ fs) = turn_none fs
-turn_none (Close code ∷ fs) = refl
 turn_none (Plain asks ∷ fs) = turn_none fs
+turn_none _ = refl
 
 pub gone_none : (e new : End) → new.outstanding ≡ e.outstanding → gone e new ≡ []
 gone_none e new same = filter_empty e.outstanding (λ n. not (fmap.contains_key new.outstanding n)) (λ j is. ap not (ap (λ (m : Records). is_some (fmap.get m j)) same ∙ is))
 
-and_false : (b : Bool) → (b && false) ≡ false
-and_false true = refl
-and_false false = refl
-
-and_true : (b : Bool) → (b && true) ≡ b
-and_true true = refl
-and_true false = refl
-
 pub false_from_not : (b c : Bool) → b ≡ false → (c ≡ true → b ≡ true) → c ≡ false
-false_from_not b true is from = absurd (both_ways b is (from refl))
-false_from_not b false is from = refl
+false_from_not b c is from = false_from_ne_true c (λ now. both_ways b is (from now))
 
 -- of the packets that are gone those that an ACK names, where one that it names is gone with it or stays
 pub told_first : (r : List (ℕ × ℕ)) (e mid new : End) → ((j : ℕ) → is_named r j ≡ true → holds new j ≡ holds mid j)
@@ -168,8 +134,8 @@ told_first r e mid new alike =
     ∙ sym (filter_reverse (λ n. not (holds mid n)) (filter (is_named r) (fmap.keys e.outstanding)))
   where
     go : (j : ℕ) (b : Bool) → is_named r j ≡ b → (not (holds new j) && b) ≡ (b && not (holds mid j))
-    go j true is = and_true (not (holds new j)) ∙ ap not (alike j is)
-    go j false is = and_false (not (holds new j))
+    go j true is = and-true (not (holds new j)) ∙ ap not (alike j is)
+    go j false is = and-false (not (holds new j))
 
 -- and those that it doesn't name, where it took effect
 pub told_later : (r : List (ℕ × ℕ)) (e mid new : End) → AcksSome r e mid → ((j : ℕ) → is_named r j ≡ true → holds mid j ≡ false) → filter (λ n. not (is_named r n)) (gone e new) ≡ gone mid new
@@ -177,16 +143,16 @@ told_later r e mid new some off =
     filter_within e.outstanding mid.outstanding some.within (λ n. not (is_named r n)) (λ n. not (holds new n)) (λ n. not (holds new n)) (λ j is. go j is (is_named r j) refl)
   where
     go : (j : ℕ) → holds e j ≡ true → (b : Bool) → is_named r j ≡ b → (not (holds new j) && not b) ≡ (holds mid j && not (holds new j))
-    go j is true names = and_false (not (holds new j)) ∙ sym (ap (λ b. b && not (holds new j)) (off j names))
-    go j is false names = and_true (not (holds new j)) ∙ sym (ap (λ b. b && not (holds new j)) (some.others j names ∙ is))
+    go j is true names = and-false (not (holds new j)) ∙ sym (ap (λ b. b && not (holds new j)) (off j names))
+    go j is false names = and-true (not (holds new j)) ∙ sym (ap (λ b. b && not (holds new j)) (some.others j names ∙ is))
 
 -- and where it did so in part, and nothing follows
 pub told_last : (r : List (ℕ × ℕ)) (e new : End) → ((j : ℕ) → is_named r j ≡ false → holds new j ≡ holds e j) → filter (λ n. not (is_named r n)) (gone e new) ≡ []
 told_last r e new others = filters_nothing e.outstanding (λ n. not (is_named r n)) (λ n. not (holds new n)) (λ j is. go j is (is_named r j) refl)
   where
     go : (j : ℕ) → holds e j ≡ true → (b : Bool) → is_named r j ≡ b → (not (holds new j) && not b) ≡ false
-    go j is true names = and_false (not (holds new j))
-    go j is false names = and_true (not (holds new j)) ∙ ap not (others j names ∙ is)
+    go j is true names = and-false (not (holds new j))
+    go j is false names = and-true (not (holds new j)) ∙ ap not (others j names ∙ is)
 
 -- what is told now, and then what follows
 pub tells_on : {S : Type 0} (R : S → ℕ → S → Type 0) (s : S) (xs : List ℕ) (t : S) (ys : List ℕ) (u : S) → FoldsTo R s xs t → FoldsTo R t ys u → FoldsTo R s (xs ++ ys) u
@@ -196,15 +162,12 @@ tells_on R s (x ∷ xs) t ys u (j, one, rest) later = (j, one, tells_on R j xs t
 -- Other frames
 
 pub item_out : (i : Item) (e : End) → (item_taken i e).outstanding ≡ e.outstanding
-item_out (MaxData m) e = refl
 item_out (MaxStreamData n m) e = out_peer e n (is_own e n)
 item_out (MaxStreams Bidi m) e = refl
-item_out (MaxStreams Uni m) e = refl
 item_out (ResetStream n code size) e = out_peer e n (is_own e n)
 item_out (StopSending n code) e = out_peer e n (is_own e n)
-item_out (DataBlocked m) e = refl
 item_out (StreamDataBlocked n m) e = out_peer e n (is_own e n)
-item_out (StreamsBlocked d m) e = refl
+item_out _ e = refl
 
 pub stream_out : (n offset : ℕ) (bytes : List ℕ) (fin : Bool) (e : End) → (frame_taken (Stream n offset bytes fin) e).outstanding ≡ e.outstanding
 unfolding frame_taken

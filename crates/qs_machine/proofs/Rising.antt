@@ -19,8 +19,8 @@ use Rattle.qs_machine.specs.FrameStep.{frame_taken, AckedPiece, acks, named}
 use Rattle.qs_machine.specs.EndStep.{Call, Answer, EndStep}
 use Rattle.qs_machine.specs.Setting.{ConnWindow, Grant, StreamWindow, SendBuffer}
 use Rattle.qs_machine.specs.Standing.{LimitsRise}
-use Rattle.qs_machine.proofs.EveryCall.{Change, changed, Comes, relates, Wanted, Raised, WasSet, Took, Acked, Put, Settled}
-use Rattle.qs_machine.proofs.EachHalf.{SendEdit, Writes, Finishes, Resets, Allows, IsAsked, send_edited, sends_kept, RecvEdit, Stops, Forgets, Reads, Widens, IsReset, Raises, recv_edited, recvs_kept}
+use Rattle.qs_machine.proofs.EveryCall.{Change, changed, Comes, relates, Wanted, Raised, WasSet, Took, Acked, Put, Settled, same_either}
+use Rattle.qs_machine.proofs.EachHalf.{SendEdit, Resets, Allows, IsAsked, send_edited, sends_kept, RecvEdit, Stops, Forgets, Reads, Widens, IsReset, Raises, recv_edited, recvs_kept}
 use Rattle.qs_machine.proofs.Leaves.{acks_leave, put_leaves}
 
 le_same : (n : ℕ) → n ≤ n
@@ -35,24 +35,17 @@ window_grows present g t w = grind (arith, nat_tests)
 
 -- Halves
 
-kept_limit : (b : Bool) (l m : RecvLane) → m.limit ≡ l.limit → l.limit ≤ (cond b l m).limit
-kept_limit true l m same = le_same l.limit
-kept_limit false l m same = omega (arith, same)
-
-kept_send_limit : (b : Bool) (l m : SendLane) → m.limit ≡ l.limit → l.limit ≤ (cond b l m).limit
-kept_send_limit true l m same = le_same l.limit
-kept_send_limit false l m same = omega (arith, same)
+kept_limit : {L : Type 0} (limit : L → ℕ) (b : Bool) (l m : L) → limit m ≡ limit l → limit l ≤ limit (cond b l m)
+kept_limit limit b l m same = omega (arith, same_either limit b l m same)
 
 reset_limit : (code : ℕ) (l : SendLane) → l.limit ≤ (reset_lane l code).limit
-reset_limit code l = kept_send_limit (is_some (reset_refusal l)) l (record l { kept = []; was_reset = Some (record { code = code; size = cond l.fin_sent l.written l.sent_end }) }) refl
+reset_limit code l = kept_limit (λ (m : SendLane). m.limit) (is_some (reset_refusal l)) l (record l { kept = []; was_reset = Some (record { code = code; size = cond l.fin_sent l.written l.sent_end }) }) refl
 
 stop_taken_limit : (answers : Bool) (code : ℕ) (l : SendLane) → l.limit ≤ (stop_taken answers l code).limit
-stop_taken_limit true code l = kept_send_limit (is_some (reset_refusal l)) l (record l { stopped = first_code l.stopped code }) refl
-stop_taken_limit false code l = kept_send_limit (is_some (reset_refusal l)) l (record (broken_off l code) { stopped = first_code l.stopped code }) refl
+stop_taken_limit true code l = kept_limit (λ (m : SendLane). m.limit) (is_some (reset_refusal l)) l (record l { stopped = first_code l.stopped code }) refl
+stop_taken_limit false code l = kept_limit (λ (m : SendLane). m.limit) (is_some (reset_refusal l)) l (record (broken_off l code) { stopped = first_code l.stopped code }) refl
 
 send_rises : (x : SendEdit) (l : SendLane) → l.limit ≤ (send_edited x l).limit
-send_rises (Writes bytes) l = le_same l.limit
-send_rises Finishes l = le_same l.limit
 send_rises (Resets code) l = reset_limit code l
 send_rises (Allows limit) l = omega arith
 send_rises (IsAsked answers code) l = stop_taken_limit answers code l
@@ -63,14 +56,14 @@ read_limit (reads.Bytes n) size l = le_same l.limit
 read_limit answer size l = le_same l.limit
 
 stop_limit : (code : ℕ) (l : RecvLane) → l.limit ≤ (stop l code).limit
-stop_limit code l = kept_limit (is_some l.stop_code || is_over l) l (record l { arrived = discard l.arrived; stop_code = Some code }) refl
+stop_limit code l = kept_limit (λ (m : RecvLane). m.limit) (is_some l.stop_code || is_over l) l (record l { arrived = discard l.arrived; stop_code = Some code }) refl
 
 recv_rises : (x : RecvEdit) (l : RecvLane) → l.limit ≤ (recv_edited x l).limit
 recv_rises (Stops code) l = stop_limit code l
 recv_rises (Forgets code) l = stop_limit code l
 recv_rises (Reads size) l = read_limit (read_answer l size) size l
 recv_rises (Widens window) l = under_grows l window
-recv_rises (IsReset code size) l = kept_limit (is_some l.reset_code || is_whole l) l (record l { arrived = forget l.arrived; final_size = Some size; reset_code = Some code }) refl
+recv_rises (IsReset code size) l = kept_limit (λ (m : RecvLane). m.limit) (is_some l.reset_code || is_whole l) l (record l { arrived = forget l.arrived; final_size = Some size; reset_code = Some code }) refl
 recv_rises Raises l = raised_grows l
 recv_rises x l = le_same l.limit
 

@@ -11,7 +11,7 @@ use Rattle.qs_send.specs.declared.piece.Piece.{Piece}
 use Rattle.qs_send.specs.declared.piece.Piece.TheVariants.{Data, Told}
 use Rattle.qs_machine.specs.Tables.{Tables, lookup, updated}
 use Rattle.qs_machine.specs.Ends.{End, Records, new_end, wide_end_made, end_unless, on_send, is_own, is_uni, first_send_limit, opens, opened_by_peer}
-use Rattle.qs_machine.specs.Seen.{Seen, Ack, Stream, Control, Close, Plain}
+use Rattle.qs_machine.specs.Seen.{Seen, Ack, Stream, Control}
 use Rattle.qs_machine.specs.FrameStep.{frame_taken, item_taken, AckedPiece, held, without_piece, acks, first_acked, piece_acked, item_acked, named}
 use Rattle.qs_machine.specs.Lawful.{MayPut, frame_put, item_put, chunk_of, noted, pieces_so_far}
 use Rattle.qs_machine.specs.Making.{first_lost}
@@ -152,8 +152,7 @@ keeps_put old (Stream n offset bytes fin) e (l, may) =
     (written_stays IsLonger (λ x y r. r) e.sends (on_send n sent e).sends (kept_updated IsLonger longer_same e.sends n sent (λ m is. longer_same m)) (Data n (chunk_of offset bytes fin))
     (subst (λ o. IsWritten o (chunk_of offset bytes fin)) (sym may.lane) may.inside)))
 keeps_put old (Control i) e may = keeps_twice e (item_put i e) (noted (Told i) (item_put i e)) (keeps_item_put i e) (keeps_noted (Told i) (item_put i e) tt)
-keeps_put old (Close code) e may = absurd may
-keeps_put old (Plain asks) e may = absurd may
+keeps_put old _ e may = absurd may
 
 -- a piece that moves to the lost record was written
 keeps_first_lost : (k : ℕ) (p : Piece) (e : End) → WasWritten e.sends p → Keeps e (first_lost k p e)

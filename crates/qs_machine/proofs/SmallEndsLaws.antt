@@ -29,10 +29,8 @@ only_carried k p q (j, ps, is, among) = by_test (eq_by_cmp nat_cmp j k) (sym (fm
 -- where one stream is open, what is found is its part
 at_place : {X : Type 0} (x y : X) (k i : ℕ) → slice_get (table (only x) k) i ≡ Some y → y ≡ x
 at_place x y zero zero is = sym (same_Some x y is)
-at_place x y zero (suc i) is = absurd (none-some y is)
-at_place x y (suc zero) i is = absurd (none-some y is)
-at_place x y (suc (suc zero)) i is = absurd (none-some y is)
 at_place x y (suc (suc (suc k))) i is = absurd (none-some y is)
+at_place x y _ i is = absurd (none-some y is)
 
 pub only_open : {X : Type 0} (x y : X) (n : ℕ) → lookup (only x) n ≡ Some y → y ≡ x
 unfolding lookup

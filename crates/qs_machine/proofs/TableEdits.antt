@@ -18,9 +18,8 @@ use Rattle.qs_machine.proofs.Counts.{tally_opened}
 use Rattle.qs_machine.specs.Sums.{tables_of, tally_on, changed, no_sending, or_no_sending}
 
 pub or_new_is : (xs : List RecvLane) (i w : ℕ) (share : Share) → or_new (slice_get xs i) w share ≡ get_or xs i (new_lane w share)
-or_new_is [] i w share = refl
-or_new_is (x ∷ xs) zero w share = refl
 or_new_is (x ∷ xs) (suc i) w share = or_new_is xs i w share
+or_new_is _ i w share = refl
 
 -- a refusal, or a change
 pub on_ok : {A E : Type 0} (r : Result A E) (P Q : Type 0) → (P → Q) → OnOk r P → OnOk r Q
@@ -35,9 +34,8 @@ pub some_tested : {X : Type 0} (xs : List X) (i n : ℕ) → n ≡ length xs →
 some_tested xs i n is = ap (nat_lt i) is ∙ tested xs i
   where
     tested : {X : Type 0} (xs : List X) (i : ℕ) → nat_lt i (length xs) ≡ is_some (slice_get xs i)
-    tested [] i = grind (arith, nat_tests)
-    tested (x ∷ xs) zero = grind (arith, nat_tests)
     tested (x ∷ xs) (suc i) = grind (arith, nat_tests, tested xs i)
+    tested _ i = grind (arith, nat_tests)
 
 module _ {X : Type 0} where
   -- a list of the four, whatever is told in its place past the end
@@ -47,18 +45,12 @@ module _ {X : Type 0} where
       get_or_default ls k d (get_or ls k d) lt
 
   table_four : (a b c d xs : List X) (k : ℕ) → k < 4 → table (tables_of (a ∷ b ∷ c ∷ d ∷ [])) k ≡ get_or (a ∷ b ∷ c ∷ d ∷ []) k xs
-  table_four a b c d xs zero lt = refl
-  table_four a b c d xs (suc zero) lt = refl
-  table_four a b c d xs (suc (suc zero)) lt = refl
-  table_four a b c d xs (suc (suc (suc zero))) lt = refl
   table_four a b c d xs (suc (suc (suc (suc k)))) lt = absurd (omega arith)
+  table_four a b c d xs _ lt = refl
 
   with_four : (a b c d xs : List X) (k : ℕ) → k < 4 → tables_of (set (a ∷ b ∷ c ∷ d ∷ []) k xs) ≡ with_table (tables_of (a ∷ b ∷ c ∷ d ∷ [])) k xs
-  with_four a b c d xs zero lt = refl
-  with_four a b c d xs (suc zero) lt = refl
-  with_four a b c d xs (suc (suc zero)) lt = refl
-  with_four a b c d xs (suc (suc (suc zero))) lt = refl
   with_four a b c d xs (suc (suc (suc (suc k)))) lt = absurd (omega arith)
+  with_four a b c d xs _ lt = refl
 
   table_is_at : (ls : List (List X)) (n k : ℕ) (xs : List X) → length ls ≡ 4 → k ≡ n % 4 → xs ≡ get_or ls k xs → table (tables_of ls) (n % 4) ≡ xs
   table_is_at ls n k xs len kind at =
@@ -116,10 +108,8 @@ module _ {X : Type 0} where
 
   sum_four : (f : X → ℕ) (t : Tables X) (k : ℕ) → sum_by f (table t k) ≤ total f t
   unfolding total
-  sum_four f t zero = omega arith
-  sum_four f t (suc zero) = omega arith
-  sum_four f t (suc (suc zero)) = omega arith
   sum_four f t (suc (suc (suc k))) = omega arith
+  sum_four f t _ = omega arith
 
   pub total_four : (f : X → ℕ) (ls : List (List X)) (k l m n : List X) → length ls ≡ 4
       → total f (tables_of ls) ≡ sum_by f (get_or ls 0 k) + sum_by f (get_or ls 1 l) + sum_by f (get_or ls 2 m) + sum_by f (get_or ls 3 n)
@@ -129,22 +119,16 @@ module _ {X : Type 0} where
       ap (λ xs. total f (tables_of xs)) h.4 ∙ ap (λ xs. sum_by f (get_or xs 0 k) + sum_by f (get_or xs 1 l) + sum_by f (get_or xs 2 m) + sum_by f (get_or xs 3 n)) (sym h.4)
 
   own_table : (t : Tables X) (k : ℕ) → with_table t k (table t k) ≡ t
-  own_table t zero = refl
-  own_table t (suc zero) = refl
-  own_table t (suc (suc zero)) = refl
   own_table t (suc (suc (suc k))) = refl
+  own_table t _ = refl
 
   table_with : (t : Tables X) (k : ℕ) (ys : List X) → table (with_table t k ys) k ≡ ys
-  table_with t zero ys = refl
-  table_with t (suc zero) ys = refl
-  table_with t (suc (suc zero)) ys = refl
   table_with t (suc (suc (suc k))) ys = refl
+  table_with t _ ys = refl
 
   with_twice : (t : Tables X) (k : ℕ) (ys zs : List X) → with_table (with_table t k ys) k zs ≡ with_table t k zs
-  with_twice t zero ys zs = refl
-  with_twice t (suc zero) ys zs = refl
-  with_twice t (suc (suc zero)) ys zs = refl
   with_twice t (suc (suc (suc k))) ys zs = refl
+  with_twice t _ ys zs = refl
 
   -- a table that was opened, or wasn't, and then was cut back is as before
   pub opened_closed : (t : Tables X) (n : ℕ) (begin : ℕ → X) (b : Bool) (mid now : Tables X) (m : ℕ) → mid ≡ cond b t (open_to t n begin) → m ≡ length (table t (n % 4))
@@ -198,9 +182,8 @@ pub lane_looked : (ls : List (List RecvLane)) (n k i : ℕ) (d : List RecvLane) 
 lane_looked ls n k i d w share len kind index = ap (λ o. or_new o w share) (sym (lookup_is ls n k i d len kind index))
 
 or_no_sending_is : (xs : List Sending) (i : ℕ) → or_no_sending (slice_get xs i) ≡ get_or xs i no_sending
-or_no_sending_is [] i = refl
-or_no_sending_is (x ∷ xs) zero = refl
 or_no_sending_is (x ∷ xs) (suc i) = or_no_sending_is xs i
+or_no_sending_is _ i = refl
 
 pub half_is : (ls : List (List Sending)) (n k i : ℕ) (d : List Sending) → length ls ≡ 4 → k ≡ n % 4 → i ≡ n / 4 → or_no_sending (lookup (tables_of ls) n) ≡ get_or (get_or ls k d) i no_sending
 half_is ls n k i d len kind index = ap or_no_sending (lookup_is ls n k i d len kind index) ∙ or_no_sending_is (get_or ls k d) i

@@ -13,35 +13,20 @@ module _ {X : Type 0} where
   get_set_same (z ∷ xs) (suc i) x y e = get_set_same xs i x y e
 
   get_set_other : (xs : List X) (i j : ℕ) (y : X) → j ≢ i → slice_get (slice_set xs i y) j ≡ slice_get xs j
-  get_set_other [] i j y ne = refl
   get_set_other (z ∷ xs) zero zero y ne = absurd (ne refl)
-  get_set_other (z ∷ xs) zero (suc j) y ne = refl
-  get_set_other (z ∷ xs) (suc i) zero y ne = refl
   get_set_other (z ∷ xs) (suc i) (suc j) y ne = get_set_other xs i j y (λ e. ne (ap suc e))
+  get_set_other _ i j y ne = refl
 
   pub table_same : (t : Tables X) (k : ℕ) (xs : List X) → table (with_table t k xs) k ≡ xs
-  table_same t zero xs = refl
-  table_same t (suc zero) xs = refl
-  table_same t (suc (suc zero)) xs = refl
   table_same t (suc (suc (suc k))) xs = refl
+  table_same t _ xs = refl
 
   pub table_other : (t : Tables X) (k j : ℕ) (xs : List X) → k < 4 → j < 4 → j ≢ k → table (with_table t k xs) j ≡ table t j
   table_other t zero zero xs a b ne = absurd (ne refl)
-  table_other t zero (suc zero) xs a b ne = refl
-  table_other t zero (suc (suc zero)) xs a b ne = refl
-  table_other t zero (suc (suc (suc j))) xs a b ne = refl
-  table_other t (suc zero) zero xs a b ne = refl
   table_other t (suc zero) (suc zero) xs a b ne = absurd (ne refl)
-  table_other t (suc zero) (suc (suc zero)) xs a b ne = refl
-  table_other t (suc zero) (suc (suc (suc j))) xs a b ne = refl
-  table_other t (suc (suc zero)) zero xs a b ne = refl
-  table_other t (suc (suc zero)) (suc zero) xs a b ne = refl
   table_other t (suc (suc zero)) (suc (suc zero)) xs a b ne = absurd (ne refl)
-  table_other t (suc (suc zero)) (suc (suc (suc j))) xs a b ne = refl
-  table_other t (suc (suc (suc k))) zero xs a b ne = refl
-  table_other t (suc (suc (suc k))) (suc zero) xs a b ne = refl
-  table_other t (suc (suc (suc k))) (suc (suc zero)) xs a b ne = refl
   table_other t (suc (suc (suc k))) (suc (suc (suc j))) xs a b ne = absurd (ne (omega arith))
+  table_other t _ _ xs a b ne = refl
 
   pub lookup_same : (t : Tables X) (n : ℕ) (x y : X) → lookup t n ≡ Some x → lookup (update t n y) n ≡ Some y
   unfolding lookup update
@@ -179,10 +164,8 @@ module _ {X : Type 0} (f : X → ℕ) where
 
   total_with : (t : Tables X) (k : ℕ) (ys : List X) → total f (with_table t k ys) + sum_by f (table t k) ≡ total f t + sum_by f ys
   unfolding total
-  total_with t zero ys = omega arith
-  total_with t (suc zero) ys = omega arith
-  total_with t (suc (suc zero)) ys = omega arith
   total_with t (suc (suc (suc k))) ys = omega arith
+  total_with t _ ys = omega arith
 
   pub total_update : (t : Tables X) (n : ℕ) (x y : X) → lookup t n ≡ Some x → total f (update t n y) + f x ≡ total f t + f y
   unfolding update lookup

@@ -52,10 +52,8 @@ still_open {X} R t u n kept is = go (lookup t n) refl is
 
 module _ {X : Type 0} where
   table_back : (t : Tables X) (k : ℕ) → with_table t k (table t k) ≡ t
-  table_back t zero = refl
-  table_back t (suc zero) = refl
-  table_back t (suc (suc zero)) = refl
   table_back t (suc (suc (suc k))) = refl
+  table_back t _ = refl
 
   pub set_back : (xs : List X) (i : ℕ) (x : X) → slice_get xs i ≡ Some x → slice_set xs i x ≡ xs
   set_back [] i x is = refl

@@ -19,10 +19,12 @@ use Rattle.qs_machine.specs.Sums.{tally_on}
 use Rattle.qs_machine.proofs.TableEdits.{opened_closed, same_tally}
 use Rattle.qs_machine.proofs.TableLaws.{open_at, total_open}
 use Rattle.qs_machine.proofs.CallsSound.{opened_lane, sound_frame, first_passed, second_passed}
+use Rattle.qs_machine.proofs.EveryCall.{same_either}
+use Rattle.std.proofs.lemmas.Bool.{cond_both}
 
-sends_of : (e o : End) (a : Bool) → (cond a e o).sends ≡ cond a e.sends o.sends
-sends_of e o true = refl
-sends_of e o false = refl
+of_either : {X : Type 0} (f : End → X) (e o : End) (a : Bool) → f (cond a e o) ≡ cond a (f e) (f o)
+of_either f e o true = refl
+of_either f e o false = refl
 
 is_there : (o : Option SendLane) → cond {A = Option ℕ} (is_none o) (Some 5) None ≡ None → is_some o ≡ true
 is_there None h = absurd (search (rules, h))
@@ -31,7 +33,7 @@ is_there (Some l) h = refl
 -- a half of which a frame may speak is there once the frame opened the stream
 pub out_there : (e mid : End) (n : ℕ) → state_fault_out e n ≡ None → mid ≡ opened_by_peer n e → is_some (lookup mid.sends n) ≡ true
 out_there e mid n none is =
-    subst (λ (t : Tables SendLane). is_some (lookup t n) ≡ true) (sym (ap (λ (k : End). k.sends) is ∙ sends_of e (opens n e) (is_own e n))) (by_kind (is_own e n) (is_uni n) none)
+    subst (λ (t : Tables SendLane). is_some (lookup t n) ≡ true) (sym (ap (λ (k : End). k.sends) is ∙ of_either (λ (k : End). k.sends) e (opens n e) (is_own e n))) (by_kind (is_own e n) (is_uni n) none)
   where
     begin : ℕ → SendLane
     begin m = new_send_lane m (first_send_limit e n) e.settings.send_buffer
@@ -101,20 +103,16 @@ stream_sound e mid n offset bytes fin recvs sound passed is after =
 
 -- What a refusal takes back
 
-recvs_of : (e o : End) (a : Bool) → (cond a e o).recvs ≡ cond a e.recvs o.recvs
-recvs_of e o true = refl
-recvs_of e o false = refl
-
 nested : {X : Type 0} (a b : Bool) (x y : X) → cond a x (cond b x y) ≡ cond (a || b) x y
 nested true b x y = refl
 nested false b x y = refl
 
 pub mid_sends : (e mid : End) (n : ℕ) → mid ≡ opened_by_peer n e
     → mid.sends ≡ cond (is_own e n || (is_uni n && not (is_own e n))) e.sends (open_to e.sends n (λ m. new_send_lane m (first_send_limit e n) e.settings.send_buffer))
-mid_sends e mid n is = ap (λ (k : End). k.sends) is ∙ sends_of e (opens n e) (is_own e n) ∙ nested (is_own e n) (is_uni n && not (is_own e n)) e.sends _
+mid_sends e mid n is = ap (λ (k : End). k.sends) is ∙ of_either (λ (k : End). k.sends) e (opens n e) (is_own e n) ∙ nested (is_own e n) (is_uni n && not (is_own e n)) e.sends _
 
 mid_recvs : (e mid : End) (n : ℕ) → mid ≡ opened_by_peer n e → mid.recvs ≡ cond (is_own e n || (is_uni n && is_own e n)) e.recvs (open_to e.recvs n (λ m. new_lane (window e n) e.tuning.credit_step))
-mid_recvs e mid n is = ap (λ (k : End). k.recvs) is ∙ recvs_of e (opens n e) (is_own e n) ∙ nested (is_own e n) (is_uni n && is_own e n) e.recvs _
+mid_recvs e mid n is = ap (λ (k : End). k.recvs) is ∙ of_either (λ (k : End). k.recvs) e (opens n e) (is_own e n) ∙ nested (is_own e n) (is_uni n && is_own e n) e.recvs _
 
 pub sends_back : (e mid : End) (n m : ℕ) (now : Tables SendLane) → mid ≡ opened_by_peer n e → m ≡ length (table e.sends (n % 4))
     → now ≡ with_table mid.sends (n % 4) (take m (table mid.sends (n % 4))) → now ≡ e.sends
@@ -134,20 +132,13 @@ restored e mid n sends recvs is p q =
     ap (λ (k : End). record k { sends = sends; recvs = recvs }) is
     ∙ ap (λ (t : Tables SendLane). record (opened_by_peer n e) { sends = t; recvs = recvs }) p
     ∙ ap (λ (t : Tables RecvLane). record (opened_by_peer n e) { sends = e.sends; recvs = t }) q
-    ∙ by_own (is_own e n)
-  where
-    by_own : (a : Bool) → record (cond a e (opens n e)) { sends = e.sends; recvs = e.recvs } ≡ e
-    by_own true = refl
-    by_own false = refl
+    ∙ same_either (λ (k : End). record k { sends = e.sends; recvs = e.recvs }) (is_own e n) e (opens n e) refl
 
 pub back_sound : (e mid : End) (n : ℕ) (recvs : Tables RecvLane) → IsInCredit e → mid ≡ opened_by_peer n e → recvs ≡ e.recvs → KeepsCredit mid.role mid.settings mid.present recvs mid.granted
 back_sound e mid n recvs sound is same =
     subst (λ (t : Tables RecvLane). KeepsCredit mid.role mid.settings mid.present t mid.granted) (sym same)
-    (subst (λ (k : End). KeepsCredit k.role k.settings k.present e.recvs k.granted) (sym is) (by_own (is_own e n)))
-  where
-    by_own : (a : Bool) → KeepsCredit (cond a e (opens n e)).role (cond a e (opens n e)).settings (cond a e (opens n e)).present e.recvs (cond a e (opens n e)).granted
-    by_own true = sound
-    by_own false = sound
+    (subst (λ (k : End). KeepsCredit k.role k.settings k.present e.recvs k.granted) (sym is)
+    (cond_both (is_own e n) e (opens n e) (λ k. KeepsCredit k.role k.settings k.present e.recvs k.granted) (λ _. sound) (λ _. sound)))
 
 -- The sending side, once what was opened is closed again
 
@@ -156,8 +147,7 @@ sum_open t n limit buffer true = refl
 sum_open t n limit buffer false = total_open (λ (l : SendLane). l.sent_end) t n (λ m. new_send_lane m limit buffer) (λ j. refl)
 
 pub out_peer : (e : End) (n : ℕ) (b : Bool) → (cond b e (opens n e)).outstanding ≡ e.outstanding
-out_peer e n true = refl
-out_peer e n false = refl
+out_peer e n b = same_either (λ (k : End). k.outstanding) b e (opens n e) refl
 
 pub peer_none : (e mid : End) (n m : ℕ) → mid ≡ opened_by_peer n e → m ≡ length (table e.sends (n % 4)) → AreOfOpen e.sends e.outstanding
     → AreOfOpen (with_table mid.sends (n % 4) (take m (table mid.sends (n % 4)))) mid.outstanding
@@ -165,15 +155,11 @@ peer_none e mid n m is len h =
     subst (λ (t : Tables SendLane). AreOfOpen t mid.outstanding) (sym (sends_back e mid n m _ is len refl))
     (subst (λ (r : Records). AreOfOpen e.sends r) (sym (ap (λ (k : End). k.outstanding) is ∙ out_peer e n (is_own e n))) h)
 
-lost_peer : (e : End) (n : ℕ) (b : Bool) → (cond b e (opens n e)).lost ≡ e.lost
-lost_peer e n true = refl
-lost_peer e n false = refl
-
 pub peer_lost : (e mid : End) (n m : ℕ) → mid ≡ opened_by_peer n e → m ≡ length (table e.sends (n % 4)) → AreOfOpen e.sends e.lost.pieces
     → AreOfOpen (with_table mid.sends (n % 4) (take m (table mid.sends (n % 4)))) mid.lost.pieces
 peer_lost e mid n m is len h =
     subst (λ (t : Tables SendLane). AreOfOpen t mid.lost.pieces) (sym (sends_back e mid n m _ is len refl))
-    (subst (λ (l : LostPackets). AreOfOpen e.sends l.pieces) (sym (ap (λ (k : End). k.lost) is ∙ lost_peer e n (is_own e n))) h)
+    (subst (λ (l : LostPackets). AreOfOpen e.sends l.pieces) (sym (ap (λ (k : End). k.lost) is ∙ same_either (λ (k : End). k.lost) (is_own e n) e (opens n e) refl)) h)
 
 pub peer_unsent : (e mid : End) (n m : ℕ) → mid ≡ opened_by_peer n e → m ≡ length (table e.sends (n % 4)) → sent_sum (with_table mid.sends (n % 4) (take m (table mid.sends (n % 4)))) ≡ sent_sum mid.sends
 peer_unsent e mid n m is len =

@@ -1,10 +1,11 @@
 -- What of a half is due is what isn't outstanding: each call keeps it.
 use Rattle.std.proofs.Common.{◌≡◌, ℕ, ◌+◌, ◌<◌, ◌≤◌, Bool, true, false, not, ◌&&◌, ◌||◌, IsTrue, List, [], refl, sym, ap, ◌∙◌, subst, inl, inr, Option, None, Some, is_some, cond, length, arith, max}
-use Rattle.std.proofs.lemmas.Bool.{both_ways, or_left, or_right}
+use Rattle.std.proofs.lemmas.Bool.{both_ways, or_left, or_right, false_from_ne_true}
 use Rattle.std.proofs.lemmas.Bool.Decides.{nat_tests}
 use Rattle.std.specs.FinSet as set
 use Rattle.std.specs.Ordering.{nat_cmp}
 use Rattle.qs_ranges.specs.Numbers.{numbers, is_within, contains-numbers, contains-with_range, contains-without_range}
+use Rattle.qs_ranges.proofs.Algebra.{has_difference, has_union}
 use Rattle.qs_send.specs.declared.parts.Chunk.{Chunk}
 use Rattle.qs_send.specs.declared.parts.Reset.{Reset}
 use Rattle.qs_send.specs.declared.parts.SendFault.TheVariants.{Finished, WasReset}
@@ -15,8 +16,6 @@ use Rattle.qs_send.specs.Lane.{Sending, new_sending, refusal, reset_refusal, fin
 use Rattle.qs_send.specs.Chunks.{IsDueChunk}
 use Rattle.qs_send.specs.Parts.{in_flight}
 use Rattle.qs_send.specs.Sound.{IsLawful}
-use Rattle.qs_send.proofs.Runs.{contains-due}
-use Rattle.qs_send.proofs.Sets.{contains-either}
 use Rattle.qs_machine.specs.Ends.{Records}
 use Rattle.qs_machine.specs.Outgoing.{IsCarried, CarriesOffset, IsTied, FliesAsCarried, AreApart}
 use Rattle.qs_machine.proofs.Carried.{none_some, IsShorter, with_piece, carried_before, carried_still, carried_more, carried_new, carried_is}
@@ -150,9 +149,8 @@ module _ (m : Records) (n : ℕ) (s : Sending) (t : IsTied m n s) where
   tied_finish law = finished_by law (is_some (refusal s.lane)) (λ none. not_finished s.lane.was_reset s.lane.finished none)
     where
       not_finished : (r : Option Reset) (fin : Bool) → is_some (cond (is_some r) (Some WasReset) (cond fin (Some Finished) None)) ≡ false → fin ≡ false
-      not_finished (Some b) fin is = absurd (both_ways true is refl)
-      not_finished None true is = absurd (both_ways true is refl)
       not_finished None false is = refl
+      not_finished _ fin is = absurd (both_ways true is refl)
 
   reset_by : (code : ℕ) (b : Bool)
       → IsTied m n (record {
@@ -233,18 +231,10 @@ tied_sent m k n s c t law due =
 -- Two chunks apart
 
 apart_at : (c d : Chunk) → AreApart c d → (q : ℕ) → d.offset ≤ q → q < d.offset + d.len → is_within c.offset (c.offset + c.len) q ≡ false
-apart_at c d apart q low high = by_test (is_within c.offset (c.offset + c.len) q) refl
-  where
-    by_test : (b : Bool) → is_within c.offset (c.offset + c.len) q ≡ b → is_within c.offset (c.offset + c.len) q ≡ false
-    by_test false is = is
-    by_test true is = absurd (apart.offsets q (grind (arith, nat_tests, is)) (grind (arith, nat_tests, is)) low high)
+apart_at c d apart q low high = false_from_ne_true _ (λ is. apart.offsets q (grind (arith, nat_tests, is)) (grind (arith, nat_tests, is)) low high)
 
 other_end : (c d : Chunk) → AreApart c d → d.fin ≡ true → c.fin ≡ false
-other_end c d apart fin = by_fin c.fin refl
-  where
-    by_fin : (b : Bool) → c.fin ≡ b → c.fin ≡ false
-    by_fin false is = is
-    by_fin true is = absurd (apart.ends is fin)
+other_end c d apart fin = false_from_ne_true c.fin (λ is. apart.ends is fin)
 
 -- A chunk is acknowledged
 
@@ -297,7 +287,7 @@ tied_lost m m' k n s c h apart t = by_reset s.lane.was_reset refl
     back d out = carried_before m m' k (Data n c) h (Data n d) out
 
     again : (q : ℕ) → set.contains (lost_due s.lane s.due c).offsets q ≡ (set.contains s.due.offsets q || (is_within c.offset (c.offset + c.len) q && not (set.contains s.lane.acked q)))
-    again q = grind (arith, contains-either s.due.offsets (set.difference (numbers c.offset (c.offset + c.len)) s.lane.acked) q, contains-due (numbers c.offset (c.offset + c.len)) s.lane.acked q, contains-numbers c.offset (c.offset + c.len) q)
+    again q = grind (arith, has_union s.due.offsets (set.difference (numbers c.offset (c.offset + c.len)) s.lane.acked) q, has_difference (numbers c.offset (c.offset + c.len)) s.lane.acked q, contains-numbers c.offset (c.offset + c.len) q)
 
     lost_open : IsTied m' n (record s { due = lost_due s.lane s.due c })
     lost_open =
@@ -343,8 +333,8 @@ tied_flight m n s law t clear q = (to, from)
     in_parts : set.contains (in_flight s) q ≡ ((is_within 0 s.lane.written q && not (set.contains s.lane.acked q)) && not (set.contains s.due.offsets q))
     in_parts = grind (
       arith,
-      contains-due (set.difference (numbers 0 s.lane.written) s.lane.acked) s.due.offsets q,
-      contains-due (numbers 0 s.lane.written) s.lane.acked q,
+      has_difference (set.difference (numbers 0 s.lane.written) s.lane.acked) s.due.offsets q,
+      has_difference (numbers 0 s.lane.written) s.lane.acked q,
       contains-numbers 0 s.lane.written q,
     )
 

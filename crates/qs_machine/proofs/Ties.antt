@@ -25,10 +25,8 @@ unfolding lookup
 nowhere n = go (n % 4)
   where
     go : {X : Type 0} (k : ℕ) → slice_get (table (no_streams {X = X}) k) (n / 4) ≡ None
-    go zero = refl
-    go (suc zero) = refl
-    go (suc (suc zero)) = refl
     go (suc (suc (suc k))) = refl
+    go _ = refl
 
 pub ties_none : AreTied no_streams fmap.empty
 ties_none =

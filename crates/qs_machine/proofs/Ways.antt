@@ -2,7 +2,7 @@
 use Rattle.std.proofs.Common.{◌≡◌, ℕ, Bool, true, false, List, [], ◌∷◌, ◌++◌, inl, Option, None, Some, Ok, refl, sym, ap, ◌∙◌, subst, append-nil, ◌≤◌, ◌||◌, ◌⊎◌, length, Err, arith, inr, ◌&&◌, cond, map, is_some, nat_lt}
 use Rattle.std.specs.Prelude.{MatchBool, Result, flat_map, ◌==◌, max}
 use Rattle.std.specs.List.{AllByRecursion}
-use Rattle.std.proofs.lemmas.Bool.{false≢true, and_right, both_ways}
+use Rattle.std.proofs.lemmas.Bool.{false≢true, and_right, both_ways, or_parts}
 use Rattle.qs_wire.specs.Layout.{FrameValue, PlacedValue, ack}
 use Rattle.qs_wire.specs.Grammar.{Fits, AreBytes, frames_of}
 use Rattle.qs_wire.specs.Reading.{reading_of, Reading}
@@ -104,20 +104,16 @@ payload_frames old new k text fresh step =
 -- Frames that are taken one after the other
 
 first_fine : (e : End) (f : Seen) (fs : List Seen) → is_ours f ≡ true → NoFault e (f ∷ fs) → (verdict e f ≡ None) × NoFault (frame_taken f e) fs
-first_fine e (Ack largest ranges) fs ours h = h
-first_fine e (Stream n offset bytes fin) fs ours h = h
-first_fine e (Control item) fs ours h = h
 first_fine e (Close code) fs ours h = absurd (false≢true ours)
-first_fine e (Plain asks) fs ours h = h
+first_fine e _ fs ours h = h
 
 -- a frame of another kind changes nothing, but for an ACK
 pub other_fine : (e : End) (f : Seen) (fs : List Seen) → is_ours f ≡ false → is_ack f ≡ false → NoFault e (f ∷ fs) → NoFault e fs × (frame_taken f e ≡ e)
 unfolding frame_taken
 other_fine e (Ack largest ranges) fs other none h = absurd (false≢true (sym none))
-other_fine e (Stream n offset bytes fin) fs other none h = absurd (false≢true (sym other))
-other_fine e (Control item) fs other none h = absurd (false≢true (sym other))
 other_fine e (Close code) fs other none h = absurd h
 other_fine e (Plain asks) fs other none h = (h.1, refl)
+other_fine e _ fs other none h = absurd (false≢true (sym other))
 
 pick : (X Y : Type 0) (b : Bool) → b ≡ true → X → MatchBool b X Y
 pick X Y true is x = x
@@ -169,11 +165,9 @@ payload_take_frames old new k text fresh bytes none step =
 -- a frame that is the payload
 
 ours_ask : (f : Seen) → is_ours f ≡ true → any_asks (f ∷ []) ≡ true
-ours_ask (Ack largest ranges) ours = absurd (false≢true ours)
 ours_ask (Stream n offset bytes fin) ours = refl
 ours_ask (Control item) ours = refl
-ours_ask (Close code) ours = absurd (false≢true ours)
-ours_ask (Plain asks) ours = absurd (false≢true ours)
+ours_ask _ ours = absurd (false≢true ours)
 
 pub frame_take : (old new : End) (k : ℕ) (text : List ℕ) (f : FrameValue) → IsNew old k → AreBytes text → frames_in text ≡ f ∷ [] → is_ours (seen f) ≡ true → ReceiveStep old k text (Ok Done) new
     → (taken : Taken) × (mid : End) × TakeFrameStep old f (Ok taken) mid × (new ≡ recorded k true mid)
@@ -324,8 +318,7 @@ module _ (b u : ℕ) where
   frame_counted (Ack largest ranges) e = acks_moved (named e ranges) e (counted b u e) ∙ ap (counted b u) (sym (acks_moved (named e ranges) e e))
   frame_counted (Stream n offset bytes fin) e = ap (on_recv n (λ l. take_stream l offset bytes fin)) (opened_counted n e)
   frame_counted (Control i) e = item_counted i e
-  frame_counted (Close code) e = refl
-  frame_counted (Plain asks) e = refl
+  frame_counted _ e = refl
 
   frames_counted : (fs : List Seen) (e : End) → frames_taken fs (counted b u e) ≡ counted b u (frames_taken fs e)
   unfolding frames_taken
@@ -362,11 +355,10 @@ module _ (b u : ℕ) where
 
   goes_counted : (f : Seen) (e : End) → AreMore e → GoesOn e f → GoesOn (counted b u e) f
   unfolding verdict
-  goes_counted (Ack largest ranges) e more h = h
   goes_counted (Stream n offset bytes fin) e more h = or_none (state_fault_in e n) (state_fault_in (counted b u e) n) _ (in_counted n e more) h
   goes_counted (Control i) e more h = item_fine i e more h
-  goes_counted (Close code) e more h = h
   goes_counted (Plain asks) e more h = refl
+  goes_counted _ e more h = h
 
   still_more : (f : Seen) (e : End) → AreMore e → AreMore (frame_taken f e)
   still_more f e more =
@@ -421,14 +413,6 @@ fine_later fs e settled fine =
 
 -- The payload
 
-first : (a b : Bool) → (a || b) ≡ false → a ≡ false
-first true b is = absurd (both_ways true is refl)
-first false b is = refl
-
-second : (a b : Bool) → (a || b) ≡ false → b ≡ false
-second true b is = absurd (both_ways true is refl)
-second false b is = is
-
 settled_acks : (e : End) (r : List (ℕ × ℕ)) → LimitsAreSettled e → LimitsAreSettled (acks (named e r) e)
 settled_acks e r settled = subst LimitsAreSettled (sym (acks_moved (named e r) e e)) (record { connection = settled.connection; streams = settled.streams })
 
@@ -447,13 +431,13 @@ others_pass : (before fs : List FrameValue) (e : End) → AreOthers before → N
 unfolding frames_taken
 others_pass [] fs e other fine = (fine, refl)
 others_pass (f ∷ before) fs e other fine =
-    let (later, same) = other_fine e (seen f) (seen_all (before ++ fs)) (second _ _ other.0) (first _ _ other.0) fine in
+    let (later, same) = other_fine e (seen f) (seen_all (before ++ fs)) (or_parts _ _ other.0).1 (or_parts _ _ other.0).0 fine in
     let (left, alike) = others_pass before fs e other.1 later in
     (left, ap (frames_taken (seen_all (before ++ fs))) same ∙ alike)
 
 take_others : (before fs : List FrameValue) (e : End) (one : Taken) (new : End) → AreOthers before → TakesEach fs e (Ok one) new → TakesEach (before ++ fs) e (Ok one) new
 take_others [] fs e one new other takes = takes
-take_others (f ∷ before) fs e one new other takes = pass_by _ _ (is_ours (seen f)) (second _ _ other.0) (take_others before fs e one new other.1 takes)
+take_others (f ∷ before) fs e one new other takes = pass_by _ _ (is_ours (seen f)) (or_parts _ _ other.0).1 (take_others before fs e one new other.1 takes)
 
 rest_fit : (before fs : List FrameValue) → AllByRecursion Fits (before ++ fs) → AllByRecursion Fits fs
 rest_fit [] fs fits = fits
@@ -555,9 +539,8 @@ module _ (k : ℕ) (text other : List ℕ) (differ : DifferInPlain text other) (
       (settle bare, (bare, subst (λ r. Takes k r.fault false old r.left result bare) (sym differ.reads_other) bare_takes, refl), subst (λ n. IsAlike n (settle bare)) (sym is) (ap settle same))
 
   open_alike : (b c : Bool) → OpenBy b c k (reading_of text) old result new → (bare : End) × OpenBy b c k (reading_of other) old result bare × IsAlike new bare
-  open_alike true c h = (new, h, refl)
-  open_alike false true h = (new, h, refl)
   open_alike false false h = taken_alike h
+  open_alike _ c h = (new, h, refl)
 
   received_alike : (o : Option Closed) → ReceiveBy o k text old result new → (bare : End) × ReceiveBy o k other old result bare × IsAlike new bare
   received_alike (Some closed) h = (new, h, refl)

@@ -250,11 +250,6 @@ pub record IsOutbox (t : Tables Sending) (m : Records) (has_room : Bool) (pendin
   pub room : spare ≤ free
   pub ready : 0 < spare + length pending → has_room ≡ true
 
--- an index has the items that outstanding packets told, and room for as many as the packet in the making may
-pub record IsIndexed (m : Records) (items : List Item) (spare free : ℕ) : Type 0 where
-  pub found : (i : Item) → Among i items ↔ IsCarried m (Told i)
-  pub room : spare ≤ free
-
 -- What is to be told
 
 -- an acknowledged packet told the item with this value

@@ -1,7 +1,7 @@
 -- What stands where blocks were changed, parted, or taken out.
 use Rattle.std.proofs.Common.{Result, Ok, Err, OnOk, subst, length-append, ◌≡◌, ℕ, suc, zero, ◌+◌, ◌-◌, ◌<◌, ◌≤◌, [], ◌∷◌, ◌++◌, length, take, drop, set, get_or, slice_index_or, append_assoc, refl, sym, ap, ◌∙◌, arith}
 use Rattle.std.specs.List.{insert}
-use Rattle.std.proofs.lemmas.List.{append-nil, take_more_set, take_all, take-append-drop, length-take-le, drop_all, drop-set, drop-drop, take-take, take-append-le, drop-append-le, get_or-drop, get_or_read}
+use Rattle.std.proofs.lemmas.List.{append-nil, take_more_set, take_all, take-append-drop, length-take-le, drop_all, drop-drop, take-take, take-append-le, drop-append-le, get_or-drop, get_or_read}
 use Rattle.std.proofs.lemmas.List.Edits.{length-insert, get_or-insert_below}
 use Rattle.qs_ranges.specs.Runs.{Runs}
 use Rattle.qs_ranges.specs.Blocks.{Blocks, all_runs, block_at, place}
@@ -17,9 +17,6 @@ up_to_changed bs b new lt =
     ap all_runs (take_more_set bs b new lt)
     ∙ all_append (take b bs) (new ∷ [])
     ∙ ap (λ l. all_runs (take b bs) ++ l) (append-nil new)
-
-pub from_changed : (bs : Blocks) (b : ℕ) (new : Runs) → b < length bs → all_runs (drop b (set bs b new)) ≡ new ++ all_runs (drop (b + 1) bs)
-from_changed bs b new lt = ap all_runs (drop-set bs b new lt)
 
 -- runs changed within one block
 pub changed_within : (bs : Blocks) (b i j : ℕ) (middle : Runs) → b < length bs → i ≤ length (block_at bs b) → j ≤ length (block_at bs b)
@@ -170,11 +167,6 @@ edited_roomy bs ys b i p k middle x new same at lt within of_x is =
     ∙ ap (λ l. take (place ys b i) l ++ (middle ++ drop (place ys b (i + k)) l)) same
     ∙ ap (λ n. take n (all_runs bs) ++ (middle ++ drop (place ys b (i + k)) (all_runs bs))) at
     ∙ ap (λ n. take p (all_runs bs) ++ (middle ++ drop n (all_runs bs))) more
-
--- on a success a fact follows from another
-pub on_ok : {T E : Type 0} (r : Result T E) (P Q : Type 0) → (P → Q) → OnOk r P → OnOk r Q
-on_ok (Ok x) P Q f p = f p
-on_ok (Err e) P Q f p = tt
 
 -- the same on a success
 pub edited_if_ok : {T E : Type 0} (r : Result T E) (bs ys : Blocks) (b i p k : ℕ) (middle x new : Runs) → all_runs ys ≡ all_runs bs → place ys b i ≡ p → b < length ys → i + k ≤ length (block_at ys b)

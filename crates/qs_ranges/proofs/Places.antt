@@ -78,13 +78,6 @@ run_at_place (x ∷ xs) (suc b) i d lt =
     ∙ get_or-append-add x (all_runs xs) (place xs b i) d
     ∙ run_at_place xs b i d lt
 
--- a block is among the blocks where it has a run
-pub block_within : (bs : Blocks) (b : ℕ) → 0 < length (block_at bs b) → b < length bs
-block_within [] zero some = absurd (omega arith)
-block_within [] (suc b) some = absurd (omega arith)
-block_within (x ∷ xs) zero some = omega arith
-block_within (x ∷ xs) (suc b) some = omega (arith, block_within xs b some)
-
 -- where a block ends, the next one begins
 pub place_next : (bs : Blocks) (b : ℕ) → place bs b (length (block_at bs b)) ≡ place bs (suc b) 0
 place_next [] zero = refl

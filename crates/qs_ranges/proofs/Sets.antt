@@ -2,7 +2,7 @@
 --     covers-is, covers-of, covers-none      the test `covers` and its meaning
 --     below-end_of, end_of-member, ..        one more than the largest member
 --     missing_from-is, missing_from-of       the least number that is not a member
-use Rattle.std.proofs.Common.{◌≡◌, ℕ, suc, zero, ◌+◌, ◌-◌, ◌<◌, ◌≤◌, ◌↔◌, Bool, true, false, ◌||◌, List, [], ◌∷◌, max, refl, sym, ap, ◌∙◌, arith, inl, inr, ◌⊎◌, IsTrue, if◌then◌else◌}
+use Rattle.std.proofs.Common.{◌≡◌, ℕ, suc, zero, ◌+◌, ◌-◌, ◌<◌, ◌≤◌, ◌↔◌, Bool, true, false, List, [], ◌∷◌, max, refl, sym, ap, ◌∙◌, arith, inl, inr, ◌⊎◌, IsTrue, if◌then◌else◌}
 use Rattle.std.specs.Ordering.{nat_cmp, eq_by_cmp}
 use Rattle.std.specs.Cmp.{nat_cmp_total, unsigned_tied}
 use Rattle.std.specs.List.{list_any}
@@ -84,10 +84,6 @@ end_of-le s n below = elim (end_of-last s) [
   | inl none ↦ omega arith
   | inr one ↦ let last : end_of s - 1 < n = below _ one in elim (cases_lt n (end_of s)) [ inl less ↦ omega arith | inr le ↦ le ]
 ]
-
--- the end, from what is known of it
-pub end_of-is : (s : NumberSet) (n : ℕ) → AllBelow s (n + 1) → set.contains s n ≡ true → end_of s ≡ n + 1
-end_of-is s n below one = omega (arith, end_of-le s (n + 1) below, below-end_of s n one)
 
 pub empty-end_of : (s : NumberSet) → end_of s ≡ 0 → s ≡ set.empty
 empty-end_of s none = empty_from_EndsBefore s (λ m le. end_of-ends s m (omega arith))
@@ -191,28 +187,9 @@ missing-with_later s n m lo hi side is = record {
     outside (inl before) = grind (arith, nat_tests)
     outside (inr past) = grind (arith, nat_tests)
 
--- an insert that has the least missing number takes it to the next one from the range's end on
-pub missing-with_front : (s : NumberSet) (n m e lo hi : ℕ) → IsLeastMissingFrom s n m → lo ≤ m → m < hi → IsLeastMissingFrom s hi e → IsLeastMissingFrom (set.union s (numbers lo hi)) n e
-missing-with_front s n m e lo hi is start end next = record {
-  from = omega (arith, is.from, next.from);
-  missing = contains-with_range s lo hi e ∙ grind (arith, next.missing, outside);
-  all_before = λ k from below. contains-with_range s lo hi k ∙ has k from below (cases_lt k m) (cases_lt k hi);
-}
-  where
-    outside : is_within lo hi e ≡ false
-    outside = grind (arith, nat_tests, next.from)
-
-    has : (k : ℕ) → n ≤ k → k < e → (k < m) ⊎ (m ≤ k) → (k < hi) ⊎ (hi ≤ k) → (set.contains s k || is_within lo hi k) ≡ true
-    has k from below (inl before) _ = grind (arith, is.all_before k from before)
-    has k from below (inr ge) (inl inside) = grind (arith, nat_tests)
-    has k from below (inr ge) (inr past) = grind (arith, next.all_before k past below)
-
 -- the same for the computed number
 pub missing_from-with_later : (s : NumberSet) (n lo hi : ℕ) → (missing_from s n < lo) ⊎ (hi ≤ missing_from s n) → missing_from (set.union s (numbers lo hi)) n ≡ missing_from s n
 missing_from-with_later s n lo hi side = sym (missing_from-of _ n _ (missing-with_later s n _ lo hi side (missing_from-is s n)))
-
-pub missing_from-with_front : (s : NumberSet) (n lo hi : ℕ) → lo ≤ missing_from s n → missing_from s n < hi → missing_from (set.union s (numbers lo hi)) n ≡ missing_from s hi
-missing_from-with_front s n lo hi start end = sym (missing_from-of _ n _ (missing-with_front s n _ _ lo hi (missing_from-is s n) start end (missing_from-is s hi)))
 
 -- what has more members misses later
 pub missing_from-more : (s t : NumberSet) (n : ℕ) → ((k : ℕ) → set.contains s k ≡ true → set.contains t k ≡ true) → missing_from s n ≤ missing_from t n

@@ -1,44 +1,11 @@
 -- The places that two searches find.
-use Rattle.std.proofs.Common.{◌≡◌, ℕ, ◌<◌, ◌≤◌, true, false, ◌-◌, ◌≢◌, Some, suc, zero, ap, subst, sym, length, ltb, slice_index_or, arith, inl, inr, ◌⊎◌}
-use Rattle.std.specs.List.Sorted.{IsPartitionPoint}
-use Rattle.std.proofs.lemmas.Bool.{cases_lt, ltb-true, ltb-false}
-use Rattle.std.proofs.lemmas.List.{get_or_read}
+use Rattle.std.proofs.Common.{◌≡◌, ℕ, ◌<◌, ◌≤◌, ◌-◌, Some, suc, zero, ap, subst, sym, length, arith, inl, inr, ◌⊎◌}
+use Rattle.std.proofs.lemmas.Bool.{cases_lt}
 use Rattle.qs_ranges.specs.Runs.{Runs, AreApart, IsSpan, start_at, end_at}
 use Rattle.qs_ranges.specs.Blocks.{IsFirstFrom}
 use Rattle.std.specs.Prelude.{slice_get}
 use Rattle.std.proofs.lemmas.Option.{get_or_from_slice_get, slice_get_within}
 use Rattle.qs_ranges.proofs.Splice.{start_before_end, end_before_start}
-
-pub span_from_points : (runs : Runs) (low high from to : ℕ) → AreApart runs → low ≤ high → from ≤ length runs → to ≤ length runs → IsPartitionPoint (λ run. ltb run.1 low ≡ true) (λ run. ltb run.1 low ≡ false) runs from → IsPartitionPoint (λ run. ltb run.0 high ≡ true) (λ run. ltb run.0 high ≡ false) runs to → IsSpan runs low high from to
-span_from_points runs low high from to apart le from_in to_in ends starts =
-    let ends_below : (k : ℕ) → k < from → end_at runs k < low = λ k lt. ltb-true _ _ (ends.0 k (0, 0) (omega arith) lt) in
-    let starts_from : (k : ℕ) → to ≤ k → k < length runs → high ≤ start_at runs k = λ k ge lt. ltb-false _ _ (starts.1 k (0, 0) ge lt) in
-    record {
-      ordered = elim (cases_lt to from) [
-        | inl crossed ↦ absurd (omega (arith, ends_below to crossed, starts_from to (omega arith) (omega arith), start_before_end 0 runs to apart (omega arith)))
-        | inr ordered ↦ ordered
-      ];
-      in_bounds = to_in;
-      ends_below = ends_below;
-      ends_from = λ k ge lt. ltb-false _ _ (ends.1 k (0, 0) ge lt);
-      starts_below = λ k lt. ltb-true _ _ (starts.0 k (0, 0) (omega arith) lt);
-      starts_from = starts_from;
-    }
-
--- the first and the last run that meet it, as they were read
-pub record Read (runs : Runs) (from to : ℕ) (first last : ℕ × ℕ) : Type 0 where
-  pub some : from < to
-  pub start : first.0 ≡ start_at runs from
-  pub end : last.1 ≡ end_at runs (to - 1)
-
-pub read : (runs : Runs) (low high from to : ℕ) (first last : ℕ × ℕ) → IsSpan runs low high from to → from ≢ to → first ≡ slice_index_or runs from first → last ≡ slice_index_or runs (to - 1) last → Read runs from to first last
-read runs low high from to first last span differ first_is last_is =
-    let some : from < to = omega (arith, span.ordered) in
-    record {
-      some = some;
-      start = ap (λ run. run.0) (get_or_read runs from first (omega (arith, span.in_bounds)) first_is (0, 0));
-      end = ap (λ run. run.1) (get_or_read runs (to - 1) last (omega (arith, span.in_bounds)) last_is (0, 0));
-    }
 
 -- a run that was read at a place
 record At (runs : Runs) (k : ℕ) (run : ℕ × ℕ) : Type 0 where

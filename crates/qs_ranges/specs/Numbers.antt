@@ -72,10 +72,6 @@ AllBelow s n = (m : ℕ) → IsTrue (set.contains s m) → m < n
 abbrev pub AreDisjoint : NumberSet → NumberSet → Type 0
 AreDisjoint s t = (n : ℕ) → IsTrue (set.contains s n) → set.contains t n ≡ false
 
--- the members below n
-abbrev pub members_below : NumberSet → ℕ → NumberSet
-members_below s n = set.intersection s (numbers 0 n)
-
 -- one more than the largest of the numbers, or 0
 abbrev pub list_end : List ℕ → ℕ
 list_end [] = 0

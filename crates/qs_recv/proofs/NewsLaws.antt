@@ -16,7 +16,3 @@ refused_news (Err e) r lo hi some apart = apart_news r lo hi some apart
 pub on_err : {T E P : Type 0} (res : Result T E) → P → OnErr res P
 on_err (Ok x) p = tt
 on_err (Err e) p = p
-
-pub err_then : {T E : Type 0} (res : Result T E) (P Q : Type 0) → (P → Q) → OnErr res P → OnErr res Q
-err_then (Ok x) P Q f p = tt
-err_then (Err e) P Q f p = f p

@@ -1,5 +1,5 @@
 -- Nothing that may still come or be called changes a half that was read to its end.
-use Rattle.std.proofs.Common.{◌≡◌, ℕ, ◌+◌, ◌≤◌, ◌⊎◌, inl, inr, Bool, true, false, not, cond, ◌&&◌, ◌||◌, eqb, List, [], length, Some, is_some, unwrap_or, refl, sym, ap, ◌∙◌, subst, arith, max}
+use Rattle.std.proofs.Common.{◌≡◌, ℕ, ◌+◌, ◌≤◌, ◌⊎◌, inl, inr, Bool, true, false, cond, ◌&&◌, ◌||◌, eqb, List, [], length, Some, is_some, unwrap_or, refl, sym, ap, ◌∙◌, subst, arith, max}
 use Rattle.std.specs.FinSet as set_of
 use Rattle.std.specs.Result.{IsOk}
 use Rattle.std.proofs.lemmas.Bool.{cases_eq, eq-eqb, or_right}
@@ -8,7 +8,6 @@ use Rattle.qs_ranges.specs.Numbers.{ContainsRange, numbers, covers, end_of}
 use Rattle.qs_ranges.proofs.Sets.{covers-of}
 use Rattle.qs_recv.specs.Assembled.{Assembled, put, front_of, forget, discard}
 use Rattle.qs_recv.specs.Lane.{RecvLane, highest, highest_after, is_whole, whole_to, is_over, breaks_known, check_stream, check_reset, take_stream, take_reset, read_answer, answer_by, at_final_size, bytes_read, bytes_of, after_read, after_answer, raise, next_limit, stop, stop_and_forget, taken}
-use Rattle.qs_recv.specs.News.{is_readable, tells_something}
 use Rattle.qs_recv.specs.declared.half.Read.TheVariants.{Bytes, End, Wait}
 use Rattle.qs_recv.specs.Over.{IsOver}
 use Rattle.qs_recv.proofs.LawfulLaws.{unbroken, reset_unbroken}

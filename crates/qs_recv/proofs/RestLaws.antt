@@ -1,6 +1,6 @@
 -- A receiving half at rest stays so, and is what it says.
 --     sound_at_rest, let_go_at_rest      what holds of a half that was made of it
---     at_rest_new, at_rest_told, ..      each call keeps it
+--     at_rest_new, at_rest_reset, ..      each call keeps it
 use Rattle.std.specs.Prelude.{◌≡◌, ℕ, ◌+◌, ◌-◌, ◌<◌, ◌≤◌, ◌⊎◌, Bool, true, false, cond, ◌||◌, nat_le, List, length, Option, None, Some, is_some, refl, IsOk, unwrap_or}
 use Rattle.std.proofs.Common.{sym, ◌∙◌, ap, subst, arith, inl, inr}
 use Rattle.std.specs.FinMap as map
@@ -10,14 +10,15 @@ use Rattle.std.proofs.lemmas.Bool.Decides.{nat_tests}
 use Rattle.qs_ranges.specs.Numbers.{MAX_VARINT, ContainsRange, MissesRange, numbers, same_numbers, contains-with_range, covers, end_of, is_within}
 use Rattle.qs_ranges.proofs.Sets.{below-end_of, covers-is, covers-of, numbers-none}
 use Rattle.qs_recv.specs.Assembled.{at_rest, put, front_of, discard, forget}
-use Rattle.qs_recv.specs.Lane.{MAX_WINDOW, RecvLane, new_lane, highest, highest_after, is_whole, at_final_size, check_stream, take_stream, check_reset, take_reset, read_answer, raise}
+use Rattle.qs_recv.specs.Lane.{MAX_WINDOW, RecvLane, new_lane, highest, highest_after, is_whole, at_final_size, check_stream, take_stream, check_reset, take_reset, read_answer}
 use Rattle.qs_recv.specs.declared.credit.Share.{Share}
+use Rattle.qs_recv.specs.declared.window.Windows.{Windows}
 use Rattle.qs_recv.specs.declared.half.Read.TheVariants.{Bytes, End, Wait}
 use Rattle.qs_recv.specs.Lawful.{IsLawful}
 use Rattle.qs_recv.specs.Sound.{IsSound, IsLetGo, CodeFits}
 use Rattle.qs_recv.specs.Rest.{given, lane_at_rest, IsAtRest, EndsAt}
 use Rattle.qs_recv.proofs.GrowthLaws.{same_size}
-use Rattle.qs_recv.proofs.LawfulLaws.{end_of-below, contains-below, highest-take_stream, lawful_new, lawful_take_stream, lawful_raise, lawful_told, read_within, unbroken}
+use Rattle.qs_recv.proofs.LawfulLaws.{end_of-below, contains-below, highest-take_stream, lawful_new, lawful_take_stream, read_within, unbroken}
 use Rattle.qs_recv.proofs.LetGoLaws.{none_left}
 use Rattle.qs_recv.proofs.RingLaws.{put_known}
 use Rattle.qs_recv.proofs.SoundLaws.{same_tests, sound_reset, sound_stop}
@@ -38,7 +39,7 @@ known_below e offset end known q low high = contains-below e q ∙ elim known [
 
 -- What holds of a half that is made of one at rest
 
-pub sound_at_rest : (w : ℕ × (ℕ × Share)) (n e limit : ℕ) (f r s : Option ℕ) (told : Bool) → IsAtRest (lane_at_rest w n e limit f r s told) n e → IsSound (lane_at_rest w n e limit f r s told) w.0 n e
+pub sound_at_rest : (w : Windows) (n e limit : ℕ) (f r s : Option ℕ) (told : Bool) → IsAtRest (lane_at_rest w n e limit f r s told) n e → IsSound (lane_at_rest w n e limit f r s told) w.widest n e
 sound_at_rest w n e limit f r s told h = record { lawful = h.lawful; window_is = refl; count_is = refl; end_is = end_of-below e; stop_fits = h.stop_fits }
 
 pub let_go_at_rest : (lane : RecvLane) (n e size : ℕ) → lane.arrived.read_count ≡ n → size ≡ 0 → IsAtRest lane n e → IsLetGo lane size
@@ -49,18 +50,18 @@ let_go_at_rest lane n e size count none h = record { gone = λ _. none; over = �
 pub read_below : (lane : RecvLane) (n e : ℕ) → IsAtRest lane n e → lane.arrived.read_count ≤ highest lane
 read_below lane n e h = let read = read_within lane h.lawful in omega (arith, read, h.lawful.received_within)
 
-pub read_at_rest : (w : ℕ × (ℕ × Share)) (n e limit : ℕ) (f r s : Option ℕ) (told : Bool) → IsAtRest (lane_at_rest w n e limit f r s told) n e → n ≤ MAX_VARINT
+pub read_at_rest : (w : Windows) (n e limit : ℕ) (f r s : Option ℕ) (told : Bool) → IsAtRest (lane_at_rest w n e limit f r s told) n e → n ≤ MAX_VARINT
 read_at_rest w n e limit f r s told h =
     let read = read_below (lane_at_rest w n e limit f r s told) n e h in
     omega (arith, read, h.lawful.granted, h.lawful.small_limit)
 
-pub came_at_rest : (w : ℕ × (ℕ × Share)) (n e limit : ℕ) (f r s : Option ℕ) (told : Bool) → IsAtRest (lane_at_rest w n e limit f r s told) n e → n ≤ e
+pub came_at_rest : (w : Windows) (n e limit : ℕ) (f r s : Option ℕ) (told : Bool) → IsAtRest (lane_at_rest w n e limit f r s told) n e → n ≤ e
 came_at_rest w n e limit f r s told h =
     let read = read_within (lane_at_rest w n e limit f r s told) h.lawful in
     let end = end_of-below e in
     omega (arith, read, end)
 
-pub end_at_rest : (w : ℕ × (ℕ × Share)) (n e limit : ℕ) (f r s : Option ℕ) (told : Bool) → IsAtRest (lane_at_rest w n e limit f r s told) n e → e ≤ MAX_VARINT
+pub end_at_rest : (w : Windows) (n e limit : ℕ) (f r s : Option ℕ) (told : Bool) → IsAtRest (lane_at_rest w n e limit f r s told) n e → e ≤ MAX_VARINT
 end_at_rest w n e limit f r s told h =
     let end = end_of-below e in
     omega (arith, end, h.lawful.received_within, h.lawful.granted, h.lawful.small_limit)
@@ -75,10 +76,10 @@ whole_below e size =
 
 -- A new half
 
-pub new_at_rest : (w : ℕ) (share : Share) → lane_at_rest (w, (w, share)) 0 0 w None None None false ≡ new_lane w share
+pub new_at_rest : (w : ℕ) (share : Share) → lane_at_rest (record { widest = w; size = w; share = share }) 0 0 w None None None false ≡ new_lane w share
 new_at_rest w share = ap (λ r. record (new_lane w share) { arrived = record { stored = map.empty; received = r; read_count = 0; window = w; discarding = false } }) (numbers-none 0 0 (omega arith))
 
-pub at_rest_new : (w : ℕ) (share : Share) → 1 ≤ w → w ≤ MAX_WINDOW → IsAtRest (lane_at_rest (w, (w, share)) 0 0 w None None None false) 0 0
+pub at_rest_new : (w : ℕ) (share : Share) → 1 ≤ w → w ≤ MAX_WINDOW → IsAtRest (lane_at_rest (record { widest = w; size = w; share = share }) 0 0 w None None None false) 0 0
 at_rest_new w share some small =
     record {
       lawful = subst IsLawful (sym (new_at_rest w share)) (lawful_new w share some small);
@@ -99,17 +100,17 @@ at_rest_thrown lane n e off lawful fits =
     }
 
 -- the offsets up to the largest are those that came
-below_itself : (w : ℕ × (ℕ × Share)) (n e limit code size : ℕ) (s : Option ℕ) (told : Bool)
+below_itself : (w : Windows) (n e limit code size : ℕ) (s : Option ℕ) (told : Bool)
     → lane_at_rest w n (end_of (numbers 0 e)) limit (Some size) (Some code) s told ≡ lane_at_rest w n e limit (Some size) (Some code) s told
 below_itself w n e limit code size s told = ap (λ k. lane_at_rest w n k limit (Some size) (Some code) s told) (end_of-below e)
 
-pub at_rest_reset : (w : ℕ × (ℕ × Share)) (n e limit code size : ℕ) (f s : Option ℕ) (told : Bool) → is_whole (lane_at_rest w n e limit f None s told) ≡ false → IsOk (check_reset (lane_at_rest w n e limit f None s told) size)
+pub at_rest_reset : (w : Windows) (n e limit code size : ℕ) (f s : Option ℕ) (told : Bool) → is_whole (lane_at_rest w n e limit f None s told) ≡ false → IsOk (check_reset (lane_at_rest w n e limit f None s told) size)
     → IsAtRest (lane_at_rest w n e limit f None s told) n e → IsAtRest (lane_at_rest w n e limit (Some size) (Some code) s told) n e
 at_rest_reset w n e limit code size f s told not_whole ok h =
     at_rest_thrown (lane_at_rest w n e limit (Some size) (Some code) s told) n e refl
-    (subst IsLawful (below_itself w n e limit code size s told) (sound_reset (lane_at_rest w n e limit f None s told) w.0 n e code size refl not_whole ok (sound_at_rest w n e limit f None s told h)).lawful) h.stop_fits
+    (subst IsLawful (below_itself w n e limit code size s told) (sound_reset (lane_at_rest w n e limit f None s told) w.widest n e code size refl not_whole ok (sound_at_rest w n e limit f None s told h)).lawful) h.stop_fits
 
-pub reset_rest_is : (w : ℕ × (ℕ × Share)) (n e limit code size : ℕ) (f s : Option ℕ) (told : Bool) → is_whole (lane_at_rest w n e limit f None s told) ≡ false
+pub reset_rest_is : (w : Windows) (n e limit code size : ℕ) (f s : Option ℕ) (told : Bool) → is_whole (lane_at_rest w n e limit f None s told) ≡ false
     → lane_at_rest w n e limit (Some size) (Some code) s told ≡ take_reset (lane_at_rest w n e limit f None s told) code size
 reset_rest_is w n e limit code size f s told not_whole =
     let lane : RecvLane = lane_at_rest w n e limit f None s told in
@@ -117,53 +118,36 @@ reset_rest_is w n e limit code size f s told not_whole =
     sym (ap (λ b. cond b lane after) not_whole ∙ below_itself w n e limit code size s told)
 
 -- what a stop leaves
-pub stopped_at_rest : (w : ℕ × (ℕ × Share)) (n e limit code : ℕ) (f r : Option ℕ) (told : Bool)
+pub stopped_at_rest : (w : Windows) (n e limit code : ℕ) (f r : Option ℕ) (told : Bool)
     → (let lane : RecvLane = lane_at_rest w n e limit f r None told in lane_at_rest w n e limit f r (Some code) told ≡ record lane { arrived = discard lane.arrived; stop_code = Some code })
 stopped_at_rest w n e limit code f r told =
     let lane : RecvLane = lane_at_rest w n e limit f r None told in
-    ap (λ off. record lane { arrived = at_rest w.0 n e off; stop_code = Some code }) (or_right (is_some r) true refl)
+    ap (λ off. record lane { arrived = at_rest w.widest n e off; stop_code = Some code }) (or_right (is_some r) true refl)
 
-pub at_rest_stopped : (w : ℕ × (ℕ × Share)) (n e limit code : ℕ) (f r : Option ℕ) (told : Bool) → code ≤ MAX_VARINT
+pub at_rest_stopped : (w : Windows) (n e limit code : ℕ) (f r : Option ℕ) (told : Bool) → code ≤ MAX_VARINT
     → IsAtRest (lane_at_rest w n e limit f r None told) n e → IsAtRest (lane_at_rest w n e limit f r (Some code) told) n e
 at_rest_stopped w n e limit code f r told fits h =
     at_rest_thrown (lane_at_rest w n e limit f r (Some code) told) n e (or_right (is_some r) true refl)
-    (subst IsLawful (sym (stopped_at_rest w n e limit code f r told)) (sound_stop (lane_at_rest w n e limit f r None told) w.0 n e code fits (sound_at_rest w n e limit f r None told h)).lawful) fits
+    (subst IsLawful (sym (stopped_at_rest w n e limit code f r told)) (sound_stop (lane_at_rest w n e limit f r None told) w.widest n e code fits (sound_at_rest w n e limit f r None told h)).lawful) fits
 
 -- What a reader is told
 
-pub at_rest_told : (lane : RecvLane) (n e : ℕ) → (lane.arrived.discarding ≡ true) ⊎ (lane.final_size ≡ Some n) → IsAtRest lane n e → IsAtRest (record lane { told = true }) n e
-at_rest_told lane n e why h =
-    record {
-      lawful = lawful_told lane h.lawful;
-      stop_fits = h.stop_fits;
-      all_read = h.all_read;
-      ended = λ _ on. elim why [
-        | inl off ↦ absurd (both_ways _ on off)
-        | inr all ↦ all
-      ];
-    }
-
--- nothing is told where it isn't over
-pub wait_at_rest : (w : ℕ × (ℕ × Share)) (n e limit room : ℕ) (f s : Option ℕ) (told : Bool) → (is_some s ≡ true → is_whole (lane_at_rest w n e limit f None s told) ≡ false) → (is_some s ≡ false → at_final_size n f ≡ false)
-    → IsAtRest (lane_at_rest w n e limit f None s told) n e → read_answer (lane_at_rest w n e limit f None s told) room ≡ Wait
-wait_at_rest w n e limit room f None told not_whole more h =
+-- of its end where it is known and read, else nothing, where bytes aren't thrown away
+pub ends_at_rest : (w : Windows) (n e limit room : ℕ) (f : Option ℕ) (told : Bool) → IsAtRest (lane_at_rest w n e limit f None None told) n e → read_answer (lane_at_rest w n e limit f None None told) room ≡ cond (at_final_size n f) End Wait
+ends_at_rest w n e limit room f told h =
     let lane : RecvLane = lane_at_rest w n e limit f None None told in
     let none : set.contains (numbers 0 e) n ≡ false = let all = h.all_read refl in contains-below e n ∙ grind (arith, nat_tests) in
-    ap (λ b. cond b End (cond (set.contains (numbers 0 e) n) (Bytes (length (front_of lane.arrived room))) Wait)) (more refl)
-    ∙ ap (λ b. cond b (Bytes (length (front_of lane.arrived room))) Wait) none
-wait_at_rest w n e limit room f (Some code) told not_whole more h = ap (λ b. cond b End Wait) (not_whole refl)
-
--- A raise
+    ap (λ b. cond (at_final_size n f) End (cond b (Bytes (length (front_of lane.arrived room))) Wait)) none
 
 -- A frame
 
-pub taken_at_rest : (w : ℕ × (ℕ × Share)) (n e e' limit offset : ℕ) (f r s : Option ℕ) (told : Bool) (bytes : List ℕ) (fin : Bool) → EndsAt (lane_at_rest w n e limit f r s told) offset bytes e'
+pub taken_at_rest : (w : Windows) (n e e' limit offset : ℕ) (f r s : Option ℕ) (told : Bool) (bytes : List ℕ) (fin : Bool) → EndsAt (lane_at_rest w n e limit f r s told) offset bytes e'
     → lane_at_rest w n e' limit (cond fin (Some (offset + length bytes)) f) r s told ≡ take_stream (lane_at_rest w n e limit f r s told) offset bytes fin
 taken_at_rest w n e e' limit offset f r s told bytes fin h =
     let lane : RecvLane = lane_at_rest w n e limit f r s told in
     ap (λ a. record lane { arrived = a; final_size = cond fin (Some (offset + length bytes)) f }) (sym h.arrived)
 
-pub at_rest_taken : (w : ℕ × (ℕ × Share)) (n e e' limit offset : ℕ) (f r s : Option ℕ) (told : Bool) (bytes : List ℕ) (fin : Bool) → EndsAt (lane_at_rest w n e limit f r s told) offset bytes e'
+pub at_rest_taken : (w : Windows) (n e e' limit offset : ℕ) (f r s : Option ℕ) (told : Bool) (bytes : List ℕ) (fin : Bool) → EndsAt (lane_at_rest w n e limit f r s told) offset bytes e'
     → IsOk (check_stream (lane_at_rest w n e limit f r s told) offset (length bytes) fin)
     → IsAtRest (lane_at_rest w n e limit f r s told) n e → IsAtRest (lane_at_rest w n e' limit (cond fin (Some (offset + length bytes)) f) r s told) n e'
 at_rest_taken w n e e' limit offset f r s told bytes fin ends ok h =
@@ -175,24 +159,24 @@ at_rest_taken w n e e' limit offset f r s told bytes fin ends ok h =
       ended = λ is_told on. same_size f (offset + length bytes) (length bytes) n fin (highest lane) (unbroken lane offset (length bytes) fin ok) (h.ended is_told on);
     }
 
-pub grown_at_rest : (w : ℕ × (ℕ × Share)) (n e e' limit offset : ℕ) (f r s : Option ℕ) (told : Bool) (bytes : List ℕ) (fin : Bool) → EndsAt (lane_at_rest w n e limit f r s told) offset bytes e'
+pub grown_at_rest : (w : Windows) (n e e' limit offset : ℕ) (f r s : Option ℕ) (told : Bool) (bytes : List ℕ) (fin : Bool) → EndsAt (lane_at_rest w n e limit f r s told) offset bytes e'
     → IsAtRest (lane_at_rest w n e limit f r s told) n e
     → highest (lane_at_rest w n e' limit (cond fin (Some (offset + length bytes)) f) r s told) ≡ highest_after (lane_at_rest w n e limit f r s told) offset (length bytes) fin
 grown_at_rest w n e e' limit offset f r s told bytes fin ends h =
     ap highest (taken_at_rest w n e e' limit offset f r s told bytes fin ends) ∙ highest-take_stream (lane_at_rest w n e limit f r s told) offset bytes fin h.lawful
 
 -- where nothing new comes
-pub ends_known : (w : ℕ × (ℕ × Share)) (n e limit offset : ℕ) (f r s : Option ℕ) (told : Bool) (bytes : List ℕ) → ContainsRange (numbers 0 e) offset (offset + length bytes)
+pub ends_known : (w : Windows) (n e limit offset : ℕ) (f r s : Option ℕ) (told : Bool) (bytes : List ℕ) → ContainsRange (numbers 0 e) offset (offset + length bytes)
     → IsAtRest (lane_at_rest w n e limit f r s told) n e → EndsAt (lane_at_rest w n e limit f r s told) offset bytes e
 ends_known w n e limit offset f r s told bytes known h =
     record { arrived = either (is_some r); all_read = h.all_read }
   where
-    either : (b : Bool) → cond b (at_rest w.0 n e (is_some r || is_some s)) (put (at_rest w.0 n e (is_some r || is_some s)) offset bytes) ≡ at_rest w.0 n e (is_some r || is_some s)
+    either : (b : Bool) → cond b (at_rest w.widest n e (is_some r || is_some s)) (put (at_rest w.widest n e (is_some r || is_some s)) offset bytes) ≡ at_rest w.widest n e (is_some r || is_some s)
     either true = refl
-    either false = sym (put_known (at_rest w.0 n e (is_some r || is_some s)) offset bytes known)
+    either false = sym (put_known (at_rest w.widest n e (is_some r || is_some s)) offset bytes known)
 
 -- after a reset
-pub ends_passed : (w : ℕ × (ℕ × Share)) (n e limit offset code : ℕ) (f s : Option ℕ) (told : Bool) (bytes : List ℕ) → EndsAt (lane_at_rest w n e limit f (Some code) s told) offset bytes e
+pub ends_passed : (w : Windows) (n e limit offset code : ℕ) (f s : Option ℕ) (told : Bool) (bytes : List ℕ) → EndsAt (lane_at_rest w n e limit f (Some code) s told) offset bytes e
 ends_passed w n e limit offset code f s told bytes = record { arrived = refl; all_read = λ on. absurd (both_ways true on refl) }
 
 -- after a stop, where it touches what came
@@ -203,11 +187,11 @@ union_below e lo hi touches ends =
     let new = contains-below hi q in
     contains-with_range (numbers 0 e) lo hi q ∙ grind (arith, nat_tests))
 
-pub ends_more : (w : ℕ × (ℕ × Share)) (n e limit offset code : ℕ) (f : Option ℕ) (told : Bool) (bytes : List ℕ) → offset ≤ e → e ≤ offset + length bytes
+pub ends_more : (w : Windows) (n e limit offset code : ℕ) (f : Option ℕ) (told : Bool) (bytes : List ℕ) → offset ≤ e → e ≤ offset + length bytes
     → EndsAt (lane_at_rest w n e limit f None (Some code) told) offset bytes (offset + length bytes)
 ends_more w n e limit offset code f told bytes touches ends =
     record {
-      arrived = ap (λ r. record (at_rest w.0 n e true) { received = r }) (union_below e offset (offset + length bytes) touches ends);
+      arrived = ap (λ r. record (at_rest w.widest n e true) { received = r }) (union_below e offset (offset + length bytes) touches ends);
       all_read = λ on. absurd (both_ways true on refl);
     }
 
@@ -220,7 +204,7 @@ apart_below e offset end new q low high = contains-below e q ∙ grind (arith, n
 
 -- what a reset leaves is at rest
 pub forgotten_is : (lane : RecvLane) (w n e code size : ℕ) → IsSound lane w n e
-    → lane_at_rest (w, (lane.window, lane.share)) n e lane.limit (Some size) (Some code) lane.stop_code lane.told ≡ record lane { arrived = forget lane.arrived; final_size = Some size; reset_code = Some code }
+    → lane_at_rest (record { widest = w; size = lane.window; share = lane.share }) n e lane.limit (Some size) (Some code) lane.stop_code lane.told ≡ record lane { arrived = forget lane.arrived; final_size = Some size; reset_code = Some code }
 forgotten_is lane w n e code size h =
     ap (λ a. record lane { arrived = a; final_size = Some size; reset_code = Some code }) (sym (
     ap (λ k. record { stored = map.empty; received = numbers 0 k; read_count = lane.arrived.read_count; window = lane.arrived.window; discarding = true }) h.end_is
@@ -229,15 +213,15 @@ forgotten_is lane w n e code size h =
     ))
 
 pub reset_is : (lane : RecvLane) (w n e code size : ℕ) → is_some lane.reset_code ≡ false → is_whole lane ≡ false → IsSound lane w n e
-    → lane_at_rest (w, (lane.window, lane.share)) n e lane.limit (Some size) (Some code) lane.stop_code lane.told ≡ take_reset lane code size
+    → lane_at_rest (record { widest = w; size = lane.window; share = lane.share }) n e lane.limit (Some size) (Some code) lane.stop_code lane.told ≡ take_reset lane code size
 reset_is lane w n e code size no_reset not_whole h =
     let after : RecvLane = record lane { arrived = forget lane.arrived; final_size = Some size; reset_code = Some code } in
     forgotten_is lane w n e code size h ∙ sym (ap (λ b. cond (b || is_whole lane) lane after) no_reset ∙ ap (λ b. cond b lane after) not_whole)
 
 pub reset_at_rest : (lane : RecvLane) (w n e code size : ℕ) → is_some lane.reset_code ≡ false → is_whole lane ≡ false → IsOk (check_reset lane size) → IsSound lane w n e
-    → IsAtRest (lane_at_rest (w, (lane.window, lane.share)) n e lane.limit (Some size) (Some code) lane.stop_code lane.told) n e
+    → IsAtRest (lane_at_rest (record { widest = w; size = lane.window; share = lane.share }) n e lane.limit (Some size) (Some code) lane.stop_code lane.told) n e
 reset_at_rest lane w n e code size no_reset not_whole ok h =
-    at_rest_thrown (lane_at_rest (w, (lane.window, lane.share)) n e lane.limit (Some size) (Some code) lane.stop_code lane.told) n e refl
+    at_rest_thrown (lane_at_rest (record { widest = w; size = lane.window; share = lane.share }) n e lane.limit (Some size) (Some code) lane.stop_code lane.told) n e refl
     (subst IsLawful (sym (forgotten_is lane w n e code size h)) (sound_reset lane w n e code size no_reset not_whole ok h).lawful) h.stop_fits
 
 -- A half of which the end, or a reset, was told, or that was stopped
@@ -278,7 +262,7 @@ nothing_left lane size done h let_go = go lane.arrived.discarding refl
     go false on = map.empty_of_len lane.arrived.stored (none_left lane h (let_go.ended (done_told lane done h on) on))
 
 pub rested_is : (lane : RecvLane) (w n e size : ℕ) → is_done lane ≡ true → ContainsRange lane.arrived.received 0 e → IsSound lane w n e → IsLetGo lane size
-    → lane_at_rest (w, (lane.window, lane.share)) n e lane.limit lane.final_size lane.reset_code lane.stop_code lane.told ≡ lane
+    → lane_at_rest (record { widest = w; size = lane.window; share = lane.share }) n e lane.limit lane.final_size lane.reset_code lane.stop_code lane.told ≡ lane
 rested_is lane w n e size done all h let_go =
     let stored = nothing_left lane size done h.lawful let_go in
     let received : lane.arrived.received ≡ numbers 0 e =

@@ -1,7 +1,7 @@
 -- What a ring answers, offset by offset, and that a put and a read do to it what they do to the map.
 --     get-ring, len-ring       the map that a ring stands for
 --     new_ring, ring_at_rest, ring_read, ring_put, ..       what holds of the fields still holds
---     front_next, rest_next       what a read copies out and leaves
+--     front_next, ring_advanced       what a read copies out and leaves
 --     IsPut, put_stored       what is kept before a put and after it, and what it stores
 --     same_bytes, same_ring       only the bytes at offsets that came show
 use Rattle.std.specs.Prelude.{◌≡◌, ℕ, ◌+◌, ◌-◌, ◌/◌, ◌^◌, ◌<◌, ◌≤◌, zero, suc, Bool, true, false, not, cond, if◌then◌else◌, ◌&&◌, ◌||◌, max, min, nat_eq, nat_le, nat_lt, List, [], ◌++◌, length, take, drop, slice_get, slice_index, Option, None, Some, is_some, Result, Ok, Err, OnOk, OnErr, refl}
@@ -22,7 +22,7 @@ use Rattle.qs_ranges.proofs.Sets.{covers-is, end_of-with_range}
 use Rattle.qs_recv.specs.Assembled.{Assembled, front, keep_from, put, store, take_front}
 use Rattle.qs_recv.specs.Bytes.{byte_at}
 use Rattle.qs_recv.specs.Ring.{IsRing, IsSizeFor, missing_count, ring_bytes, stored_in_ring}
-use Rattle.qs_recv.proofs.AssembledLaws.{is_in_run, with_run, contains-with_run, get-insert_nat, get-keep_from, get-store}
+use Rattle.qs_recv.proofs.AssembledLaws.{is_in_run, with_run, contains-with_run, get-insert_nat, get-keep_from, get-store, put_is}
 use Rattle.qs_recv.proofs.ReadLaws.{append_nil, front_none, front_of_bytes, front-more, take_done, take_nothing}
 use Rattle.qs_recv.proofs.RingCount.{missing_all, missing_none, missing_parts, missing_same, missing_small}
 use Rattle.qs_recv.specs.Lane.{MAX_WINDOW}
@@ -255,17 +255,6 @@ front_next r f into out w from next n stored h least is same copied =
     let stops = front_stops r f w from n (length into) (omega arith) (ap length out_is ∙ len) (λ more. let e : from + n ≡ next = omega (arith, low) in ap (set.contains r) e ∙ least.missing) in
     (out_is, stops ∙ out_is, len)
 
-pub rest_next : (r : NumberSet) (f : ℕ → ℕ) (out : List ℕ) (w window from room n stored : ℕ) → IsRing f r w from stored false
-    → (front (ring_bytes r f from w) from n ≡ out) × (front (ring_bytes r f from w) from room ≡ out) × (length out ≡ n)
-    → (let a : Assembled = record { stored = ring_bytes r f from w; received = r; read_count = from; window = window; discarding = false } in
-    record a { stored = ring_bytes r f (from + n) w; read_count = from + n } ≡ take_front a room)
-rest_next r f out w window from room n stored h fronts =
-    let a : Assembled = record { stored = ring_bytes r f from w; received = r; read_count = from; window = window; discarding = false } in
-    ap (λ m. record a { stored = m; read_count = from + n }) (sym (ring_advanced r f w from n stored h))
-    ∙ take_done a n room (ap length fronts.0 ∙ fronts.2) (fronts.1 ∙ sym fronts.0)
-
--- Where bytes are thrown away
-
 pub empty_front : (from room : ℕ) → front map.empty from room ≡ []
 empty_front from room = front_none map.empty from room (map.get-empty nat_cmp from)
 
@@ -465,6 +454,22 @@ ring_put r w from stored offset first count bytes f g p is =
 
 pub stored_within : (r : NumberSet) (f : ℕ → ℕ) (w from stored : ℕ) → IsRing f r w from stored false → stored ≤ w
 stored_within r f w from stored h = let all = len-ring r f w from w in let counted = h.counted in omega (arith, all, counted)
+
+-- the count of what is stored after a put
+pub put_fits : (r : NumberSet) (w from stored offset first count : ℕ) (bytes : List ℕ) (f g : ℕ → ℕ) → IsPut r w from stored offset first bytes f g → count ≡ missing_count r first (offset + length bytes - first) → stored + count ≤ MAX_WINDOW
+put_fits r w from stored offset first count bytes f g p is =
+    let noted = ring_put r w from stored offset first count bytes f g p is in
+    let small = noted.small_window in
+    let within = stored_within _ g w from (stored + count) noted in
+    omega (arith, small, within)
+
+-- what an assembly holds after a put
+pub put_ring : (r : NumberSet) (w from stored offset first : ℕ) (bytes : List ℕ) (f g : ℕ → ℕ) → IsPut r w from stored offset first bytes f g
+    → (let a : Assembled = record { stored = ring_bytes r f from w; received = r; read_count = from; window = w; discarding = false } in
+    record a { stored = ring_bytes (with_run r offset (length bytes)) g from w; received = with_run r offset (length bytes) } ≡ put a offset bytes)
+put_ring r w from stored offset first bytes f g p =
+    let a : Assembled = record { stored = ring_bytes r f from w; received = r; read_count = from; window = w; discarding = false } in
+    put_is a offset bytes _ _ refl (put_stored r w from stored offset first bytes f g p) refl
 
 -- a vector whose whole slice was written
 pub vec_written : (n : ℕ) (old new : List ℕ) → length new ≡ length old → length old ≡ n → take n (new ++ drop (length new) old) ≡ new

@@ -69,6 +69,9 @@ same_none m at bytes none =
     let r = byte_in at bytes q c f in
     absurd (both_ways _ (ap is_some (none q r.0 r.1)) (ap is_some e)))
 
+pub same_empty : (m : map.FinMap nat_cmp ℕ) (at : ℕ) (bytes : List ℕ) → m ≡ map.empty → same m at bytes ≡ true
+same_empty m at bytes empty = same_none m at bytes (λ q low high. ap (λ n. map.get n q) empty ∙ map.get-empty nat_cmp q)
+
 pub same_by : (m n : map.FinMap nat_cmp ℕ) (at : ℕ) (bytes : List ℕ) → ((q : ℕ) → at ≤ q → q < at + length bytes → map.get m q ≡ map.get n q) → same m at bytes ≡ same n at bytes
 unfolding same
 same_by m n at [] is = refl

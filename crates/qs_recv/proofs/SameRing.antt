@@ -1,5 +1,5 @@
 -- Bytes that are held against those that are kept.
---     run_fits, run_more, run_there      run after run of the offsets that came
+--     run_more, run_there      run after run of the offsets that came
 --     kept_has, same_kept      and so against the map that they stand for
 use Rattle.std.specs.Prelude.{◌≡◌, ℕ, ◌+◌, ◌-◌, ◌%◌, ◌<◌, ◌≤◌, Bool, true, false, cond, ◌&&◌, max, IsTrue, ◌↔◌, List, length, slice_index, None, Some, is_some, unwrap_or, refl}
 use Rattle.std.proofs.Common.{sym, ◌∙◌, ap, arith, inl, inr}
@@ -25,19 +25,6 @@ run_side r near end at from to q none run low begun below =
     elim (cases_lt q near) [
       | inl is ↦ is
       | inr over ↦ absurd (both_ways _ none (run.came near (omega (arith, low)) (omega (arith, over, below))))
-    ]
-
--- a run of offsets that came has its bytes in the ring, where it begins there, and they fit
-pub run_fits : (r : NumberSet) (ring bytes : List ℕ) (start near offset end at from to : ℕ) → offset ≤ start → end ≤ offset + length bytes → start ≤ at → set.contains r near ≡ false → near ≤ start + length ring
-    → from < near → IsNextRun r at end from to → length (part offset bytes from to) ≤ length ring
-run_fits r ring bytes start near offset end at from to low short begun none fits here run =
-    let b = run.begins in
-    let o = run.ordered in
-    let e = run.ends in
-    let len = length_part offset bytes from to (omega (arith, b)) o (omega (arith, e, short)) in
-    elim (cases_lt from to) [
-      | inl some ↦ (let last = run_side r near end at from to (to - 1) none run here (omega (arith, some)) (omega (arith, some)) in omega (arith, len, last, b, fits, begun, some))
-      | inr over ↦ omega (arith, len, over)
     ]
 
 -- what a run has, in the ring and in pages

@@ -3,7 +3,6 @@ pub mod Bytes
 pub mod Changes
 pub mod Lane
 pub mod Codes
-pub mod Kept
 pub mod Lawful
 pub mod Laws
 pub mod News

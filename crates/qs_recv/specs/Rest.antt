@@ -4,7 +4,7 @@ use Rattle.std.specs.Prelude.{◌≡◌, ℕ, Bool, true, false, ◌||◌, if◌
 use Rattle.qs_ranges.specs.Numbers.{numbers}
 use Rattle.qs_recv.specs.Assembled.{at_rest, put}
 use Rattle.qs_recv.specs.Lane.{RecvLane}
-use Rattle.qs_recv.specs.declared.credit.Share.{Share}
+use Rattle.qs_recv.specs.declared.window.Windows.{Windows}
 use Rattle.qs_recv.specs.Lawful.{IsLawful}
 use Rattle.qs_recv.specs.Sound.{CodeFits}
 
@@ -12,18 +12,18 @@ use Rattle.qs_recv.specs.Sound.{CodeFits}
 abbrev pub given : Bool → ℕ → Option ℕ
 given is_there n = if is_there then Some n else None
 
--- the lane of these numbers, of which the first are the greatest window, and the present one with its share: bytes are thrown away after a reset or a stop (RFC 9000, sections 3.2 and 3.5)
-abbrev pub lane_at_rest : ℕ × (ℕ × Share) → ℕ → ℕ → ℕ → Option ℕ → Option ℕ → Option ℕ → Bool → RecvLane
-lane_at_rest window read_count end limit final_size reset_code stop_code told =
+-- the lane of these numbers: bytes are thrown away after a reset or a stop (RFC 9000, sections 3.2 and 3.5)
+abbrev pub lane_at_rest : Windows → ℕ → ℕ → ℕ → Option ℕ → Option ℕ → Option ℕ → Bool → RecvLane
+lane_at_rest windows read_count end limit final_size reset_code stop_code told =
     record {
-      arrived = at_rest window.0 read_count end (is_some reset_code || is_some stop_code);
+      arrived = at_rest windows.widest read_count end (is_some reset_code || is_some stop_code);
       final_size = final_size;
       reset_code = reset_code;
       stop_code = stop_code;
       told = told;
       limit = limit;
-      window = window.1.0;
-      share = window.1.1;
+      window = windows.size;
+      share = windows.share;
     }
 
 -- it is lawful, a stop can be told, and until bytes are thrown away all that came was read, which is all of the stream once the end was told

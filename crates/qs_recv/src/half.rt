@@ -1,18 +1,18 @@
 //! The receiving half of a stream (RFC 9000, sections 2.2, 3.2, 3.5 and 4).
-ghost use Rattle.std.specs.Prelude.{if◌then◌else◌, ◌==◌, max, ◌≡◌, ◌+◌, ◌-◌, ◌*◌, ◌≤◌, ◌++◌, length, drop, IsOk, IfOk, OnOk, OnErr, IfErr, IfSome, IsTrue, is_some, false, None};
+ghost use Rattle.std.specs.Prelude.{max, ◌≡◌, ◌+◌, ◌-◌, ◌*◌, ◌≤◌, ◌++◌, length, drop, IsOk, IfOk, OnOk, OnErr, IfErr, IsTrue, is_some, false, None};
 ghost use Rattle.std.specs.FinMap as map;
 ghost use Rattle.qs_ranges.specs.Numbers.{MAX_VARINT, MissesRange, covers};
 ghost use Rattle.qs_recv.specs.Lawful.{IsLawful};
 ghost use Rattle.qs_recv.specs.Sound.{CodeFits};
 ghost use Rattle.qs_recv.specs.News.{is_readable};
-ghost use Rattle.qs_recv.specs.Lane.{new_lane, highest, highest_after, noted, taken, state, check_stream, check_bytes, take_stream, check_reset, take_reset, is_over, is_whole, breaks_final_size, read_answer, bytes_read, after_read, stop, stop_and_forget, raise, raise_answer, set_window, MAX_WINDOW};
+ghost use Rattle.qs_recv.specs.Lane.{new_lane, highest, highest_after, noted, taken, state, check_stream, check_bytes, take_stream, check_reset, take_reset, is_over, read_answer, bytes_read, after_read, stop, stop_and_forget, raise, raise_answer, set_window, MAX_WINDOW};
 ghost use Rattle.qs_recv.specs.Changes.{stream_changes};
 ghost use Rattle.qs_recv.specs.Peek.{IsPeek};
 
 use crate::assembly::{Assembly, Peeking, Skipping};
 use crate::credit::Share;
-use crate::kept::Kept;
 use crate::live::LiveHalf;
+use crate::over::Over;
 use crate::rest::Rest;
 use qs_ranges::NoMemory;
 use std::alloc::Global;
@@ -108,8 +108,15 @@ pub struct RecvHalf<A: Assembly> {
 
 #[derive(Drop)]
 enum Parts<A: Assembly> {
-    Resting(Kept),
+    Kept(Kept),
     Live(Box<LiveHalf<A>>),
+}
+
+// One that stores nothing. It is an enum of its own, so that a look at one that may takes one comparison.
+#[derive(Drop)]
+enum Kept {
+    Over(Over),
+    Rest(Box<Rest>),
 }
 
 impl<A: Assembly> Model for RecvHalf<A> {
@@ -137,47 +144,25 @@ impl<A: Assembly> RecvHalf<A> {
         };
         Ok(RecvHalf {
             alloc,
-            parts: Parts::Resting(Kept::boxed(rest)),
+            parts: Parts::Kept(Kept::Rest(rest)),
         })
     }
 
-    /// Whether a STREAM frame may be taken by a half for which nothing came. It takes no memory.
-    pub fn check_first(
-        alloc: Global,
-        window: u64,
-        offset: u64,
-        len: u64,
-        fin: bool,
-    ) -> Result<Highest, RecvFault>
-        requires some { 1 ≤ window }
-        requires small { window ≤ MAX_WINDOW }
-        requires in_range { offset + len ≤ MAX_VARINT }
-        ensures value { result ≡ check_stream (new_lane window Share.Half) offset len fin }
-        ensures in_range { IfOk result (λ h. h.after ≤ MAX_VARINT) }
-    {
-        let rest = Rest::new(window, Share::Half);
-        let fresh: LiveHalf<A> = LiveHalf::revived(alloc, &rest);
-        fresh.check_stream(offset, len, fin)
-    }
-
-    /// Whether a STREAM frame's bytes may be taken by one. It takes no memory.
-    pub fn check_first_bytes(
-        alloc: Global,
-        window: u64,
-        offset: u64,
-        bytes: &[u8],
-    ) -> Result<(), RecvFault>
+    /// What is said of a STREAM frame by a half for which nothing came. It takes no memory.
+    pub fn judge_first(alloc: Global, window: u64, offset: u64, bytes: &[u8], fin: bool) -> Judged
         requires some { 1 ≤ window }
         requires small { window ≤ MAX_WINDOW }
         requires in_range { offset + length bytes.now ≤ MAX_VARINT }
-        ensures { result ≡ check_bytes (new_lane window Share.Half) offset bytes.now }
+        ensures stream { result.stream ≡ check_stream (new_lane window Share.Half) offset (length bytes.now) fin }
+        ensures bytes { result.bytes ≡ check_bytes (new_lane window Share.Half) offset bytes.now }
+        ensures in_range { IfOk result.stream (λ h. h.after ≤ MAX_VARINT) }
     {
         let rest = Rest::new(window, Share::Half);
         let fresh: LiveHalf<A> = LiveHalf::revived(alloc, &rest);
-        fresh.check_bytes(offset, bytes)
+        fresh.judge(offset, bytes, fin)
     }
 
-    /// Whether a RESET_STREAM frame may be taken by one. It takes no memory.
+    /// Whether a RESET_STREAM frame may be taken by a half for which nothing came. It takes no memory.
     pub fn check_first_reset(alloc: Global, window: u64, size: u64) -> Result<Highest, RecvFault>
         requires some { 1 ≤ window }
         requires small { window ≤ MAX_WINDOW }
@@ -197,20 +182,28 @@ impl<A: Assembly> RecvHalf<A> {
         ensures in_range { IfOk result (λ h. h.after ≤ MAX_VARINT) }
     {
         match &self.parts {
-            Parts::Resting(kept) => self.revived(&kept.rest()).check_stream(offset, len, fin),
+            Parts::Kept(Kept::Over(over)) => self
+                .revived(&over.rest())
+                .check_stream(offset, len, fin),
+            Parts::Kept(Kept::Rest(rest)) => self.revived(rest).check_stream(offset, len, fin),
             Parts::Live(live) => live.check_stream(offset, len, fin),
         }
     }
 
     /// Whether a STREAM frame's bytes are those that are stored at their offsets, where some are still stored. It takes no
     /// memory.
+    #[tactic(auto, using(crate::proofs::SameLaws::same_empty))]
     pub fn check_bytes(&self, offset: u64, bytes: &[u8]) -> Result<(), RecvFault>
         requires { offset + length bytes.now ≤ MAX_VARINT }
         ensures { result ≡ check_bytes self.now offset bytes.now }
     {
         match &self.parts {
-            Parts::Resting(kept) => {
-                let _none = kept.rest().stored();
+            Parts::Kept(Kept::Over(over)) => {
+                over.is_over();
+                Ok(())
+            }
+            Parts::Kept(Kept::Rest(rest)) => {
+                let _none = rest.stored();
                 Ok(())
             }
             Parts::Live(live) => live.check_bytes(offset, bytes),
@@ -226,14 +219,11 @@ impl<A: Assembly> RecvHalf<A> {
         ensures in_range { IfOk result.stream (λ h. h.after ≤ MAX_VARINT) }
     {
         match &self.parts {
-            Parts::Resting(_) => Judged {
+            Parts::Kept(_) => Judged {
                 stream: self.check_stream(offset, bytes.len() as u64, fin),
                 bytes: self.check_bytes(offset, bytes),
             },
-            Parts::Live(live) => Judged {
-                stream: live.check_stream(offset, bytes.len() as u64, fin),
-                bytes: live.check_bytes(offset, bytes),
-            },
+            Parts::Live(live) => live.judge(offset, bytes, fin),
         }
     }
 
@@ -244,13 +234,17 @@ impl<A: Assembly> RecvHalf<A> {
         ensures { result ≡ stream_changes self.now offset len fin }
     {
         match &self.parts {
-            Parts::Resting(kept) => self.revived(&kept.rest()).stream_changes(offset, len, fin),
+            Parts::Kept(Kept::Over(over)) => self
+                .revived(&over.rest())
+                .stream_changes(offset, len, fin),
+            Parts::Kept(Kept::Rest(rest)) => self.revived(rest).stream_changes(offset, len, fin),
             Parts::Live(live) => live.stream_changes(offset, len, fin),
         }
     }
 
     /// Takes a STREAM frame that passed both checks. The only error is NoMemory, where a growth was refused. After a reset
     /// or a stop its bytes are counted and thrown away.
+    #[tactic(auto, using(crate::proofs::OverLaws::over_stream, crate::proofs::OverLaws::over_grown))]
     pub fn take_stream(&mut self, offset: u64, bytes: &[u8], fin: bool) -> Result<(), RecvFault>
         requires in_range { offset + length bytes.now ≤ MAX_VARINT }
         requires passed { IsOk (check_stream self.old offset (length bytes.now) fin) }
@@ -267,11 +261,15 @@ impl<A: Assembly> RecvHalf<A> {
             → MissesRange self.old.arrived.received (offset - 1) (offset + length bytes.now + 1)) }
     {
         match &mut self.parts {
-            Parts::Resting(kept) => {
-                if kept.takes(offset, bytes, fin) {
+            Parts::Kept(Kept::Over(over)) => {
+                over.is_over();
+                Ok(())
+            }
+            Parts::Kept(Kept::Rest(rest)) => {
+                if rest.takes(offset, bytes, fin) {
                     return Ok(());
                 }
-                let mut live: LiveHalf<A> = LiveHalf::revived(self.alloc, &kept.rest());
+                let mut live: LiveHalf<A> = LiveHalf::revived(self.alloc, rest);
                 live.take_stream(offset, bytes, fin)?;
                 let Ok(boxed) = Box::new(self.alloc, live) else {
                     return Err(RecvFault::NoMemory);
@@ -293,13 +291,15 @@ impl<A: Assembly> RecvHalf<A> {
         ensures { result ≡ check_reset self.now size }
     {
         match &self.parts {
-            Parts::Resting(kept) => self.revived(&kept.rest()).check_reset(size),
+            Parts::Kept(Kept::Over(over)) => self.revived(&over.rest()).check_reset(size),
+            Parts::Kept(Kept::Rest(rest)) => self.revived(rest).check_reset(size),
             Parts::Live(live) => live.check_reset(size),
         }
     }
 
     /// Takes a RESET_STREAM frame that passed the check: what is stored is thrown away, and so is what was noted of the offsets
     /// that came. Once all data came, or after another reset, nothing changes.
+    #[tactic(auto, using(crate::proofs::OverLaws::over_reset, crate::proofs::OverLaws::over_size))]
     pub fn take_reset(&mut self, code: u64, size: u64)
         requires in_range { size ≤ MAX_VARINT }
         requires passed { IsOk (check_reset self.old size) }
@@ -307,20 +307,22 @@ impl<A: Assembly> RecvHalf<A> {
         ensures grown { highest self.new ≡ size }
     {
         match &mut self.parts {
-            Parts::Resting(kept) => kept.take_reset(code, size),
+            Parts::Kept(Kept::Over(over)) => over.is_over(),
+            Parts::Kept(Kept::Rest(rest)) => rest.take_reset(code, size),
             Parts::Live(live) => {
                 let Some(rest) = live.reset(code, size) else {
                     return;
                 };
                 live.let_go(self.alloc, &rest);
                 if let Ok(boxed) = Box::new(self.alloc, rest) {
-                    self.parts = Parts::Resting(Kept::boxed(boxed));
+                    self.parts = Parts::Kept(Kept::Rest(boxed));
                 }
             }
         }
     }
 
     /// Reads the bytes that are next into the slice's front, or tells how the stream stands. The rest of the slice stays.
+    #[tactic(auto, using(crate::proofs::OverLaws::over_read, crate::proofs::OverLaws::over_bytes, crate::proofs::OverLaws::over_after_read))]
     pub fn read(&mut self, into: &mut [u8]) -> Read
         ensures answer { result ≡ read_answer self.old (length into.old) }
         ensures bytes { let bytes = bytes_read self.old (length into.old) in into.new ≡ bytes ++ drop (length bytes) into.old }
@@ -328,7 +330,11 @@ impl<A: Assembly> RecvHalf<A> {
         ensures same_highest { highest self.new ≡ highest self.old }
     {
         let answer = match &mut self.parts {
-            Parts::Resting(kept) => kept.read(),
+            Parts::Kept(Kept::Over(over)) => {
+                over.is_over();
+                Read::End
+            }
+            Parts::Kept(Kept::Rest(rest)) => rest.read(),
             Parts::Live(live) => live.read(into),
         };
         if matches!(answer, Read::End) {
@@ -339,38 +345,47 @@ impl<A: Assembly> RecvHalf<A> {
 
     /// Throws the stored bytes away, and those that come from now on (section 3.5). The first code stays;
     /// a code is at most 2^62 - 1, so that a frame can tell it. Once the end was told, or a reset, it changes nothing.
+    #[tactic(auto, using(crate::proofs::OverLaws::over_stop))]
     pub fn stop(&mut self, code: u64)
         requires { code ≤ MAX_VARINT }
         ensures after { self.new ≡ stop self.old code }
         ensures same_highest { highest self.new ≡ highest self.old }
     {
         match &mut self.parts {
-            Parts::Resting(kept) => kept.stop(code),
+            Parts::Kept(Kept::Over(over)) => over.is_over(),
+            Parts::Kept(Kept::Rest(rest)) => rest.stop(code),
             Parts::Live(live) => live.stop(code),
         }
     }
 
     /// Stops it, and tells nothing more of it: it counts as read to its end as soon as that comes, or as a reset does
     /// (sections 3.2 and 3.5).
+    #[tactic(auto, using(crate::proofs::OverLaws::over_forget))]
     pub fn stop_and_forget(&mut self, code: u64)
         requires { code ≤ MAX_VARINT }
         ensures after { self.new ≡ stop_and_forget self.old code }
         ensures same_highest { highest self.new ≡ highest self.old }
     {
         match &mut self.parts {
-            Parts::Resting(kept) => kept.stop_and_forget(code),
+            Parts::Kept(Kept::Over(over)) => over.is_over(),
+            Parts::Kept(Kept::Rest(rest)) => rest.stop_and_forget(code),
             Parts::Live(live) => live.stop_and_forget(code),
         }
     }
 
     /// Raises the limit by what was taken, once that is the half's share of its window or more, and answers the new one where it rose
     /// (section 4.2). Once the final size is known it stays.
+    #[tactic(auto, using(crate::proofs::OverLaws::over_raise))]
     pub fn raise(&mut self) -> Option<u64>
         ensures answer { result ≡ raise_answer self.old }
         ensures after { self.new ≡ raise self.old }
     {
         match &mut self.parts {
-            Parts::Resting(kept) => kept.raise(),
+            Parts::Kept(Kept::Over(over)) => {
+                over.is_over();
+                None
+            }
+            Parts::Kept(Kept::Rest(rest)) => rest.raise(),
             Parts::Live(live) => live.raise(),
         }
     }
@@ -384,7 +399,8 @@ impl<A: Assembly> RecvHalf<A> {
         ensures same_highest { highest self.new ≡ highest self.old }
     {
         match &mut self.parts {
-            Parts::Resting(kept) => kept.set_window(window),
+            Parts::Kept(Kept::Over(over)) => over.set_window(window),
+            Parts::Kept(Kept::Rest(rest)) => rest.set_window(window),
             Parts::Live(live) => live.set_window(window),
         }
     }
@@ -402,7 +418,8 @@ impl<A: Assembly> RecvHalf<A> {
         ensures lawful { IsLawful self.now }
     {
         match &self.parts {
-            Parts::Resting(kept) => kept.rest().sizes(),
+            Parts::Kept(Kept::Over(over)) => over.rest().sizes(),
+            Parts::Kept(Kept::Rest(rest)) => rest.sizes(),
             Parts::Live(live) => live.sizes(),
         }
     }
@@ -421,7 +438,8 @@ impl<A: Assembly> RecvHalf<A> {
         ensures ended { result.has_ended ≡ is_over self.now }
     {
         match &self.parts {
-            Parts::Resting(kept) => kept.rest().standing(),
+            Parts::Kept(Kept::Over(over)) => over.rest().standing(),
+            Parts::Kept(Kept::Rest(rest)) => rest.standing(),
             Parts::Live(live) => live.standing(),
         }
     }
@@ -431,7 +449,8 @@ impl<A: Assembly> RecvHalf<A> {
         ensures { result ≡ is_over self.now }
     {
         match &self.parts {
-            Parts::Resting(kept) => kept.rest().is_over(),
+            Parts::Kept(Kept::Over(over)) => over.rest().is_over(),
+            Parts::Kept(Kept::Rest(rest)) => rest.is_over(),
             Parts::Live(live) => live.is_over(),
         }
     }
@@ -442,7 +461,8 @@ impl<A: Assembly> RecvHalf<A> {
         ensures small { result ≤ MAX_VARINT }
     {
         match &self.parts {
-            Parts::Resting(kept) => kept.rest().limit(),
+            Parts::Kept(Kept::Over(over)) => over.rest().limit(),
+            Parts::Kept(Kept::Rest(rest)) => rest.limit(),
             Parts::Live(live) => live.limit(),
         }
     }
@@ -452,7 +472,8 @@ impl<A: Assembly> RecvHalf<A> {
         ensures { result ≡ self.now.final_size }
     {
         match &self.parts {
-            Parts::Resting(kept) => kept.rest().final_size(),
+            Parts::Kept(Kept::Over(over)) => over.rest().final_size(),
+            Parts::Kept(Kept::Rest(rest)) => rest.final_size(),
             Parts::Live(live) => live.final_size(),
         }
     }
@@ -462,7 +483,8 @@ impl<A: Assembly> RecvHalf<A> {
         ensures { result ≡ self.now.told }
     {
         match &self.parts {
-            Parts::Resting(kept) => kept.rest().is_told(),
+            Parts::Kept(Kept::Over(over)) => over.rest().is_told(),
+            Parts::Kept(Kept::Rest(rest)) => rest.is_told(),
             Parts::Live(live) => live.is_told(),
         }
     }
@@ -472,7 +494,8 @@ impl<A: Assembly> RecvHalf<A> {
         ensures { result ≡ state self.now }
     {
         match &self.parts {
-            Parts::Resting(kept) => kept.rest().state(),
+            Parts::Kept(Kept::Over(over)) => over.rest().state(),
+            Parts::Kept(Kept::Rest(rest)) => rest.state(),
             Parts::Live(live) => live.state(),
         }
     }
@@ -483,7 +506,8 @@ impl<A: Assembly> RecvHalf<A> {
         ensures { result ≡ is_readable self.now }
     {
         match &self.parts {
-            Parts::Resting(kept) => kept.rest().standing().is_readable,
+            Parts::Kept(Kept::Over(over)) => over.rest().standing().is_readable,
+            Parts::Kept(Kept::Rest(rest)) => rest.standing().is_readable,
             Parts::Live(live) => live.standing().is_readable,
         }
     }
@@ -498,7 +522,8 @@ impl<A: Assembly> RecvHalf<A> {
         ensures gone { IsTrue self.now.arrived.discarding → result ≡ 0 }
     {
         match &self.parts {
-            Parts::Resting(kept) => kept.rest().stored(),
+            Parts::Kept(Kept::Over(over)) => over.rest().stored(),
+            Parts::Kept(Kept::Rest(rest)) => rest.stored(),
             Parts::Live(live) => live.held(),
         }
     }
@@ -508,7 +533,8 @@ impl<A: Assembly> RecvHalf<A> {
         ensures { result ≡ self.now.arrived.read_count }
     {
         match &self.parts {
-            Parts::Resting(kept) => kept.rest().read_count(),
+            Parts::Kept(Kept::Over(over)) => over.rest().read_count(),
+            Parts::Kept(Kept::Rest(rest)) => rest.read_count(),
             Parts::Live(live) => live.read_count(),
         }
     }
@@ -519,7 +545,8 @@ impl<A: Assembly> RecvHalf<A> {
         ensures small { CodeFits result }
     {
         match &self.parts {
-            Parts::Resting(kept) => kept.rest().stop_code(),
+            Parts::Kept(Kept::Over(over)) => over.rest().stop_code(),
+            Parts::Kept(Kept::Rest(rest)) => rest.stop_code(),
             Parts::Live(live) => live.stop_code(),
         }
     }
@@ -529,7 +556,8 @@ impl<A: Assembly> RecvHalf<A> {
         ensures { result ≡ self.now.reset_code }
     {
         match &self.parts {
-            Parts::Resting(kept) => kept.rest().reset_code(),
+            Parts::Kept(Kept::Over(over)) => over.rest().reset_code(),
+            Parts::Kept(Kept::Rest(rest)) => rest.reset_code(),
             Parts::Live(live) => live.reset_code(),
         }
     }
@@ -539,14 +567,13 @@ impl<A: Assembly> RecvHalf<A> {
     fn end(&mut self)
         ensures { self.new ≡ self.old }
     {
-        let Parts::Live(live) = &self.parts else {
-            return;
+        let over = match &self.parts {
+            Parts::Kept(Kept::Over(_)) => None,
+            Parts::Kept(Kept::Rest(rest)) => rest.over(),
+            Parts::Live(live) => live.over(),
         };
-        let Some(rest) = live.rested() else {
-            return;
-        };
-        if let Some(over) = rest.over() {
-            self.parts = Parts::Resting(Kept::here(over));
+        if let Some(over) = over {
+            self.parts = Parts::Kept(Kept::Over(over));
         }
     }
 
@@ -574,7 +601,7 @@ impl<A: Assembly> RecvHalf<A> {
             return;
         };
         if let Ok(boxed) = Box::new(self.alloc, rest) {
-            self.parts = Parts::Resting(Kept::boxed(boxed));
+            self.parts = Parts::Kept(Kept::Rest(boxed));
         }
     }
 
@@ -589,11 +616,16 @@ impl<A: Assembly> RecvHalf<A> {
 impl<A: Peeking> RecvHalf<A> {
     /// Tells what a read with room enough would, and changes nothing: the bytes that are next stay where they are, and all of them are
     /// shown, up to the first that didn't come.
+    #[tactic(auto, using(crate::proofs::OverLaws::over_read))]
     pub fn peek(&self) -> Peek<'_>
         ensures { IsPeek self.now result }
     {
         match &self.parts {
-            Parts::Resting(kept) => kept.peek(),
+            Parts::Kept(Kept::Over(over)) => {
+                over.is_over();
+                Peek::End
+            }
+            Parts::Kept(Kept::Rest(rest)) => rest.peek(),
             Parts::Live(live) => live.peek(),
         }
     }
@@ -601,13 +633,18 @@ impl<A: Peeking> RecvHalf<A> {
 
 impl<A: Skipping> RecvHalf<A> {
     /// Takes the bytes that are next, as a read into a slice of so many bytes does, and copies none; or tells how the stream stands.
+    #[tactic(auto, using(crate::proofs::OverLaws::over_read, crate::proofs::OverLaws::over_after_read))]
     pub fn skip(&mut self, most: usize) -> Read
         ensures answer { result ≡ read_answer self.old most }
         ensures after { self.new ≡ after_read self.old most }
         ensures same_highest { highest self.new ≡ highest self.old }
     {
         let answer = match &mut self.parts {
-            Parts::Resting(kept) => kept.read(),
+            Parts::Kept(Kept::Over(over)) => {
+                over.is_over();
+                Read::End
+            }
+            Parts::Kept(Kept::Rest(rest)) => rest.read(),
             Parts::Live(live) => live.skip(most),
         };
         if matches!(answer, Read::End) {

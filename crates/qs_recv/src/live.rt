@@ -1,5 +1,5 @@
 //! A receiving half that may store bytes.
-ghost use Rattle.std.specs.Prelude.{true, None, if◌then◌else◌, ◌==◌, max, ◌≡◌, ◌+◌, ◌-◌, ◌*◌, ◌≤◌, ◌^◌, ◌++◌, ◌||◌, length, drop, IsOk, IfOk, IfSome, IfNone, OnOk, OnErr, IfErr, IsTrue, is_some, false};
+ghost use Rattle.std.specs.Prelude.{true, None, if◌then◌else◌, ◌==◌, max, ◌≡◌, ◌+◌, ◌-◌, ◌*◌, ◌≤◌, ◌++◌, ◌||◌, length, drop, IsOk, IfOk, IfSome, IfNone, OnOk, OnErr, IfErr, IsTrue, is_some, false};
 ghost use Rattle.std.specs.FinMap as map;
 ghost use Rattle.qs_ranges.specs.Numbers.{MAX_VARINT, MissesRange, covers};
 ghost use Rattle.qs_recv.specs.Lawful.{IsLawful};
@@ -11,7 +11,8 @@ ghost use Rattle.qs_recv.specs.Peek.{IsPeek};
 
 use crate::assembly::{Assembly, Peeking, Skipping};
 use crate::credit::{limit_with, next_limit};
-use crate::half::{Highest, Peek, Read, RecvFault, RecvState, Sizes, Standing};
+use crate::half::{Highest, Judged, Peek, Read, RecvFault, RecvState, Sizes, Standing};
+use crate::over::Over;
 use crate::rest::{Rest, given};
 use crate::window::Windows;
 use std::alloc::Global;
@@ -44,9 +45,9 @@ impl<A: Assembly> Model for LiveHalf<A> {
 
     ghost coded = { lane_code };
 
-    ghost view = { λ h. record { arrived = A.holds h.assembly; final_size = given h.is_sized h.size; reset_code = given h.is_reset h.reset; stop_code = given h.is_stopped h.stop; told = h.told; limit = h.limit; window = h.windows.1.0; share = h.windows.1.1 } };
+    ghost view = { λ h. record { arrived = A.holds h.assembly; final_size = given h.is_sized h.size; reset_code = given h.is_reset h.reset; stop_code = given h.is_stopped h.stop; told = h.told; limit = h.limit; window = h.windows.size; share = h.windows.share } };
 
-    ghost invariant = { λ h. IsSound (record { arrived = A.holds h.assembly; final_size = given h.is_sized h.size; reset_code = given h.is_reset h.reset; stop_code = given h.is_stopped h.stop; told = h.told; limit = h.limit; window = h.windows.1.0; share = h.windows.1.1 }) h.windows.0 h.read_count h.received_end × IsLetGo (record { arrived = A.holds h.assembly; final_size = given h.is_sized h.size; reset_code = given h.is_reset h.reset; stop_code = given h.is_stopped h.stop; told = h.told; limit = h.limit; window = h.windows.1.0; share = h.windows.1.1 }) (A.size h.assembly) };
+    ghost invariant = { λ h. IsSound (record { arrived = A.holds h.assembly; final_size = given h.is_sized h.size; reset_code = given h.is_reset h.reset; stop_code = given h.is_stopped h.stop; told = h.told; limit = h.limit; window = h.windows.size; share = h.windows.share }) h.windows.widest h.read_count h.received_end × IsLetGo (record { arrived = A.holds h.assembly; final_size = given h.is_sized h.size; reset_code = given h.is_reset h.reset; stop_code = given h.is_stopped h.stop; told = h.told; limit = h.limit; window = h.windows.size; share = h.windows.share }) (A.size h.assembly) };
 }
 
 impl<A: Assembly> LiveHalf<A> {
@@ -54,7 +55,7 @@ impl<A: Assembly> LiveHalf<A> {
     pub(crate) fn revived(alloc: Global, rest: &Rest) -> Self
         ensures { result ≡ rest.now }
     {
-        let widest = rest.windows.widest();
+        let widest = rest.windows.widest as u64;
         let discarding = rest.discards();
         LiveHalf {
             assembly: A::at_rest(
@@ -70,7 +71,7 @@ impl<A: Assembly> LiveHalf<A> {
             size: rest.size,
             reset: rest.reset,
             stop: rest.stop,
-            windows: rest.windows.copied(),
+            windows: rest.windows,
             is_sized: rest.is_sized,
             is_reset: rest.is_reset,
             is_stopped: rest.is_stopped,
@@ -106,12 +107,22 @@ impl<A: Assembly> LiveHalf<A> {
             size: self.size,
             reset: self.reset,
             stop: self.stop,
-            windows: self.windows.copied(),
+            windows: self.windows,
             is_sized: self.is_sized,
             is_reset: self.is_reset,
             is_stopped: self.is_stopped,
             told: self.told,
         })
+    }
+
+    /// The same half in few bytes, where it was read to its end.
+    pub(crate) fn over(&self) -> Option<Over>
+        ensures { IfSome result (λ over. over ≡ self.now) }
+    {
+        match self.rested() {
+            Some(rest) => rest.over(),
+            None => None,
+        }
     }
 
     pub(crate) fn check_stream(
@@ -154,6 +165,19 @@ impl<A: Assembly> LiveHalf<A> {
             Ok(())
         } else {
             Err(RecvFault::ChangedByte)
+        }
+    }
+
+    #[inline(always)]
+    pub(crate) fn judge(&self, offset: u64, bytes: &[u8], fin: bool) -> Judged
+        requires { offset + length bytes.now ≤ MAX_VARINT }
+        ensures stream { result.stream ≡ check_stream self.now offset (length bytes.now) fin }
+        ensures bytes { result.bytes ≡ check_bytes self.now offset bytes.now }
+        ensures in_range { IfOk result.stream (λ h. h.after ≤ MAX_VARINT) }
+    {
+        Judged {
+            stream: self.check_stream(offset, bytes.len() as u64, fin),
+            bytes: self.check_bytes(offset, bytes),
         }
     }
 
@@ -239,7 +263,7 @@ impl<A: Assembly> LiveHalf<A> {
             size,
             reset: code,
             stop: self.stop,
-            windows: self.windows.copied(),
+            windows: self.windows,
             is_sized: true,
             is_reset: true,
             is_stopped: self.is_stopped,
@@ -308,8 +332,8 @@ impl<A: Assembly> LiveHalf<A> {
         if self.is_sized {
             return None;
         }
-        let windows = &self.windows;
-        let next = next_limit(self.limit, self.taken(), windows.size(), windows.share());
+        let windows = self.windows;
+        let next = next_limit(self.limit, self.taken(), windows.size as u64, windows.share);
         if next <= self.limit {
             return None;
         }
@@ -324,11 +348,10 @@ impl<A: Assembly> LiveHalf<A> {
     {
         let taken = self.taken();
         if !self.is_sized {
-            self.limit = limit_with(self.windows.size(), self.limit, taken, window);
+            self.limit = limit_with(self.windows.size as u64, self.limit, taken, window);
         }
         self.assembly.widen(window);
-        let widest = self.windows.widest().max(window);
-        self.windows = Windows::new(widest, window, self.windows.share());
+        self.windows = self.windows.with(window);
     }
 
     pub(crate) fn sizes(&self) -> Sizes

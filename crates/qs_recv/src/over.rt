@@ -42,7 +42,7 @@ impl Over {
             size: self.end,
             reset: 0,
             stop: 0,
-            windows: self.windows.copied(),
+            windows: self.windows,
             is_sized: true,
             is_reset: false,
             is_stopped: false,
@@ -56,8 +56,7 @@ impl Over {
         requires small { window ≤ MAX_WINDOW }
         ensures { self.new ≡ set_window self.old window }
     {
-        let widest = self.windows.widest().max(window);
-        self.windows = Windows::new(widest, window, self.windows.share());
+        self.windows = self.windows.with(window);
     }
 
     /// What holds of the half at all times.

@@ -1,5 +1,5 @@
 //! A receiving half that stores nothing, in few bytes.
-ghost use Rattle.std.specs.Prelude.{◌≡◌, ℕ, ◌+◌, ◌-◌, ◌≤◌, [], length, true, false, None, IsOk, IsTrue, IfSome, IfNone, is_some, ◌&&◌, ◌||◌};
+ghost use Rattle.std.specs.Prelude.{if◌then◌else◌, ◌≡◌, ℕ, ◌+◌, ◌-◌, ◌≤◌, [], length, true, false, None, Some, IsOk, IsTrue, IfSome, IfNone, is_some, ◌&&◌, ◌||◌};
 ghost use Rattle.std.specs.FinMap as map;
 ghost use Rattle.qs_ranges.specs.Numbers.{MAX_VARINT, MissesRange, covers};
 ghost use Rattle.qs_recv.specs.Lawful.{IsLawful};
@@ -47,25 +47,6 @@ impl Model for Rest {
 }
 
 impl Rest {
-    /// The same.
-    pub(crate) fn copied(&self) -> Self
-        ensures { result ≡ self.now }
-    {
-        Rest {
-            read_count: self.read_count,
-            received_end: self.received_end,
-            limit: self.limit,
-            size: self.size,
-            reset: self.reset,
-            stop: self.stop,
-            windows: self.windows.copied(),
-            is_sized: self.is_sized,
-            is_reset: self.is_reset,
-            is_stopped: self.is_stopped,
-            told: self.told,
-        }
-    }
-
     /// A half for which nothing came.
     pub(crate) fn new(window: u64, share: Share) -> Self
         requires some { 1 ≤ window }
@@ -79,7 +60,11 @@ impl Rest {
             size: 0,
             reset: 0,
             stop: 0,
-            windows: Windows::new(window, window, share),
+            windows: Windows {
+                widest: window as u32,
+                size: window as u32,
+                share,
+            },
             is_sized: false,
             is_reset: false,
             is_stopped: false,
@@ -138,12 +123,7 @@ impl Rest {
             self.told = true;
             return Read::Reset(self.reset);
         }
-        let is_over = if self.is_stopped {
-            self.is_whole()
-        } else {
-            self.is_sized && self.size == self.read_count
-        };
-        if is_over {
+        if self.ends() {
             self.told = true;
             return Read::End;
         }
@@ -157,12 +137,7 @@ impl Rest {
         if self.is_reset {
             return Peek::Reset(self.reset);
         }
-        let is_over = if self.is_stopped {
-            self.is_whole()
-        } else {
-            self.is_sized && self.size == self.read_count
-        };
-        if is_over { Peek::End } else { Peek::Wait }
+        if self.ends() { Peek::End } else { Peek::Wait }
     }
 
     pub(crate) fn is_told(&self) -> bool
@@ -204,12 +179,8 @@ impl Rest {
         if self.is_sized {
             return None;
         }
-        let next = next_limit(
-            self.limit,
-            self.taken(),
-            self.windows.size(),
-            self.windows.share(),
-        );
+        let windows = self.windows;
+        let next = next_limit(self.limit, self.taken(), windows.size as u64, windows.share);
         if next <= self.limit {
             return None;
         }
@@ -225,10 +196,9 @@ impl Rest {
     {
         let taken = self.taken();
         if !self.is_sized {
-            self.limit = limit_with(self.windows.size(), self.limit, taken, window);
+            self.limit = limit_with(self.windows.size as u64, self.limit, taken, window);
         }
-        let widest = self.windows.widest().max(window);
-        self.windows = Windows::new(widest, window, self.windows.share());
+        self.windows = self.windows.with(window);
     }
 
     /// What holds of the half at all times.
@@ -392,7 +362,7 @@ impl Rest {
         Some(Over {
             end: self.size,
             past: (self.limit - self.size) as u32,
-            windows: self.windows.copied(),
+            windows: self.windows,
         })
     }
 
@@ -414,6 +384,19 @@ impl Rest {
             return Some(end);
         }
         None
+    }
+
+    // Whether a reader is told of the end, where it isn't of a reset.
+    fn ends(&self) -> bool
+        requires { self.now.reset_code ≡ None }
+        ensures answer { (room : ℕ) → read_answer self.now room ≡ (if result then Read.End else Read.Wait) }
+        ensures all { IsTrue result → self.now.arrived.discarding ≡ false → self.now.final_size ≡ Some self.now.arrived.read_count }
+    {
+        if self.is_stopped {
+            self.is_whole()
+        } else {
+            self.is_sized && self.read_count == self.size
+        }
     }
 
     /// Whether bytes that come are thrown away.

@@ -2,8 +2,9 @@
 //! far past it stands apart.
 ghost use Rattle.std.specs.Prelude.{◌≡◌, ◌==◌, if◌then◌else◌, ℕ, ◌+◌, ◌-◌, ◌*◌, ◌<◌, ◌≤◌, ◌^◌, ◌⊎◌, max, length, true, false, IsTrue, ◌↔◌, OnOk, OnErr, IfOk};
 ghost use Rattle.std.specs.FinSet as set;
-ghost use Rattle.qs_ranges.specs.Numbers.{EndsBefore, MAX_VARINT, MissesRange, covers, numbers};
+ghost use Rattle.qs_ranges.specs.Numbers.{ContainsRange, EndsBefore, MAX_VARINT, MissesRange, covers, numbers};
 ghost use Rattle.qs_recv.specs.Assembled.{put};
+ghost use Rattle.qs_recv.specs.Bytes.{take_exactly};
 ghost use Rattle.qs_recv.specs.Pages.{AreWhole, IsFilledApart, has_page, is_used, page_byte};
 ghost use Rattle.qs_recv.specs.Ring.{AreFilled, AreKept, IsFilled, IsMoved, IsNextGap, IsNextRun, IsReach, IsSizeFor, StayWritten, StayWrittenTo, byte_of, missing_count};
 ghost use Rattle.qs_recv.specs.Lane.{MAX_WINDOW};
@@ -160,16 +161,7 @@ impl Assembly for RingAssembly {
         let next = self.received.first_missing(self.read_count);
         let count = (next - self.read_count).min(into.len() as u64) as usize;
         self.ring.copy_out(self.read_count, &mut into[..count]);
-        self.read_count += count as u64;
-        self.stored -= count as u64;
-        let span = self.near - self.read_count;
-        shed(
-            self.alloc,
-            &mut self.ring,
-            self.read_count,
-            span,
-            self.window,
-        );
+        self.pass(count as u64);
         count
     }
 
@@ -342,6 +334,25 @@ impl RingAssembly {
         self.near = next;
         Ok(())
     }
+
+    // So many of the bytes that are next were read.
+    #[inline(always)]
+    fn pass(&mut self, count: u64)
+        requires on { self.old.0.discarding ≡ false }
+        requires came { ContainsRange self.old.0.received self.old.0.read_count (self.old.0.read_count + count) }
+        ensures { self.new.0 ≡ take_exactly self.old.0 count }
+    {
+        self.read_count += count;
+        self.stored -= count;
+        let span = self.near - self.read_count;
+        shed(
+            self.alloc,
+            &mut self.ring,
+            self.read_count,
+            span,
+            self.window,
+        );
+    }
 }
 
 impl Skipping for RingAssembly {
@@ -351,16 +362,7 @@ impl Skipping for RingAssembly {
         }
         let next = self.received.first_missing(self.read_count);
         let count = (next - self.read_count).min(most as u64) as usize;
-        self.read_count += count as u64;
-        self.stored -= count as u64;
-        let span = self.near - self.read_count;
-        shed(
-            self.alloc,
-            &mut self.ring,
-            self.read_count,
-            span,
-            self.window,
-        );
+        self.pass(count as u64);
         count
     }
 }

@@ -5,10 +5,10 @@ use Rattle.std.proofs.lemmas.Bool.{false≢true, cond_both, eq-eqb, and_from}
 use Rattle.std.specs.List.{AllByRecursion}
 use Rattle.qs_wire.specs.Layout.{FrameValue}
 use Rattle.qs_wire.specs.Grammar.{Fits}
-use Rattle.qs_wire.specs.declared.stream_id.Dir.TheVariants.{Bidi, Uni}
+use Rattle.qs_wire.specs.declared.stream_id.Dir.TheVariants.{Bidi}
 use Rattle.qs_recv.specs.Lane.{RecvLane, raise}
 use Rattle.qs_send.specs.Lane.{SendLane, reset_lane, reset_refusal, unacked_from, is_whole, stop_taken, broken_off, first_code}
-use Rattle.qs_send.specs.declared.piece.Item.TheVariants.{MaxData, MaxStreamData, MaxStreams, ResetStream, StopSending, DataBlocked, StreamDataBlocked, StreamsBlocked}
+use Rattle.qs_send.specs.declared.piece.Item.TheVariants.{MaxStreamData, MaxStreams, ResetStream, StopSending, DataBlocked, StreamDataBlocked, StreamsBlocked}
 use Rattle.qs_calls.specs.declared.token.Taken.{Taken}
 use Rattle.qs_calls.specs.declared.token.TakeFault.{TakeFault}
 use Rattle.qs_calls.specs.declared.token.TakeFault.TheVariants as faults
@@ -150,10 +150,8 @@ module _ (p : Past) (e : End) (ok : EndOk p e) where
   whole_done : (f : Seen) → is_ours f ≡ true → verdict e f ≡ None → ItemTaken e f → StillDone e f → IsDone f e
   unfolding verdict
   whole_done (Stream n offset bytes fin) ours fine taken (was, l, is, has) = ((or_else_none (state_fault_in e n) _ fine).0, was, l, is, has)
-  whole_done (Control (MaxData m)) ours fine taken still = taken
   whole_done (Control (MaxStreamData n m)) ours fine (l, is, le) was = (fine, was, l, is, le)
   whole_done (Control (MaxStreams Bidi m)) ours fine taken still = taken
-  whole_done (Control (MaxStreams Uni m)) ours fine taken still = taken
   whole_done (Control (ResetStream n code size)) ours fine taken (was, l, is, has) = ((or_else_none (state_fault_in e n) _ fine).0, was, l, is, has)
   whole_done (Control (StopSending n code)) ours fine (l, is, over) was = (fine, was, l, is, stop_done n l is e.tuning.answers_stops over)
   whole_done (Control (DataBlocked m)) ours fine taken still = tt
@@ -162,6 +160,7 @@ module _ (p : Past) (e : End) (ok : EndOk p e) where
   whole_done (Ack largest ranges) ours fine taken still = absurd (false≢true ours)
   whole_done (Close code) ours fine taken still = absurd (false≢true ours)
   whole_done (Plain asks) ours fine taken still = absurd (false≢true ours)
+  whole_done _ ours fine taken still = taken
 
   -- it takes no effect again
   pub taken_again : IsInCredit e → (f : Seen) → is_ours f ≡ true → verdict e f ≡ None → ItemTaken e f → StillDone e f → frame_taken f e ≡ e
@@ -172,16 +171,12 @@ module _ (p : Past) (e : End) (ok : EndOk p e) where
 others_still : (e : End) (g : Seen) → is_ours g ≡ false → StillDone e g
 others_still e (Stream n offset bytes fin) other = absurd (false≢true (sym other))
 others_still e (Control i) other = absurd (false≢true (sym other))
-others_still e (Ack largest ranges) other = tt
-others_still e (Close code) other = tt
-others_still e (Plain asks) other = tt
+others_still e _ other = tt
 
 goes_on : (e : End) (g : Seen) → is_ours g ≡ true → verdict e g ≡ None → GoesOn e g
 goes_on e (Stream n offset bytes fin) ours fine = fine
 goes_on e (Control i) ours fine = fine
-goes_on e (Ack largest ranges) ours fine = absurd (false≢true ours)
-goes_on e (Close code) ours fine = absurd (false≢true ours)
-goes_on e (Plain asks) ours fine = absurd (false≢true ours)
+goes_on e _ ours fine = absurd (false≢true ours)
 
 -- those that all took effect
 pub each_still : (fs : List FrameValue) (e : End) (result : Result Taken TakeFault) (new : End) → IsSound e → SentWasWritten e → TakesEach fs e result new → all_came result ≡ true → IsAfter e new × AllByRecursion (StillDone new) (seen_all fs)

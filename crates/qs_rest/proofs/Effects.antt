@@ -14,7 +14,7 @@ use Rattle.qs_send.specs.declared.piece.Item.{Item}
 use Rattle.qs_send.specs.declared.piece.Item.TheVariants.{MaxData, MaxStreamData, MaxStreams, ResetStream, StopSending}
 use Rattle.qs_machine.specs.Tables.{lookup, updated, open_to}
 use Rattle.qs_machine.specs.Ends.{End, is_own, is_uni, opens, opened_by_peer, first_send_limit}
-use Rattle.qs_machine.specs.Seen.{Seen, Control, Ack, Close, seen, seen_all, asks_ack, Stream, Plain}
+use Rattle.qs_machine.specs.Seen.{Seen, Control, Ack, Close, seen, seen_all, asks_ack, Stream}
 use Rattle.qs_machine.specs.Verdicts.{verdict, item_verdict, state_fault_out}
 use Rattle.qs_machine.specs.FrameStep.{frame_taken, item_taken, AckedPiece, named, acks}
 use Rattle.qs_machine.proofs.TableLaws.{open_at}
@@ -40,7 +40,7 @@ use Rattle.qs_machine.specs.Recording.{recorded}
 use Rattle.qs_machine.specs.Receiving.{Takes, Stops, AtEnd}
 use Rattle.qs_machine.proofs.EveryCall.{no_fault_there}
 use Rattle.qs_runs.specs.Logs.{is_done, is_taken}
-use Rattle.qs_runs.proofs.Lists.{All_append, All_take, Among_right}
+use Rattle.qs_runs.proofs.Lists.{Among_right}
 use Rattle.qs_runs.proofs.Acking.{named_pieces_ok}
 use Rattle.qs_machine.proofs.Leaves.{stops_leave}
 use Rattle.qs_rest.proofs.Moves.{Moved, moved_same, moved_twice, frame_moved, acks_moved, AllTrue}
@@ -51,6 +51,7 @@ use Rattle.qs_calls.specs.declared.token.TakeFault.TheVariants as faults
 use Rattle.qs_machine.specs.Alone.{is_ours, TakesOne, TakesEach, after_one}
 use Rattle.qs_runs.specs.Worlds.{HandedIn}
 use Rattle.qs_runs.proofs.Receives.{handed, all_came, taken_came, later_came, none_asked, took_effect}
+use Rattle.qs_machine.proofs.Pieces.{All_append, All_take, All_more}
 
 -- A control item of a packet that was processed took effect, for good.
 
@@ -92,8 +93,7 @@ module _ (a b : End) (tuned : b.tuning ≡ a.tuning) (conn : a.known_data ≤ b.
   item_stays f h = tt
 
   pub items_stay : (fs : List Seen) → AllByRecursion (ItemTaken a) fs → AllByRecursion (ItemTaken b) fs
-  items_stay [] all = tt
-  items_stay (f ∷ fs) all = (item_stays f all.0, items_stay fs all.1)
+  items_stay fs all = All_more (ItemTaken a) (ItemTaken b) fs item_stays all
 
 -- It takes effect
 
@@ -268,9 +268,7 @@ pub record Came (p : Past) (old : End) (fs : List Seen) (came : Bool) (new : End
 others_done : (e : End) (g : Seen) → is_ours g ≡ false → ItemTaken e g
 others_done e (Stream n offset bytes fin) other = absurd (false≢true (sym other))
 others_done e (Control i) other = absurd (false≢true (sym other))
-others_done e (Ack largest ranges) other = tt
-others_done e (Close code) other = tt
-others_done e (Plain asks) other = tt
+others_done e _ other = tt
 
 module _ (p : Past) where
   same_came : (e : End) (fs : List Seen) (result : Result Taken TakeFault) (new : End) → AllTrue p e → AckedTrue p e.acked → new ≡ e → (all_came result ≡ true → AllByRecursion (ItemTaken e) fs) → Came p e fs (all_came result) new

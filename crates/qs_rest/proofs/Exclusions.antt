@@ -28,7 +28,6 @@ use Rattle.qs_rest.specs.Rest.{TellsNoNews, HasMore, AtRest}
 use Rattle.qs_calls.specs.declared.event.Side.TheVariants.{A}
 use Rattle.qs_rest.specs.Resting.{IsLeftToOwner}
 use Rattle.qs_rest.specs.Exclusions.{reads_by, beside_server, answering, stopped, IsAtRest, IsNotAtRest, IsLeft, IsNotLeft, Exclusions}
-use Rattle.qs_rest.proofs.Runs.{no_half}
 
 -- An end without a sending half, of which nothing is to be told, and whose readers neither stopped nor had a limit raised.
 pub record IsSilent (e : End) : Type 0 where
@@ -64,7 +63,7 @@ mute e h none (inr more) = silent e h more
 new_silent : (role : Role) → IsSilent (new_end role standard default_tuning (limits_of standard))
 new_silent role =
     record {
-      sends = λ n l at. none-some l (sym (no_half n) ∙ at);
+      sends = λ n l at. none-some l (sym (no_lane n) ∙ at);
       granted = omega arith;
       bidi = omega arith;
       uni = omega arith;
@@ -77,14 +76,13 @@ window_of : (n : ℕ) → window (client_of standard) n ≡ 1024
 window_of n = go (is_uni n) (is_own (client_of standard) n) 1024
   where
     go : (u o : Bool) (k : ℕ) → (if u then k else (if o then k else k)) ≡ k
-    go true o k = refl
     go false true k = refl
-    go false false k = refl
+    go _ o k = refl
 
 reads_silent : (r : RecvLane) → r.limit ≡ 1024 → r.stop_code ≡ None → IsSilent (reads_by r)
 reads_silent r limit stop =
     record {
-      sends = λ n l at. none-some l (sym (no_half n) ∙ at);
+      sends = λ n l at. none-some l (sym (no_lane n) ∙ at);
       granted = omega arith;
       bidi = omega arith;
       uni = omega arith;

@@ -18,7 +18,7 @@ use Rattle.qs_send.specs.contracts.piece.PiecePartialEq.TheImpl as piece
 use Rattle.qs_send.proofs.PieceEquality.{among_of_any, any_of_among}
 use Rattle.qs_machine.specs.Ends.{End, send_lane}
 use Rattle.qs_machine.specs.Due.{IsAcked}
-use Rattle.qs_machine.specs.Seen.{Ack, Stream, Control, Close, Plain}
+use Rattle.qs_machine.specs.Seen.{Ack, Close, Plain}
 use Rattle.qs_rest.specs.Laws.{ItemsAreInOnePart, AllButAcksAsk}
 
 -- it holds, or it doesn't
@@ -107,7 +107,6 @@ item_part e i current =
 
 pub all_ask : AllButAcksAsk
 all_ask old e (Ack largest ranges) may = inl (largest, ranges, refl)
-all_ask old e (Stream n offset bytes fin) may = inr refl
-all_ask old e (Control item) may = inr refl
 all_ask old e (Close code) may = absurd may
 all_ask old e (Plain asks) may = absurd may
+all_ask old e _ may = inr refl

@@ -15,7 +15,7 @@ use Rattle.qs_send.specs.declared.piece.Piece.TheVariants.{Data, Told}
 use Rattle.qs_machine.specs.Tables.{Tables, lookup, updated, open_to}
 use Rattle.qs_machine.specs.Ends.{End, AckedItems, on_send, is_own, is_uni, opens, opened_by_peer, first_send_limit}
 use Rattle.qs_machine.specs.Setting.{Grant, SendBuffer, StreamWindow}
-use Rattle.qs_machine.specs.Seen.{Seen, Ack, Stream, Control, Close, Plain}
+use Rattle.qs_machine.specs.Seen.{Seen, Ack, Stream, Control}
 use Rattle.qs_machine.specs.FrameStep.{AckedPiece, frame_taken, item_taken, piece_acked, item_acked, acks, without_piece, first_acked, named, greatest, or_zero}
 use Rattle.qs_machine.specs.Lawful.{frame_put, item_put, chunk_of}
 use Rattle.qs_machine.proofs.TableLaws.{slots_updated, slots_opened}
@@ -159,12 +159,10 @@ module _ (p : Past) where
 
   put_moved : (f : Seen) (e : End) → AllTrue p e → AckedTrue p e.acked → Moved p e (frame_put f e)
   unfolding frame_put
-  put_moved (Ack largest ranges) e all acked = moved_same e all acked
   put_moved (Stream n offset bytes fin) e all acked =
       half_moved e n (λ l. sent_lane l (chunk_of offset bytes fin)) all acked (λ l is. sent_lasts l (chunk_of offset bytes fin)) (λ l is t. sent_true p n _ l t (chunk_of offset bytes fin))
   put_moved (Control i) e all acked = item_put_moved i e all acked
-  put_moved (Close code) e all acked = moved_same e all acked
-  put_moved (Plain asks) e all acked = moved_same e all acked
+  put_moved _ e all acked = moved_same e all acked
 
   -- Calls in which it hears nothing of its peer
 
@@ -241,10 +239,8 @@ module _ (p : Past) where
           | inr old ↦ h.stops j old
         ];
       })
-  item_acked_moved (DataBlocked m) e told all h = with_items e _ all (record { conn = h.conn; streams = h.streams; bidi = h.bidi; uni = h.uni; stops = h.stops })
-  item_acked_moved (StreamDataBlocked n m) e told all h = with_items e _ all (record { conn = h.conn; streams = h.streams; bidi = h.bidi; uni = h.uni; stops = h.stops })
   item_acked_moved (StreamsBlocked Bidi m) e told all h = with_items e _ all (record { conn = h.conn; streams = h.streams; bidi = h.bidi; uni = h.uni; stops = h.stops })
-  item_acked_moved (StreamsBlocked Uni m) e told all h = with_items e _ all (record { conn = h.conn; streams = h.streams; bidi = h.bidi; uni = h.uni; stops = h.stops })
+  item_acked_moved _ e told all h = with_items e _ all (record { conn = h.conn; streams = h.streams; bidi = h.bidi; uni = h.uni; stops = h.stops })
 
   piece_moved : (a : AckedPiece) (e : End) → WasAcked p a → AllTrue p e → AckedTrue p e.acked → Moved p e (piece_acked a.piece e)
   piece_moved a e was all acked = go a.piece refl
@@ -270,20 +266,18 @@ module _ (p : Past) where
       moved_twice e (opened_by_peer n e) (on_send n f (opened_by_peer n e)) one (half_moved (opened_by_peer n e) n f one.halves one.acked (λ l is. lasts l) (λ l is. change l))
 
   pub item_moved : (i : Item) (e : End) → AllTrue p e → AckedTrue p e.acked → Moved p e (item_taken i e)
-  item_moved (MaxData m) e all acked = record { role = refl; peer = refl; tuning = refl; conn = omega arith; bidi = omega arith; uni = omega arith; sends = kept_all e.sends; halves = all; acked = acked }
   item_moved (MaxStreamData n m) e all acked = changed_moved n (λ l. allow_lane l m) e all acked (λ l. allow_lasts l m) (λ l h. allow_true p n _ l h m)
   item_moved (MaxStreams Bidi m) e all acked = record { role = refl; peer = refl; tuning = refl; conn = omega arith; bidi = omega arith; uni = omega arith; sends = kept_all e.sends; halves = all; acked = acked }
-  item_moved (MaxStreams Uni m) e all acked = record { role = refl; peer = refl; tuning = refl; conn = omega arith; bidi = omega arith; uni = omega arith; sends = kept_all e.sends; halves = all; acked = acked }
   item_moved (ResetStream n code size) e all acked = opened_moved n e all acked
   item_moved (StopSending n code) e all acked = changed_moved n (λ l. stop_taken e.tuning.answers_stops l code) e all acked (stopped_lasts e.tuning.answers_stops code) (λ l h. stopped_true p n _ l h e.tuning.answers_stops code)
   item_moved (DataBlocked m) e all acked = moved_same e all acked
   item_moved (StreamDataBlocked n m) e all acked = opened_moved n e all acked
   item_moved (StreamsBlocked d m) e all acked = moved_same e all acked
+  item_moved _ e all acked = record { role = refl; peer = refl; tuning = refl; conn = omega arith; bidi = omega arith; uni = omega arith; sends = kept_all e.sends; halves = all; acked = acked }
 
   pub frame_moved : (f : Seen) (e : End) → ((largest : ℕ) (ranges : List (ℕ × ℕ)) → f ≡ Ack largest ranges → AllByRecursion (WasAcked p) (named e ranges)) → AllTrue p e → AckedTrue p e.acked → Moved p e (frame_taken f e)
   unfolding frame_taken
   frame_moved (Ack largest ranges) e was all acked = acks_moved (named e ranges) e (was largest ranges refl) all acked
   frame_moved (Stream n offset bytes fin) e was all acked = opened_moved n e all acked
   frame_moved (Control i) e was all acked = item_moved i e all acked
-  frame_moved (Close code) e was all acked = moved_same e all acked
-  frame_moved (Plain asks) e was all acked = moved_same e all acked
+  frame_moved _ e was all acked = moved_same e all acked

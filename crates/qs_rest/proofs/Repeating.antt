@@ -1,5 +1,5 @@
 -- In every run what a frame did that was taken stays done, so it changes nothing when it comes again.
-use Rattle.std.proofs.Common.{◌≡◌, ℕ, Bool, true, false, List, [], ◌∷◌, ◌++◌, map, Option, Some, None, Result, Ok, Err, slice_get, refl, sym, ap, ◌∙◌, subst, inl, inr, append-nil}
+use Rattle.std.proofs.Common.{◌≡◌, ℕ, Bool, true, false, List, [], ◌∷◌, ◌++◌, map, Option, Some, None, Result, Ok, slice_get, refl, sym, ap, ◌∙◌, subst, inl, inr, append-nil}
 use Rattle.std.proofs.lemmas.Option.{same_Some}
 use Rattle.std.proofs.lemmas.Bool.{false≢true}
 use Rattle.std.specs.List.{AllByRecursion}
@@ -10,7 +10,7 @@ use Rattle.qs_send.specs.Records.{Among}
 use Rattle.qs_calls.specs.declared.settings.Settings.{Settings}
 use Rattle.qs_calls.specs.declared.closing.Closing.{Closing}
 use Rattle.qs_calls.specs.declared.closing.Received.{Received}
-use Rattle.qs_calls.specs.declared.closing.Received.TheVariants.{Done, Duplicate, BelowFloor, PeerClosed, NoMemory}
+use Rattle.qs_calls.specs.declared.closing.Received.TheVariants.{Done}
 use Rattle.qs_calls.specs.declared.token.Taken.{Taken}
 use Rattle.qs_calls.specs.declared.token.TakeFault.{TakeFault}
 use Rattle.qs_calls.specs.declared.event.Side.{Side}
@@ -44,7 +44,6 @@ use Rattle.qs_runs.proofs.Past.{EachTaken-more, each_taken}
 use Rattle.qs_runs.proofs.Receives.{with_received, with_took, AreHeldAt, held_told, held_holds, held_all, handed, taken_came, took_each}
 use Rattle.qs_runs.proofs.OwnMoves.{with_uses}
 use Rattle.qs_runs.proofs.Histories.{at_among, parts_held, parts_fit, past_own, past_peer, past_sender, past_receiver, Makes, past_makes, past_peer_makes, makes_ack, makes_fill, makes_none, past_consumed, past_peer_consumed, past_raised, past_came, past_came_from, past_came_to, past_token, past_peer_token, did, theirs_mine, payload_seen, makes_set, makes_given, past_forgot}
-use Rattle.qs_runs.proofs.Lists.{All_at}
 use Rattle.qs_runs.proofs.Granting.{own_call}
 use Rattle.qs_runs.proofs.Claims.{run_settled}
 use Rattle.qs_runs.proofs.Runs.{two_sides, run_keeps, is_open_end, ends_face, moved}
@@ -53,6 +52,7 @@ use Rattle.qs_rest.specs.Invariant.{ItemTaken}
 use Rattle.qs_rest.specs.Again.{FramesRepeat}
 use Rattle.qs_rest.proofs.Again.{StillDone, still_stays, keeps_same, call_still, settled_still, done_still, each_still, taken_again, each_again}
 use Rattle.qs_rest.proofs.Runs.{processed_or, every_run_keeps}
+use Rattle.qs_machine.proofs.Pieces.{All_at, All_more}
 
 -- what holds of an end with this past
 abbrev Still : Past → End → Type 0
@@ -79,11 +79,7 @@ all_left k fault asks (v ∷ left) e new h = absurd (no_stop v (seen v.frame) e 
 
 done_is : (result : Result Received Closing) → is_done (answers.Deliver result) ≡ true → result ≡ Ok Done
 done_is (Ok Done) is = refl
-done_is (Ok Duplicate) is = absurd (false≢true is)
-done_is (Ok BelowFloor) is = absurd (false≢true is)
-done_is (Ok (PeerClosed code)) is = absurd (false≢true is)
-done_is (Ok NoMemory) is = absurd (false≢true is)
-done_is (Err closing) is = absurd (false≢true is)
+done_is _ is = absurd (false≢true is)
 
 all_among : (P : Seen → Type 0) (fs : List Seen) → ((f : Seen) → Among f fs → P f) → AllByRecursion P fs
 all_among P [] h = tt
@@ -175,12 +171,10 @@ module _ (a b : Settings) (h : History) (v w : World) (s : Side) (ok : WorldOk a
       now : is_taken result ≡ true → AllByRecursion (StillDone (end_of w (other s))) (seen_all fs)
       now taken =
           elim (handed (end_of v (other s)) fs result (end_of w (other s)) (is_open_end a b h v ok (other s)) step) [
-            | inl (mid, takes, after) ↦ subst (λ x. AllByRecursion (StillDone x) (seen_all fs)) (sym after) (all_settled mid (seen_all fs) (each_still fs (end_of v (other s)) result mid (ok.sound (other s)) (ok.sent (other s)) takes (taken_came result taken)).1)
+            | inl (mid, takes, after) ↦ subst (λ x. AllByRecursion (StillDone x) (seen_all fs)) (sym after)
+                (All_more (StillDone mid) (StillDone (settle mid)) (seen_all fs) (settled_still mid) (each_still fs (end_of v (other s)) result mid (ok.sound (other s)) (ok.sent (other s)) takes (taken_came result taken)).1)
             | inr (none, unchanged) ↦ absurd (false≢true (sym (ap is_taken none) ∙ taken))
           ]
-        where
-          all_settled : (mid : End) (gs : List Seen) → AllByRecursion (StillDone mid) gs → AllByRecursion (StillDone (settle mid)) gs
-          all_settled mid gs all = all_among (StillDone (settle mid)) gs (λ g at. settled_still mid g (All_at (StillDone mid) gs g all at))
 
       came : Still (with_took (past (other s) h) parts result) (end_of w (other s))
       came =

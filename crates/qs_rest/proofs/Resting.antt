@@ -31,9 +31,8 @@ use Rattle.qs_rest.proofs.ItemParts.{item_part}
 use Rattle.qs_rest.proofs.Runs.{every_run_keeps}
 
 limit_by : (u b : Bool) (x y z : ℕ) → (if u then x else (if not b then y else z)) ≡ (if u then x else (if b then z else y))
-limit_by true b x y z = refl
 limit_by false true x y z = refl
-limit_by false false x y z = refl
+limit_by _ b x y z = refl
 
 pub items_acked : ItemsAreAcked
 items_acked e i rest current =

@@ -1,5 +1,5 @@
 -- In every run each end keeps what holds of it beside the invariant of qs_runs.
-use Rattle.std.proofs.Common.{◌≡◌, ℕ, ◌≤◌, Bool, true, false, ◌==◌, ◌&&◌, List, [], ◌∷◌, map, take, ◌⊎◌, option_map, Option, Some, None, Result, Ok, Err, slice_get, refl, sym, ap, ◌∙◌, subst, arith, inl, inr, ◌/◌, ◌%◌, zero, suc, nat_cmp}
+use Rattle.std.proofs.Common.{◌≡◌, ℕ, ◌≤◌, Bool, true, false, ◌==◌, ◌&&◌, List, [], ◌∷◌, map, take, ◌⊎◌, option_map, Option, Some, None, Result, Ok, Err, slice_get, refl, sym, ap, ◌∙◌, subst, arith, inl, inr, nat_cmp}
 use Rattle.std.specs.Prelude.{cond}
 use Rattle.std.proofs.lemmas.Bool.{eqb-true, false≢true}
 use Rattle.std.specs.List.{AllByRecursion}
@@ -29,7 +29,7 @@ use Rattle.qs_calls.specs.declared.event.Act.{Act}
 use Rattle.qs_calls.specs.declared.event.Act.TheVariants as acts
 use Rattle.qs_calls.specs.declared.answer.Answer.{Answer}
 use Rattle.qs_calls.specs.declared.answer.Answer.TheVariants as answers
-use Rattle.qs_machine.specs.Tables.{lookup, table, no_streams}
+use Rattle.qs_machine.specs.Tables.{lookup}
 use Rattle.qs_machine.specs.Ends.{End, AckedItems, first_send_limit, new_end, wide_end_made}
 use Rattle.qs_machine.specs.Credit.{settle}
 use Rattle.qs_machine.specs.Owner.{ConsumeStep, StopAndForgetStep}
@@ -46,9 +46,8 @@ use Rattle.qs_machine.proofs.CallsCounts.{settled_call}
 use Rattle.qs_runs.specs.Logs.{Part, is_done, was_told, is_in, Happening, Did, MadeAck, FilledIn, ConsumedUpTo, AckedToken, LostToken, RaisedLimits, CameWith, CameAlone, History, other, is_delivery, reads_of, texts_of, payload, processed, took, own_calls, HasSet, Forgot, AcceptedOf}
 use Rattle.qs_runs.specs.Agree.{frames_in}
 use Rattle.qs_runs.specs.Worlds.{OwnStep, HandedIn, World, Begins, end_of, TakesBytes, DeliverStep, ComeWithStep, ComeAloneStep, EventStep, WorldStep}
-use Rattle.qs_runs.specs.Pasts.{Packets, Past, seen_by, packets_of, past}
+use Rattle.qs_runs.specs.Pasts.{Packets, Past, seen_by, packets_of, past, EachTaken}
 use Rattle.qs_runs.specs.Invariant.{EndOk, WorldOk}
-use Rattle.qs_runs.proofs.Lists.{All_take}
 use Rattle.qs_runs.proofs.Acking.{WasAcked}
 use Rattle.qs_runs.proofs.Receives.{with_took, with_token, AreHeldAt, held_told, held_holds, took_each, token_ok, token_pieces, or_cond, with_received}
 use Rattle.qs_runs.proofs.Past.{Holds-more, Confirmed-more, EachTaken-more, each_taken}
@@ -81,6 +80,7 @@ use Rattle.qs_runs.proofs.Histories.{past_own, past_peer, past_sender, past_rece
 use Rattle.qs_runs.proofs.NewEnds.{first_world, made_first, ends_made}
 use Rattle.qs_runs.proofs.Runs.{two_sides, run_keeps, is_open_end, moved}
 use Rattle.qs_rest.specs.Rest.{EveryRunKeeps}
+use Rattle.qs_machine.proofs.Pieces.{All_take}
 
 -- In every run each end keeps what holds of it beside the invariant of qs_runs.
 
@@ -146,31 +146,37 @@ module _ (p : Past) (e new : End) (ok : RestOk p e) (m : Moved p e new) where
   known_uni : new.peer.streams_uni ≤ new.known_uni
   known_uni = (let same = ap (λ x. x.streams_uni) m.peer in omega (arith, ok.uni, m.uni, same))
 
+-- after a call it rests on what took effect
+rests_by : (p q : Past) → ((i : Item) → WasTold p i → WasTold q i) → (e new : End) → IsSound e → SentWasWritten e → RestOk p e → Moved p e new → (call : Call) (given : CallAnswer call) → EndStep e call given new →
+    EachTaken q.theirs q.processed q.took (ItemTaken new) → RestOk q new
+rests_by p q more e new sound sent ok m call given is taken =
+    record {
+      conn = known_conn p e new ok m;
+      bidi = known_bidi p e new ok m;
+      uni = known_uni p e new ok m;
+      sends = λ n l at. half_more p q more n _ l (slot_at p new m.halves n l at);
+      acked = acked_more p q more new.acked m.acked;
+      told = told_at new (told_call e sound sent (all_told e ok.told) call given new is);
+      taken = taken;
+      limits = calls_settle e call given new ok.limits is;
+      counts = settled_call e call given new ok.counts is;
+    }
+
 -- a call that adds to the past only what was made, written or read
 module _ (p q : Past) (theirs : q.theirs ≡ p.theirs) (same : q.processed ≡ p.processed) (alone : q.took ≡ p.took) (more : (i : Item) → WasTold p i → WasTold q i) (e new : End) (sound : IsSound e) (sent : SentWasWritten e) (ok : RestOk p e) where
   call_rests : (call : Call) (given : CallAnswer call) → EndStep e call given new → Moved p e new → RestOk q new
   call_rests call given is m =
       let grow = call_grows e new sound sent call given is in
-      record {
-        conn = known_conn p e new ok m;
-        bidi = known_bidi p e new ok m;
-        uni = known_uni p e new ok m;
-        sends = λ n l at. half_more p q more n _ l (slot_at p new m.halves n l at);
-        acked = acked_more p q more new.acked m.acked;
-        told = told_at new (told_call e sound sent (all_told e ok.told) call given new is);
-        taken = record {
-          packets = λ k done. (
-              let (fs, there, all) = ok.taken.packets k (ap (λ d. d k) (sym same) ∙ done) in
-              (fs, ap (λ ps. slice_get ps k) theirs ∙ there, items_stay e new m.tuning m.conn m.bidi m.uni m.sends grow fs all)
-              );
-          frames = λ k i took. (
-              let (f, (fs, there, at), holds) = ok.taken.frames k i (ap (λ d. d k i) (sym alone) ∙ took) in
-              (f, (fs, ap (λ ps. slice_get ps k) theirs ∙ there, at), item_stays e new m.tuning m.conn m.bidi m.uni m.sends grow f holds)
-              );
-        };
-        limits = calls_settle e call given new ok.limits is;
-        counts = settled_call e call given new ok.counts is;
-      }
+      rests_by p q more e new sound sent ok m call given is (record {
+        packets = λ k done. (
+            let (fs, there, all) = ok.taken.packets k (ap (λ d. d k) (sym same) ∙ done) in
+            (fs, ap (λ ps. slice_get ps k) theirs ∙ there, items_stay e new m.tuning m.conn m.bidi m.uni m.sends grow fs all)
+            );
+        frames = λ k i took. (
+            let (f, (fs, there, at), holds) = ok.taken.frames k i (ap (λ d. d k i) (sym alone) ∙ took) in
+            (f, (fs, ap (λ ps. slice_get ps k) theirs ∙ there, at), item_stays e new m.tuning m.conn m.bidi m.uni m.sends grow f holds)
+            );
+      })
 
   -- and in which the end hears nothing of its peer
   pub deaf_rests : (call : Call) → (HearsPeer call → ⊥) → (given : CallAnswer call) → EndStep e call given new → RestOk q new
@@ -269,8 +275,7 @@ processed_or k j b d h = go (j == k) b refl refl h
   where
     go : (x y : Bool) → (j == k) ≡ x → b ≡ y → cond (x && y) true d ≡ true → ((j ≡ k) × (b ≡ true)) ⊎ (d ≡ true)
     go true true ex ey h = inl (eqb-true j k ex, ey)
-    go true false ex ey h = inr h
-    go false y ex ey h = inr h
+    go _ y ex ey h = inr h
 
 pub after_payload : (p : Past) (e new : End) (k : ℕ) (text : List ℕ) (result : Result Received Closing) → EndOk p e → RestOk p e → slice_get p.theirs k ≡ Some (frames_in text) → ReceiveStep e k text result new → After p (frames_in text) e result new
 after_payload p e new k text result good ok is step = by_closed e.closed step
@@ -299,25 +304,14 @@ pub receive_rests : (p : Past) (e new : End) (k : ℕ) (text : List ℕ) (result
 receive_rests p e new k text result sound sent good ok is step =
     let a = after_payload p e new k text result good ok is step in
     let m : Moved p e new = a.moved in
-    let q : Past = with_received p k result in
-    record {
-      conn = known_conn p e new ok m;
-      bidi = known_bidi p e new ok m;
-      uni = known_uni p e new ok m;
-      sends = λ n l at. half_more p q (λ i told. told) n _ l (slot_at p new m.halves n l at);
-      acked = acked_more p q (λ i told. told) new.acked m.acked;
-      told = told_at new (told_call e sound sent (all_told e ok.told) (Receive k text) result new step);
-      taken = record {
-        packets = λ j done.
-            elim (processed_or k j (is_done (answers.Deliver result)) (p.processed j) done) [
-              | inl now ↦ (frames_in text, ap (slice_get p.theirs) now.0 ∙ is, a.done now.1)
-              | inr before ↦ (let (fs, there, all) = ok.taken.packets j before in (fs, there, items_stay e new m.tuning m.conn m.bidi m.uni m.sends a.grow fs all))
-            ];
-        frames = λ j i took. (let (f, holds, taken) = ok.taken.frames j i took in (f, holds, item_stays e new m.tuning m.conn m.bidi m.uni m.sends a.grow f taken));
-      };
-      limits = calls_settle e (Receive k text) result new ok.limits step;
-      counts = settled_call e (Receive k text) result new ok.counts step;
-    }
+    rests_by p (with_received p k result) (λ i told. told) e new sound sent ok m (Receive k text) result step (record {
+      packets = λ j done.
+          elim (processed_or k j (is_done (answers.Deliver result)) (p.processed j) done) [
+            | inl now ↦ (frames_in text, ap (slice_get p.theirs) now.0 ∙ is, a.done now.1)
+            | inr before ↦ (let (fs, there, all) = ok.taken.packets j before in (fs, there, items_stay e new m.tuning m.conn m.bidi m.uni m.sends a.grow fs all))
+          ];
+      frames = λ j i took. (let (f, holds, taken) = ok.taken.frames j i took in (f, holds, item_stays e new m.tuning m.conn m.bidi m.uni m.sends a.grow f taken));
+    })
 
 -- Frames of the peer without their packets
 
@@ -326,20 +320,9 @@ pub alone_rests : (p : Past) (e new : End) (parts : List Part) (fs : List FrameV
 alone_rests p e new parts fs result sound sent good open_end ok held step call given called =
     let c = handed_came p fs e result new good open_end (slots p e ok) ok.acked (held_told p.theirs parts fs held) step in
     let m : Moved p e new = c.moved in
-    let q : Past = with_took p parts result in
-    record {
-      conn = known_conn p e new ok m;
-      bidi = known_bidi p e new ok m;
-      uni = known_uni p e new ok m;
-      sends = λ n l at. half_more p q (λ i told. told) n _ l (slot_at p new m.halves n l at);
-      acked = acked_more p q (λ i told. told) new.acked m.acked;
-      told = told_at new (told_call e sound sent (all_told e ok.told) call given new called);
-      taken =
-          took_each p parts result (ItemTaken new) (each_taken p.theirs p.processed p.took (ItemTaken e) (ItemTaken new) (item_stays e new m.tuning m.conn m.bidi m.uni m.sends c.grow) ok.taken)
-          (λ k i among taken. held_holds (ItemTaken new) p.theirs parts fs held (c.done taken) k i among);
-      limits = calls_settle e call given new ok.limits called;
-      counts = settled_call e call given new ok.counts called;
-    }
+    rests_by p (with_took p parts result) (λ i told. told) e new sound sent ok m call given called
+    (took_each p parts result (ItemTaken new) (each_taken p.theirs p.processed p.took (ItemTaken e) (ItemTaken new) (item_stays e new m.tuning m.conn m.bidi m.uni m.sends c.grow) ok.taken)
+    (λ k i among taken. held_holds (ItemTaken new) p.theirs parts fs held (c.done taken) k i among))
 
 -- Tokens
 
@@ -380,23 +363,13 @@ token_rests p e new sound sent good ok token result step =
 
 -- Every run keeps what a rest needs, of both ends.
 
-no_table : (k : ℕ) → table (no_streams {X = SendLane}) k ≡ []
-no_table zero = refl
-no_table (suc zero) = refl
-no_table (suc (suc zero)) = refl
-no_table (suc (suc (suc k))) = refl
-
-pub no_half : (n : ℕ) → lookup (no_streams {X = SendLane}) n ≡ None
-unfolding lookup
-no_half n = ap (λ xs. slice_get xs (n / 4)) (no_table (n % 4))
-
 first_rests : (role : Role) (s : Settings) (t : Tuning) (peer : PeerLimits) (p : Past) → ((k : ℕ) → p.processed k ≡ false) → ((k i : ℕ) → p.took k i ≡ false) → wide_end_made role s t peer ≡ Ok (new_end role s t peer) → RestOk p (new_end role s t peer)
 first_rests role s t peer p none alone made =
     record {
       conn = omega arith;
       bidi = omega arith;
       uni = omega arith;
-      sends = λ n l is. absurd (none-some l (sym (no_half n) ∙ is));
+      sends = λ n l is. absurd (none-some l (sym (no_lane n) ∙ is));
       acked = record {
         conn = λ m is. absurd (none-some m is);
         streams = λ n m is. absurd (none-some m (sym (fmap.get-empty nat_cmp n) ∙ is));

@@ -18,23 +18,23 @@ use Rattle.qs_machine.specs.Due.{IsDue, IsEndDue}
 use Rattle.qs_rest.specs.Rest.{TellsNoNews, AtRest}
 use Rattle.qs_rest.specs.Resting.{IsAhead}
 use Rattle.std.proofs.lemmas.Option.{same_Some}
-use Rattle.qs_recv.specs.Assembled.{discard, front_of, put, forget}
+use Rattle.qs_recv.specs.Assembled.{discard, front_of, put, forget, Assembled}
 use Rattle.qs_recv.specs.News.{is_readable, tells_something}
 use Rattle.qs_recv.specs.declared.half.Read.{Read}
 use Rattle.qs_recv.specs.declared.half.Read.TheVariants as reads
 use Rattle.qs_send.specs.declared.piece.Item.{Item}
-use Rattle.qs_send.specs.declared.piece.Item.TheVariants.{MaxData, MaxStreamData, MaxStreams, ResetStream, StopSending, DataBlocked, StreamDataBlocked, StreamsBlocked}
+use Rattle.qs_send.specs.declared.piece.Item.TheVariants.{MaxStreamData, MaxStreams, ResetStream, StopSending, StreamDataBlocked}
 use Rattle.qs_machine.specs.Tables.{Tables, lookup, updated, open_to}
 use Rattle.qs_wire.specs.declared.stream_id.Dir.TheVariants.{Bidi, Uni}
 use Rattle.qs_machine.specs.Setting.{Grant, SendBuffer, StreamWindow}
-use Rattle.qs_machine.specs.Seen.{Seen, Ack, Stream, Control, Close, Plain}
+use Rattle.qs_machine.specs.Seen.{Seen, Ack, Stream, Control}
 use Rattle.qs_machine.specs.FrameStep.{frame_taken, item_taken, named}
 use Rattle.qs_machine.proofs.TableLaws.{slots_updated, slots_opened, slots_each}
 use Rattle.qs_rest.specs.Invariant.{IsToldOf, ToldTrue}
 use Rattle.qs_machine.specs.EndStep.{Call, Answer, EndStep}
 use Rattle.qs_machine.specs.Standing.{IsSound, IsInCredit}
 use Rattle.qs_machine.specs.Repeats.{SentWasWritten}
-use Rattle.qs_machine.proofs.EveryCall.{Change, changed, Comes, Wanted, Opened, Stopped, Forgotten, WasRead, WasSet, Took, Acked, Put, Settled}
+use Rattle.qs_machine.proofs.EveryCall.{Change, changed, Comes, Wanted, Opened, Stopped, Forgotten, WasRead, WasSet, Took, Acked, Put, Settled, same_either}
 use Rattle.qs_machine.proofs.Leaves.{acks_leave, put_leaves}
 use Rattle.qs_machine.proofs.TablesAfter.{KeptIn}
 use Rattle.qs_machine.proofs.LanesAgain.{LaneAfter}
@@ -59,8 +59,7 @@ ahead l t w share is = elim (cases_lt l MAX_VARINT) [ inl lt ↦ inl (go _ refl 
   where
     go : (b : Bool) → (nat_le (l + step share w) (min MAX_VARINT (t + w)) || (min MAX_VARINT (t + w) == MAX_VARINT && nat_lt l (min MAX_VARINT (t + w)))) ≡ b → l < MAX_VARINT →
         cond b (min MAX_VARINT (t + w)) l ≡ l → t + w < l + step share w
-    go true e lt same = grind (arith, nat_tests)
-    go false e lt same = grind (arith, nat_tests)
+    go _ e lt same = grind (arith, nat_tests)
 
 -- The receiving half
 
@@ -192,10 +191,9 @@ end_stands size l = by_reset l.reset_code refl
   where
     go : (s w a t : Bool) → is_some l.stop_code ≡ s → is_whole l ≡ w → at_final_size l.arrived.read_count l.final_size ≡ a → tells_by s w a t (length (front_of l.arrived size)) ≡ reads.End → IsToldOf l
     go true true a t es ew ea is = inr (inl es)
-    go true false a t es ew ea is = absurd (cc is)
     go false w true t es ew ea is = inr (inr (sized l.final_size l.arrived.read_count ea))
     go false w false true es ew ea is = absurd (cc is)
-    go false w false false es ew ea is = absurd (cc is)
+    go _ w a t es ew ea is = absurd (cc is)
 
     by_reset : (o : Option ℕ) → l.reset_code ≡ o → answer_by o l size ≡ reads.End → IsToldOf l
     by_reset (Some code) e is = absurd (cc is)
@@ -206,10 +204,9 @@ reset_stands size code l = by_reset l.reset_code refl
   where
     go : (s w a t : Bool) → tells_by s w a t (length (front_of l.arrived size)) ≡ reads.Reset code → IsToldOf l
     go true true a t is = absurd (cc is)
-    go true false a t is = absurd (cc is)
-    go false w true t is = absurd (cc is)
     go false w false true is = absurd (cc is)
     go false w false false is = absurd (cc is)
+    go _ w a t is = absurd (cc is)
 
     by_reset : (o : Option ℕ) → l.reset_code ≡ o → answer_by o l size ≡ reads.Reset code → IsToldOf l
     by_reset (Some c) e is = inl (ap is_some e)
@@ -221,8 +218,6 @@ no_bytes size n l of = by_reset l.reset_code refl
   where
     go : (s w a t : Bool) → is_some l.stop_code ≡ s → is_whole l ≡ w → at_final_size l.arrived.read_count l.final_size ≡ a → (is_some l.reset_code ≡ false) → tells_by s w a t (length (front_of l.arrived size)) ≡ reads.Bytes n → ⊥
     go true true a t es ew ea none is = absurd (cc is)
-    go true false a t es ew ea none is = absurd (cc is)
-    go false w true t es ew ea none is = absurd (cc is)
     go false w false t es ew ea none is =
         elim of [
           | inl reset ↦ false≢true (sym none ∙ reset)
@@ -231,6 +226,7 @@ no_bytes size n l of = by_reset l.reset_code refl
             | inr at_end ↦ true≢false (sym (ap (at_final_size l.arrived.read_count) at_end ∙ same_size l.arrived.read_count) ∙ ea)
           ]
         ]
+    go _ w a t es ew ea none is = absurd (cc is)
 
     by_reset : (o : Option ℕ) → l.reset_code ≡ o → answer_by o l size ≡ reads.Bytes n → ⊥
     by_reset (Some code) e is = absurd (cc is)
@@ -240,11 +236,7 @@ new_told : (w : ℕ) (share : Share) → ToldTrue (new_recv_lane w share)
 new_told w share told = absurd (false≢true told)
 
 stop_told : (code : ℕ) (l : RecvLane) → ToldTrue l → ToldTrue (stop l code)
-stop_told code l h = go (is_some l.stop_code || is_over l)
-  where
-    go : (b : Bool) → ToldTrue (cond b l (record l { arrived = discard l.arrived; stop_code = Some code }))
-    go true told = h told
-    go false told = inr (inl refl)
+stop_told code l h = cond_both (is_some l.stop_code || is_over l) l (record l { arrived = discard l.arrived; stop_code = Some code }) ToldTrue (λ _. h) (λ _ told. inr (inl refl))
 
 forget_told : (code : ℕ) (l : RecvLane) → ToldTrue l → ToldTrue (stop_and_forget l code)
 forget_told code l h told = go (is_some l.stop_code) (is_over l) refl refl
@@ -372,30 +364,22 @@ module _ (t : Tables RecvLane) where
       (λ _. record { told = refl; stopped = refl; read = refl }) (λ _. record { told = refl; stopped = refl; read = refl })
 
   stream_leaves : (offset : ℕ) (bytes : List ℕ) (fin : Bool) (l : RecvLane) → Leaves l (take_stream l offset bytes fin)
-  stream_leaves offset bytes fin l = record { told = refl; stopped = refl; read = go (is_some l.reset_code) }
-    where
-      go : (b : Bool) → (cond b l.arrived (put l.arrived offset bytes)).read_count ≡ l.arrived.read_count
-      go true = refl
-      go false = refl
+  stream_leaves offset bytes fin l = record { told = refl; stopped = refl; read = same_either (λ (a : Assembled). a.read_count) (is_some l.reset_code) l.arrived (put l.arrived offset bytes) refl }
 
   held_item : (i : Item) (e : End) → AllHeld t e.recvs → AllHeld t (item_taken i e).recvs
-  held_item (MaxData m) e all = all
   held_item (MaxStreamData n m) e all = held_opened n e all
   held_item (MaxStreams Bidi m) e all = all
-  held_item (MaxStreams Uni m) e all = all
   held_item (ResetStream n code size) e all = held_changed n (λ l. take_reset l code size) e all (reset_leaves code size)
   held_item (StopSending n code) e all = held_opened n e all
-  held_item (DataBlocked m) e all = all
   held_item (StreamDataBlocked n m) e all = held_opened n e all
-  held_item (StreamsBlocked d m) e all = all
+  held_item _ e all = all
 
   held_frame : (f : Seen) (e : End) → AllHeld t e.recvs → AllHeld t (frame_taken f e).recvs
   unfolding frame_taken
   held_frame (Ack largest ranges) e all = held_equal e.recvs _ (ap (λ (x : End). x.recvs) (acks_leave (named e ranges) e)) all
   held_frame (Stream n offset bytes fin) e all = held_changed n (λ l. take_stream l offset bytes fin) e all (stream_leaves offset bytes fin)
   held_frame (Control i) e all = held_item i e all
-  held_frame (Close code) e all = all
-  held_frame (Plain asks) e all = all
+  held_frame _ e all = all
 
 frame_told : (f : Seen) (e : End) → KeptIn LaneAfter e.recvs (frame_taken f e).recvs → AllTold e.recvs → AllTold (frame_taken f e).recvs
 frame_told f e kept all n = go (lookup (frame_taken f e).recvs n) refl (held_frame e.recvs f e (held_same e.recvs) n)
@@ -438,10 +422,8 @@ no_news l true_of quiet = go l.told (read_answer l 1) refl refl
     go true reads.End et er = et
     go true (reads.Reset code) et er = et
     go true reads.Wait et er = tt
-    go false (reads.Bytes n) et er = absurd (false≢true (sym quiet ∙ ap (λ x. not l.told && tells_something x) er ∙ ap (λ x. not x && true) et))
-    go false reads.End et er = absurd (false≢true (sym quiet ∙ ap (λ x. not l.told && tells_something x) er ∙ ap (λ x. not x && true) et))
-    go false (reads.Reset code) et er = absurd (false≢true (sym quiet ∙ ap (λ x. not l.told && tells_something x) er ∙ ap (λ x. not x && true) et))
     go false reads.Wait et er = tt
+    go false _ et er = absurd (false≢true (sym quiet ∙ ap (λ x. not l.told && tells_something x) er ∙ ap (λ x. not x && true) et))
 
 -- A half whose reader stopped stays so, and has taken all that came.
 
@@ -458,9 +440,8 @@ stop_stays : (code : ℕ) (l : RecvLane) → StopStays l (stop l code)
 stop_stays code l = go (is_some l.stop_code) (is_over l) refl
   where
     go : (b o : Bool) → is_some l.stop_code ≡ b → StopStays l (cond (b || o) l (record l { arrived = discard l.arrived; stop_code = Some code }))
-    go true o is = stays_same l
-    go false true is = stays_same l
     go false false is = λ c there. absurd (cc (is, there))
+    go _ o is = stays_same l
 
 reset_stays : (code size : ℕ) (l : RecvLane) → StopStays l (take_reset l code size)
 reset_stays code size l =
@@ -468,9 +449,7 @@ reset_stays code size l =
 
 answer_stays : (answer : Read) (size : ℕ) (l : RecvLane) → StopStays l (after_answer answer l size)
 answer_stays (reads.Bytes n) size l = λ c is. is
-answer_stays reads.End size l = λ c is. is
-answer_stays (reads.Reset code) size l = λ c is. is
-answer_stays reads.Wait size l = λ c is. is
+answer_stays _ size l = λ c is. is
 
 recv_stays : (x : RecvEdit) (l : RecvLane) → StopStays l (recv_edited x l)
 recv_stays (Stops code) l = stop_stays code l

@@ -1,10 +1,10 @@
 -- A sending half that is allowed more, reset and acknowledged; and what an ACK does to an end.
-use Rattle.std.proofs.Common.{◌≡◌, ℕ, ◌+◌, ◌-◌, ◌≤◌, max, Bool, true, false, List, [], ◌∷◌, drop, map, flat_map, length, Option, Some, None, is_some, refl, sym, ap, ◌∙◌, subst, arith, inl, inr, if◌then◌else◌, drop-drop}
+use Rattle.std.proofs.Common.{◌≡◌, ℕ, ◌+◌, ◌-◌, ◌≤◌, max, Bool, true, false, List, [], ◌∷◌, drop, length, Option, Some, None, is_some, refl, sym, ap, ◌∙◌, subst, arith, inl, inr, if◌then◌else◌, drop-drop}
 use Rattle.std.proofs.lemmas.Option.{none-some, same_Some}
 use Rattle.std.proofs.lemmas.Bool.{or_cases, true≢false, cases_lt}
 use Rattle.std.specs.FinMap as fmap
 use Rattle.std.specs.FinSet as set
-use Rattle.std.specs.List.{AllByRecursion, filter}
+use Rattle.std.specs.List.{AllByRecursion}
 use Rattle.qs_ranges.specs.Numbers.{missing_from}
 use Rattle.qs_wire.specs.declared.stream_id.Dir.TheVariants.{Uni}
 use Rattle.qs_send.specs.Lane.{SendLane, allow_lane, reset_lane, broken_off, first_code, stop_taken, reset_refusal, acked_lane, reset_acked_lane, unacked_from, chunk_offsets}
@@ -17,12 +17,13 @@ use Rattle.qs_send.specs.declared.piece.Piece.TheVariants.{Data, Told}
 use Rattle.qs_machine.specs.Ends.{End, AckedItems, Records, LostPackets, lost_less, first_send_limit}
 use Rattle.qs_machine.specs.Seen.{Control}
 use Rattle.qs_send.specs.Records.{without_first, Among}
-use Rattle.qs_machine.specs.FrameStep.{AckedPiece, acked_at, piece_acked, item_acked, acks, without_piece, named, named_in, acked_numbers, is_named, pieces_of}
-use Rattle.qs_runs.proofs.Lists.{All_append, All_filter, All_reverse}
+use Rattle.qs_machine.specs.FrameStep.{AckedPiece, piece_acked, item_acked, acks, without_piece, named, is_named, held}
 use Rattle.qs_runs.proofs.Members.{run-cases, run-old, get-inserted, get-removed}
 use Rattle.qs_runs.proofs.Changes.{missing-more, send_kept, send_alike, send_same}
 use Rattle.qs_runs.specs.Pasts.{Past, PieceOf, Tells, WasConfirmed}
 use Rattle.qs_runs.specs.Invariant.{EndHas, EndOk, SendOk, StoodIn}
+use Rattle.qs_machine.proofs.Pieces.{all_named}
+use Rattle.qs_machine.proofs.EveryCall.{same_either}
 
 -- One half
 
@@ -82,24 +83,12 @@ module _ (p : Past) (n limit : ℕ) (l : SendLane) (h : SendOk p n limit l) wher
   stopped_ok true code = told_by code (is_some (reset_refusal l))
   stopped_ok false code = stopped_by code (is_some (reset_refusal l)) refl
 
-  stopped_end_by : (code : ℕ) (b : Bool) → (if b then l else record (broken_off l code) { stopped = first_code l.stopped code }).sent_end ≡ l.sent_end
-  stopped_end_by code true = refl
-  stopped_end_by code false = refl
-
-  told_end_by : (code : ℕ) (b : Bool) → (if b then l else record l { stopped = first_code l.stopped code }).sent_end ≡ l.sent_end
-  told_end_by code true = refl
-  told_end_by code false = refl
-
   pub stopped_end : (answers : Bool) (code : ℕ) → (stop_taken answers l code).sent_end ≡ l.sent_end
-  stopped_end true code = told_end_by code (is_some (reset_refusal l))
-  stopped_end false code = stopped_end_by code (is_some (reset_refusal l))
-
-  end_by : (code : ℕ) (b : Bool) → (if b then l else record l { kept = []; was_reset = Some (record { code = code; size = if l.fin_sent then l.written else l.sent_end }) }).sent_end ≡ l.sent_end
-  end_by code true = refl
-  end_by code false = refl
+  stopped_end true code = same_either (λ (m : SendLane). m.sent_end) (is_some (reset_refusal l)) l _ refl
+  stopped_end false code = same_either (λ (m : SendLane). m.sent_end) (is_some (reset_refusal l)) l _ refl
 
   pub reset_end : (code : ℕ) → (reset_lane l code).sent_end ≡ l.sent_end
-  reset_end code = end_by code (is_some (reset_refusal l))
+  reset_end code = same_either (λ (m : SendLane). m.sent_end) (is_some (reset_refusal l)) l _ refl
 
   -- what is acknowledged stood in packet k, which was confirmed
   pub acked_ok : (k : ℕ) (c : Chunk) → PieceOf p.mine k (Data n c) → WasConfirmed p.theirs p.tokens k → SendOk p n limit (acked_lane l c)
@@ -140,13 +129,12 @@ WasAcked p a = PieceOf p.mine a.number a.piece × WasConfirmed p.theirs p.tokens
 module _ (p : Past) where
   without_first_ok : (m : Records) (k : ℕ) → StoodIn p.mine m → (o : Option (List Piece)) → fmap.get m k ≡ o → StoodIn p.mine (without_first m k o)
   without_first_ok m k stood None is j ps piece there a = stood j ps piece there a
-  without_first_ok m k stood (Some []) is j ps piece there a = stood j ps piece (get-removed m k j ps there) a
-  without_first_ok m k stood (Some (x ∷ [])) is j ps piece there a = stood j ps piece (get-removed m k j ps there) a
   without_first_ok m k stood (Some (x ∷ y ∷ zs)) is j ps piece there a =
       elim (get-inserted m k (y ∷ zs) j ps there) [
         | inl old ↦ stood j ps piece old a
         | inr new ↦ stood j (x ∷ y ∷ zs) piece (rw new.0 is) (inr (subst (Among piece) (sym new.1) a))
       ]
+  without_first_ok m k stood _ is j ps piece there a = stood j ps piece (get-removed m k j ps there) a
 
   -- a record lost its first piece
   pub one_less_ok : (m : Records) (k : ℕ) → StoodIn p.mine m → StoodIn p.mine (without_first m k (fmap.get m k))
@@ -198,31 +186,10 @@ module _ (p : Past) where
 
 -- The pieces that an ACK takes
 
-module _ (p : Past) (late : Bool) (m : Records) (stood : StoodIn p.mine m) where
-  all_acked : (k : ℕ) → WasConfirmed p.theirs p.tokens k → (ps : List Piece) → ((piece : Piece) → Among piece ps → PieceOf p.mine k piece) → AllByRecursion (WasAcked p) (map (acked_at late k) ps)
-  all_acked k ack [] all = tt
-  all_acked k ack (x ∷ ps) all = ((all x (inl refl), ack), all_acked k ack ps (λ piece a. all piece (inr a)))
-
-  pieces_ok : (k : ℕ) → WasConfirmed p.theirs p.tokens k → AllByRecursion (WasAcked p) (pieces_of late m k)
-  pieces_ok k ack = go (fmap.get m k) refl
-    where
-      go : (o : Option (List Piece)) → fmap.get m k ≡ o → AllByRecursion (WasAcked p) (elim o [ None ↦ [] | Some ps ↦ map (acked_at late k) ps ])
-      go None is = tt
-      go (Some ps) is = all_acked k ack ps (λ piece a. stood k ps piece is a)
-
-  taken_pieces_ok : (numbers : List ℕ) → AllByRecursion (WasConfirmed p.theirs p.tokens) numbers → AllByRecursion (WasAcked p) (flat_map (pieces_of late m) numbers)
-  taken_pieces_ok [] told = tt
-  taken_pieces_ok (k ∷ ks) told = All_append (WasAcked p) (pieces_of late m k) _ (pieces_ok k told.0) (taken_pieces_ok ks told.1)
-
-  named_told : (ranges : List (ℕ × ℕ)) → ((k : ℕ) → is_named ranges k ≡ true → WasConfirmed p.theirs p.tokens k) → (ks : List ℕ) → AllByRecursion (λ k. is_named ranges k ≡ true) ks → AllByRecursion (WasConfirmed p.theirs p.tokens) ks
-  named_told ranges told [] all = tt
-  named_told ranges told (k ∷ ks) all = (told k all.0, named_told ranges told ks all.1)
-
-  named_in_ok : (ranges : List (ℕ × ℕ)) → ((k : ℕ) → is_named ranges k ≡ true → WasConfirmed p.theirs p.tokens k) → AllByRecursion (WasAcked p) (named_in late m ranges)
-  named_in_ok ranges told =
-      taken_pieces_ok (acked_numbers m ranges)
-      (named_told ranges told (acked_numbers m ranges) (All_reverse _ (filter (is_named ranges) (fmap.keys m)) (All_filter (is_named ranges) (fmap.keys m))))
-
 pub named_pieces_ok : (p : Past) (e : End) → EndOk p e → (ranges : List (ℕ × ℕ)) → ((k : ℕ) → is_named ranges k ≡ true → WasConfirmed p.theirs p.tokens k) → AllByRecursion (WasAcked p) (named e ranges)
 named_pieces_ok p e ok ranges told =
-    All_append (WasAcked p) (named_in false e.outstanding ranges) _ (named_in_ok p false e.outstanding ok.packets.records ranges told) (named_in_ok p true e.lost.pieces ok.packets.lost_records ranges told)
+    all_named (WasAcked p) ranges e (λ late k ps named at piece a. (stood late k ps piece at a, told k named))
+  where
+    stood : (late : Bool) → StoodIn p.mine (held late e)
+    stood true = ok.packets.lost_records
+    stood false = ok.packets.records

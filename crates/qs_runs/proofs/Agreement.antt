@@ -85,9 +85,8 @@ module _ (p q : Past) (n limit window : ℕ) (from : q.theirs ≡ p.mine) where
       ]
 
 not_acked_state : (a b : Bool) → (if a then DataSent else (if b then Send else Ready)) ≡ DataRecvd → ⊥
-not_acked_state true b e = cc
 not_acked_state false true e = cc
-not_acked_state false false e = cc
+not_acked_state _ b e = cc
 
 -- a half in Data Recvd: no reset, and all was acknowledged
 acked_state : (l : SendLane) → state l ≡ DataRecvd → (l.was_reset ≡ None) × (is_whole l ≡ true)

@@ -1,21 +1,20 @@
 -- One half of an end is changed, and the invariant of the end stays: by reads, writes, and limits that move.
-use Rattle.std.proofs.Common.{◌≡◌, ℕ, ◌<◌, ◌≤◌, max, true, arith, Bool, List, [], ◌∷◌, Option, Some, None, is_some, refl, sym, ap, ◌∙◌, subst, inl, inr, ◌⊎◌, false, option_map, if◌then◌else◌, ◌≢◌, ◌+◌, ◌-◌, ◌++◌, length, nat_cmp, ◌==◌, length-append, append-nil}
+use Rattle.std.proofs.Common.{◌≡◌, ℕ, ◌<◌, ◌≤◌, max, true, arith, Bool, List, [], Option, Some, None, is_some, refl, sym, ap, ◌∙◌, subst, inl, inr, ◌⊎◌, false, option_map, if◌then◌else◌, ◌≢◌, ◌+◌, ◌-◌, ◌++◌, length, nat_cmp, ◌==◌, length-append, append-nil}
 use Rattle.std.specs.FinSet as set
 use Rattle.qs_ranges.specs.Numbers.{NumberSet, missing_from, end_of}
 use Rattle.qs_ranges.proofs.Sets.{missing_from-is, missing_from-le, missing_from-more}
 use Rattle.qs_runs.proofs.Members.{end-le, get-front, get-kept}
 use Rattle.std.proofs.lemmas.Option.{same_Some, none-some}
-use Rattle.std.proofs.lemmas.Bool.{cases_eq, true≢false, false≢true, eqb-true, eq-eqb, ne_eqb}
-use Rattle.std.specs.List.{AllByRecursion}
-use Rattle.qs_recv.specs.Lane.{RecvLane, raise, next_limit, taken, set_window, read_answer, after_answer}
+use Rattle.std.proofs.lemmas.Bool.{cases_eq, true≢false, false≢true, eqb-true, eq-eqb, ne_eqb, cond_both}
+use Rattle.qs_recv.specs.Lane.{RecvLane, raise, taken, set_window, read_answer, after_answer}
 use Rattle.qs_send.specs.Lane.{SendLane, write_lane, unacked_from, refusal}
 use Rattle.qs_send.specs.declared.piece.Item.TheVariants.{MaxStreamData, ResetStream}
 use Rattle.qs_machine.specs.Tables.{Tables, lookup, update, updated, each}
-use Rattle.qs_machine.specs.Ends.{End, first_send_limit, window, on_send, on_recv, End as Endpoint}
+use Rattle.qs_machine.specs.Ends.{End, first_send_limit, window, on_send, on_recv, End as Endpoint, Present}
 use Rattle.qs_machine.specs.Seen.{Seen, Stream, Control}
-use Rattle.qs_runs.specs.Pasts.{Past, Packets, Tells, TellsEnd, WasConfirmed}
+use Rattle.qs_runs.specs.Pasts.{Past, Packets, Tells, TellsEnd, WasConfirmed, TellsByte}
 use Rattle.qs_runs.proofs.Past.{each_taken}
-use Rattle.qs_runs.specs.Invariant.{EndOk, EndHas, CreditTrue, SendOk, SendSlot, RecvOk, RecvSlot, FrameTaken, StreamTaken, TakenOk, OpenOk, is_open, RecvTrue, SendTrue}
+use Rattle.qs_runs.specs.Invariant.{EndOk, EndHas, CreditTrue, SendOk, SendSlot, RecvOk, RecvSlot, FrameTaken, TakenOk, OpenOk, is_open, RecvTrue, SendTrue}
 use Rattle.qs_machine.proofs.TableLaws.{lookup_same, lookup_other, slots_updated, total_update, lookup_each, slots_each}
 use Rattle.qs_recv.specs.declared.credit.Share.{Share}
 use Rattle.qs_machine.specs.Credit.{settle, all_sent, all_taken}
@@ -109,10 +108,6 @@ frame_stays t u grow (Stream n offset bytes fin) (l, is, taken) = (let (m, there
 frame_stays t u grow (Control (ResetStream n code size)) (l, is, final) = (let (m, there, g) = grow n l is in (m, there, g.final size final))
 frame_stays t u grow f h = tt
 
-pub every_stays : (t u : Tables RecvLane) → AllGrow t u → (fs : List Seen) → AllByRecursion (FrameTaken t) fs → AllByRecursion (FrameTaken u) fs
-every_stays t u grow [] all = tt
-every_stays t u grow (f ∷ fs) all = (frame_stays t u grow f all.0, every_stays t u grow fs all.1)
-
 pub taken_stays : (p : Past) (t u : Tables RecvLane) → AllGrow t u → TakenOk p t → TakenOk p u
 taken_stays p t u grow ok = each_taken p.theirs p.processed p.took (FrameTaken t) (FrameTaken u) (frame_stays t u grow) ok
 
@@ -134,27 +129,21 @@ grows_update t n l m is g j x there =
       | inr ne ↦ (x, lookup_other t n j m ne ∙ there, Grows_refl x)
     ]
 
+-- Of what was written, of the sending halves, of credit and of the counts of streams another account is given; what no clause speaks of may be anything.
+pub end_anew : {p : Past} {e : End} {sent less known granted bidi uni more_bidi more_uni : ℕ} {bytes : ℕ → List ℕ} {sends : Tables SendLane} {present : Present} → EndHas p e sent →
+    ((n : ℕ) → SendSlot (record p { bytes = bytes }) n (first_send_limit e n) (lookup sends n)) → CreditTrue p.mine p.theirs less known granted e.peer.max_data e.settings.conn_window →
+    OpenOk p e.role e.peer.streams_bidi e.peer.streams_uni bidi uni (is_open sends) (is_open e.recvs) →
+    EndHas (record p { bytes = bytes }) (record e { sends = sends; known_data = known; known_bidi = bidi; known_uni = uni; granted = granted; granted_bidi = more_bidi; granted_uni = more_uni; present = present }) less
+end_anew ok sends credit streams = record { sends = sends; recvs = ok.recvs; packets = ok.packets; taken = ok.taken; credit = credit; streams = streams }
+
 pub without_sum : (p : Past) (e : End) (sent less : ℕ) → EndHas p e sent → less ≤ e.known_data → EndHas p e less
 without_sum p e sent less ok le =
-    record {
-      sends = ok.sends;
-      recvs = ok.recvs;
-      packets = ok.packets;
-      taken = ok.taken;
-      streams = ok.streams;
-      credit = record { sent_known = le; known_told = ok.credit.known_told; window_granted = ok.credit.window_granted; granted_told = ok.credit.granted_told };
-    }
+    end_anew ok ok.sends (record { sent_known = le; known_told = ok.credit.known_told; window_granted = ok.credit.window_granted; granted_told = ok.credit.granted_told }) ok.streams
 
 pub lane_changed : (p : Past) (e : End) (sent n : ℕ) (l m : SendLane) → EndHas p e sent → lookup e.sends n ≡ Some l → SendTrue p.mine p.theirs p.tokens (p.bytes n) n (first_send_limit e n) m → EndHas p (record e { sends = update e.sends n m }) sent
 lane_changed p e sent n l m ok is this =
-    record {
-      sends = slots_updated (λ j o. SendSlot p j (first_send_limit e j) o) e.sends n l m is (λ j ne. ok.sends j) this;
-      recvs = ok.recvs;
-      packets = ok.packets;
-      taken = ok.taken;
-      credit = ok.credit;
-      streams = subst (λ s. OpenOk p e.role e.peer.streams_bidi e.peer.streams_uni e.known_bidi e.known_uni s (is_open e.recvs)) (sym (open_update e.sends n l m is)) ok.streams;
-    }
+    end_anew ok (slots_updated (λ j o. SendSlot p j (first_send_limit e j) o) e.sends n l m is (λ j ne. ok.sends j) this) ok.credit
+    (subst (λ s. OpenOk p e.role e.peer.streams_bidi e.peer.streams_uni e.known_bidi e.known_uni s (is_open e.recvs)) (sym (open_update e.sends n l m is)) ok.streams)
 
 -- what the past says of one receiving half changes, and the half
 module _ (p : Past) (e : Endpoint) (n : ℕ) (ok : EndOk p e) where
@@ -206,18 +195,15 @@ raise_grows l = record { received = λ q h. h; final = λ s h. h; reset = λ h. 
 pub each_grows : (f : RecvLane → RecvLane) (t : Tables RecvLane) → ((l : RecvLane) → Grows l (f l)) → AllGrow t (each f t)
 each_grows f t grows n l is = (f l, lookup_each f t n ∙ ap (option_map f) is, grows l)
 
-some_mapped : {X : Type 0} (g : X → X) (o : Option X) → is_some (option_map g o) ≡ is_some o
+pub some_mapped : {X : Type 0} (g : X → X) (o : Option X) → is_some (option_map g o) ≡ is_some o
 some_mapped g None = refl
 some_mapped g (Some x) = refl
 
 module _ (p : Past) (e : End) (ok : EndOk p e) where
   slot_raised : (n : ℕ) (o : Option RecvLane) → RecvSlot p n (window e n) o → RecvSlot p n (window e n) (option_map raise o)
   slot_raised n None h = h
-  slot_raised n (Some l) h = recv_alike h (rises (is_some l.final_size)) h.ended
-    where
-      rises : (b : Bool) → l.limit ≤ (if b then l.limit else next_limit l.limit (taken l) l.window l.share)
-      rises true = omega arith
-      rises false = next_limit_grows l.limit (taken l) l.window l.share
+  slot_raised n (Some l) h =
+      recv_alike h (cond_both (is_some l.final_size) l.limit _ (λ k. l.limit ≤ k) (λ _. omega arith) (λ _. next_limit_grows l.limit (taken l) l.window l.share)) h.ended
 
   pub settle_grows : AllGrow e.recvs (settle e).recvs
   settle_grows = each_grows raise e.recvs raise_grows
@@ -314,33 +300,25 @@ module _ (p : Past) (n w : ℕ) (l : RecvLane) (h : RecvOk p n w l) where
       let (end, final, read, no_reset) = read_end l size is none in
       (end, read, final, elim (h.final end final) [ inl t ↦ t | inr t ↦ absurd (none-some t.0 (sym no_reset ∙ t.1)) ])
 
+  stopped_as : {stored : fmap.FinMap nat_cmp ℕ} {discarding : Bool} {code : Option ℕ} → ((q b : ℕ) → fmap.get stored q ≡ Some b → TellsByte p.theirs n q b) →
+      RecvTrue p.mine p.theirs (p.gave n) true (p.ended n) n w (record l { arrived = record l.arrived { stored = stored; discarding = discarding }; stop_code = code })
+  stopped_as stored =
+      record {
+        received = h.received;
+        stored = stored;
+        count = h.count;
+        gave = h.gave;
+        final = h.final;
+        reset = h.reset;
+        not_stopped = λ is. absurd (true≢false is);
+        ended = h.ended;
+        window_granted = h.window_granted;
+        limit_told = h.limit_told;
+      }
+
   pub stop_ok : (code : ℕ) (b : Bool) → RecvTrue p.mine p.theirs (p.gave n) true (p.ended n) n w (if b then l else record l { arrived = discard l.arrived; stop_code = Some code })
-  stop_ok code true =
-      record {
-        received = h.received;
-        stored = h.stored;
-        count = h.count;
-        gave = h.gave;
-        final = h.final;
-        reset = h.reset;
-        not_stopped = λ is. absurd (true≢false is);
-        ended = h.ended;
-        window_granted = h.window_granted;
-        limit_told = h.limit_told;
-      }
-  stop_ok code false =
-      record {
-        received = h.received;
-        stored = λ q b is. absurd (none-some b (sym (fmap.get-empty nat_cmp q) ∙ is));
-        count = h.count;
-        gave = h.gave;
-        final = h.final;
-        reset = h.reset;
-        not_stopped = λ is. absurd (true≢false is);
-        ended = h.ended;
-        window_granted = h.window_granted;
-        limit_told = h.limit_told;
-      }
+  stop_ok code true = stopped_as h.stored
+  stop_ok code false = stopped_as (λ q b is. absurd (none-some b (sym (fmap.get-empty nat_cmp q) ∙ is)))
 
   pub stop_grows : (code : ℕ) (b : Bool) → Grows l (if b then l else record l { arrived = discard l.arrived; stop_code = Some code })
   stop_grows code true = Grows_refl l
@@ -400,13 +378,11 @@ module _ (p : Past) (e : End) (n : ℕ) (ok : EndOk p e) where
   pub wrote_ok : (bytes : List ℕ) (l : SendLane) → lookup e.sends n ≡ Some l → l.was_reset ≡ None → l.finished ≡ false → EndOk (with_bytes p n bytes) (record e { sends = update e.sends n (write_lane l bytes) })
   wrote_ok bytes l is none open_end =
       let this = write_ok p.mine p.theirs p.tokens (p.bytes n) bytes n (first_send_limit e n) l (subst (SendSlot p n (first_send_limit e n)) is (ok.sends n)) none open_end in
-      without_sum (with_bytes p n bytes) (record e { sends = update e.sends n (write_lane l bytes) }) (all_sent e) (all_sent (record e { sends = update e.sends n (write_lane l bytes) })) (record {
-        sends = slots_updated (λ m o. SendSlot (with_bytes p n bytes) m (first_send_limit e m) o) e.sends n l (write_lane l bytes) is
-            (λ m ne. other_slot bytes m ne (lookup e.sends m) (ok.sends m))
-            (subst (λ b. SendTrue p.mine p.theirs p.tokens (p.bytes n ++ (if b then bytes else [])) n (first_send_limit e n) (write_lane l bytes)) (sym (eq-eqb n n refl)) this);
-        recvs = ok.recvs;
-        packets = ok.packets;
-        taken = ok.taken;
-        credit = ok.credit;
-        streams = subst (λ s. OpenOk p e.role e.peer.streams_bidi e.peer.streams_uni e.known_bidi e.known_uni s (is_open e.recvs)) (sym (open_update e.sends n l (write_lane l bytes) is)) ok.streams;
-      }) (omega (arith, total_update (λ x. x.sent_end) e.sends n l (write_lane l bytes) is, ok.credit.sent_known))
+      without_sum (with_bytes p n bytes) (record e { sends = update e.sends n (write_lane l bytes) }) (all_sent e) (all_sent (record e { sends = update e.sends n (write_lane l bytes) }))
+      (end_anew ok
+      (slots_updated (λ m o. SendSlot (with_bytes p n bytes) m (first_send_limit e m) o) e.sends n l (write_lane l bytes) is
+      (λ m ne. other_slot bytes m ne (lookup e.sends m) (ok.sends m))
+      (subst (λ b. SendTrue p.mine p.theirs p.tokens (p.bytes n ++ (if b then bytes else [])) n (first_send_limit e n) (write_lane l bytes)) (sym (eq-eqb n n refl)) this))
+      ok.credit
+      (subst (λ s. OpenOk p e.role e.peer.streams_bidi e.peer.streams_uni e.known_bidi e.known_uni s (is_open e.recvs)) (sym (open_update e.sends n l (write_lane l bytes) is)) ok.streams))
+      (omega (arith, total_update (λ x. x.sent_end) e.sends n l (write_lane l bytes) is, ok.credit.sent_known))

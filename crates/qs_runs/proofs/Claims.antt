@@ -88,11 +88,10 @@ ping_goes v f k e mid result is h = by result (subst (λ g. Stops v g e result m
 
 -- all that is read in it
 ping_taken : (left : List PlacedValue) (fault : Option WireFault) (k : ℕ) (e mid : End) (result : Result Received Closing) → seen_all (frames_of left) ≡ Plain true ∷ [] → fault ≡ None → Takes k fault false e left result mid → AtEnd k true None e result mid
-ping_taken [] fault k e mid result is none h = absurd (cc is)
 ping_taken (v ∷ []) fault k e mid result is none h =
     ping_goes v (seen v.frame) k e mid result (cc is)
     (subst (λ o. Stops v (seen v.frame) e result mid ⊎ (GoesOn e (seen v.frame) × AtEnd k (asks_ack (seen v.frame)) o (frame_taken (seen v.frame) e) result mid)) none h)
-ping_taken (v ∷ w ∷ left) fault k e mid result is none h = absurd (cc is)
+ping_taken _ fault k e mid result is none h = absurd (cc is)
 
 ping_ends : (k : ℕ) (e mid new : End) (result : Result Received Closing) → settle e ≡ e → AtEnd k true None e result mid → new ≡ settle mid → OnlyRecords k true result e new
 ping_ends k e mid new (Ok Done) same end is = is ∙ ap settle end ∙ ap (recorded k true) same

@@ -28,15 +28,15 @@ use Rattle.qs_runs.proofs.Agreement.{prefix_agrees, whole_agrees, received_agree
 use Rattle.qs_runs.proofs.Receives.{repeats, spends_nothing, frames_spend, held_told}
 use Rattle.qs_runs.proofs.Histories.{parts_held, parts_same, theirs_mine, payload_seen, confirmed_taken, seen_made, among_at, at_among, mapped_some, confirmed_landed}
 use Rattle.qs_runs.specs.Pasts.{past, Holds, Tells, WasConfirmed, Landed, IsNamed}
-use Rattle.qs_runs.proofs.Runs.{ends_face, is_open_end, run_keeps, opposite, start, step_keeps}
+use Rattle.qs_runs.proofs.Runs.{ends_face, is_open_end, run_keeps, opposite, step_keeps}
 use Rattle.qs_recv.specs.Lane.{RecvLane}
 use Rattle.qs_send.specs.Lane.{SendLane}
 use Rattle.qs_send.specs.declared.piece.Item.TheVariants.{ResetStream}
 use Rattle.qs_send.specs.Records.{Among}
 use Rattle.qs_machine.specs.Alone.{is_ours}
 use Rattle.qs_runs.specs.Clauses.{Carries, CarriesAt, HasArrived, sending, receiving, PiecesAreWritten, ReceivedIsBelowSent, StoredIsWritten, ReadIsWritten, ArrivedWasTaken, ArrivedResetWasTaken, AckedHasArrived, FinalSizeIsDeclared, ResetCodeIsTheSenders, SentIsWithinKnown, KnownIsWithinGranted, IsOpen, IsOpenAtInitiator, known_for, OpenedIsBelowKnown}
-use Rattle.qs_runs.proofs.Lists.{All_at}
-use Rattle.qs_runs.specs.Laws.{NewEndsMeetInvariant, StepsKeepInvariant, PiecesAreAlwaysWritten, ReceivedIsAlwaysBelowSent, StoredIsAlwaysWritten, ReadIsAlwaysWritten, ArrivedWasAlwaysTaken, AckedHasAlwaysArrived, FinalSizeIsAlwaysDeclared, ResetCodeIsAlwaysTheSenders, SentIsAlwaysWithinKnown, KnownIsAlwaysWithinGranted, StreamsAreOpenAtInitiator, OpenedIsAlwaysBelowKnown, ReadIsAPrefix, SpentIsBelowSent, RepeatsSpendNothing, ReceivedIsWhole, FinalSizesAlwaysAgree, NoEndCloses}
+use Rattle.qs_runs.specs.Laws.{ArrivedWasAlwaysTaken}
+use Rattle.qs_machine.proofs.Pieces.{All_at}
 
 -- What agrees in a world that meets the invariant, and at each step from it.
 
@@ -296,64 +296,10 @@ module _ (a b : Settings) (h : History) (w : World) (ok : WorldOk a b h w) (s : 
       known n true = face.uni
       known n false = face.bidi
 
--- The laws, as they are stated.
-
-pub law_new_ends_meet_invariant : NewEndsMeetInvariant
-law_new_ends_meet_invariant = λ a b w begins. start a b w begins
-
-pub law_steps_keep_invariant : StepsKeepInvariant
-law_steps_keep_invariant = step_keeps
-
-pub law_pieces_are_written : PiecesAreAlwaysWritten
-law_pieces_are_written = λ a b h v w x ok step s n. pieces_are_written a b (x ∷ h) w (step_keeps a b h v w x ok step) s n
-
-pub law_received_is_below_sent : ReceivedIsAlwaysBelowSent
-law_received_is_below_sent = λ a b h v w x ok step s n. received_is_below_sent a b (x ∷ h) w (step_keeps a b h v w x ok step) s n
-
-pub law_stored_is_written : StoredIsAlwaysWritten
-law_stored_is_written = λ a b h v w x ok step s n. stored_is_written a b (x ∷ h) w (step_keeps a b h v w x ok step) s n
-
-pub law_read_is_written : ReadIsAlwaysWritten
-law_read_is_written = λ a b h v w x ok step s n. read_is_written a b (x ∷ h) w (step_keeps a b h v w x ok step) s n
+-- What holds in every world holds after a step.
+pub each_step : {P : Settings → Settings → History → World → Type 0} → ((a b : Settings) (h : History) (w : World) → WorldOk a b h w → P a b h w) →
+    (a b : Settings) (h : History) (v w : World) (x : Happening) → WorldOk a b h v → WorldStep h v x w → P a b (x ∷ h) w
+each_step holds a b h v w x ok step = holds a b (x ∷ h) w (step_keeps a b h v w x ok step)
 
 pub law_arrived_was_taken : ArrivedWasAlwaysTaken
 law_arrived_was_taken = λ a b h v w x ok step s n. (arrived_was_taken a b (x ∷ h) w (step_keeps a b h v w x ok step) s n, arrived_reset_was_taken a b (x ∷ h) w (step_keeps a b h v w x ok step) s n)
-
-pub law_acked_has_arrived : AckedHasAlwaysArrived
-law_acked_has_arrived = λ a b h v w x ok step s n. acked_has_arrived a b (x ∷ h) w (step_keeps a b h v w x ok step) s n
-
-pub law_final_size_is_declared : FinalSizeIsAlwaysDeclared
-law_final_size_is_declared = λ a b h v w x ok step s n. final_size_is_declared a b (x ∷ h) w (step_keeps a b h v w x ok step) s n
-
-pub law_reset_code_is_the_senders : ResetCodeIsAlwaysTheSenders
-law_reset_code_is_the_senders = λ a b h v w x ok step s n. reset_code_is_the_senders a b (x ∷ h) w (step_keeps a b h v w x ok step) s n
-
-pub law_sent_is_within_known : SentIsAlwaysWithinKnown
-law_sent_is_within_known = λ a b h v w x ok step s. sent_is_within_known a b (x ∷ h) w (step_keeps a b h v w x ok step) s
-
-pub law_known_is_within_granted : KnownIsAlwaysWithinGranted
-law_known_is_within_granted = λ a b h v w x ok step s. known_is_within_granted a b (x ∷ h) w (step_keeps a b h v w x ok step) s
-
-pub law_open_at_initiator : StreamsAreOpenAtInitiator
-law_open_at_initiator = λ a b h v w x ok step s n. is_open_at_initiator a b (x ∷ h) w (step_keeps a b h v w x ok step) s n
-
-pub law_opened_is_below_known : OpenedIsAlwaysBelowKnown
-law_opened_is_below_known = λ a b h v w x ok step s. opened_is_below_known a b (x ∷ h) w (step_keeps a b h v w x ok step) s
-
-pub law_read_is_a_prefix : ReadIsAPrefix
-law_read_is_a_prefix = λ a b h w ok s n. prefix a b h w ok s n
-
-pub law_spent_is_below_sent : SpentIsBelowSent
-law_spent_is_below_sent = λ a b h w ok s. credit a b h w ok s
-
-pub law_repeats_spend_nothing : RepeatsSpendNothing
-law_repeats_spend_nothing = λ a b h v w x ok step. step_agrees a b h v ok x w step
-
-pub law_received_is_whole : ReceivedIsWhole
-law_received_is_whole = λ a b h w ok s n. whole a b h w ok s n
-
-pub law_final_sizes_agree : FinalSizesAlwaysAgree
-law_final_sizes_agree = λ a b h w ok s n. final_sizes a b h w ok s n
-
-pub law_no_end_closes : NoEndCloses
-law_no_end_closes = λ a b h w ok s. stays_open a b h w ok s

@@ -178,11 +178,9 @@ abbrev told_done : Result (Unit {0}) TokenFault
 told_done = Ok tt
 
 none_given : (e new : End) (closed own made : Bool) (E : Type 0) → (own ≡ false) ⊎ (made ≡ false) → Certain (first_refusal (refuse_if closed tokens.Closed) (refuse_if (not (own && made)) tokens.NotGiven)) e told_done new E → ⊥
-none_given e new true own made E is h = cc (h.0)
-none_given e new false false made E is h = cc (h.0)
-none_given e new false true false E is h = cc (h.0)
 none_given e new false true true E (inl is) h = false≢true (sym is)
 none_given e new false true true E (inr is) h = false≢true (sym is)
+none_given e new _ own made E is h = cc (h.0)
 
 is_foreign : (a b : ℕ) → (a ≡ b → ⊥) → nat_eq a b ≡ false
 is_foreign a b differs = grind (arith, nat_tests, differs)
@@ -348,11 +346,9 @@ value_of f = 0
 
 -- what comes of a frame that was taken, and of another behind it
 one_came : (e : End) (f : FrameValue) (one later : Taken) (mid : End) → TakesOne e f (Ok one) mid → is_taken (Ok (of_both one later)) ≡ true
-one_came e f Took later mid h = refl
 one_came e f Unchanged Took mid h = refl
-one_came e f Unchanged Unchanged mid h = refl
-one_came e f Unchanged NotOurs mid h = refl
 one_came e f NotOurs later mid h = absurd h
+one_came e f _ later mid h = refl
 
 -- of two frames of its own kinds an end says that they took effect, or why not
 two_taken : (e new : End) → HandedIn (max_data 5 ∷ max_data 6 ∷ []) e (Ok NotOurs) new → ⊥

@@ -10,13 +10,13 @@ use Rattle.qs_send.specs.Lane.{SendLane, unacked_from, new_lane as new_send_lane
 use Rattle.qs_machine.specs.Tables.{Tables, lookup, open_to, total, updated}
 use Rattle.qs_machine.specs.Ends.{End, is_own, is_own_by, is_uni, first_send_limit, window, opens, role_bit, opened_by_peer}
 use Rattle.qs_machine.specs.Credit.{all_sent}
-use Rattle.qs_machine.specs.Seen.{Seen, Ack, Stream, Control, Close, Plain}
+use Rattle.qs_machine.specs.Seen.{Seen, Ack, Stream, Control}
 use Rattle.qs_machine.specs.Verdicts.{lane_of, or_new, verdict, item_verdict, credit_fault, state_fault_in}
 use Rattle.qs_runs.specs.Pasts.{Past, Packets, Tells, Names, IsNamed}
 use Rattle.qs_runs.specs.Invariant.{EndOk, SendOk, SendSlot, NotSent, RecvOk, RecvSlot, NotReceived, CreditOk, OpenOk, OpenTrue, is_open, FrameTaken}
 use Rattle.qs_runs.proofs.Lists.{drop-none}
 use Rattle.qs_machine.proofs.TableLaws.{lookup_open, slots_opened, total_open, open_lower, open_at, lookup_same}
-use Rattle.qs_runs.proofs.Changes.{AllGrow, Grows_refl, all_grow_refl, taken_stays, grow_trans, grows_update, recv_changed, send_kept}
+use Rattle.qs_runs.proofs.Changes.{AllGrow, Grows_refl, all_grow_refl, taken_stays, grow_trans, grows_update, recv_changed, send_kept, end_anew}
 use Rattle.qs_wire.specs.declared.stream_id.Role.{Role}
 use Rattle.qs_wire.specs.declared.stream_id.Role.TheVariants.{Client, Server}
 use Rattle.qs_wire.specs.declared.stream_id.Dir.{Dir}
@@ -24,7 +24,7 @@ use Rattle.qs_wire.specs.declared.stream_id.Dir.TheVariants.{Bidi, Uni}
 use Rattle.qs_machine.specs.Due.{known_count}
 use Rattle.qs_machine.specs.Owner.{own_type, opened_count, next_stream}
 use Rattle.qs_send.specs.declared.piece.Item.{Item}
-use Rattle.qs_send.specs.declared.piece.Item.TheVariants.{MaxData, MaxStreamData, MaxStreams, ResetStream, StopSending, DataBlocked, StreamDataBlocked, StreamsBlocked}
+use Rattle.qs_send.specs.declared.piece.Item.TheVariants.{MaxData, MaxStreamData, MaxStreams, ResetStream, StopSending, StreamDataBlocked}
 use Rattle.qs_machine.specs.FrameStep.{named, frame_taken, item_taken}
 use Rattle.qs_machine.proofs.Leaves.{acks_leave}
 use Rattle.qs_machine.proofs.CallsSound.{no_fault}
@@ -86,6 +86,27 @@ opened_grow t n begin m l is =
       | inr new ↦ absurd (none-some l (sym new.0 ∙ is))
     ]
 
+-- which streams are open once n is
+cases_by : {X : Type 0} (n : ℕ) (t : Tables X) (x : ℕ → X) (b : Bool) (m : ℕ) → is_open (if b then t else open_to t n x) m ≡ true → (is_open t m ≡ true) ⊎ ((b ≡ false) × (m % 4 ≡ n % 4) × (m ≤ n))
+cases_by n t x true m is = inl is
+cases_by n t x false m is =
+    elim (lookup_open t n m x) [
+      | inl same ↦ inl (sym (ap is_some same) ∙ is)
+      | inr new ↦ inr (refl, new.1, new.2)
+    ]
+
+still_by : {X : Type 0} (n : ℕ) (t : Tables X) (x : ℕ → X) (b : Bool) (m : ℕ) → is_open t m ≡ true → is_open (if b then t else open_to t n x) m ≡ true
+still_by n t x true m is = is
+still_by n t x false m is =
+    elim (lookup_open t n m x) [
+      | inl same ↦ ap is_some same ∙ is
+      | inr new ↦ ap is_some new.3
+    ]
+
+pub opened_at : {X : Type 0} (t : Tables X) (n : ℕ) (x : ℕ → X) (b : Bool) → b ≡ false → is_open (if b then t else open_to t n x) n ≡ true
+opened_at t n x true is = absurd (true≢false is)
+opened_at t n x false is = open_at t n x
+
 module _ (p : Past) (e : End) (n : ℕ) (ok : EndOk p e) where
   sends_opened : (b : Bool) → (m : ℕ) → SendSlot p m (first_send_limit e m) (lookup (if b then e.sends else open_to e.sends n (new_sends e n)) m)
   sends_opened true = ok.sends
@@ -119,29 +140,6 @@ module _ (p : Past) (e : End) (n : ℕ) (ok : EndOk p e) where
         streams = streams;
       }
 
-  -- which streams are open once n is
-  open_cases : {X : Type 0} (t : Tables X) (x : ℕ → X) (m : ℕ) → is_open (open_to t n x) m ≡ true → (is_open t m ≡ true) ⊎ ((m % 4 ≡ n % 4) × (m ≤ n))
-  open_cases t x m is =
-      elim (lookup_open t n m x) [
-        | inl same ↦ inl (sym (ap is_some same) ∙ is)
-        | inr new ↦ inr (new.1, new.2)
-      ]
-
-  still_open : {X : Type 0} (t : Tables X) (x : ℕ → X) (m : ℕ) → is_open t m ≡ true → is_open (open_to t n x) m ≡ true
-  still_open t x m is =
-      elim (lookup_open t n m x) [
-        | inl same ↦ ap is_some same ∙ is
-        | inr new ↦ ap is_some new.3
-      ]
-
-  cases_by : {X : Type 0} (t : Tables X) (x : ℕ → X) (b : Bool) (m : ℕ) → is_open (if b then t else open_to t n x) m ≡ true → (is_open t m ≡ true) ⊎ ((b ≡ false) × (m % 4 ≡ n % 4) × (m ≤ n))
-  cases_by t x true m is = inl is
-  cases_by t x false m is = elim (open_cases t x m is) [ inl old ↦ inl old | inr new ↦ inr (refl, new.0, new.1) ]
-
-  still_by : {X : Type 0} (t : Tables X) (x : ℕ → X) (b : Bool) (m : ℕ) → is_open t m ≡ true → is_open (if b then t else open_to t n x) m ≡ true
-  still_by t x true m is = is
-  still_by t x false m is = still_open t x m is
-
   same_own : (m : ℕ) → m % 4 ≡ n % 4 → is_own_by e.role m ≡ is_own_by e.role n
   same_own m kind = rw kind refl
 
@@ -163,27 +161,27 @@ module _ (p : Past) (e : End) (n : ℕ) (ok : EndOk p e) where
   named_ok named theirs =
       opens_ok (record {
         own_send = λ m is own.
-            elim (cases_by e.sends _ _ m is) [
+            elim (cases_by n e.sends _ _ m is) [
               | inl old ↦ ok.streams.own_send m old own
               | inr new ↦ absurd (true≢false (sym own ∙ same_own m new.1 ∙ theirs))
             ];
         own_recv = λ m is own.
-            elim (cases_by e.recvs _ _ m is) [
-              | inl old ↦ (let (bidi, sends) = ok.streams.own_recv m old own in (bidi, still_by e.sends _ _ m sends))
+            elim (cases_by n e.recvs _ _ m is) [
+              | inl old ↦ (let (bidi, sends) = ok.streams.own_recv m old own in (bidi, still_by n e.sends _ _ m sends))
               | inr new ↦ absurd (true≢false (sym own ∙ same_own m new.1 ∙ theirs))
             ];
         own_both = λ m is own bidi.
-            elim (cases_by e.sends _ _ m is) [
-              | inl old ↦ still_by e.recvs _ _ m (ok.streams.own_both m old own bidi)
+            elim (cases_by n e.sends _ _ m is) [
+              | inl old ↦ still_by n e.recvs _ _ m (ok.streams.own_both m old own bidi)
               | inr new ↦ absurd (true≢false (sym own ∙ same_own m new.1 ∙ theirs))
             ];
         their_send = λ m is other.
-            elim (cases_by e.sends _ _ m is) [
+            elim (cases_by n e.sends _ _ m is) [
               | inl old ↦ ok.streams.their_send m old other
               | inr new ↦ (same_uni m new.1 ∙ bidi_then theirs new.0, named_lower m new.1 new.2 named)
             ];
         their_recv = λ m is other.
-            elim (cases_by e.recvs _ _ m is) [
+            elim (cases_by n e.recvs _ _ m is) [
               | inl old ↦ ok.streams.their_recv m old other
               | inr new ↦ named_lower m new.1 new.2 named
             ];
@@ -224,35 +222,23 @@ abbrev kind_by : Role → Dir → ℕ
 kind_by r Bidi = role_bit r
 kind_by r Uni = 2 + role_bit r
 
--- the numbers of an end's own streams
-kinds : (r : Role) (d : Dir) (c : ℕ) → ((c * 4 + kind_by r d) % 4 ≡ kind_by r d) × ((c * 4 + kind_by r d) / 4 ≡ c)
-kinds Client Bidi c = (omega arith, omega arith)
-kinds Client Uni c = (omega arith, omega arith)
-kinds Server Bidi c = (omega arith, omega arith)
-kinds Server Uni c = (omega arith, omega arith)
-
-kind_is_own : (r : Role) (d : Dir) → (kind_by r d % 2 == role_bit r) ≡ true
-kind_is_own Client Bidi = refl
-kind_is_own Client Uni = refl
-kind_is_own Server Bidi = refl
-kind_is_own Server Uni = refl
-
 abbrev is_uni_dir : Dir → Bool
 is_uni_dir Bidi = false
 is_uni_dir Uni = true
 
-kind_is_uni : (r : Role) (d : Dir) → nat_le 2 (kind_by r d) ≡ is_uni_dir d
-kind_is_uni Client Bidi = refl
-kind_is_uni Client Uni = refl
-kind_is_uni Server Bidi = refl
-kind_is_uni Server Uni = refl
+-- the numbers of an end's own streams
+kinds : (r : Role) (d : Dir) (c : ℕ) → ((c * 4 + kind_by r d) % 4 ≡ kind_by r d) × ((c * 4 + kind_by r d) / 4 ≡ c) × ((kind_by r d % 2 == role_bit r) ≡ true) × (nat_le 2 (kind_by r d) ≡ is_uni_dir d)
+kinds Client Bidi c = (omega arith, omega arith, refl, refl)
+kinds Client Uni c = (omega arith, omega arith, refl, refl)
+kinds Server Bidi c = (omega arith, omega arith, refl, refl)
+kinds Server Uni c = (omega arith, omega arith, refl, refl)
 
 pub next_own : (e : End) (d : Dir) → is_own e (next_stream e d) ≡ true
-next_own e Bidi = rw ((kinds e.role Bidi (opened_count e (own_type e Bidi))).0) (kind_is_own e.role Bidi)
-next_own e Uni = rw ((kinds e.role Uni (opened_count e (own_type e Uni))).0) (kind_is_own e.role Uni)
+next_own e Bidi = rw ((kinds e.role Bidi (opened_count e (own_type e Bidi))).0) ((kinds e.role Bidi 0).2)
+next_own e Uni = rw ((kinds e.role Uni (opened_count e (own_type e Uni))).0) ((kinds e.role Uni 0).2)
 
 count_below : (r : Role) (d : Dir) (c uni bidi : ℕ) → c < (if is_uni_dir d then uni else bidi) → (c * 4 + kind_by r d) / 4 < (if nat_le 2 ((c * 4 + kind_by r d) % 4) then uni else bidi)
-count_below r d c uni bidi lt = rw ((kinds r d c).1, (kinds r d c).0, kind_is_uni r d) lt
+count_below r d c uni bidi lt = rw ((kinds r d c).1, (kinds r d c).0, (kinds r d c).3) lt
 
 -- the next stream is below the peer's count
 pub next_below : (e : End) (d : Dir) → opened_count e (own_type e d) < known_count e d → next_stream e d / 4 < (if is_uni (next_stream e d) then e.known_uni else e.known_bidi)
@@ -260,22 +246,6 @@ next_below e Bidi lt = count_below e.role Bidi (opened_count e (own_type e Bidi)
 next_below e Uni lt = count_below e.role Uni (opened_count e (own_type e Uni)) e.known_uni e.known_bidi lt
 
 module _ (p : Past) (e : End) (n : ℕ) (ok : EndOk p e) (own : is_own e n ≡ true) (below : n / 4 < (if is_uni n then e.known_uni else e.known_bidi)) where
-  own_cases : {X : Type 0} (t : Tables X) (begin : ℕ → X) (b : Bool) (m : ℕ) → is_open (if b then t else open_to t n begin) m ≡ true → (is_open t m ≡ true) ⊎ ((b ≡ false) × (m % 4 ≡ n % 4) × (m ≤ n))
-  own_cases t begin true m is = inl is
-  own_cases t begin false m is =
-      elim (lookup_open t n m begin) [
-        | inl same ↦ inl (sym (ap is_some same) ∙ is)
-        | inr new ↦ inr (refl, new.1, new.2)
-      ]
-
-  still : {X : Type 0} (t : Tables X) (begin : ℕ → X) (b : Bool) (m : ℕ) → is_open t m ≡ true → is_open (if b then t else open_to t n begin) m ≡ true
-  still t begin true m is = is
-  still t begin false m is =
-      elim (lookup_open t n m begin) [
-        | inl same ↦ ap is_some same ∙ is
-        | inr new ↦ ap is_some new.3
-      ]
-
   newly : {X : Type 0} (t : Tables X) (begin : ℕ → X) (b : Bool) (m : ℕ) → b ≡ false → m % 4 ≡ n % 4 → m ≤ n → is_open (if b then t else open_to t n begin) m ≡ true
   newly t begin true m is kind le = absurd (true≢false is)
   newly t begin false m is kind le = open_lower (open_to t n begin) m n (sym kind) le (open_at t n begin)
@@ -295,23 +265,23 @@ module _ (p : Past) (e : End) (n : ℕ) (ok : EndOk p e) (own : is_own e n ≡ t
   pub own_opened : EndOk p (opens n e)
   own_opened =
       opens_ok p e n ok (record {
-        own_send = λ m is o. elim (own_cases e.sends _ _ m is) [
+        own_send = λ m is o. elim (cases_by n e.sends _ _ m is) [
           | inl old ↦ ok.streams.own_send m old o
           | inr new ↦ below_same m new.1 new.2
         ];
-        own_recv = λ m is o. elim (own_cases e.recvs _ _ m is) [
-          | inl old ↦ (let (bidi, sends) = ok.streams.own_recv m old o in (bidi, still e.sends _ _ m sends))
+        own_recv = λ m is o. elim (cases_by n e.recvs _ _ m is) [
+          | inl old ↦ (let (bidi, sends) = ok.streams.own_recv m old o in (bidi, still_by n e.sends _ _ m sends))
           | inr new ↦ (ap (λ k. nat_le 2 k) new.1 ∙ bidi_if new.0, newly e.sends _ _ m own_goes new.1 new.2)
         ];
-        own_both = λ m is o bidi. elim (own_cases e.sends _ _ m is) [
-          | inl old ↦ still e.recvs _ _ m (ok.streams.own_both m old o bidi)
+        own_both = λ m is o bidi. elim (cases_by n e.sends _ _ m is) [
+          | inl old ↦ still_by n e.recvs _ _ m (ok.streams.own_both m old o bidi)
           | inr new ↦ newly e.recvs _ _ m (and_left _ _ (sym (ap (λ k. nat_le 2 k) new.1) ∙ bidi)) new.1 new.2
         ];
-        their_send = λ m is o. elim (own_cases e.sends _ _ m is) [
+        their_send = λ m is o. elim (cases_by n e.sends _ _ m is) [
           | inl old ↦ ok.streams.their_send m old o
           | inr new ↦ absurd (true≢false (sym (kind_own m new.1) ∙ o))
         ];
-        their_recv = λ m is o. elim (own_cases e.recvs _ _ m is) [
+        their_recv = λ m is o. elim (cases_by n e.recvs _ _ m is) [
           | inl old ↦ ok.streams.their_recv m old o
           | inr new ↦ absurd (true≢false (sym (kind_own m new.1) ∙ o))
         ];
@@ -382,11 +352,7 @@ module _ (p : Past) where
       there : (o : Option RecvLane) → is_none o ≡ false → is_some o ≡ true
       there None is = absurd (true≢false is)
       there (Some l) is = refl
-  half_open e n false own fine = by _ (and_right (is_uni n) _ own)
-    where
-      by : (b : Bool) → b ≡ false → is_some (lookup (if b then e.recvs else open_to e.recvs n (new_recvs e n)) n) ≡ true
-      by true is = absurd (true≢false is)
-      by false is = open_at e.recvs n (new_recvs e n)
+  half_open e n false own fine = opened_at e.recvs n (new_recvs e n) _ (and_right (is_uni n) _ own)
 
   -- a limit or a count that the peer told
   told_max : (known first m : ℕ) (f : ℕ → Seen) → (known ≤ first) ⊎ Tells p.theirs (f known) → Tells p.theirs (f m) → (max known m ≤ first) ⊎ Tells p.theirs (f (max known m))
@@ -399,19 +365,12 @@ module _ (p : Past) where
   item_keeps : (e : End) (i : Item) → EndOk p e → Tells p.theirs (Control i) → item_verdict e i ≡ None → Effect p e (item_taken i e) (Control i)
   item_keeps e (MaxData m) ok t fine =
       record {
-        ok = record {
-          sends = ok.sends;
-          recvs = ok.recvs;
-          packets = ok.packets;
-          taken = ok.taken;
-          streams = ok.streams;
-          credit = record {
-            sent_known = omega (arith, ok.credit.sent_known);
-            known_told = told_max e.known_data e.peer.max_data m (λ x. Control (MaxData x)) ok.credit.known_told t;
-            window_granted = ok.credit.window_granted;
-            granted_told = ok.credit.granted_told;
-          };
-        };
+        ok = end_anew ok ok.sends (record {
+          sent_known = omega (arith, ok.credit.sent_known);
+          known_told = told_max e.known_data e.peer.max_data m (λ x. Control (MaxData x)) ok.credit.known_told t;
+          window_granted = ok.credit.window_granted;
+          granted_told = ok.credit.granted_told;
+        }) ok.streams;
         grow = all_grow_refl e.recvs;
         taken = tt;
       }
@@ -424,27 +383,15 @@ module _ (p : Past) where
       }
   item_keeps e (MaxStreams Bidi m) ok t fine =
       record {
-        ok = record {
-          sends = ok.sends;
-          recvs = ok.recvs;
-          packets = ok.packets;
-          taken = ok.taken;
-          credit = ok.credit;
-          streams = open_known e.peer.streams_bidi e.peer.streams_uni (max e.known_bidi m) e.known_uni ok.streams (omega arith) (omega arith) (told_max e.known_bidi e.peer.streams_bidi m (λ x. Control (MaxStreams Bidi x)) ok.streams.bidi_told t) ok.streams.uni_told;
-        };
+        ok = end_anew ok ok.sends ok.credit
+            (open_known e.peer.streams_bidi e.peer.streams_uni (max e.known_bidi m) e.known_uni ok.streams (omega arith) (omega arith) (told_max e.known_bidi e.peer.streams_bidi m (λ x. Control (MaxStreams Bidi x)) ok.streams.bidi_told t) ok.streams.uni_told);
         grow = all_grow_refl e.recvs;
         taken = tt;
       }
   item_keeps e (MaxStreams Uni m) ok t fine =
       record {
-        ok = record {
-          sends = ok.sends;
-          recvs = ok.recvs;
-          packets = ok.packets;
-          taken = ok.taken;
-          credit = ok.credit;
-          streams = open_known e.peer.streams_bidi e.peer.streams_uni e.known_bidi (max e.known_uni m) ok.streams (omega arith) (omega arith) ok.streams.bidi_told (told_max e.known_uni e.peer.streams_uni m (λ x. Control (MaxStreams Uni x)) ok.streams.uni_told t);
-        };
+        ok = end_anew ok ok.sends ok.credit
+            (open_known e.peer.streams_bidi e.peer.streams_uni e.known_bidi (max e.known_uni m) ok.streams (omega arith) (omega arith) ok.streams.bidi_told (told_max e.known_uni e.peer.streams_uni m (λ x. Control (MaxStreams Uni x)) ok.streams.uni_told t));
         grow = all_grow_refl e.recvs;
         taken = tt;
       }
@@ -459,10 +406,9 @@ module _ (p : Past) where
         grow = opened_grows p e n ok (is_own e n);
         taken = tt;
       }
-  item_keeps e (DataBlocked m) ok t fine = record { ok = ok; grow = all_grow_refl e.recvs; taken = tt }
   item_keeps e (StreamDataBlocked n m) ok t fine =
       record { ok = opened_ok p e n ok (named_by p _ n t refl) (is_own e n) refl; grow = opened_grows p e n ok (is_own e n); taken = tt }
-  item_keeps e (StreamsBlocked d m) ok t fine = record { ok = ok; grow = all_grow_refl e.recvs; taken = tt }
+  item_keeps e _ ok t fine = record { ok = ok; grow = all_grow_refl e.recvs; taken = tt }
 
   pub frame_keeps : (e : End) (f : Seen) → EndOk p e → Tells p.theirs f → verdict e f ≡ None → Effect p e (frame_taken f e) f
   unfolding verdict frame_taken
@@ -477,5 +423,4 @@ module _ (p : Past) where
       (half_open e n (is_own e n) refl (stream_passed e n offset bytes fin fine).0) (λ r is. lane_opened e n r (is_own e n) refl is)
       (opened_ok p e n ok (named_by p _ n t refl) (is_own e n) refl) t (stream_passed e n offset bytes fin fine).1 (opened_grows p e n ok (is_own e n))
   frame_keeps e (Control i) ok t fine = item_keeps e i ok t fine
-  frame_keeps e (Close c) ok t fine = record { ok = ok; grow = all_grow_refl e.recvs; taken = tt }
-  frame_keeps e (Plain asks) ok t fine = record { ok = ok; grow = all_grow_refl e.recvs; taken = tt }
+  frame_keeps e _ ok t fine = record { ok = ok; grow = all_grow_refl e.recvs; taken = tt }

@@ -74,9 +74,8 @@ made_count e new first delay room made text d count h t =
 make_count : (o : Option MakeFault) (e new : End) (first delay room : ℕ) (r : Result (Option Made) MakeFault) (text : List ℕ) (d : Dir) (count : ℕ) → MakeAt o e first delay room r text new
     → Tells (map frames_in (texts_of r text)) (Control (MaxStreams d count)) → count ≤ granted_streams e d
 make_count None e new first delay room (Ok (Some made)) text d count h t = made_count e new first delay room made text d count h t
-make_count None e new first delay room (Ok None) text d count h t = absurd (tells_nothing _ _ refl t)
-make_count None e new first delay room (Err fault) text d count h t = absurd (tells_nothing _ _ refl t)
 make_count (Some fault) e new first delay room r text d count h t = absurd (tells_nothing _ _ (ap (λ x. map frames_in (texts_of x text)) h.0) t)
+make_count None e new first delay room r text d count h t = absurd (tells_nothing _ _ refl t)
 
 -- each count that these packets tell is at most the granted one
 abbrev pub TellCounts : End → Packets → Type 0

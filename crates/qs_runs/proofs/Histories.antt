@@ -50,7 +50,9 @@ use Rattle.qs_calls.specs.declared.settings.Settings.{Settings}
 use Rattle.qs_calls.specs.declared.token.TokenFault.TheVariants as tokens
 use Rattle.qs_machine.specs.Owner.{Certain, first_refusal, refuse_if}
 use Rattle.qs_machine.specs.Alone.{is_ours, TokenAckedStep}
-use Rattle.qs_runs.proofs.Lists.{All_at, slice_get-append}
+use Rattle.qs_runs.proofs.Lists.{slice_get-append}
+use Rattle.qs_machine.proofs.Pieces.{All_at}
+use Rattle.qs_recv.specs.declared.half.Read.{Read}
 
 -- What an end lived through, as its history tells.
 
@@ -68,8 +70,7 @@ theirs_mine B h = refl
 
 -- and what the other side made is what comes to it
 pub mine_theirs : (s : Side) (h : History) → (past s h).theirs ≡ (past (other s) h).mine
-mine_theirs A h = refl
-mine_theirs B h = refl
+mine_theirs _ h = refl
 
 -- One more event
 
@@ -158,23 +159,20 @@ past_came A B k bytes result h = refl
 past_came B A k bytes result h = refl
 past_came B B k bytes result h = refl
 
+consumed_calls : (s : Side) (n most : ℕ) (read : Read) (bytes : Vec ℕ) (h : History) (b : Bool)
+    → past_of ((end_read b n bytes ++ (acts.ReadUpTo n most, answers.ReadUpTo (Ok read) bytes) ∷ []) ++ own_calls s h) (packets_of s h ++ []) (packets_of (other s) h ++ []) (λ k. processed s k h) (λ k i. took s k i h) (λ k. was_acked s k h) ≡
+    with_uses (past s h) (end_read b n bytes ++ (acts.ReadUpTo n most, answers.ReadUpTo (Ok read) bytes) ∷ [])
+consumed_calls s n most read bytes h true =
+    λ i. past_of ((acts.ReadUpTo n 0, answers.ReadUpTo (Ok reads.End) bytes) ∷ (acts.ReadUpTo n most, answers.ReadUpTo (Ok read) bytes) ∷ own_calls s h) (append-nil (packets_of s h) i) (append-nil (packets_of (other s) h) i) (λ k. processed s k h) (λ k i. took s k i h) (λ k. was_acked s k h)
+consumed_calls s n most read bytes h false = λ i. past_of ((acts.ReadUpTo n most, answers.ReadUpTo (Ok read) bytes) ∷ own_calls s h) (append-nil (packets_of s h) i) (append-nil (packets_of (other s) h) i) (λ k. processed s k h) (λ k i. took s k i h) (λ k. was_acked s k h)
+
 -- bytes are taken without a copy
 pub past_consumed : (s : Side) (n most : ℕ) (result : Result Consumed UseFault) (bytes : Vec ℕ) (h : History) → past s (ConsumedUpTo s n most result bytes ∷ h) ≡ with_uses (past s h) (reads_of n most result bytes)
 unfolding own_calls packets_of processed took was_acked
 past_consumed A n most (Err fault) bytes h = λ i. past_of (own_calls A h) (append-nil (packets_of A h) i) (append-nil (packets_of B h) i) (λ k. processed A k h) (λ k i. took A k i h) (λ k. was_acked A k h)
 past_consumed B n most (Err fault) bytes h = λ i. past_of (own_calls B h) (append-nil (packets_of B h) i) (append-nil (packets_of A h) i) (λ k. processed B k h) (λ k i. took B k i h) (λ k. was_acked B k h)
-past_consumed A n most (Ok consumed) bytes h = go consumed.at_end
-  where
-    go : (b : Bool) → past_of ((end_read b n bytes ++ (acts.ReadUpTo n most, answers.ReadUpTo (Ok consumed.read) bytes) ∷ []) ++ own_calls A h) (packets_of A h ++ []) (packets_of B h ++ []) (λ k. processed A k h) (λ k i. took A k i h) (λ k. was_acked A k h) ≡
-        with_uses (past A h) (end_read b n bytes ++ (acts.ReadUpTo n most, answers.ReadUpTo (Ok consumed.read) bytes) ∷ [])
-    go true = λ i. past_of ((acts.ReadUpTo n 0, answers.ReadUpTo (Ok reads.End) bytes) ∷ (acts.ReadUpTo n most, answers.ReadUpTo (Ok consumed.read) bytes) ∷ own_calls A h) (append-nil (packets_of A h) i) (append-nil (packets_of B h) i) (λ k. processed A k h) (λ k i. took A k i h) (λ k. was_acked A k h)
-    go false = λ i. past_of ((acts.ReadUpTo n most, answers.ReadUpTo (Ok consumed.read) bytes) ∷ own_calls A h) (append-nil (packets_of A h) i) (append-nil (packets_of B h) i) (λ k. processed A k h) (λ k i. took A k i h) (λ k. was_acked A k h)
-past_consumed B n most (Ok consumed) bytes h = go consumed.at_end
-  where
-    go : (b : Bool) → past_of ((end_read b n bytes ++ (acts.ReadUpTo n most, answers.ReadUpTo (Ok consumed.read) bytes) ∷ []) ++ own_calls B h) (packets_of B h ++ []) (packets_of A h ++ []) (λ k. processed B k h) (λ k i. took B k i h) (λ k. was_acked B k h) ≡
-        with_uses (past B h) (end_read b n bytes ++ (acts.ReadUpTo n most, answers.ReadUpTo (Ok consumed.read) bytes) ∷ [])
-    go true = λ i. past_of ((acts.ReadUpTo n 0, answers.ReadUpTo (Ok reads.End) bytes) ∷ (acts.ReadUpTo n most, answers.ReadUpTo (Ok consumed.read) bytes) ∷ own_calls B h) (append-nil (packets_of B h) i) (append-nil (packets_of A h) i) (λ k. processed B k h) (λ k i. took B k i h) (λ k. was_acked B k h)
-    go false = λ i. past_of ((acts.ReadUpTo n most, answers.ReadUpTo (Ok consumed.read) bytes) ∷ own_calls B h) (append-nil (packets_of B h) i) (append-nil (packets_of A h) i) (λ k. processed B k h) (λ k i. took B k i h) (λ k. was_acked B k h)
+past_consumed A n most (Ok consumed) bytes h = consumed_calls A n most consumed.read bytes h consumed.at_end
+past_consumed B n most (Ok consumed) bytes h = consumed_calls B n most consumed.read bytes h consumed.at_end
 
 pub past_peer_consumed : (s : Side) (n most : ℕ) (result : Result Consumed UseFault) (bytes : Vec ℕ) (h : History) → past (other s) (ConsumedUpTo s n most result bytes ∷ h) ≡ past (other s) h
 unfolding own_calls packets_of processed took was_acked
@@ -269,8 +267,7 @@ faultless_at (t ∷ texts) (suc k) text all is = faultless_at texts k text all.1
 made_faultless : (o : Option MakeFault) (e : End) (first delay room : ℕ) (answer : Result (Option Made) MakeFault) (text : List ℕ) (new : End) → MakeAt o e first delay room answer text new → AreFaultless (texts_of answer text)
 made_faultless None e first delay room (Ok (Some made)) text new h = ((text_faultless delay h.frames text h.lawful.some h.spells, text_fits delay h.frames text h.lawful.some h.spells), tt)
 made_faultless (Some fault) e first delay room (Ok (Some made)) text new h = absurd (cc (h.0))
-made_faultless o e first delay room (Ok None) text new h = tt
-made_faultless o e first delay room (Err fault) text new h = tt
+made_faultless o e first delay room _ text new h = tt
 
 pub packet_faultless : (e : End) (first delay room : ℕ) (answer : Result (Option Made) MakeFault) (text : List ℕ) (new : End) → MakeStep e first delay room answer text new → AreFaultless (texts_of answer text)
 packet_faultless e first delay room answer text new step = made_faultless (make_refusal e) e first delay room answer text new step
@@ -292,34 +289,31 @@ module _ (h : History) (s : Side) where
 
   pub parts_held : (parts : List Part) (fs : List FrameValue) → AreFramesOf h s parts fs → AreHeldAt (past (other s) h).theirs parts fs
   parts_held [] [] are = tt
-  parts_held [] (f ∷ fs) are = absurd are
-  parts_held (part ∷ parts) [] are = absurd are
   parts_held (part ∷ parts) (f ∷ fs) (is, are) = (part_held part f is, parts_held parts fs are)
+  parts_held _ _ are = absurd are
 
   -- each has a text
   pub parts_fit : AreFaultless (made s h) → (parts : List Part) (fs : List FrameValue) → AreFramesOf h s parts fs → AllByRecursion Fits fs
   parts_fit texts [] [] are = tt
-  parts_fit texts [] (f ∷ fs) are = absurd are
-  parts_fit texts (part ∷ parts) [] are = absurd are
   parts_fit texts (part ∷ parts) (f ∷ fs) ((text, is, at), are) = (found (frames_of (reading_of text).left) part.place (faultless_at (made s h) part.number text texts is).1 at, parts_fit texts parts fs are)
     where
       found : (all : List FrameValue) (i : ℕ) → AllByRecursion Fits all → slice_get all i ≡ Some f → Fits f
       found [] i fit at = absurd (none-some f at)
       found (v ∷ all) zero fit at = subst Fits (same_Some v f at) fit.0
       found (v ∷ all) (suc i) fit at = found all i fit.1 at
+  parts_fit texts _ _ are = absurd are
 
   -- they are the only ones
   pub parts_same : (parts : List Part) (fs gs : List FrameValue) → AreFramesOf h s parts fs → AreFramesOf h s parts gs → fs ≡ gs
   parts_same [] [] [] x y = refl
-  parts_same [] [] (g ∷ gs) x y = absurd y
   parts_same [] (f ∷ fs) gs x y = absurd x
   parts_same (part ∷ parts) [] gs x y = absurd x
-  parts_same (part ∷ parts) (f ∷ fs) [] x y = absurd y
   parts_same (part ∷ parts) (f ∷ fs) (g ∷ gs) ((text, is, at), x) ((t, there, found), y) =
       let text_same : text ≡ t = same_Some text t (sym is ∙ there) in
       let one : f ≡ g = same_Some f g (sym at ∙ ap (λ bs. slice_get (frames_of (reading_of bs).left) part.place) text_same ∙ found) in
       let more : fs ≡ gs = parts_same parts fs gs x y in
       λ j. one j ∷ more j
+  parts_same _ _ gs x y = absurd y
 
 -- What a token told landed, and what landed took effect.
 
@@ -348,19 +342,17 @@ still_landed h x s k (inr (text, is, all)) =
     inr (text, slice_get-append (made s h) (made_now s x) k text is, λ i f at ours. or_cond (takes_frame (other s) k i x) (took (other s) k i h) (all i f at ours))
 
 same_sides : (s t : Side) → same_side s t ≡ true → t ≡ s
-same_sides A A is = refl
 same_sides A B is = absurd (false≢true is)
 same_sides B A is = absurd (false≢true is)
-same_sides B B is = refl
+same_sides _ _ is = refl
 
 -- the end took the token, so it is of its epoch
 told_is_own : (e new : End) (t : Token) (result : Result (Unit {0}) TokenFault) → TokenAckedStep e t result new → was_told result ≡ true → t.epoch ≡ e.tuning.epoch
 told_is_own e new t result step told = eqb-true t.epoch e.tuning.epoch (go _ (is_some e.closed) (nat_eq t.epoch e.tuning.epoch) (nat_le t.first t.number && nat_lt t.number e.next) step)
   where
     go : (E : Type 0) (closed own made : Bool) → Certain (first_refusal (refuse_if closed tokens.Closed) (refuse_if (not (own && made)) tokens.NotGiven)) e result new E → own ≡ true
-    go E true own made h = absurd (false≢true (sym (ap was_told h.0) ∙ told))
-    go E false false made h = absurd (false≢true (sym (ap was_told h.0) ∙ told))
     go E false true made h = refl
+    go E _ own made h = absurd (false≢true (sym (ap was_told h.0) ∙ told))
 
 -- what a token tells landed before
 landed_before : (h : History) (v w : World) (x : Happening) → WorldStep h v x w → (s : Side) (k : ℕ) → tells_acked s k x ≡ true → HasLanded h s k
@@ -368,17 +360,7 @@ landed_before h v w (AckedToken end token result) ((landed, step), same) s k is 
     let (here, both) = and_parts (same_side s end) (was_told result && is_in token k) is in
     let (told, among) = and_parts (was_told result) (is_in token k) both in
     subst (λ t. HasLanded h t k) (same_sides s end here) (landed (told_is_own (end_of v end) (end_of w end) token result step told) k among)
-landed_before h v w (Did event answer) step s k is = absurd (false≢true is)
-landed_before h v w (MadeAck end room result text) step s k is = absurd (false≢true is)
-landed_before h v w (FilledIn end want room result text) step s k is = absurd (false≢true is)
-landed_before h v w (ConsumedUpTo end n most result bytes) step s k is = absurd (false≢true is)
-landed_before h v w (LostToken end token result) step s k is = absurd (false≢true is)
-landed_before h v w (RaisedLimits end limits result) step s k is = absurd (false≢true is)
-landed_before h v w (HasSet end setting result) step s k is = absurd (false≢true is)
-landed_before h v w (Forgot end n code result) step s k is = absurd (false≢true is)
-landed_before h v w (AcceptedOf end d result) step s k is = absurd (false≢true is)
-landed_before h v w (CameWith end number bytes result) step s k is = absurd (false≢true is)
-landed_before h v w (CameAlone end parts result) step s k is = absurd (false≢true is)
+landed_before h v w _ step s k is = absurd (false≢true is)
 
 pub step_lands : (h : History) (v w : World) (x : Happening) → WorldStep h v x w → ((s : Side) (k : ℕ) → was_acked s k h ≡ true → HasLanded h s k) → (s : Side) (k : ℕ) → was_acked s k (x ∷ h) ≡ true → HasLanded (x ∷ h) s k
 unfolding was_acked

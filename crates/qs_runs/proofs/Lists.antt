@@ -1,7 +1,5 @@
 -- Lists by place, and by what is in them.
-use Rattle.std.proofs.Common.{◌≡◌, ℕ, zero, suc, ◌+◌, ◌-◌, ◌≤◌, Bool, true, false, List, [], ◌∷◌, ◌++◌, ◌⊎◌, length, take, drop, reverse, Some, slice_get, refl, sym, ap, ◌∙◌, subst, arith, inl, inr, length-append, append-nil, if◌then◌else◌}
-use Rattle.std.specs.List.{AllByRecursion, filter}
-use Rattle.std.proofs.lemmas.Grind.{reverse_onto}
+use Rattle.std.proofs.Common.{◌≡◌, ℕ, zero, suc, ◌+◌, ◌-◌, ◌≤◌, List, [], ◌∷◌, ◌++◌, ◌⊎◌, length, take, drop, Some, slice_get, refl, sym, ap, ◌∙◌, arith, inl, inr, length-append, append-nil}
 use Rattle.std.proofs.lemmas.Option.{none-some, same_Some}
 use Rattle.qs_send.specs.Records.{Among}
 use Rattle.qs_runs.specs.Agree.{IsPrefixOf}
@@ -24,10 +22,9 @@ module _ {X : Type 0} where
   slice_get-last (x ∷ xs) y = slice_get-last xs y
 
   pub slice_get-take : (n : ℕ) (xs : List X) (i : ℕ) (x : X) → slice_get (take n xs) i ≡ Some x → slice_get xs i ≡ Some x
-  slice_get-take zero xs i x e = absurd (none-some x e)
-  slice_get-take (suc n) [] i x e = absurd (none-some x e)
   slice_get-take (suc n) (y ∷ xs) zero x e = e
   slice_get-take (suc n) (y ∷ xs) (suc i) x e = slice_get-take n xs i x e
+  slice_get-take _ xs i x e = absurd (none-some x e)
 
   pub slice_get-drop : (n : ℕ) (xs : List X) (i : ℕ) (x : X) → slice_get (drop n xs) i ≡ Some x → slice_get xs (n + i) ≡ Some x
   slice_get-drop zero xs i x e = (let same : 0 + i ≡ i = omega arith in rw same e)
@@ -90,34 +87,6 @@ module _ {X : Type 0} where
   Among_last (z ∷ xs) x = inr (Among_last xs x)
 
   pub Among_take : (k : ℕ) (xs : List X) (x : X) → Among x (take k xs) → Among x xs
-  Among_take zero xs x a = absurd a
-  Among_take (suc k) [] x a = absurd a
   Among_take (suc k) (y ∷ xs) x (inl e) = inl e
   Among_take (suc k) (y ∷ xs) x (inr a) = inr (Among_take k xs x a)
-
-  pub All_append : (P : X → Type 0) (xs ys : List X) → AllByRecursion P xs → AllByRecursion P ys → AllByRecursion P (xs ++ ys)
-  All_append P [] ys a b = b
-  All_append P (x ∷ xs) ys a b = (a.0, All_append P xs ys a.1 b)
-
-  pub All_take : (P : X → Type 0) (n : ℕ) (xs : List X) → AllByRecursion P xs → AllByRecursion P (take n xs)
-  All_take P zero xs a = tt
-  All_take P (suc n) [] a = tt
-  All_take P (suc n) (x ∷ xs) a = (a.0, All_take P n xs a.1)
-
-  -- each element has it, so this one does
-  pub All_at : (P : X → Type 0) (xs : List X) (x : X) → AllByRecursion P xs → Among x xs → P x
-  All_at P [] x all a = absurd a
-  All_at P (y ∷ xs) x all (inl e) = rw e all.0
-  All_at P (y ∷ xs) x all (inr a) = All_at P xs x all.1 a
-
-  pub All_filter : (p : X → Bool) (xs : List X) → AllByRecursion (λ x. p x ≡ true) (filter p xs)
-  All_filter p [] = tt
-  All_filter p (x ∷ xs) = go (All_filter p xs) (p x) refl
-    where
-      go : AllByRecursion (λ y. p y ≡ true) (filter p xs) → (b : Bool) → p x ≡ b → AllByRecursion (λ y. p y ≡ true) (if b then x ∷ filter p xs else filter p xs)
-      go rest true e = (e, rest)
-      go rest false e = rest
-
-  pub All_reverse : (P : X → Type 0) (xs : List X) → AllByRecursion P xs → AllByRecursion P (reverse xs)
-  All_reverse P [] a = tt
-  All_reverse P (x ∷ xs) a = subst (AllByRecursion P) (sym (reverse_onto xs x [])) (All_append P (reverse xs) (x ∷ []) (All_reverse P xs a.1) (a.0, tt))
+  Among_take _ xs x a = absurd a

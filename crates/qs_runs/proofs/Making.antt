@@ -8,7 +8,7 @@ use Rattle.qs_recv.specs.Lane.{RecvLane}
 use Rattle.qs_send.specs.Lane.{SendLane, sent_lane, blocked_lane, bytes_of, unacked_from}
 use Rattle.qs_send.specs.declared.parts.Chunk.{Chunk}
 use Rattle.qs_send.specs.declared.piece.Item.{Item}
-use Rattle.qs_send.specs.declared.piece.Item.TheVariants.{MaxData, MaxStreamData, MaxStreams, ResetStream, StopSending, DataBlocked, StreamDataBlocked, StreamsBlocked}
+use Rattle.qs_send.specs.declared.piece.Item.TheVariants.{MaxData, MaxStreamData, ResetStream, StopSending, DataBlocked, StreamDataBlocked}
 use Rattle.qs_send.specs.declared.piece.Piece.{Piece}
 use Rattle.qs_send.specs.declared.piece.Piece.TheVariants.{Data, Told}
 use Rattle.qs_machine.specs.Tables.{lookup, update, updated}
@@ -33,14 +33,12 @@ FrameTrue p e (Ack largest ranges) = AckTrue p.processed largest ranges
 FrameTrue p e (Stream n offset bytes fin) = (l : SendLane) × (lookup e.sends n ≡ Some l) × ChunkTrue (p.bytes n) l.written l.sent_end l.fin_sent offset bytes fin
 FrameTrue p e (Control (MaxData m)) = m ≤ e.granted
 FrameTrue p e (Control (MaxStreamData n m)) = (l : RecvLane) × (lookup e.recvs n ≡ Some l) × (m ≤ l.limit)
-FrameTrue p e (Control (MaxStreams d m)) = Unit {0}
 FrameTrue p e (Control (ResetStream n code size)) = (l : SendLane) × (lookup e.sends n ≡ Some l) × (l.was_reset ≡ Some (record { code = code; size = size }))
 FrameTrue p e (Control (StopSending n code)) = (l : RecvLane) × (lookup e.recvs n ≡ Some l)
-FrameTrue p e (Control (DataBlocked m)) = Unit {0}
 FrameTrue p e (Control (StreamDataBlocked n m)) = (l : SendLane) × (lookup e.sends n ≡ Some l)
-FrameTrue p e (Control (StreamsBlocked d m)) = Unit {0}
 FrameTrue p e (Close code) = ⊥
 FrameTrue p e (Plain asks) = asks ≡ true
+FrameTrue p e _ = Unit {0}
 
 true_is_made : (p : Past) (e : End) (f : Seen) → FrameTrue p e f → IsMade f
 true_is_made p e (Close c) t = absurd t
@@ -237,12 +235,10 @@ module _ (p : Past) (pre : List Seen) where
   item_true : (e : End) (i : Item) → IsCurrent e i → FrameTrue (with_packet p pre) (counted e) (Control i)
   item_true e (MaxData m) (is, more) = omega arith
   item_true e (MaxStreamData n m) (l, lane, is, more, unknown) = (l, lane, omega arith)
-  item_true e (MaxStreams d m) c = tt
   item_true e (ResetStream n code size) c = c
   item_true e (StopSending n code) c = (c.0, c.1)
-  item_true e (DataBlocked m) c = tt
   item_true e (StreamDataBlocked n m) c = (c.0, c.1)
-  item_true e (StreamsBlocked d m) c = tt
+  item_true e _ c = tt
 
   -- the item's mark on its lane
   item_marked : (e : End) (i : Item) → EndHas (with_packet p pre) (counted e) 0 → EndHas (with_packet p pre) (counted (item_put i e)) 0
@@ -283,8 +279,7 @@ module _ (p : Past) (old : End) (kept : (k : ℕ) → set.contains old.done k �
   put_step pre e (Control i) (due_then, due) at ok =
       let put : EndHas (with_packet p (pre ++ Control i ∷ [])) (counted e) 0 = packet_put p pre (counted e) (Control i) ok (item_true p pre e i due.0) (ap (λ x. x + 1) at) in
       note_ok p pre (item_put i e) (Control i) (Told i) (frame_put_next (Control i) e ∙ at) (item_marked p (pre ++ Control i ∷ []) e i put) (packet_has p.mine pre (Control i))
-  put_step pre e (Close c) may at ok = absurd may
-  put_step pre e (Plain asks) may at ok = absurd may
+  put_step pre e _ may at ok = absurd may
 
   fills_ok : (fs pre : List Seen) (e mid : End) → Fills old e fs mid → e.next ≡ length p.mine → EndHas (with_packet p pre) (counted e) 0 → EndHas (with_packet p (pre ++ fs)) (counted mid) 0
   fills_ok [] pre e mid is at ok = subst (λ fs. EndHas (with_packet p fs) (counted mid) 0) (sym (append-nil pre)) (subst (λ x. EndHas (with_packet p pre) (counted x) 0) (sym is) ok)

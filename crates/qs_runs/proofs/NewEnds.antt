@@ -1,5 +1,5 @@
 -- A new end meets the invariant: nothing was made, written or read.
-use Rattle.std.proofs.Common.{◌≡◌, ℕ, true, false, [], length, Option, None, Some, Result, Ok, Err, is_some, sym, ap, ◌∙◌, subst, arith, inl, nat_cmp}
+use Rattle.std.proofs.Common.{◌≡◌, ℕ, true, false, [], length, Option, None, Result, Ok, is_some, sym, ap, ◌∙◌, subst, arith, inl, nat_cmp}
 use Rattle.std.proofs.lemmas.Option.{none-some}
 use Rattle.std.proofs.lemmas.Bool.{false≢true}
 use Rattle.std.specs.FinSet as set
@@ -85,17 +85,15 @@ pub made_first : (a b : Settings) (x y : Tuning) (of_a of_b : PeerLimits) (w : W
 made_first a b x y of_a of_b w is = go (wide_setup_fault a of_b) (wide_setup_fault b of_a) is
   where
     go : (p q : Option SetupFault) → both_made (end_unless p (new_end Client a x of_b)) (end_unless q (new_end Server b y of_a)) ≡ Ok w → w ≡ first_world a b x y of_a of_b
-    go (Some fault) q e = absurd (cc)
-    go None (Some fault) e = absurd (cc)
     go None None e = cc
+    go _ q e = absurd (cc)
 
 -- each end of it was made
 two_made : (x y : Result End SetupFault) (w : World) → both_made x y ≡ Ok w → (x ≡ Ok w.a) × (y ≡ Ok w.b)
-two_made (Err fault) y w e = absurd (cc)
-two_made (Ok c) (Err fault) w e = absurd (cc)
 two_made (Ok c) (Ok s) w e =
     let same : record { a = c; b = s } ≡ w = cc in
     (ap (λ (x : World). Ok x.a) same, ap (λ (x : World). Ok x.b) same)
+two_made _ y w e = absurd (cc)
 
 pub ends_made : (a b : Settings) (x y : Tuning) (of_a of_b : PeerLimits) (w : World) → begun_with a b x y of_a of_b ≡ Ok w → (wide_end_made Client a x of_b ≡ Ok w.a) × (wide_end_made Server b y of_a ≡ Ok w.b)
 ends_made a b x y of_a of_b w is = two_made (wide_end_made Client a x of_b) (wide_end_made Server b y of_a) w is

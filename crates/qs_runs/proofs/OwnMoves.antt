@@ -34,7 +34,7 @@ use Rattle.qs_calls.specs.declared.uses.OpenFault.TheVariants as opening
 use Rattle.qs_calls.specs.declared.uses.UseFault.{UseFault}
 use Rattle.qs_calls.specs.declared.uses.UseFault.TheVariants.{NoMemory, Closed}
 use Rattle.qs_machine.specs.Tables.{lookup, update, updated, Tables, table}
-use Rattle.qs_machine.specs.Credit.{settle, all_taken, all_sent}
+use Rattle.qs_machine.specs.Credit.{settle, all_taken}
 use Rattle.qs_machine.specs.Seen.{Seen, seen_all, Control}
 use Rattle.qs_machine.specs.Due.{known_count}
 use Rattle.qs_machine.specs.Owner.{first_refusal, refuse_if, send_refusal, recv_refusal, is_read_no_more, half_refusal, no_half, opened_count, own_type, peer_type, with_wanted, OpenStep, IsBlocked, IsOpened, AcceptStep, AcceptOfStep, GivesNone, GivesBidi, GivesUni, AcceptOpen, AcceptOpenOf, WriteStep, FinishStep, ResetStep, StopStep, ReadStep, ReadBy, next_stream, accepted_by, consumed, is_end as is_told_end, Certain, StopAndForgetStep}
@@ -47,7 +47,7 @@ use Rattle.qs_runs.specs.Logs.{texts_of, wrote_by, read_by, end_read, reads_of, 
 use Rattle.qs_runs.specs.Worlds.{OwnStep, AreTaken, TakesBytes}
 use Rattle.qs_runs.specs.Agree.{frames_in}
 use Rattle.qs_machine.proofs.TableLaws.{lookup_same, value, with_same, with_other, lookup_in, total_le}
-use Rattle.qs_runs.proofs.Changes.{Grows, Grows_refl, send_alike, send_same, recv_alike, granted_more, send_kept, settle_ok, window_ok, write_allowed, wrote_ok, with_bytes, not_at_end, end_by_fin, read_bytes_ok, read_told_ok, told_grows, stop_ok, stop_grows, recv_view}
+use Rattle.qs_runs.proofs.Changes.{Grows, Grows_refl, send_alike, send_same, recv_alike, granted_more, send_kept, settle_ok, window_ok, write_allowed, wrote_ok, with_bytes, not_at_end, end_by_fin, read_bytes_ok, read_told_ok, told_grows, stop_ok, stop_grows, recv_view, some_mapped, end_anew}
 use Rattle.qs_runs.proofs.Making.{made_ok, claimed_ok}
 use Rattle.qs_runs.proofs.Standing.{certain_cases, uncertain_cases}
 use Rattle.qs_runs.proofs.Wire.{text_seen, ping_seen}
@@ -59,6 +59,7 @@ use Rattle.qs_send.specs.declared.piece.Item.TheVariants.{MaxData, MaxStreamData
 use Rattle.qs_calls.specs.declared.settings.PeerLimits.{PeerLimits}
 use Rattle.qs_calls.specs.declared.settings.RaiseFault.{RaiseFault}
 use Rattle.qs_machine.specs.Raising.{knows_limits, type_allowed, with_allowed, limits_raised, raise_refusal, RaiseStep}
+use Rattle.qs_machine.proofs.EveryCall.{by_test, same_either}
 
 -- Pieces of a packet that are lost: each stood in that packet, and stands in its lost record now.
 
@@ -132,8 +133,7 @@ uses_made p (c ∷ cs) = uses_made p cs
 abbrev pub with_read : Past → ℕ → Read → List ℕ → Past
 with_read p n (reads.Bytes count) given = record p { gave = λ m. p.gave m ++ (if m == n then given else []) }
 with_read p n reads.End given = record p { ended = λ m. if m == n && not (p.stopped m) then true else p.ended m }
-with_read p n (reads.Reset code) given = p
-with_read p n reads.Wait given = p
+with_read p n _ given = p
 
 -- A call that writes, reads, stops and makes nothing leaves it as it was.
 quiet : (p : Past) (act : Act) (answer : Answer) → seen_by act answer ≡ [] → ((n : ℕ) → wrote_by n act answer ≡ []) → ((n : ℕ) → read_by n act answer ≡ []) →
@@ -151,8 +151,7 @@ quiet p act answer a b c d f =
 read_use : (p : Past) (n size : ℕ) (a : Read) (bytes : Vec ℕ) → with_use p (acts.ReadUpTo n size) (answers.ReadUpTo (Ok a) bytes) ≡ with_read p n a bytes.items
 read_use p n size (reads.Bytes count) bytes = λ i. record p { bytes = λ m. append-nil (p.bytes m) i; gave = λ m. p.gave m ++ (if m == n then bytes.items else []) }
 read_use p n size reads.End bytes = λ i. record p { bytes = λ m. append-nil (p.bytes m) i; gave = λ m. append-nil (p.gave m) i; ended = λ m. if m == n && not (p.stopped m) then true else p.ended m }
-read_use p n size (reads.Reset code) bytes = λ i. record p { bytes = λ m. append-nil (p.bytes m) i; gave = λ m. append-nil (p.gave m) i }
-read_use p n size reads.Wait bytes = λ i. record p { bytes = λ m. append-nil (p.bytes m) i; gave = λ m. append-nil (p.gave m) i }
+read_use p n size _ bytes = λ i. record p { bytes = λ m. append-nil (p.bytes m) i; gave = λ m. append-nil (p.gave m) i }
 
 -- What speaks against a call
 
@@ -197,39 +196,27 @@ module _ (p : Past) (e new : End) (ok : EndOk p e) where
       by false gt (inl h) = ended_by p _ new h.1 ok
       by false gt (inr h) = ended_by p _ new h.1 (settle_ok p _ (own_opened p e (next_stream e d) ok (next_own e d) (next_below e d (leb-false _ _ gt))))
 
+  gives_none : (answer : Option ℕ) → GivesNone e answer new → EndOk p new
+  gives_none answer h = ended_by p _ new h.1 ok
+
+  gives_bidi : (answer : Option ℕ) → GivesBidi e answer new → EndOk p new
+  gives_bidi answer h = ended_by p _ new h.1 (settle_ok p _ (rest_ok p e (e.accepted_bidi + 1) e.accepted_uni e.wanted_bidi e.wanted_uni ok))
+
+  gives_uni : (answer : Option ℕ) → GivesUni e answer new → EndOk p new
+  gives_uni answer h =
+      by_test (EndOk p new) _ ((answer ≡ Some (e.accepted_uni * 4 + peer_type e Uni)) × (new ≡ settle (record e { accepted_uni = e.accepted_uni + 1 }))) (GivesNone e answer new) h
+      (λ is. ended_by p _ new is.1 (settle_ok p _ (rest_ok p e e.accepted_bidi (e.accepted_uni + 1) e.wanted_bidi e.wanted_uni ok))) (gives_none answer)
+
   accept_moves : (answer : Option ℕ) → AcceptStep e answer new → EndOk p new
-  accept_moves answer step = first _ step
-    where
-      third : (b : Bool) → MatchBool b ((answer ≡ Some (e.accepted_uni * 4 + peer_type e Uni)) × (new ≡ settle (record e { accepted_uni = e.accepted_uni + 1 }))) (GivesNone e answer new) → EndOk p new
-      third true h = ended_by p _ new h.1 (settle_ok p _ (rest_ok p e e.accepted_bidi (e.accepted_uni + 1) e.wanted_bidi e.wanted_uni ok))
-      third false h = ended_by p _ new h.1 ok
-
-      second : (b : Bool) → MatchBool b (GivesBidi e answer new) (GivesUni e answer new) → EndOk p new
-      second true h = ended_by p _ new h.1 (settle_ok p _ (rest_ok p e (e.accepted_bidi + 1) e.accepted_uni e.wanted_bidi e.wanted_uni ok))
-      second false h = third _ h
-
-      first : (b : Bool) → MatchBool b (GivesNone e answer new) (AcceptOpen e answer new) → EndOk p new
-      first true h = ended_by p _ new h.1 ok
-      first false h = second _ h
+  accept_moves answer step =
+      by_test (EndOk p new) _ (GivesNone e answer new) (AcceptOpen e answer new) step (gives_none answer)
+      (λ goes. by_test (EndOk p new) _ (GivesBidi e answer new) (GivesUni e answer new) goes (gives_bidi answer) (gives_uni answer))
 
   pub accept_of_moves : (d : Dir) (answer : Option ℕ) → AcceptOfStep e d answer new → EndOk p new
-  accept_of_moves d answer step = first _ step
-    where
-      uni : (b : Bool) → MatchBool b ((answer ≡ Some (e.accepted_uni * 4 + peer_type e Uni)) × (new ≡ settle (record e { accepted_uni = e.accepted_uni + 1 }))) (GivesNone e answer new) → EndOk p new
-      uni true h = ended_by p _ new h.1 (settle_ok p _ (rest_ok p e e.accepted_bidi (e.accepted_uni + 1) e.wanted_bidi e.wanted_uni ok))
-      uni false h = ended_by p _ new h.1 ok
-
-      bidi : (b : Bool) → MatchBool b (GivesBidi e answer new) (GivesNone e answer new) → EndOk p new
-      bidi true h = ended_by p _ new h.1 (settle_ok p _ (rest_ok p e (e.accepted_bidi + 1) e.accepted_uni e.wanted_bidi e.wanted_uni ok))
-      bidi false h = ended_by p _ new h.1 ok
-
-      of : (d : Dir) → AcceptOpenOf e d answer new → EndOk p new
-      of Bidi h = bidi _ h
-      of Uni h = uni _ h
-
-      first : (b : Bool) → MatchBool b (GivesNone e answer new) (AcceptOpenOf e d answer new) → EndOk p new
-      first true h = ended_by p _ new h.1 ok
-      first false h = of d h
+  accept_of_moves Bidi answer step =
+      by_test (EndOk p new) _ (GivesNone e answer new) (AcceptOpenOf e Bidi answer new) step (gives_none answer)
+      (λ goes. by_test (EndOk p new) _ (GivesBidi e answer new) (GivesNone e answer new) goes (gives_bidi answer) (gives_none answer))
+  accept_of_moves Uni answer step = by_test (EndOk p new) _ (GivesNone e answer new) (AcceptOpenOf e Uni answer new) step (gives_none answer) (gives_uni answer)
 
   -- Sending
 
@@ -392,10 +379,9 @@ module _ (p : Past) (e new : End) (ok : EndOk p e) where
       by : (o : Option MakeFault) (answer : Result (Option Made) MakeFault) → MakeAt o e first delay room answer text new → EndOk (with_packets p (map frames_in (texts_of answer text))) new
       by (Some fault) answer h = silent _ (ap (λ x. map frames_in (texts_of x text)) h.0) h.2
       by None (Ok (Some made)) h = made_moves first delay room made text h
-      by None (Ok None) h = silent _ refl h.2
-      by None (Err making.NoMemory) h = silent _ refl h.2
       by None (Err making.Closed) h = absurd h
       by None (Err making.Exhausted) h = absurd h
+      by None answer h = silent _ refl h.2
 
   make_moves : (first delay room : ℕ) (answer : Result (Option Made) MakeFault) (text : Vec ℕ) → MakeStep e first delay room answer text.items new → EndOk (with_call p (acts.Make room) (answers.Make answer text)) new
   make_moves first delay room answer text step =
@@ -430,11 +416,7 @@ unfolding front
 none_in_front l = refl
 
 none_given : (p : Past) (n count : ℕ) → with_read p n (reads.Bytes count) [] ≡ p
-none_given p n count = λ i. record p { gave = λ m. (ap (λ x. p.gave m ++ x) (none (m == n)) ∙ append-nil (p.gave m)) i }
-  where
-    none : (b : Bool) → ◌≡◌ {A = List ℕ} (if b then [] else []) []
-    none true = refl
-    none false = refl
+none_given p n count = λ i. record p { gave = λ m. (ap (λ x. p.gave m ++ x) (same_either (λ x. x) (m == n) [] [] refl) ∙ append-nil (p.gave m)) i }
 
 module _ (p : Past) (e new : End) (ok : EndOk p e) (n most : ℕ) (bytes : Vec ℕ) where
   abbrev Ended : Result Consumed UseFault → Type 0
@@ -464,8 +446,7 @@ module _ (p : Past) (e new : End) (ok : EndOk p e) (n most : ℕ) (bytes : Vec �
               EndOk (with_uses p (end_read (is_told_end a) n bytes ++ (acts.ReadUpTo n most, answers.ReadUpTo (Ok (read_answer l most)) bytes) ∷ [])) after
           second (reads.Bytes count) h = subst (λ x. EndOk x after) (none_given (once l) n count) (subst (λ given. EndOk (with_read (once l) n (reads.Bytes count) given) after) (none_in_front (after_read l most)) h)
           second reads.End h = subst (λ x. EndOk x after) (sym (read_use (once l) n 0 reads.End bytes)) h
-          second (reads.Reset code) h = h
-          second reads.Wait h = h
+          second _ h = h
 
 lose_each_moves : (p : Past) (count first : ℕ) (e new : End) (answer : Result (Unit {0}) TokenFault) → EndOk p e → LosesEach count first e answer new → EndOk p new
 lose_each_moves p zero first e new answer ok step = ended_by p e new step.1 ok
@@ -495,17 +476,9 @@ own_moves p e new act answer ok step = absurd step
 -- What holds of an end in a run holds of it once windows, a buffer or a grant were set anew.
 
 set_ok : (p : Past) (e : End) (x : Setting) → EndOk p e → EndOk p (with_setting x e)
-set_ok p e (ConnWindow w) ok =
-    record {
-      sends = ok.sends;
-      recvs = ok.recvs;
-      packets = ok.packets;
-      taken = ok.taken;
-      credit = granted_more _ ok.credit (window_grows e.present.conn_window e.granted (all_taken e) w);
-      streams = ok.streams;
-    }
-set_ok p e (Grant Bidi n) ok = record { sends = ok.sends; recvs = ok.recvs; packets = ok.packets; taken = ok.taken; credit = ok.credit; streams = ok.streams }
-set_ok p e (Grant Uni n) ok = record { sends = ok.sends; recvs = ok.recvs; packets = ok.packets; taken = ok.taken; credit = ok.credit; streams = ok.streams }
+set_ok p e (ConnWindow w) ok = end_anew ok ok.sends (granted_more _ ok.credit (window_grows e.present.conn_window e.granted (all_taken e) w)) ok.streams
+set_ok p e (Grant Bidi n) ok = end_anew ok ok.sends ok.credit ok.streams
+set_ok p e (Grant Uni n) ok = end_anew ok ok.sends ok.credit ok.streams
 set_ok p e (SendBuffer n size) ok = send_kept p e n ok (λ m. buffer_lane m size) (λ l there h. (send_same h, refl))
 set_ok p e (StreamWindow n w) ok = window_ok p e n w ok
 
@@ -557,10 +530,6 @@ module _ (e : End) (n : ℕ) where
   pub allowed_at : lookup (with_allowed e).sends n ≡ option_map (λ (l : SendLane). allow_lane l (first_send_limit e n)) (lookup e.sends n)
   allowed_at = allowed_by (n % 4) refl
 
-some_allowed : (f : SendLane → SendLane) (o : Option SendLane) → is_some (option_map f o) ≡ is_some o
-some_allowed f None = refl
-some_allowed f (Some l) = refl
-
 sent_allowed : (limit : ℕ) (o : Option SendLane) → value (λ l. l.sent_end) (option_map (λ (l : SendLane). allow_lane l limit) o) ≤ value (λ l. l.sent_end) o
 sent_allowed limit None = omega arith
 sent_allowed limit (Some l) = omega arith
@@ -572,9 +541,8 @@ module _ (p : Past) (e : End) (q : PeerLimits) (ok : EndOk p e) where
   knows = knows_limits q e
 
   first_rises : (u o : Bool) → (if u then e.peer.uni else (if o then e.peer.bidi_remote else e.peer.bidi_local)) ≤ (if u then max e.peer.uni q.uni else (if o then max e.peer.bidi_remote q.bidi_remote else max e.peer.bidi_local q.bidi_local))
-  first_rises true o = omega arith
   first_rises false true = omega arith
-  first_rises false false = omega arith
+  first_rises _ o = omega arith
 
   -- what is known is at most the first limit, or was told
   told_raised : (known first more : ℕ) (f : ℕ → Seen) → (known ≤ first) ⊎ Tells p.theirs (f known) → (max known more ≤ max first more) ⊎ Tells p.theirs (f (max known more))
@@ -599,7 +567,7 @@ module _ (p : Past) (e : End) (q : PeerLimits) (ok : EndOk p e) where
   slot_allowed n (Some l) h = half_allowed n (first_send_limit e n) (first_send_limit knows n) l (first_rises (is_uni n) (is_own e n)) h
 
   open_raised : is_open (limits_raised q e).sends ≡ is_open e.sends
-  open_raised = λ i n. (ap is_some (allowed_at knows n) ∙ some_allowed _ (lookup e.sends n)) i
+  open_raised = λ i n. (ap is_some (allowed_at knows n) ∙ some_mapped _ (lookup e.sends n)) i
 
   pub raise_ok : EndOk p (limits_raised q e)
   raise_ok =

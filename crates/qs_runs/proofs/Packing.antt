@@ -54,10 +54,9 @@ fill_packs e new want room result text step = by (make_refusal e) refl result st
           step = subst (λ o. MakeAt o e want.first 0 (length text) (Ok (Some (as_made filled))) text new) (sym is) h.made;
           is = refl;
         })
-    by None is (Ok None) h = inr (refl, h.2)
-    by None is (Err making.NoMemory) h = inr (refl, h.2)
     by None is (Err making.Closed) h = absurd h
     by None is (Err making.Exhausted) h = absurd h
+    by None is r h = inr (refl, h.2)
 
 module _ (p : Past) (e new : End) (texts : List (List ℕ)) (packs : Packs e texts new) where
   pub packs_faultless : AreFaultless texts

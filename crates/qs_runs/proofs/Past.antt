@@ -1,9 +1,9 @@
 -- What packets tell, they tell when more were made.
-use Rattle.std.proofs.Common.{ℕ, Bool, List, [], ◌∷◌, ◌++◌, inl, inr}
-use Rattle.std.specs.List.{AllByRecursion}
+use Rattle.std.proofs.Common.{ℕ, Bool, ◌++◌, inl, inr}
 use Rattle.qs_machine.specs.Seen.{Seen}
 use Rattle.qs_runs.specs.Pasts.{Packets, Holds, Tells, TellsOffset, TellsByte, TellsEnd, TellsAck, WasConfirmed, HoldsAt, EachTaken, IsNamed}
 use Rattle.qs_runs.proofs.Lists.{slice_get-append}
+use Rattle.qs_machine.proofs.Pieces.{All_more}
 
 module _ (ps more : Packets) where
   pub Holds-more : (k : ℕ) (f : Seen) → Holds ps k f → Holds (ps ++ more) k f
@@ -41,13 +41,9 @@ module _ (ps more : Packets) where
   IsNamed-more n (f, m, t, names, same, le) = (f, m, Tells-more f t, names, same, le)
 
 -- what holds of each frame that was taken, and what follows from it
-all_taken : (P Q : Seen → Type 0) → ((f : Seen) → P f → Q f) → (fs : List Seen) → AllByRecursion P fs → AllByRecursion Q fs
-all_taken P Q more [] all = tt
-all_taken P Q more (f ∷ fs) all = (more f all.0, all_taken P Q more fs all.1)
-
 pub each_taken : (ps : Packets) (processed : ℕ → Bool) (took : ℕ → ℕ → Bool) (P Q : Seen → Type 0) → ((f : Seen) → P f → Q f) → EachTaken ps processed took P → EachTaken ps processed took Q
 each_taken ps processed took P Q more h =
     record {
-      packets = λ k is. (let (fs, there, all) = h.packets k is in (fs, there, all_taken P Q more fs all));
+      packets = λ k is. (let (fs, there, all) = h.packets k is in (fs, there, All_more P Q fs more all));
       frames = λ k i is. (let (f, holds, taken) = h.frames k i is in (f, holds, more f taken));
     }

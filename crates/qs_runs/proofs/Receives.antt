@@ -1,6 +1,6 @@
 -- What the peer made keeps the invariant of the end that it comes to, as a payload or as frames alone, and spends nothing when it comes again.
 use Rattle.std.proofs.Common.{◌≡◌, ℕ, ◌≤◌, ◌<◌, Bool, List, [], ◌∷◌, ◌++◌, ◌⊎◌, take, Option, Some, None, Result, Ok, Err, slice_get, true, false, if◌then◌else◌, ◌&&◌, ◌||◌, ◌==◌, refl, sym, ap, ◌∙◌, subst, arith, inl, inr, append-nil, append_assoc, zero, suc, MatchBool, ◌≢◌, ◌+◌, length, unwrap_or, is_some, nat_lt, le_antisymm}
-use Rattle.std.proofs.lemmas.Bool.{cases_lt, eqb-true, ltb-false, eq-eqb, and_right, false≢true, or_cases, and_parts, lt-ltb, true≢false}
+use Rattle.std.proofs.lemmas.Bool.{cases_lt, eqb-true, ltb-false, eq-eqb, and_right, false≢true, or_cases, and_parts, lt-ltb, true≢false, or_right}
 use Rattle.std.specs.FinSet as set
 use Rattle.std.specs.List.{AllByRecursion}
 use Rattle.qs_ranges.specs.Numbers.{NumberSet, numbers, missing_from, end_of}
@@ -23,15 +23,15 @@ use Rattle.qs_machine.specs.Seen.{Seen, Ack, Close, seen, seen_all, asks_ack, St
 use Rattle.qs_machine.specs.FrameStep.{named, frame_taken, is_named, item_taken}
 use Rattle.qs_machine.specs.Recording.{recorded, has_too_many, lowest_end, least_in}
 use Rattle.qs_machine.proofs.RunLaws.{least_above}
-use Rattle.qs_machine.proofs.EveryCall.{no_fault_there, by_open}
+use Rattle.qs_machine.proofs.EveryCall.{no_fault_there, by_open, same_either}
 use Rattle.qs_calls.specs.declared.answer.Answer.TheVariants as answers
 use Rattle.qs_runs.specs.Logs.{is_done, Part, is_among, is_taken, is_taken_at, was_told, is_in}
 use Rattle.qs_runs.specs.Agree.{frames_in, IsOld}
-use Rattle.qs_runs.proofs.Lists.{All_append, All_take, Among_right}
+use Rattle.qs_runs.proofs.Lists.{Among_right}
 use Rattle.qs_runs.proofs.Members.{insert-cases, insert-old, insert-new, cut-cases, cut-kept, run-cases, run-old, below-end, end-le}
 use Rattle.qs_runs.specs.Pasts.{Past, Tells, Packets, WasConfirmed, HoldsAt, EachTaken}
 use Rattle.qs_runs.specs.Invariant.{EndOk, FrameTaken, SendSlot, standing}
-use Rattle.qs_runs.proofs.Changes.{send_alike, every_stays, AllGrow, all_grow_refl, grow_trans, frame_stays, Grows, settle_ok, each_grows, raise_grows}
+use Rattle.qs_runs.proofs.Changes.{send_alike, AllGrow, all_grow_refl, grow_trans, frame_stays, Grows, settle_ok, each_grows, raise_grows}
 use Rattle.qs_runs.proofs.Acking.{acks_ok, named_pieces_ok, WasAcked}
 use Rattle.qs_machine.proofs.Leaves.{frame_leaves, acks_leave, stops_leave, end_leaves}
 use Rattle.qs_runs.proofs.Frames.{Effect, frame_keeps, new_recvs, lane_opened}
@@ -55,11 +55,13 @@ use Rattle.qs_runs.specs.Worlds.{HandedIn}
 use Rattle.qs_runs.proofs.Facing.{IsThere, there_taken}
 use Rattle.qs_runs.proofs.Standing.{certain_cases}
 use Rattle.qs_wire.specs.declared.stream_id.Dir.TheVariants.{Uni}
-use Rattle.qs_recv.specs.Assembled.{put, forget}
+use Rattle.qs_recv.specs.Assembled.{put, forget, Assembled}
 use Rattle.qs_send.specs.declared.piece.Item.TheVariants.{MaxStreamData, MaxStreams, ResetStream, StopSending, StreamDataBlocked}
 use Rattle.qs_machine.proofs.TableLaws.{lookup_open, total_update, total_each}
 use Rattle.qs_runs.proofs.Taking.{or_else_none, stream_passed, fin_fits, reset_fits}
 use Rattle.qs_runs.proofs.Unharmed.{spent_opened}
+use Rattle.std.proofs.Math.Bool.{and-true}
+use Rattle.qs_machine.proofs.Pieces.{All_append, All_take, All_more}
 
 -- A payload that the peer made keeps the invariant of the end that it comes to, whatever comes of it.
 
@@ -79,21 +81,17 @@ unchanged p k e b is ok = subst (λ d. EndOk (record p { processed = d }) e) (λ
 
 -- Recording
 
-module _ (k : ℕ) where
-  with_true : (a : Bool) → (a && true) ≡ a
-  with_true true = refl
-  with_true false = refl
+pub or_cond : (b x : Bool) → x ≡ true → (if b then true else x) ≡ true
+or_cond true x h = refl
+or_cond false x h = h
 
+module _ (k : ℕ) where
   processed_or : (d : ℕ → Bool) (j : ℕ) → (if j == k && true then true else d j) ≡ true → (j ≡ k) ⊎ (d j ≡ true)
-  processed_or d j h = go (j == k) refl (rw (with_true (j == k)) at h)
+  processed_or d j h = go (j == k) refl (rw (and-true (j == k)) at h)
     where
       go : (b : Bool) → (j == k) ≡ b → (if b then true else d j) ≡ true → (j ≡ k) ⊎ (d j ≡ true)
       go true e h = inl (eqb-true j k e)
       go false e h = inr h
-
-  or_processed : (b : Bool) (x : Bool) → x ≡ true → (if b then true else x) ≡ true
-  or_processed true x h = refl
-  or_processed false x h = h
 
   -- the numbers that are kept, and the floor, where there are too many runs or not
   abbrev kept_by : Bool → NumberSet → NumberSet
@@ -141,11 +139,11 @@ module _ (k : ℕ) where
           records = ok.packets.records;
           lost_records = ok.packets.lost_records;
           kinds = ok.packets.kinds;
-          acks_told = λ largest ranges t. (let a = ok.packets.acks_told largest ranges t in record { names_largest = a.names_largest; names_processed = λ j named. or_processed (j == k && true) _ (a.names_processed j named) });
+          acks_told = λ largest ranges t. (let a = ok.packets.acks_told largest ranges t in record { names_largest = a.names_largest; names_processed = λ j named. or_cond (j == k && true) _ (a.names_processed j named) });
           is_done = λ j h.
               elim (insert-cases e.done k j (still_member b s j h)) [
                 | inl same ↦ rw (eq-eqb j k same) refl
-                | inr old ↦ or_processed (j == k && true) _ (ok.packets.is_done j old)
+                | inr old ↦ or_cond (j == k && true) _ (ok.packets.is_done j old)
               ];
           kept = λ j h.
               elim (processed_or p.processed j h) [
@@ -200,7 +198,7 @@ module _ (p : Past) (k : ℕ) (all : List Seen) (is : slice_get p.theirs k ≡ S
       let one : Effect p e (frame_taken f e) f = frame_keeps p e f ok (k, (all, is, rw split (Among_right before _ _ (inl refl)))) (no_fault_there e f goes) in
       takes_ok left (before ++ f ∷ []) (asks || asks_ack f) fault (frame_taken f e) result new (split ∙ sym (append_assoc before (f ∷ []) (seen_all (frames_of left)))) one.ok
       (rw (ap (λ (x : End). x.floor) (frame_leaves f e)) low)
-      (All_append (FrameTaken (frame_taken f e).recvs) before (f ∷ []) (every_stays e.recvs (frame_taken f e).recvs one.grow before taken) (one.taken, tt)) rest
+      (All_append (FrameTaken (frame_taken f e).recvs) before (f ∷ []) (All_more (FrameTaken e.recvs) (FrameTaken (frame_taken f e).recvs) before (frame_stays e.recvs (frame_taken f e).recvs one.grow) taken) (one.taken, tt)) rest
 
 pub receives : (p : Past) (e new : End) (k : ℕ) (text : List ℕ) (result : Result Received Closing) → EndOk p e → slice_get p.theirs k ≡ Some (frames_in text) → ReceiveStep e k text result new → EndOk (with_received p k result) new
 receives p e new k text result ok is step = by_closed e.closed step
@@ -235,10 +233,6 @@ cond_or : (b x : Bool) → (if b then true else x) ≡ true → (b ≡ true) ⊎
 cond_or true x h = inl refl
 cond_or false x h = inr h
 
-pub or_cond : (b x : Bool) → x ≡ true → (if b then true else x) ≡ true
-or_cond true x h = refl
-or_cond false x h = h
-
 -- The frames at their places
 
 -- each of these frames stands in its packet
@@ -250,8 +244,6 @@ AreHeldAt ps parts fs = ⊥
 -- so each is told
 pub held_told : (ps : Packets) (parts : List Part) (fs : List FrameValue) → AreHeldAt ps parts fs → (g : Seen) → Among g (seen_all fs) → Tells ps g
 held_told ps [] [] held g a = absurd a
-held_told ps [] (f ∷ fs) held g a = absurd held
-held_told ps (part ∷ parts) [] held g a = absurd held
 held_told ps (part ∷ parts) (f ∷ fs) ((all, there, at), held) g (inl is) = (part.number, (all, there, subst (λ x. Among x all) (sym is) (found all part.place at)))
   where
     found : (all : List Seen) (i : ℕ) → slice_get all i ≡ Some (seen f) → Among (seen f) all
@@ -259,6 +251,7 @@ held_told ps (part ∷ parts) (f ∷ fs) ((all, there, at), held) g (inl is) = (
     found (v ∷ all) zero at = inl (sym (same_Some v (seen f) at))
     found (v ∷ all) (suc i) at = inr (found all i at)
 held_told ps (part ∷ parts) (f ∷ fs) (here, held) g (inr a) = held_told ps parts fs held g a
+held_told ps _ _ held g a = absurd held
 
 -- what holds of them holds at each of the places
 pub held_holds : (P : Seen → Type 0) (ps : Packets) (parts : List Part) (fs : List FrameValue) → AreHeldAt ps parts fs → AllByRecursion P (seen_all fs) → (k i : ℕ) → is_among k i parts ≡ true →
@@ -276,22 +269,16 @@ held_holds P ps (part ∷ parts) (f ∷ fs) (here, held) all k i is =
 -- and what holds at each of the places holds of them
 pub held_all : (P : Seen → Type 0) (ps : Packets) (parts : List Part) (fs : List FrameValue) → AreHeldAt ps parts fs → ((k i : ℕ) (f : Seen) → is_among k i parts ≡ true → HoldsAt ps k i f → P f) → AllByRecursion P (seen_all fs)
 held_all P ps [] [] held each = tt
-held_all P ps [] (f ∷ fs) held each = absurd held
-held_all P ps (part ∷ parts) [] held each = absurd held
 held_all P ps (part ∷ parts) (f ∷ fs) (here, held) each =
     (each part.number part.place (seen f) (rw (eq-eqb part.number part.number refl, eq-eqb part.place part.place refl) refl) here, held_all P ps parts fs held (λ k i g among at. each k i g (or_right _ (is_among k i parts) among) at))
-  where
-    or_right : (x y : Bool) → y ≡ true → (x || y) ≡ true
-    or_right true y is = refl
-    or_right false y is = is
+held_all P ps _ _ held each = absurd held
 
 -- Frames, one after the other
 
 -- whether it changed something or nothing, the frame took effect
 pub took_effect : (e : End) (f : FrameValue) (one : Taken) (new : End) → TakesOne e f (Ok one) new → MayTake e f × (new ≡ frame_taken (seen f) e)
-took_effect e f Took new h = (h.0, h.1)
-took_effect e f Unchanged new h = (h.0, h.1)
 took_effect e f NotOurs new h = absurd h
+took_effect e f _ new h = (h.0, h.1)
 
 -- one by one they are several of one; what isn't an end's own changes nothing
 pub handed : (e : End) (fs : List FrameValue) (result : Result Taken TakeFault) (new : End) → e.closed ≡ None → HandedIn fs e result new →
@@ -386,7 +373,8 @@ module _ (p : Past) (old : End) (fine : (mid : End) → EndOk p mid → IsThere 
             let came = each_came fs e result mid ok there told fit takes in (
               ended_by p _ new after (settle_ok p mid came.ok),
               ap standing after ∙ came.there.0,
-              λ d. subst (λ x. AllByRecursion (FrameTaken x.recvs) (seen_all fs)) (sym after) (every_stays mid.recvs (settle mid).recvs (each_grows raise mid.recvs raise_grows) (seen_all fs) (came.done (taken_came result d))),
+              λ d. subst (λ x. AllByRecursion (FrameTaken x.recvs) (seen_all fs)) (sym after)
+                  (All_more (FrameTaken mid.recvs) (FrameTaken (settle mid).recvs) (seen_all fs) (frame_stays mid.recvs (settle mid).recvs (each_grows raise mid.recvs raise_grows)) (came.done (taken_came result d))),
             )
             )
         | inr (is, same) ↦ (ended_by p e new same ok, ap standing same ∙ there.0, λ d. absurd (false≢true (sym (ap is_taken is) ∙ d)))
@@ -485,8 +473,7 @@ stream_highest : (l : RecvLane) (offset : ℕ) (bytes : List ℕ) (fin : Bool) �
 stream_highest l offset bytes fin all known fits = go l.final_size refl fin refl
   where
     received : (b : Bool) → end_of (if b then l.arrived else put l.arrived offset bytes).received ≡ end_of l.arrived.received
-    received true = refl
-    received false = same_end l.arrived.received offset (offset + length bytes) all
+    received b = same_either (λ (a : Assembled). end_of a.received) b l.arrived (put l.arrived offset bytes) (same_end l.arrived.received offset (offset + length bytes) all)
 
     go : (x : Option ℕ) → l.final_size ≡ x → (b : Bool) → fin ≡ b →
         unwrap_or (if b then Some (offset + length bytes) else x) (end_of (if is_some l.reset_code then l.arrived else put l.arrived offset bytes).received) ≡ unwrap_or x (end_of l.arrived.received)
@@ -584,10 +571,6 @@ old_stays a b grow (Stream n offset bytes fin) (all, known) = (
 old_stays a b grow (Control (ResetStream n code size)) (l, is, known) = (let (m, there, g) = grow n l is in (m, there, known_stays l m g known))
 old_stays a b grow f old = tt
 
-all_old : (a b : End) → AllGrow a.recvs b.recvs → (fs : List Seen) → AllByRecursion (IsOld a) fs → AllByRecursion (IsOld b) fs
-all_old a b grow [] all = tt
-all_old a b grow (f ∷ fs) all = (old_stays a b grow f all.0, all_old a b grow fs all.1)
-
 settle_spends : (e : End) → spent (settle e) ≡ spent e
 settle_spends e = total_each highest raise e.recvs (λ l. refl)
 
@@ -600,7 +583,7 @@ takes_spend (v ∷ left) p k asks fault e result new ok told all (inl stops) = a
 takes_spend (v ∷ left) p k asks fault e result new ok told all (inr (goes, rest)) =
     let f : Seen = seen v.frame in
     let one : Effect p e (frame_taken f e) f = frame_keeps p e f ok (told f (inl refl)) (no_fault_there e f goes) in
-    takes_spend left p k (asks || asks_ack f) fault (frame_taken f e) result new one.ok (λ g a. told g (inr a)) (all_old e (frame_taken f e) one.grow (seen_all (frames_of left)) all.1) rest
+    takes_spend left p k (asks || asks_ack f) fault (frame_taken f e) result new one.ok (λ g a. told g (inr a)) (All_more (IsOld e) (IsOld (frame_taken f e)) (seen_all (frames_of left)) (old_stays e (frame_taken f e) one.grow) all.1) rest
     ∙ frame_spends e f all.0 (no_fault_there e f goes)
 
 -- a payload that tells nothing new spends nothing
@@ -626,7 +609,8 @@ each_spends (f ∷ fs) p e result new ok told old h = by (is_ours (seen f)) refl
     by true ours (inl (mid, one, later, takes, more, is)) goes =
         let (may, after) = took_effect e f one mid takes in
         let effect : Effect p e (frame_taken (seen f) e) (seen f) = frame_keeps p e (seen f) ok (told (seen f) (inl refl)) may.1 in
-        goes (frame_taken (seen f) e) later effect.ok (all_old e (frame_taken (seen f) e) effect.grow (seen_all fs) old.1) (subst (λ x. TakesEach fs x later new) after more) ∙ frame_spends e (seen f) old.0 may.1
+        goes (frame_taken (seen f) e) later effect.ok
+        (All_more (IsOld e) (IsOld (frame_taken (seen f) e)) (seen_all fs) (old_stays e (frame_taken (seen f) e) effect.grow) old.1) (subst (λ x. TakesEach fs x later new) after more) ∙ frame_spends e (seen f) old.0 may.1
     by true ours (inr (fault, one, is)) goes = one_spends f e new fault ours one
     by false other more goes = goes e result ok old.1 more
 

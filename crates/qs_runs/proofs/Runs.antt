@@ -5,7 +5,6 @@ use Rattle.std.specs.Global.{Vec}
 use Rattle.std.specs.List.{AllByRecursion}
 use Rattle.qs_wire.specs.Layout.{FrameValue}
 use Rattle.qs_wire.specs.declared.stream_id.Dir.{Dir}
-use Rattle.qs_wire.specs.declared.stream_id.Dir.TheVariants.{Bidi, Uni}
 use Rattle.qs_wire.specs.declared.stream_id.Role.{Role}
 use Rattle.qs_wire.specs.declared.stream_id.Role.TheVariants.{Client, Server}
 use Rattle.qs_calls.specs.declared.settings.Settings.{Settings}
@@ -44,7 +43,6 @@ use Rattle.qs_machine.proofs.Ways.{plain_nothing}
 use Rattle.qs_runs.specs.Logs.{Part, Happening, Did, MadeAck, FilledIn, ConsumedUpTo, AckedToken, LostToken, RaisedLimits, CameWith, CameAlone, History, Log, happened, other, own_calls, processed, took, was_acked, is_taken, is_delivery, reads_of, texts_of, made, made_by, payload, AreFramesOf, HasLanded, HasSet, Forgot, AcceptedOf}
 use Rattle.qs_runs.specs.Worlds.{World, AreGranted, Begins, end_of, OwnStep, TakesBytes, DeliverStep, ComeWithStep, HandedIn, ComeAloneStep, EventStep, WorldStep, Run, EventRun}
 use Rattle.qs_runs.specs.Agree.{frames_in}
-use Rattle.qs_runs.proofs.Lists.{All_append}
 use Rattle.qs_runs.specs.Pasts.{Past, packets_of, past}
 use Rattle.qs_runs.specs.Invariant.{EndOk, FrameTaken, CountsTrue, CountsOk, WorldOk, Standing, role_of, settings_of, stands_as, standing}
 use Rattle.qs_runs.proofs.Unharmed.{Facing}
@@ -57,13 +55,13 @@ use Rattle.qs_runs.proofs.Histories.{step_lands, parts_held, parts_fit, past_own
 use Rattle.qs_runs.proofs.Packing.{Packs, ack_packs, fill_packs, packs_faultless, packs_counts, packs_ok}
 use Rattle.qs_runs.proofs.NewEnds.{first_world, made_first, ends_made, begins_true, tells_nothing, new_ok}
 use Rattle.qs_runs.proofs.Granting.{TellCounts, own_call, own_counts, counts_told, counts_stay, known_within}
+use Rattle.qs_machine.proofs.Pieces.{All_append}
 
 -- what holds of a side and of the other holds of each
 pub two_sides : (P : Side → Type 0) (s : Side) → P s → P (other s) → (t : Side) → P t
-two_sides P A x y A = x
 two_sides P A x y B = y
 two_sides P B x y A = y
-two_sides P B x y B = x
+two_sides P _ x y _ = x
 
 pub roles_face : (s : Side) (n : ℕ) → is_own_by (role_of s) n ≡ not (is_own_by (role_of (other s)) n)
 roles_face A n = (opposite_roles n).1
@@ -145,8 +143,7 @@ first_side role a b s own t told begun stand peer =
     }
   where
     first : (d : Dir) → first_grant own d ≤ granted_streams (new_end role own t told) d
-    first Bidi = omega arith
-    first Uni = omega arith
+    first _ = omega arith
 
 none_landed : AllLanded []
 unfolding was_acked

@@ -1,14 +1,14 @@
 -- A receiving half that takes frames.
-use Rattle.std.proofs.Common.{◌≡◌, ℕ, ◌+◌, ◌-◌, ◌<◌, ◌≤◌, Bool, true, false, ◌||◌, List, ◌⊎◌, length, Option, Some, None, is_some, refl, sym, ap, ◌∙◌, arith, inl, inr, if◌then◌else◌, nat_cmp}
+use Rattle.std.proofs.Common.{◌≡◌, ℕ, ◌+◌, ◌-◌, ◌<◌, ◌≤◌, Bool, true, false, ◌||◌, List, ◌⊎◌, length, Option, Some, None, is_some, refl, sym, ap, ◌∙◌, arith, inl, inr, if◌then◌else◌, nat_cmp, cond}
 use Rattle.std.proofs.lemmas.Option.{none-some, same_Some}
 use Rattle.std.proofs.lemmas.Bool.Decides.{nat_tests}
-use Rattle.std.proofs.lemmas.Bool.{or_parts, and_cases, eqb-true, not-false, true≢false, false≢true}
+use Rattle.std.proofs.lemmas.Bool.{or_parts, and_cases, eqb-true, not-false, true≢false, false≢true, false_from_ne_true}
 use Rattle.std.specs.FinMap as fmap
 use Rattle.std.specs.FinSet as set
 use Rattle.qs_ranges.specs.Numbers.{end_of, is_within}
 use Rattle.qs_ranges.proofs.Sets.{below-end_of, end_of-last}
 use Rattle.qs_recv.proofs.LawfulLaws.{below_is, contains-below}
-use Rattle.qs_recv.specs.Assembled.{put, store, forget}
+use Rattle.qs_recv.specs.Assembled.{put, store, forget, Assembled}
 use Rattle.qs_recv.specs.Lane.{RecvLane, take_stream, is_whole, breaks_final_size, check_stream, check_reset}
 use Rattle.qs_machine.specs.Ends.{End}
 use Rattle.qs_machine.specs.Seen.{Stream}
@@ -17,6 +17,7 @@ use Rattle.qs_runs.specs.Pasts.{Past, Tells, TellsByte, TellsEnd, TellsReset}
 use Rattle.qs_runs.specs.Invariant.{RecvOk, StreamTaken, TellsUpTo}
 use Rattle.qs_runs.proofs.Members.{run-cases, run-old, run-new, get-stored}
 use Rattle.qs_runs.proofs.Changes.{Grows, Grows_refl}
+use Rattle.qs_machine.proofs.EveryCall.{same_either}
 
 -- What a check that found nothing says
 
@@ -33,18 +34,10 @@ stream_passed e n offset bytes fin fine =
     (state, (or_else_none (credit_fault e (check_stream (lane_of e n) offset (length bytes) fin)) (bytes_fault e n offset bytes) later).0)
 
 stream_sized : (e : End) (l : RecvLane) (offset n : ℕ) (fin : Bool) → credit_fault e (check_stream l offset n fin) ≡ None → breaks_final_size l offset n fin ≡ false
-stream_sized e l offset n fin fine = go (breaks_final_size l offset n fin) refl
-  where
-    go : (b : Bool) → breaks_final_size l offset n fin ≡ b → breaks_final_size l offset n fin ≡ false
-    go false is = is
-    go true is = absurd (none-some 6 (sym (rw is at fine)))
+stream_sized e l offset n fin fine = false_from_ne_true _ (λ is. none-some 6 (sym (rw is at fine)))
 
 reset_sized : (e : End) (l : RecvLane) (size : ℕ) → credit_fault e (check_reset l size) ≡ None → breaks_final_size l size 0 true ≡ false
-reset_sized e l size fine = go (breaks_final_size l size 0 true) refl
-  where
-    go : (b : Bool) → breaks_final_size l size 0 true ≡ b → breaks_final_size l size 0 true ≡ false
-    go false is = is
-    go true is = absurd (none-some 6 (sym (rw is at fine)))
+reset_sized e l size fine = false_from_ne_true _ (λ is. none-some 6 (sym (rw is at fine)))
 
 names_known : (l : RecvLane) (offset n : ℕ) (fin : Bool) → breaks_final_size l offset n fin ≡ false → (size : ℕ) → l.final_size ≡ Some size → fin ≡ true → offset + n ≡ size
 names_known l offset n fin sized size is fin_is =
@@ -85,9 +78,8 @@ module _ (p : Past) (n window : ℕ) (l : RecvLane) (h : RecvOk p n window l) wh
     stored_by true q c is = h.stored q c is
     stored_by false q c is = stored_now l.arrived.discarding q c is
 
-    read_by : (b : Bool) → (if b then l.arrived else put l.arrived offset bytes).read_count ≡ l.arrived.read_count
-    read_by true = refl
-    read_by false = refl
+    read_same : (cond (is_some l.reset_code) l.arrived (put l.arrived offset bytes)).read_count ≡ l.arrived.read_count
+    read_same = same_either (λ (a : Assembled). a.read_count) (is_some l.reset_code) l.arrived (put l.arrived offset bytes) refl
 
     final_by : (b : Bool) → fin ≡ b → (size : ℕ) → (if b then Some (offset + length bytes) else l.final_size) ≡ Some size →
         TellsEnd p.theirs n size ⊎ ((code : ℕ) × (l.reset_code ≡ Some code) × TellsReset p.theirs n code size)
@@ -111,12 +103,12 @@ module _ (p : Past) (n window : ℕ) (l : RecvLane) (h : RecvOk p n window l) wh
         record {
           received = received_by (is_some l.reset_code);
           stored = stored_by (is_some l.reset_code);
-          count = h.count ∙ sym (read_by (is_some l.reset_code));
+          count = h.count ∙ sym read_same;
           gave = h.gave;
           final = final_by fin refl;
           reset = λ code is. (let (size, final, told) = h.reset code is in (size, final_stays fin refl size final, told));
           not_stopped = h.not_stopped;
-          ended = λ is. (let (size, read, final, told) = h.ended is in (size, read_by (is_some l.reset_code) ∙ read, final_stays fin refl size final, told));
+          ended = λ is. (let (size, read, final, told) = h.ended is in (size, read_same ∙ read, final_stays fin refl size final, told));
           window_granted = h.window_granted;
           limit_told = h.limit_told;
         }

@@ -1,7 +1,7 @@
 -- What a peer made offends against no rule of the end that it comes to.
 use Rattle.std.proofs.Common.{◌≡◌, ℕ, ◌+◌, ◌-◌, ◌/◌, ◌<◌, ◌≤◌, max, Bool, true, false, not, ◌||◌, ◌==◌, nat_lt, List, ◌⊎◌, length, Option, Some, None, Result, Ok, Err, IsOk, unwrap_or, is_some, is_none, slice_get, refl, sym, ap, ◌∙◌, subst, arith, inl, inr, if◌then◌else◌, nat_le, le_antisymm, nat_cmp}
 use Rattle.std.proofs.lemmas.Option.{none-some, slice_get_within}
-use Rattle.std.proofs.lemmas.Bool.{or_from, true≢false, false≢true, both_ways, cases_eq, cases_lt, eq-eqb, le-leb, le-ltb, lt-leb, and_right, not_from_true}
+use Rattle.std.proofs.lemmas.Bool.{or_from, true≢false, false≢true, both_ways, cases_eq, cases_lt, eq-eqb, le-leb, le-ltb, lt-leb, and_right, not_from_true, cond_both}
 use Rattle.std.specs.FinSet as set
 use Rattle.qs_ranges.specs.Numbers.{end_of}
 use Rattle.qs_recv.specs.Lane.{RecvLane, highest, highest_after, breaks_known, check_stream, check_reset, check_bytes, new_lane as new_recv_lane}
@@ -20,11 +20,12 @@ use Rattle.qs_machine.specs.Credit.{spent, all_sent, grant}
 use Rattle.qs_machine.specs.Seen.{Seen, Ack, Stream, Control}
 use Rattle.qs_machine.specs.Verdicts.{verdict, item_verdict, state_fault_in, state_fault_out, credit_fault, bytes_fault, fault_of, ack_fault, fault_if, or_else, lane_of, STREAM_STATE_ERROR, STREAM_LIMIT_ERROR}
 use Rattle.qs_runs.proofs.Members.{end-le}
-use Rattle.qs_machine.proofs.TableLaws.{value, total_le, total_update, total_open, lookup_same, lookup_other, open_lower, open_at}
+use Rattle.qs_machine.proofs.TableLaws.{value, total_le, total_update, total_open, lookup_same, lookup_other, open_lower}
 use Rattle.qs_runs.specs.Pasts.{Past, Tells, TellsEnd, TellsReset, IsNamed, Names}
 use Rattle.qs_runs.specs.Invariant.{EndOk, SendSlot, NeverSent, RecvTrue, RecvSlot, NeverReceived, TellsUpTo, is_open}
 use Rattle.qs_runs.proofs.Agreement.{byte_written}
-use Rattle.qs_runs.proofs.Frames.{opened_ok, named_by, lane_opened}
+use Rattle.qs_runs.proofs.Frames.{opened_ok, named_by, lane_opened, opened_at}
+use Rattle.qs_machine.proofs.EveryCall.{same_either}
 
 abbrev sent_of : Option SendLane → ℕ
 sent_of o = value (λ l. l.sent_end) o
@@ -92,11 +93,7 @@ checked_fine e h false false eb ec le = no_fault_from _ 3 (le-ltb e.granted (spe
 
 after_within : (r : RecvLane) (offset n : ℕ) (fin : Bool) → highest_after r offset n fin ≤ max (highest r) (offset + n)
 after_within r offset n true = omega arith
-after_within r offset n false = go (is_some r.final_size || n == 0)
-  where
-    go : (b : Bool) → (if b then highest r else max (highest r) (offset + n)) ≤ max (highest r) (offset + n)
-    go true = omega arith
-    go false = omega arith
+after_within r offset n false = cond_both (is_some r.final_size || n == 0) (highest r) _ (λ k. k ≤ max (highest r) (offset + n)) (λ _. omega arith) (λ _. omega arith)
 
 stream_checked : (e : End) (r : RecvLane) (sent offset n : ℕ) (fin : Bool) → ((size : ℕ) → r.final_size ≡ Some size → size ≡ sent) → highest r ≤ sent → offset + n ≤ sent → (fin ≡ true → offset + n ≡ sent) →
     sent ≤ r.limit → spent e + (max (highest r) (offset + n) - highest r) ≤ e.granted → credit_fault e (check_stream r offset n fin) ≡ None
@@ -253,14 +250,6 @@ pub spent_opened : (e : End) (n : ℕ) (b : Bool) → spent (if b then e else op
 spent_opened e n true = refl
 spent_opened e n false = total_by e.recvs n (window e n) e.tuning.credit_step _
 
-granted_opened : (e : End) (n : ℕ) (b : Bool) → (if b then e else opens n e).granted ≡ e.granted
-granted_opened e n true = refl
-granted_opened e n false = refl
-
-opened_at : (t : Tables RecvLane) (n : ℕ) (x : ℕ → RecvLane) (b : Bool) → b ≡ false → is_open (if b then t else open_to t n x) n ≡ true
-opened_at t n x true is = absurd (true≢false is)
-opened_at t n x false is = open_at t n x
-
 module _ (p q : Past) (from : p.theirs ≡ q.mine) (back : q.theirs ≡ p.mine) (e f : End) (facing : Facing e f) (ok : EndOk p e) (their : EndOk q f) where
   -- the receiving half of a stream that the peer named
   half_open : (n : ℕ) → is_open f.sends n ≡ true → (b : Bool) → is_own e n ≡ b → is_open (if b then e else opens n e).recvs n ≡ true
@@ -283,7 +272,7 @@ module _ (p q : Past) (from : p.theirs ≡ q.mine) (back : q.theirs ≡ p.mine) 
         let hs = subst (SendSlot q n (first_send_limit f n)) there (their.sends n) in
         let grown : spent (opened_by_peer n e) + (end - highest r) ≤ (opened_by_peer n e).granted = growth_fine p q from back (opened_by_peer n e) f facing_then opened their n r end is low (subst (λ o. end ≤ sent_of o) (sym there) le) in (
           omega (arith, hs.sent_limit, lane_limit p q from back (opened_by_peer n e) f facing_then opened their n l r there is),
-          omega (arith, grown, spent_opened e n (is_own e n), granted_opened e n (is_own e n)),
+          omega (arith, grown, spent_opened e n (is_own e n), same_either (λ (x : End). x.granted) (is_own e n) e (opens n e) refl),
         )
 
     known_sent : (r : RecvLane) → lookup (opened_by_peer n e).recvs n ≡ Some r → (l : SendLane) → lookup f.sends n ≡ Some l → ((size : ℕ) → r.final_size ≡ Some size → size ≡ l.sent_end) × (highest r ≤ l.sent_end)

@@ -5,13 +5,13 @@ use Rattle.std.specs.Ordering.{nat_cmp}
 use Rattle.std.proofs.lemmas.Bool.{both_ways}
 use Rattle.std.proofs.lemmas.Bool.Decides.{nat_tests}
 use Rattle.std.proofs.lemmas.List.{drop_all}
+use Rattle.qs_ranges.proofs.Algebra.{AllBelow-difference, AllBelow-empty, AllBelow-with_range, has_difference, has_union}
 use Rattle.qs_ranges.specs.Numbers.{MAX_VARINT, NumberSet, AllBelow, IsLeastMissingFrom, MissesRange, numbers, missing_from, contains-numbers, contains-with_range, contains-without_range, same_numbers}
 use Rattle.qs_ranges.proofs.Sets.{missing_from-of}
 use Rattle.qs_send.specs.Offsets.{AreOffsets, parts_at_rest, with_sent, with_acked, with_lost, reset_at}
 use Rattle.qs_send.proofs.Missing.{unacked-least, unacked-more}
-use Rattle.qs_send.proofs.Runs.{contains-due}
-use Rattle.qs_send.proofs.Sets.{contains-either, nothing-due}
-use Rattle.qs_send.proofs.Steps.{empty_below, below_less, below_more, more_acked, all_more}
+use Rattle.qs_send.proofs.Sets.{nothing-due}
+use Rattle.qs_send.proofs.Steps.{below_more, more_acked}
 
 -- At rest
 
@@ -20,7 +20,7 @@ more_of_all lo hi n le = same_numbers _ _ (λ q. grind (arith, nat_tests, contai
 
 none_lost : (lo hi n : ℕ) → hi ≤ n → set.union set.empty (set.difference (numbers lo hi) (numbers 0 n)) ≡ set.empty
 none_lost lo hi n le =
-    same_numbers _ _ (λ q. grind (arith, nat_tests, contains-either set.empty (set.difference (numbers lo hi) (numbers 0 n)) q, contains-due (numbers lo hi) (numbers 0 n) q, contains-numbers lo hi q, contains-numbers 0 n q, set.contains-empty nat_cmp q))
+    same_numbers _ _ (λ q. grind (arith, nat_tests, has_union set.empty (set.difference (numbers lo hi) (numbers 0 n)) q, has_difference (numbers lo hi) (numbers 0 n) q, contains-numbers lo hi q, contains-numbers 0 n q, set.contains-empty nat_cmp q))
 
 pub rest_sent : (n end : ℕ) → end ≤ n → parts_at_rest n ≡ with_sent (parts_at_rest n) end
 rest_sent n end le = let same : max n end ≡ n = omega arith in rw (nothing-due (numbers 0 end), same) refl
@@ -45,7 +45,7 @@ offsets_at_rest n small =
       small = small;
       sent_written = omega arith;
       acked_sent = λ q has. grind (arith, nat_tests, contains-numbers 0 n q, has);
-      noted_written = empty_below n;
+      noted_written = AllBelow-empty n;
       kept_from = λ some. absurd (omega (arith, some));
     }
 
@@ -63,7 +63,7 @@ rests_when w e kept acked noted h is =
     let low = missing_from-of acked 0 w is in
     let none = nothing_kept kept (grind (arith, h.kept_from, low)) in
     let all : acked ≡ numbers 0 w = same_numbers _ _ (λ q. grind (arith, nat_tests, contains-numbers 0 w q, is.all_before q, h.acked_sent q, h.sent_written)) in
-    let idle : set.difference noted acked ≡ set.empty = same_numbers _ _ (λ q. grind (arith, nat_tests, contains-due noted acked q, set.contains-empty nat_cmp q, is.all_before q, h.noted_written q)) in
+    let idle : set.difference noted acked ≡ set.empty = same_numbers _ _ (λ q. grind (arith, nat_tests, has_difference noted acked q, set.contains-empty nat_cmp q, is.all_before q, h.noted_written q)) in
     rw (idle, none, all, all_sent w e acked h.acked_sent h.sent_written is) refl
 
 -- Steps
@@ -87,7 +87,7 @@ offsets_sent w e end kept acked noted le h =
       small = h.small;
       sent_written = omega (arith, sent, le);
       acked_sent = λ q has. let below = h.acked_sent q has in omega (arith, below);
-      noted_written = below_less noted _ w h.noted_written;
+      noted_written = AllBelow-difference noted _ w h.noted_written;
       kept_from = h.kept_from;
     }
 
@@ -108,18 +108,15 @@ offsets_without w e kept acked noted h =
       small = h.small;
       sent_written = h.sent_written;
       acked_sent = h.acked_sent;
-      noted_written = below_less noted _ w h.noted_written;
+      noted_written = AllBelow-difference noted _ w h.noted_written;
       kept_from = λ some. absurd (omega (arith, some));
     }
-
-pub all_below : (s : NumberSet) (e w : ℕ) → AllBelow s e → e ≤ w → AllBelow s w
-all_below s e w below le q has = let less = below q has in omega (arith, less, le)
 
 -- how far the lowest offset not acknowledged moves up
 pub low_moves : (w e lo hi low : ℕ) (acked : NumberSet) → AllBelow acked e → e ≤ w → hi ≤ e → IsLeastMissingFrom (set.union acked (numbers lo hi)) 0 low → (missing_from acked 0 ≤ low) × (low ≤ w)
 low_moves w e lo hi low acked below sent le is =
     let first = unacked-least acked e w below sent in
-    let second = unacked-least (set.union acked (numbers lo hi)) e w (all_more acked lo hi e below le) sent in
+    let second = unacked-least (set.union acked (numbers lo hi)) e w (AllBelow-with_range acked lo hi e below le) sent in
     let same = missing_from-of (set.union acked (numbers lo hi)) 0 low is in
     (unacked-more acked (set.union acked (numbers lo hi)) _ _ first.0 is (more_acked acked lo hi), omega (arith, second.1, same))
 
@@ -138,7 +135,7 @@ gone_is w missing low (x ∷ xs) from =
 pub offsets_acked : (w e lo hi : ℕ) (kept : List ℕ) (acked noted noted' : NumberSet) → hi ≤ e → ((q : ℕ) → IsTrue (set.contains noted' q) → IsTrue (set.contains noted q)) → AreOffsets w e kept acked noted → AreOffsets w e (drop (missing_from (set.union acked (numbers lo hi)) 0 - missing_from acked 0) kept) (set.union acked (numbers lo hi)) noted'
 offsets_acked w e lo hi kept acked noted noted' le fewer h =
     let more = set.union acked (numbers lo hi) in
-    let second = unacked-least more e w (all_more acked lo hi e h.acked_sent le) h.sent_written in
+    let second = unacked-least more e w (AllBelow-with_range acked lo hi e h.acked_sent le) h.sent_written in
     let moves = low_moves w e lo hi (missing_from more 0) acked h.acked_sent h.sent_written le second.0 in
     let up = moves.0 in
     let within = moves.1 in
@@ -146,7 +143,7 @@ offsets_acked w e lo hi kept acked noted noted' le fewer h =
     record {
       small = h.small;
       sent_written = h.sent_written;
-      acked_sent = all_more acked lo hi e h.acked_sent le;
+      acked_sent = AllBelow-with_range acked lo hi e h.acked_sent le;
       noted_written = λ q has. h.noted_written q (fewer q has);
       kept_from = λ some. let from = h.kept_from (omega (arith, some, len)) in omega (arith, len, up, within, from);
     }

@@ -11,8 +11,8 @@ use Rattle.qs_send.specs.declared.parts.SendFault.TheVariants.{Finished, WasRese
 use Rattle.qs_send.specs.Lane.{Sending, SendLane, refusal, reset_refusal, is_whole, size_of, declared_size, finish_lane, broken_off, first_code, lost_due, after_write}
 use Rattle.qs_send.specs.Chunks.{IsDueChunk, WasSent}
 use Rattle.qs_send.specs.Sound.{IsLawful, IsEnded}
-use Rattle.qs_send.specs.Calls.{writes, finishes, resets, stops, tells_stop, acks_reset, blocks, allows, buffers, sends, acks, loses}
-use Rattle.qs_send.specs.Laws.{CallsKeepLawful, DeclaredSizeIsSentEnd, DeclaredSizeStays, OnlyNewBytesSpend}
+use Rattle.qs_send.specs.Calls.{writes, finishes, resets, stops, tells_stop, allows, buffers, sends, acks, loses}
+use Rattle.qs_send.specs.Laws.{CallsKeepLawful, DeclaredSizeStays, OnlyNewBytesSpend}
 use Rattle.qs_send.proofs.Steps.{lawful_write, lawful_reset, lawful_sent, lawful_acked, lawful_lost, due_within, none_due, reset_size-is}
 
 -- What isn't refused
@@ -21,6 +21,11 @@ pub not_refused : (r f : Bool) → (if r then Some WasReset else (if f then Some
 not_refused true f e = absurd (cc)
 not_refused false true e = absurd (cc)
 not_refused false false e = (refl, refl)
+
+-- what a test chooses has what both have
+pub stays : {A X : Type 0} (f : A → X) (b : Bool) (x y : A) → f y ≡ f x → f (if b then x else y) ≡ f x
+stays f true x y same = refl
+stays f false x y same = same
 
 -- What holds of a half
 
@@ -88,10 +93,6 @@ calls_keep_lawful s finishes h may =
 calls_keep_lawful s (resets code) h may = reset_by s code (is_some (reset_refusal s.lane)) h
 calls_keep_lawful s (stops code) h may = stopped_by s code (is_some (reset_refusal s.lane)) h
 calls_keep_lawful s (tells_stop code) h may = told_by s code (is_some (reset_refusal s.lane)) h
-calls_keep_lawful s acks_reset h may =
-    record { order = record { small_id = h.order.small_id; small = h.order.small; small_limit = h.order.small_limit; sent_written = h.order.sent_written; sent_limit = h.order.sent_limit; reset_size = h.order.reset_size }; bytes = record { from = h.bytes.from; let_go = h.bytes.let_go; buffered = h.bytes.buffered; widest = h.bytes.widest }; parts = h.parts; ends = h.ends }
-calls_keep_lawful s blocks h may =
-    record { order = record { small_id = h.order.small_id; small = h.order.small; small_limit = h.order.small_limit; sent_written = h.order.sent_written; sent_limit = h.order.sent_limit; reset_size = h.order.reset_size }; bytes = record { from = h.bytes.from; let_go = h.bytes.let_go; buffered = h.bytes.buffered; widest = h.bytes.widest }; parts = h.parts; ends = h.ends }
 calls_keep_lawful s (allows limit) h may =
     let small = h.order.small_limit in
     let sent = h.order.sent_limit in
@@ -102,6 +103,8 @@ calls_keep_lawful s (buffers size) h may =
 calls_keep_lawful s (sends chunk) h may = lawful_sent s chunk may h
 calls_keep_lawful s (acks chunk) h may = lawful_acked s chunk may h
 calls_keep_lawful s (loses chunk) h may = lost_by s chunk (is_some s.lane.was_reset) refl may h
+calls_keep_lawful _ _ h _ =
+    record { order = record { small_id = h.order.small_id; small = h.order.small; small_limit = h.order.small_limit; sent_written = h.order.sent_written; sent_limit = h.order.sent_limit; reset_size = h.order.reset_size }; bytes = record { from = h.bytes.from; let_go = h.bytes.let_go; buffered = h.bytes.buffered; widest = h.bytes.widest }; parts = h.parts; ends = h.ends }
 
 -- The final size
 
@@ -118,9 +121,6 @@ size_is None b w e size reset sent is =
     let both = none_or b w size is in
     sym both.1 ∙ sym (sent both.0)
 
-pub declared_size_is_sent_end : DeclaredSizeIsSentEnd
-declared_size_is_sent_end s size h is = size_is s.lane.was_reset s.lane.fin_sent s.lane.written s.lane.sent_end size h.order.reset_size h.ends.sent_whole is
-
 -- without a reset, the end was sent
 end_sent : (r : Option Reset) (b : Bool) (w size : ℕ) → is_some r ≡ false → size_of r (if b then Some w else None) ≡ Some size → (b ≡ true) × (w ≡ size)
 end_sent (Some t) b w size none is = absurd (cc)
@@ -136,34 +136,20 @@ write_keeps s bytes size h may is =
     let sent = (end_sent s.lane.was_reset s.lane.fin_sent s.lane.written size free.0 is).0 in
     absurd (both_ways _ free.1 (h.ends.sent_asked sent))
 
-finish_keeps : (s : Sending) (b : Bool) (size : ℕ) → declared_size s.lane ≡ Some size → (let new : Sending = if b then s else record { lane = finish_lane s.lane; due = record { offsets = s.due.offsets; fin = true } } in declared_size new.lane ≡ Some size)
-finish_keeps s true size is = is
-finish_keeps s false size is = is
-
 reset_keeps : (l : SendLane) (code size : ℕ) (r : Option Reset) (whole : Bool) → l.was_reset ≡ r → declared_size l ≡ Some size
     → declared_size (if is_some (if is_some r then Some WasReset else (if whole then Some Finished else None)) then l else record l { kept = []; was_reset = Some (record { code = code; size = if l.fin_sent then l.written else l.sent_end }) }) ≡ Some size
-reset_keeps l code size (Some t) whole e is = is
-reset_keeps l code size None true e is = is
 reset_keeps l code size None false e is =
     let both = end_sent l.was_reset l.fin_sent l.written size (rw e refl) is in
     by_end l.fin_sent l.written l.sent_end both.0 both.1
   where
     by_end : (b : Bool) (w e : ℕ) → b ≡ true → w ≡ size → Some (if b then w else e) ≡ Some size
     by_end b w e sent place = rw (sent, place) refl
+reset_keeps _ _ _ _ _ _ is = is
 
 stopped_keeps : (l : SendLane) (code size : ℕ) (r : Option Reset) (whole : Bool) → l.was_reset ≡ r → declared_size l ≡ Some size
     → declared_size (if is_some (if is_some r then Some WasReset else (if whole then Some Finished else None)) then l else record (broken_off l code) { stopped = first_code l.stopped code }) ≡ Some size
-stopped_keeps l code size (Some t) whole e is = is
-stopped_keeps l code size None true e is = is
 stopped_keeps l code size None false e is = reset_keeps l code size None false e is
-
-told_keeps : (l : SendLane) (code size : ℕ) (b : Bool) → declared_size l ≡ Some size → (let new : SendLane = if b then l else record l { stopped = first_code l.stopped code } in declared_size new ≡ Some size)
-told_keeps l code size true is = is
-told_keeps l code size false is = is
-
-lost_keeps : (s : Sending) (c : Chunk) (b : Bool) (size : ℕ) → declared_size s.lane ≡ Some size → (let new : Sending = if b then s else record s { due = lost_due s.lane s.due c } in declared_size new.lane ≡ Some size)
-lost_keeps s c true size is = is
-lost_keeps s c false size is = is
+stopped_keeps _ _ _ _ _ _ is = is
 
 sent_keeps : (s : Sending) (c : Chunk) (size : ℕ) → IsLawful s → IsDueChunk s c → declared_size s.lane ≡ Some size → size_of s.lane.was_reset (if s.lane.fin_sent || c.fin then Some s.lane.written else None) ≡ Some size
 sent_keeps s c size h due is =
@@ -176,17 +162,13 @@ sent_keeps s c size h due is =
 
 pub declared_size_stays : DeclaredSizeStays
 declared_size_stays s (writes bytes) size h may is = write_keeps s bytes size h may.0 is
-declared_size_stays s finishes size h may is = finish_keeps s (is_some (refusal s.lane)) size is
+declared_size_stays s finishes size h may is = stays (λ (x : Sending). declared_size x.lane) (is_some (refusal s.lane)) s _ refl ∙ is
 declared_size_stays s (resets code) size h may is = reset_keeps s.lane code size s.lane.was_reset (is_whole s.lane) refl is
 declared_size_stays s (stops code) size h may is = stopped_keeps s.lane code size s.lane.was_reset (is_whole s.lane) refl is
-declared_size_stays s (tells_stop code) size h may is = told_keeps s.lane code size (is_some (reset_refusal s.lane)) is
-declared_size_stays s acks_reset size h may is = is
-declared_size_stays s blocks size h may is = is
-declared_size_stays s (allows limit) size h may is = is
-declared_size_stays s (buffers width) size h may is = is
+declared_size_stays s (tells_stop code) size h may is = stays declared_size (is_some (reset_refusal s.lane)) s.lane _ refl ∙ is
 declared_size_stays s (sends chunk) size h may is = sent_keeps s chunk size h may is
-declared_size_stays s (acks chunk) size h may is = is
-declared_size_stays s (loses chunk) size h may is = lost_keeps s chunk (is_some s.lane.was_reset) size is
+declared_size_stays s (loses chunk) size h may is = stays (λ (x : Sending). declared_size x.lane) (is_some s.lane.was_reset) s _ refl ∙ is
+declared_size_stays _ _ _ _ _ is = is
 
 -- Credit
 
@@ -205,36 +187,11 @@ new_bytes from end e le q ge lt = grind (arith, nat_tests, contains-numbers from
 nothing_new : (sent : NumberSet) (e f : ℕ) → f ≡ e → (e ≤ f) × ContainsRange sent e f
 nothing_new sent e f same = (omega arith, λ q ge lt. absurd (omega (arith, ge, lt, same)))
 
-finish_sends : (s : Sending) (b : Bool) → (let new : Sending = if b then s else record { lane = finish_lane s.lane; due = record { offsets = s.due.offsets; fin = true } } in new.lane.sent_end ≡ s.lane.sent_end)
-finish_sends s true = refl
-finish_sends s false = refl
-
-reset_sends : (l : SendLane) (r : Reset) (b : Bool) → (let new : SendLane = if b then l else record l { kept = []; was_reset = Some r } in new.sent_end ≡ l.sent_end)
-reset_sends l r true = refl
-reset_sends l r false = refl
-
-stopped_sends : (l : SendLane) (r : Reset) (code : Option ℕ) (b : Bool) → (let new : SendLane = if b then l else record l { kept = []; was_reset = Some r; stopped = code } in new.sent_end ≡ l.sent_end)
-stopped_sends l r code true = refl
-stopped_sends l r code false = refl
-
-told_sends : (l : SendLane) (code : Option ℕ) (b : Bool) → (let new : SendLane = if b then l else record l { stopped = code } in new.sent_end ≡ l.sent_end)
-told_sends l code true = refl
-told_sends l code false = refl
-
-lost_sends : (s : Sending) (c : Chunk) (b : Bool) → (let new : Sending = if b then s else record s { due = lost_due s.lane s.due c } in new.lane.sent_end ≡ s.lane.sent_end)
-lost_sends s c true = refl
-lost_sends s c false = refl
-
 pub only_new_bytes_spend : OnlyNewBytesSpend
-only_new_bytes_spend s (writes bytes) h may = nothing_new _ _ _ refl
-only_new_bytes_spend s finishes h may = nothing_new _ _ _ (finish_sends s (is_some (refusal s.lane)))
-only_new_bytes_spend s (resets code) h may = nothing_new _ _ _ (reset_sends s.lane _ (is_some (reset_refusal s.lane)))
-only_new_bytes_spend s (stops code) h may = nothing_new _ _ _ (stopped_sends s.lane _ _ (is_some (reset_refusal s.lane)))
-only_new_bytes_spend s (tells_stop code) h may = nothing_new _ _ _ (told_sends s.lane _ (is_some (reset_refusal s.lane)))
-only_new_bytes_spend s acks_reset h may = nothing_new _ _ _ refl
-only_new_bytes_spend s blocks h may = nothing_new _ _ _ refl
-only_new_bytes_spend s (allows limit) h may = nothing_new _ _ _ refl
-only_new_bytes_spend s (buffers size) h may = nothing_new _ _ _ refl
+only_new_bytes_spend s finishes h may = nothing_new _ _ _ (stays (λ (x : Sending). x.lane.sent_end) (is_some (refusal s.lane)) s _ refl)
+only_new_bytes_spend s (resets code) h may = nothing_new _ _ _ (stays (λ (l : SendLane). l.sent_end) (is_some (reset_refusal s.lane)) s.lane _ refl)
+only_new_bytes_spend s (stops code) h may = nothing_new _ _ _ (stays (λ (l : SendLane). l.sent_end) (is_some (reset_refusal s.lane)) s.lane _ refl)
+only_new_bytes_spend s (tells_stop code) h may = nothing_new _ _ _ (stays (λ (l : SendLane). l.sent_end) (is_some (reset_refusal s.lane)) s.lane _ refl)
 only_new_bytes_spend s (sends chunk) h may = (omega arith, new_bytes chunk.offset (chunk.offset + chunk.len) s.lane.sent_end (starts_by s chunk may h))
-only_new_bytes_spend s (acks chunk) h may = nothing_new _ _ _ refl
-only_new_bytes_spend s (loses chunk) h may = nothing_new _ _ _ (lost_sends s chunk (is_some s.lane.was_reset))
+only_new_bytes_spend s (loses chunk) h may = nothing_new _ _ _ (stays (λ (x : Sending). x.lane.sent_end) (is_some s.lane.was_reset) s _ refl)
+only_new_bytes_spend _ _ _ _ = nothing_new _ _ _ refl

@@ -171,14 +171,6 @@ gap_by n rs (Err k) h within parted =
     (λ j d lt. let x = slice_index_or rs j d in subst (λ o. MatchOrdering o (x.number < n) (x.number ≡ n) (n < x.number)) (parts.0 j d (omega arith) lt) (ranks x.number n))
     (λ j d le lt. let x = slice_index_or rs j d in subst (λ o. MatchOrdering o (x.number < n) (x.number ≡ n) (n < x.number)) (parts.1 j d le lt) (ranks x.number n))
 
-pub in_range_ok : (n : ℕ) (r : Result ℕ ℕ) → IsSearchInRange r n → IfOk r (λ k. k < n)
-in_range_ok n (Ok k) within = within
-in_range_ok n (Err k) within = tt
-
-pub in_range_err : (n : ℕ) (r : Result ℕ ℕ) → IsSearchInRange r n → IfErr r (λ k. k ≤ n)
-in_range_err n (Ok k) within = tt
-in_range_err n (Err k) within = within
-
 -- The record before a place
 
 pub cut_at : (n : ℕ) (rs : List Numbered) (k : ℕ) → IsAt n rs k → IsCut n rs k
@@ -333,14 +325,12 @@ remove_nothing m n is = same_map nat_cmp_total nat_cmp-IsAntisymmetric _ _ (λ q
     go q false apart = refl
 
 pub last_gone : (m : PacketPieces) (n : ℕ) (ps : List Piece) → length ps ≤ 1 → fmap.remove m n ≡ without_first m n (Some ps)
-last_gone m n [] short = refl
-last_gone m n (p ∷ []) short = refl
 last_gone m n (p ∷ q ∷ ps) short = absurd (omega (arith, short))
+last_gone _ _ _ _ = refl
 
 pub first_gone : (m : PacketPieces) (n : ℕ) (ps qs : List Piece) → 1 < length ps → qs ≡ drop 1 ps → fmap.insert m n qs ≡ without_first m n (Some ps)
-first_gone m n [] qs long is = absurd (omega (arith, long))
-first_gone m n (p ∷ []) qs long is = absurd (omega (arith, long))
 first_gone m n (p ∷ q ∷ ps) qs long is = ap (fmap.insert m n) is
+first_gone _ _ _ _ long _ = absurd (omega (arith, long))
 
 pub some_left : (ps qs : List Piece) → 1 < length ps → qs ≡ drop 1 ps → 0 < length qs
 some_left [] qs long is = absurd (omega (arith, long))
@@ -358,14 +348,8 @@ one_more ps qs p is = subst (λ xs. 0 < length xs) (sym is) (go ps)
 pub reserved_at : {E : Type 0} (res : Result (Unit {0}) E) (n spare : ℕ) (rs : List Numbered) (k : ℕ) (x : Numbered) → IsAt n rs k → x.number ≡ n → OnOk res (0 < x.spare) → OnOk res (0 < spare_in spare (lookup n (slice_set rs k x)))
 reserved_at res n spare rs k x at is ok = subst (λ o. OnOk res (0 < spare_in spare o)) (sym (lookup-set n n rs k x at is ∙ at_same n n (Some x) (lookup n rs) refl)) ok
 
-pub reserved_new : {E : Type 0} (res : Result (Unit {0}) E) (l : Listed) (n : ℕ) → lookup n l.records ≡ None → OnOk res (0 < l.spare) → OnOk res (0 < room_for l n)
-reserved_new res l n none ok = subst (λ o. OnOk res (0 < spare_in l.spare o)) (sym none) ok
-
 pub room_at : (l : Listed) (n : ℕ) (x : Numbered) → IsItem n l.records x → 0 < room_for l n → 0 < x.spare
 room_at l n x item room = subst (λ o. 0 < spare_in l.spare o) item.found room
-
-pub room_new : (l : Listed) (n : ℕ) → lookup n l.records ≡ None → 0 < room_for l n → 0 < l.spare
-room_new l n none room = subst (λ o. 0 < spare_in l.spare o) none room
 
 -- room that stood stays while more is made, at a record that is held
 pub room_set : (n spare : ℕ) (rs : List Numbered) (k : ℕ) (x y : Numbered) → IsAt n rs k → y.number ≡ n → IsItem n rs x → x.spare ≤ y.spare → (q : ℕ) → spare_in spare (lookup q rs) ≤ spare_in spare (lookup q (slice_set rs k y))

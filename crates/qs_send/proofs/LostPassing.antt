@@ -3,7 +3,7 @@ use Rattle.std.proofs.Common.{◌≡◌, ◌∙◌, ℕ, ◌+◌, ◌-◌, ◌<�
 use Rattle.std.specs.FinMap as fmap
 use Rattle.std.proofs.lemmas.Bool.{both_ways, cases_lt}
 use Rattle.std.proofs.lemmas.Bool.Decides.{nat_tests}
-use Rattle.qs_send.specs.Records.{Among, PacketPieces, IsGreatestBelow}
+use Rattle.qs_send.specs.Records.{Among, PacketPieces}
 use Rattle.qs_send.specs.AckPass.{PAST_NUMBERS, AreFalling, pass_over, Passing, IsAhead, IsNamed, Falls, HasPassed, HasRead, more_turns}
 use Rattle.qs_send.specs.LostRecords.{Lost, without_number}
 use Rattle.qs_send.specs.LostPass.{count_below, IsSeen, seen_below, lost_ahead, IsNextLost, MayGo, LostPassGives, LostPassGivesAllNamed}
@@ -49,21 +49,6 @@ seen_none n b le = grind (arith, nat_tests)
 seen_most : (n b : ℕ) → seen_below n b ≤ 1
 seen_most n b = grind (arith, nat_tests)
 
-pub seen_is_greatest : (m : PacketPieces) (below n : ℕ) → n < below → IsSeen m below n → IsGreatestBelow m below n
-seen_is_greatest m below n lt seen =
-    let s = seen lt in
-    record { held = s.0; below = lt; greatest = λ j held small. elim (cases_lt n j) [ inl more ↦ absurd (both_ways _ (s.1 j more small) held) | inr le ↦ le ] }
-
-pub greatest_is_seen : (m : PacketPieces) (below n : ℕ) → IsGreatestBelow m below n → IsSeen m below n
-greatest_is_seen m below n g lt = (g.held, λ j more small. go j more small (fmap.contains_key m j) refl)
-  where
-    go : (j : ℕ) → n < j → j < below → (b : Bool) → fmap.contains_key m j ≡ b → fmap.contains_key m j ≡ false
-    go j more small true is = let le = g.greatest j is small in absurd (omega (arith, le, more))
-    go j more small false is = is
-
-pub not_below_itself : (m : PacketPieces) (n : ℕ) → IsSeen m n n
-not_below_itself m n lt = absurd (omega (arith, lt))
-
 pub seen_lower : (m : PacketPieces) (n b c : ℕ) → c ≤ b → IsSeen m b n → IsSeen m c n
 seen_lower m n b c le seen lt = let s = seen (omega (arith, lt, le)) in (s.0, λ j more small. s.1 j more (omega (arith, small, le)))
 
@@ -89,9 +74,6 @@ count_none [] = refl
 count_none (k ∷ ks) = let rest = count_none ks in grind (arith, nat_tests, rest)
 
 -- Turns
-
-pub passed_itself : (m : PacketPieces) (p : Passing) → Falls p → HasPassed m p p
-passed_itself m p falls = record { falls = falls; ahead = λ j ahead. ahead; passed = λ j ahead. inl ahead }
 
 pub look_turns : (order : List ℕ) (seen number below t s : ℕ) → count_below order number + 1 ≤ count_below order below → (seen < below → s ≡ t) → (below ≤ seen → s ≡ more_turns t 1)
     → (s + count_below order number) + seen_below seen below ≤ (t + count_below order below) + seen_below number number
@@ -146,15 +128,6 @@ none_ahead m p q so_far none ended j ahead = elim (so_far.passed j ahead) [
   | inl still ↦ elim still.1 [ inl here ↦ none j here still.0 | inr named ↦ absurd (subst (λ rs. IsNamed rs j) ended named) ]
   | inr went ↦ went.0
 ]
-
--- no number is lost
-pub none_held : (l : Lost) → ((k : ℕ) → Among k l.order ↔ (fmap.contains_key l.pieces k ≡ true)) → length l.order ≡ 0 → (k : ℕ) → fmap.contains_key l.pieces k ≡ false
-none_held l same none k = go l.order none (same k) (fmap.contains_key l.pieces k) refl
-  where
-    go : (ks : List ℕ) → length ks ≡ 0 → Among k ks ↔ (fmap.contains_key l.pieces k ≡ true) → (b : Bool) → fmap.contains_key l.pieces k ≡ b → fmap.contains_key l.pieces k ≡ false
-    go [] empty is true held = absurd (is.1 held)
-    go [] empty is false held = held
-    go (x ∷ xs) empty is b held = absurd (omega arith)
 
 -- Whole passes
 

@@ -32,21 +32,6 @@ full_word ws place word there read all i at =
     let one : bit_at word (63 - i % 64) ≡ 1 = ap (λ w. bit_at w (63 - i % 64)) all ∙ bit_at_not w64 0 (63 - i % 64) (omega arith) (omega arith) ∙ ap (λ b. 1 - b) (bit_at-zero (63 - i % 64)) in
     rw (at, ← word_at, one) refl
 
-pub full_begun : (full vs words ws : List ℕ) (index : ℕ) → AreFull full words → is_gone vs (index / 64) ≡ false → ((p : ℕ) → p ≢ index / 64 → is_gone vs p ≡ is_gone full p) → ((i : ℕ) → i ≢ index → is_gone ws i ≡ is_gone words i)
-    → AreFull vs ws
-full_begun full vs words ws index are here beside others i gone =
-    elim (cases_eq (i / 64) (index / 64)) [
-      | inl same ↦ absurd (both_ways (is_gone vs (index / 64)) here (subst (λ p. is_gone vs p ≡ true) same gone))
-      | inr differs ↦ others i (λ at. differs (ap (λ k. k / 64) at)) ∙ are i (sym (beside (i / 64) differs) ∙ gone)
-    ]
-
-pub full_noted : (full vs ws : List ℕ) (place : ℕ) → AreFull full ws → ((p : ℕ) → p ≢ place → is_gone vs p ≡ is_gone full p) → ((i : ℕ) → i / 64 ≡ place → is_gone ws i ≡ true) → AreFull vs ws
-full_noted full vs ws place are beside all i gone =
-    elim (cases_eq (i / 64) place) [
-      | inl same ↦ all i same
-      | inr differs ↦ are i (sym (beside (i / 64) differs) ∙ gone)
-    ]
-
 pub full_less : (full words : List ℕ) → AreFull full words → AreFull (drop 1 full) (drop 64 words)
 full_less full words are i gone =
     let at : i / 64 + 64 * 1 ≡ (i + 64 * 64) / 64 = omega arith in
@@ -121,13 +106,3 @@ gone_below ws first base count left m are le gone k ge lt =
 pub pushed_beside : (base n : ℕ) (ss : List (List Piece)) (s : List Piece) → n ≡ base + length ss → (k : ℕ) → k ≢ n → fmap.contains_key (packets_of base (ss ++ s ∷ [])) k ≡ fmap.contains_key (packets_of base ss) k
 pushed_beside base n ss s is k differs =
     ap is_some (get-packets_of base (ss ++ s ∷ []) k ∙ found_pushed k base n ss s (sym is) ∙ at_other k n (kept s) (found k base ss) differs ∙ sym (get-packets_of base ss k))
-
--- words that are full, below the end of a search
-pub past_full : (full words : List ℕ) (end next low : ℕ) → AreFull full words → IsGoneFrom words next end → next % 64 ≡ 0 → low ≤ next / 64 → ((p : ℕ) → low ≤ p → p < next / 64 → is_gone full p ≡ true) → IsGoneFrom words (low * 64) end
-past_full full words end next low are so_far whole le gone = (
-  (let within = so_far.0 in omega (arith, within, le)),
-  λ i ge lt. elim (cases_lt i next) [
-    | inl less ↦ are i (gone (i / 64) (omega (arith, ge)) (omega (arith, less, whole)))
-    | inr past ↦ so_far.1 i past lt
-  ],
-)

@@ -151,9 +151,8 @@ at_carried base ss p carried =
 
 -- without the first slot, which is empty
 pub front_gone : (base : ℕ) (ss : List (List Piece)) → fmap.contains_key (packets_of base ss) base ≡ false → packets_of (base + 1) (drop 1 ss) ≡ packets_of base ss
-front_gone base [] none = refl
-front_gone base ([] ∷ ss) none = refl
 front_gone base ((p ∷ ps) ∷ ss) none = absurd (both_ways _ none (ap is_some (get-slot base 0 base ((p ∷ ps) ∷ ss) (omega arith))))
+front_gone _ _ _ = refl
 
 -- without slots the base is of no matter
 pub base_moved : (a b : ℕ) (ss : List (List Piece)) → length ss ≡ 0 → packets_of a ss ≡ packets_of b ss
@@ -210,12 +209,6 @@ none_before base bound ss none k lt = elim (cases_lt k base) [ inl less ↦ not_
 
 below_in : (base n count k : ℕ) (ss : List (List Piece)) → count ≡ min (n - base) (length ss) → k < n → fmap.contains_key (packets_of base ss) k ≡ true → k < base + count
 below_in base n count k ss is lt held = let at = held_slot base k ss held in omega (arith, at.0, at.1)
-
--- the greatest of a part of the first slots
-pub greatest_from : (m : PacketPieces) (low bound : ℕ) (r : Option ℕ) → IfSome r (λ k. (low ≤ k) × (k < bound) × (fmap.contains_key m k ≡ true)) → IfSome r (λ k. (j : ℕ) → k < j → j < bound → fmap.contains_key m j ≡ false) → IfSome r (IsGreatestBelow m bound)
-greatest_from m low bound None at above = tt
-greatest_from m low bound (Some k) at above =
-    record { held = at.2; below = at.1; greatest = λ j held lt. elim (cases_lt k j) [ inl more ↦ absurd (both_ways _ (above j more lt) held) | inr le ↦ le ] }
 
 -- behind the first slots that lie below a number, up to it
 past_first : (base below count : ℕ) (ss : List (List Piece)) → count ≡ min (below - base) (length ss) → (j : ℕ) → base + count ≤ j → j < below → fmap.contains_key (packets_of base ss) j ≡ false

@@ -5,6 +5,7 @@ use Rattle.std.specs.Ordering.{nat_cmp}
 use Rattle.std.proofs.lemmas.Bool.{true≢false, cases_lt}
 use Rattle.std.proofs.lemmas.Option.{none-some}
 use Rattle.std.proofs.lemmas.Bool.Decides.{nat_tests}
+use Rattle.qs_ranges.proofs.Algebra.{AllBelow-empty}
 use Rattle.qs_ranges.specs.Numbers.{MAX_VARINT, NumberSet, ContainsRange, numbers, missing_from, contains-numbers, same_numbers}
 use Rattle.qs_send.specs.declared.parts.Reset.{Reset}
 use Rattle.qs_send.specs.declared.parts.Chunk.{Chunk}
@@ -16,7 +17,6 @@ use mir.Val.{bool_byte}
 use Rattle.qs_send.proofs.AtRest.{rest_missing, nothing_kept, all_sent}
 use Rattle.qs_send.proofs.Missing.{unacked-least}
 use Rattle.qs_ranges.specs.Numbers.{IsLeastMissingFrom}
-use Rattle.qs_send.proofs.Steps.{empty_below}
 
 -- one is lawful
 pub over_lawful : (id n limit : ℕ) (blocked : Bool) (buffer widest : ℕ) → id ≤ MAX_VARINT → n ≤ limit → limit ≤ MAX_VARINT → buffer ≤ widest → IsLawful (over_sending id n limit blocked buffer widest)
@@ -26,7 +26,7 @@ over_lawful id n limit blocked buffer widest small within few wide =
       bytes = record { from = λ _. (let e = rest_missing n in omega (arith, e)); let_go = λ was. refl; buffered = omega arith; widest = wide };
       parts = record {
         acked_sent = λ q has. grind (arith, nat_tests, contains-numbers 0 n q, has);
-        due_written = empty_below n;
+        due_written = AllBelow-empty n;
         apart = λ q. grind (arith, set.contains-empty nat_cmp q);
         unsent_due = λ none q low below. absurd (omega (arith, low, below));
         none_due = λ was. refl;
@@ -42,8 +42,7 @@ none_was (Some x) is = absurd (true≢false is)
 
 both_true : (a b : Bool) → (a && b) ≡ true → (a ≡ true) × (b ≡ true)
 both_true true true is = (refl, refl)
-both_true true false is = absurd (true≢false (sym is))
-both_true false b is = absurd (true≢false (sym is))
+both_true _ _ is = absurd (true≢false (sym is))
 
 not_due : (due acked : Bool) → (due ≡ true → acked ≡ false) → acked ≡ true → due ≡ false
 not_due false acked shut is = refl

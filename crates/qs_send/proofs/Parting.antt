@@ -2,18 +2,17 @@
 use Rattle.std.proofs.Common.{◌≡◌, ℕ, ◌+◌, ◌<◌, Bool, true, false, not, ◌&&◌, nat_lt, if◌then◌else◌, IsTrue, is_some, Option, Some, None, [], length, inl, inr, refl, arith}
 use Rattle.std.specs.FinSet as set
 use Rattle.std.specs.Ordering.{nat_cmp}
-use Rattle.std.proofs.lemmas.Bool.{cases_lt}
+use Rattle.std.proofs.lemmas.Bool.{cases_lt, cond_both}
 use Rattle.std.proofs.lemmas.Bool.Decides.{nat_tests}
+use Rattle.qs_ranges.proofs.Algebra.{has_difference, has_union}
 use Rattle.qs_ranges.specs.Numbers.{AllBelow, AreDisjoint, NumberSet, numbers, contains-numbers, contains-with_range, contains-without_range, same_numbers, ContainsRange}
 use Rattle.qs_send.specs.declared.parts.Chunk.{Chunk}
 use Rattle.qs_send.specs.declared.parts.Reset.{Reset}
-use Rattle.qs_send.specs.Lane.{Sending, refusal, reset_refusal, finish_lane, lost_due}
+use Rattle.qs_send.specs.Lane.{Sending, refusal, reset_refusal, lost_due}
 use Rattle.qs_send.specs.Sound.{IsLawful}
-use Rattle.qs_send.specs.Calls.{writes, finishes, resets, stops, tells_stop, acks_reset, blocks, allows, buffers, sends, acks, loses}
+use Rattle.qs_send.specs.Calls.{writes, finishes, resets, stops, tells_stop, sends, acks, loses}
 use Rattle.qs_send.specs.Parts.{bit, MovesParts}
 use Rattle.qs_send.specs.Laws.{EachOffsetIsInOnePart, InFlightWasSent, CallsMoveParts}
-use Rattle.qs_send.proofs.Runs.{contains-due}
-use Rattle.qs_send.proofs.Sets.{contains-either}
 
 -- what is neither acknowledged nor due, of so many written offsets
 abbrev rest : ℕ → NumberSet → NumberSet → NumberSet
@@ -21,7 +20,7 @@ rest w acked due = set.difference (set.difference (numbers 0 w) acked) due
 
 contains-rest : (w : ℕ) (acked due : NumberSet) (q : ℕ) → set.contains (rest w acked due) q ≡ (nat_lt q w && not (set.contains acked q) && not (set.contains due q))
 contains-rest w acked due q =
-    grind (arith, nat_tests, contains-due (set.difference (numbers 0 w) acked) due q, contains-due (numbers 0 w) acked q, contains-numbers 0 w q)
+    grind (arith, nat_tests, has_difference (set.difference (numbers 0 w) acked) due q, has_difference (numbers 0 w) acked q, contains-numbers 0 w q)
 
 -- One part
 
@@ -70,7 +69,7 @@ rest-write w n acked due =
 
 rest-reset : (w : ℕ) (acked due : NumberSet) → AllBelow due w → AreDisjoint due acked → rest w acked set.empty ≡ set.union (rest w acked due) due
 rest-reset w acked due below apart =
-    same_numbers _ _ (λ q. grind (arith, nat_tests, contains-rest w acked set.empty q, set.contains-empty nat_cmp q, contains-either (rest w acked due) due q, contains-rest w acked due q, below q, apart q))
+    same_numbers _ _ (λ q. grind (arith, nat_tests, contains-rest w acked set.empty q, set.contains-empty nat_cmp q, has_union (rest w acked due) due q, contains-rest w acked due q, below q, apart q))
 
 rest-sent : (w from end : ℕ) (acked due : NumberSet) → AllBelow due w → AreDisjoint due acked → ContainsRange due from end → rest w acked (set.difference due (numbers from end)) ≡ set.union (rest w acked due) (numbers from end)
 rest-sent w from end acked due below apart all =
@@ -82,11 +81,7 @@ rest-acked w from end acked due =
 
 rest-lost : (w from end : ℕ) (acked due : NumberSet) → rest w acked (set.union due (set.difference (numbers from end) acked)) ≡ set.difference (rest w acked due) (numbers from end)
 rest-lost w from end acked due =
-    same_numbers _ _ (λ q. grind (arith, nat_tests, contains-rest w acked (set.union due (set.difference (numbers from end) acked)) q, contains-either due (set.difference (numbers from end) acked) q, contains-due (numbers from end) acked q, contains-numbers from end q, contains-without_range (rest w acked due) from end q, contains-rest w acked due q))
-
-finish_moves : (s : Sending) (b : Bool) → MovesParts s finishes (if b then s else record { lane = finish_lane s.lane; due = record { offsets = s.due.offsets; fin = true } })
-finish_moves s true = record { acked = refl; due = refl; in_flight = refl }
-finish_moves s false = record { acked = refl; due = refl; in_flight = refl }
+    same_numbers _ _ (λ q. grind (arith, nat_tests, contains-rest w acked (set.union due (set.difference (numbers from end) acked)) q, has_union due (set.difference (numbers from end) acked) q, has_difference (numbers from end) acked q, contains-numbers from end q, contains-without_range (rest w acked due) from end q, contains-rest w acked due q))
 
 reset_moves : (s : Sending) (code : ℕ) (r : Reset) (b : Bool) → IsLawful s → is_some (reset_refusal s.lane) ≡ b
     → MovesParts s (resets code) (record { lane = if b then s.lane else record s.lane { kept = []; was_reset = Some r }; due = if b then s.due else record { offsets = set.empty; fin = false } })
@@ -98,25 +93,18 @@ stopped_moves : (s : Sending) (code : ℕ) (r : Reset) (first : Option ℕ) (b :
 stopped_moves s code r first true h e = record { acked = refl; due = rw e refl; in_flight = rw e refl }
 stopped_moves s code r first false h e = record { acked = refl; due = rw e refl; in_flight = rw e (rest-reset s.lane.written s.lane.acked s.due.offsets h.parts.due_written h.parts.apart) }
 
-told_moves : (s : Sending) (code : ℕ) (first : Option ℕ) (b : Bool) → MovesParts s (tells_stop code) (record s { lane = if b then s.lane else record s.lane { stopped = first } })
-told_moves s code first true = record { acked = refl; due = refl; in_flight = refl }
-told_moves s code first false = record { acked = refl; due = refl; in_flight = refl }
-
 lost_moves : (s : Sending) (c : Chunk) (b : Bool) → b ≡ false → MovesParts s (loses c) (if b then s else record s { due = lost_due s.lane s.due c })
 lost_moves s c true open_lane = absurd (cc)
 lost_moves s c false open_lane = record { acked = refl; due = refl; in_flight = rest-lost s.lane.written c.offset (c.offset + c.len) s.lane.acked s.due.offsets }
 
 pub calls_move_parts : CallsMoveParts
 calls_move_parts s (writes bytes) h none may = record { acked = refl; due = refl; in_flight = rest-write s.lane.written (length bytes) s.lane.acked s.due.offsets }
-calls_move_parts s finishes h none may = finish_moves s (is_some (refusal s.lane))
+calls_move_parts s finishes h none may = cond_both (is_some (refusal s.lane)) s _ (MovesParts s finishes) (λ _. record { acked = refl; due = refl; in_flight = refl }) (λ _. record { acked = refl; due = refl; in_flight = refl })
 calls_move_parts s (resets code) h none may = reset_moves s code _ (is_some (reset_refusal s.lane)) h refl
 calls_move_parts s (stops code) h none may = stopped_moves s code _ _ (is_some (reset_refusal s.lane)) h refl
-calls_move_parts s (tells_stop code) h none may = told_moves s code _ (is_some (reset_refusal s.lane))
-calls_move_parts s acks_reset h none may = record { acked = refl; due = refl; in_flight = refl }
-calls_move_parts s blocks h none may = record { acked = refl; due = refl; in_flight = refl }
-calls_move_parts s (allows limit) h none may = record { acked = refl; due = refl; in_flight = refl }
-calls_move_parts s (buffers size) h none may = record { acked = refl; due = refl; in_flight = refl }
+calls_move_parts s (tells_stop code) h none may = cond_both (is_some (reset_refusal s.lane)) s.lane _ (λ l. MovesParts s (tells_stop code) (record s { lane = l })) (λ _. record { acked = refl; due = refl; in_flight = refl }) (λ _. record { acked = refl; due = refl; in_flight = refl })
 calls_move_parts s (sends chunk) h none may =
     record { acked = refl; due = refl; in_flight = rest-sent s.lane.written chunk.offset (chunk.offset + chunk.len) s.lane.acked s.due.offsets h.parts.due_written h.parts.apart may.due }
 calls_move_parts s (acks chunk) h none may = record { acked = refl; due = refl; in_flight = rest-acked s.lane.written chunk.offset (chunk.offset + chunk.len) s.lane.acked s.due.offsets }
 calls_move_parts s (loses chunk) h none may = lost_moves s chunk (is_some s.lane.was_reset) (not_reset s.lane.was_reset none)
+calls_move_parts _ _ _ _ _ = record { acked = refl; due = refl; in_flight = refl }

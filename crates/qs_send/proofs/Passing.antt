@@ -4,7 +4,7 @@ use Rattle.std.specs.FinMap as fmap
 use Rattle.std.proofs.lemmas.Bool.{both_ways, cases_lt}
 use Rattle.qs_wire.specs.Acks.{FallBelow}
 use Rattle.qs_send.specs.Records.{PacketPieces, Recorded, Among}
-use Rattle.qs_send.specs.AckPass.{PAST_NUMBERS, GivesNumber, IsNext, MayEmpty, PassGives, AreFalling, PassGivesAllNamed, pass_over, Passing, IsNamed, IsAhead, Falls, HasRead, HasPassed, turns_ahead, more_turns}
+use Rattle.qs_send.specs.AckPass.{PAST_NUMBERS, IsNext, MayEmpty, PassGives, AreFalling, PassGivesAllNamed, pass_over, Passing, IsNamed, IsAhead, Falls, HasRead, HasPassed, turns_ahead, more_turns}
 
 -- each number that falling ranges name lies below
 pub named_below : (high : ℕ) (rs : List (ℕ × ℕ)) (j : ℕ) → FallBelow high rs → IsNamed rs j → j + 1 < high
@@ -60,34 +60,6 @@ module _ (m : PacketPieces) (p q cut : Passing) (low : cut.low ≡ q.low) (unrea
     }
 
 -- A number is given
-
-falls_on : (q cut : Passing) → cut.low ≡ q.low → cut.unread ≡ q.unread → Falls q → Falls cut
-falls_on q cut low unread falls = subst (λ x. FallBelow x cut.unread) (sym low) (subst (FallBelow q.low) (sym unread) falls)
-
-pub passed_falls : (m : PacketPieces) (p q cut : Passing) → cut.low ≡ q.low → cut.unread ≡ q.unread → (Falls p → HasPassed m p q) → Falls p → Falls cut
-passed_falls m p q cut low unread so_far falls = falls_on q cut low unread (so_far falls).falls
-
-pub given_number : (m : PacketPieces) (p q cut : Passing) (k : ℕ) → HasPassed m p q → cut.low ≡ q.low → cut.unread ≡ q.unread → (cut.below ≡ k) × (k < q.below) × (q.low ≤ k) × (fmap.contains_key m k ≡ true)
-    → ((j : ℕ) → k < j → j < q.below → fmap.contains_key m j ≡ false) → GivesNumber m p k cut
-given_number m p q cut k so_far low unread at above =
-    let is = at.0 in
-    let lt = at.1 in
-    let from = at.2 in
-    let there : IsAhead q k = (lt, inl from) in
-    let to : (j : ℕ) → IsAhead cut j → IsAhead q j = λ j ahead. let small = ahead.0 in (omega (arith, small, is, lt), elim ahead.1 [ inl here ↦ inl (omega (arith, here, low)) | inr named ↦ inr (subst (λ rs. IsNamed rs j) unread named) ]) in
-    let back : (j : ℕ) → j < k → IsAhead q j → IsAhead cut j = λ j small ahead. (omega (arith, small, is), elim ahead.1 [ inl here ↦ inl (omega (arith, here, low)) | inr named ↦ inr (subst (λ rs. IsNamed rs j) (sym unread) named) ]) in
-    record {
-      named = so_far.ahead k there;
-      held = at.3;
-      greatest = λ j ahead held. elim (so_far.passed j ahead) [
-        | inl still ↦ elim (cases_lt k j) [ inl more ↦ absurd (both_ways _ (above j more still.0) held) | inr le ↦ le ]
-        | inr went ↦ absurd (both_ways _ went.0 held)
-      ];
-      left = λ j. (
-        (λ ahead. let small = ahead.0 in (omega (arith, small, is), so_far.ahead j (to j ahead))),
-        (λ both. elim (so_far.passed j both.1) [ inl still ↦ back j both.0 still | inr went ↦ let more = went.1 k there in let small = both.0 in absurd (omega (arith, more, small)) ]),
-      );
-    }
 
 -- Turns
 

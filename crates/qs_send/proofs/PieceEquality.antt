@@ -24,10 +24,9 @@ three : (a b c d e f : ℕ) → (nat_eq a b && (nat_eq c d && nat_eq e f)) ≡ t
 three a b c d e f h = let both = and_parts (nat_eq a b) (nat_eq c d && nat_eq e f) h in let rest = two c d e f both.1 in (one a b both.0, rest.0, rest.1)
 
 same_flag : (a b : Bool) → beq a b ≡ true → a ≡ b
-same_flag true true h = refl
 same_flag true false h = absurd (both_ways false refl h)
 same_flag false true h = absurd (both_ways false refl h)
-same_flag false false h = refl
+same_flag _ _ _ = refl
 
 flag_self : (b : Bool) → beq b b ≡ true
 flag_self true = refl
@@ -49,45 +48,25 @@ chunk_self n c = let fin = flag_self c.fin in grind (arith, nat_tests)
 
 pub same_item : (i j : Item) → item.ghosts.eq i j ≡ true → i ≡ j
 same_item (MaxData m) (MaxData k) h = ap MaxData (one m k h)
-same_item (MaxData m) j h = absurd (both_ways false refl h)
 same_item (MaxStreamData n m) (MaxStreamData k l) h = let e = two n k m l h in cc
-same_item (MaxStreamData n m) j h = absurd (both_ways false refl h)
 same_item (MaxStreams Bidi m) (MaxStreams Bidi k) h = ap (MaxStreams Bidi) (one m k h)
-same_item (MaxStreams Bidi m) (MaxStreams Uni k) h = absurd (both_ways false refl h)
-same_item (MaxStreams Uni m) (MaxStreams Bidi k) h = absurd (both_ways false refl h)
 same_item (MaxStreams Uni m) (MaxStreams Uni k) h = ap (MaxStreams Uni) (one m k h)
-same_item (MaxStreams d m) j h = absurd (both_ways false refl h)
 same_item (ResetStream n code size) (ResetStream m c s) h = let e = three n m code c size s h in cc
-same_item (ResetStream n code size) j h = absurd (both_ways false refl h)
 same_item (StopSending n code) (StopSending m c) h = let e = two n m code c h in cc
-same_item (StopSending n code) j h = absurd (both_ways false refl h)
 same_item (DataBlocked m) (DataBlocked k) h = ap DataBlocked (one m k h)
-same_item (DataBlocked m) j h = absurd (both_ways false refl h)
 same_item (StreamDataBlocked n m) (StreamDataBlocked k l) h = let e = two n k m l h in cc
-same_item (StreamDataBlocked n m) j h = absurd (both_ways false refl h)
 same_item (StreamsBlocked Bidi m) (StreamsBlocked Bidi k) h = ap (StreamsBlocked Bidi) (one m k h)
-same_item (StreamsBlocked Bidi m) (StreamsBlocked Uni k) h = absurd (both_ways false refl h)
-same_item (StreamsBlocked Uni m) (StreamsBlocked Bidi k) h = absurd (both_ways false refl h)
 same_item (StreamsBlocked Uni m) (StreamsBlocked Uni k) h = ap (StreamsBlocked Uni) (one m k h)
-same_item (StreamsBlocked d m) j h = absurd (both_ways false refl h)
+same_item _ _ h = absurd (both_ways false refl h)
 
 pub item_self : (i : Item) → item.ghosts.eq i i ≡ true
 item_self (MaxData m) = grind (arith, nat_tests)
-item_self (MaxStreamData n m) = grind (arith, nat_tests)
-item_self (MaxStreams Bidi m) = grind (arith, nat_tests)
-item_self (MaxStreams Uni m) = grind (arith, nat_tests)
-item_self (ResetStream n code size) = grind (arith, nat_tests)
-item_self (StopSending n code) = grind (arith, nat_tests)
-item_self (DataBlocked m) = grind (arith, nat_tests)
-item_self (StreamDataBlocked n m) = grind (arith, nat_tests)
-item_self (StreamsBlocked Bidi m) = grind (arith, nat_tests)
-item_self (StreamsBlocked Uni m) = grind (arith, nat_tests)
+item_self _ = grind (arith, nat_tests)
 
 pub same_piece : (p q : Piece) → piece.ghosts.eq p q ≡ true → p ≡ q
 same_piece (Data n c) (Data m d) h = let e = same_chunk n m c d h in cc
-same_piece (Data n c) (Told i) h = absurd (both_ways false refl h)
-same_piece (Told i) (Data n c) h = absurd (both_ways false refl h)
 same_piece (Told i) (Told j) h = ap Told (same_item i j h)
+same_piece _ _ h = absurd (both_ways false refl h)
 
 pub piece_self : (p : Piece) → piece.ghosts.eq p p ≡ true
 piece_self (Data n c) = chunk_self n c

@@ -112,9 +112,8 @@ placed_over slots count i n s are there is =
 -- Some leave
 
 pub halves_take : (kind : ℕ) (full : List Sending) (k n : ℕ) (slots : List SendSlot) → halves_from kind full k (take n slots) ≡ take n (halves_from kind full k slots)
-halves_take kind full k zero slots = refl
-halves_take kind full k (suc n) [] = refl
 halves_take kind full k (suc n) (x ∷ xs) = ap (λ l. slot_half (k * 4 + kind) full x x.written ∷ l) (halves_take kind full (k + 1) n xs)
+halves_take _ _ _ _ _ = refl
 
 pub placed_take : (slots : List SendSlot) (count n : ℕ) → ArePlaced slots count → ArePlaced (take n slots) count
 unfolding no_slot

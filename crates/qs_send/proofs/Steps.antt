@@ -5,18 +5,15 @@ use Rattle.std.specs.Ordering.{nat_cmp}
 use Rattle.std.proofs.lemmas.Bool.{both_ways}
 use Rattle.std.proofs.lemmas.Bool.Decides.{nat_tests}
 use Rattle.std.proofs.lemmas.List.{drop_all}
+use Rattle.qs_ranges.proofs.Algebra.{AllBelow-empty, AllBelow-with_range, has_difference, has_union}
 use Rattle.qs_ranges.specs.Numbers.{MAX_VARINT, missing_from, AllBelow, NumberSet, numbers, contains-with_range, contains-without_range, contains-numbers, same_numbers, ContainsRange, MissesRange}
 use Rattle.qs_send.specs.declared.parts.Chunk.{Chunk}
 use Rattle.qs_send.specs.declared.parts.Reset.{Reset}
 use Rattle.qs_send.specs.Lane.{Sending, SendLane, unacked_from, new_sending, after_write, after_sent, after_acked, lost_due}
 use Rattle.qs_send.specs.Chunks.{IsDueChunk, WasSent}
 use Rattle.qs_send.specs.Sound.{IsLawful, ArePartsOf, IsEnded}
-use Rattle.qs_send.proofs.Runs.{contains-due}
-use Rattle.qs_send.proofs.Sets.{contains-either, due-nothing}
+use Rattle.qs_send.proofs.Sets.{due-nothing}
 use Rattle.qs_send.proofs.Missing.{unacked-empty, unacked-least, unacked-more}
-
-pub empty_below : (limit : ℕ) → AllBelow set.empty limit
-empty_below limit q has = absurd (both_ways _ (set.contains-empty nat_cmp q) has)
 
 pub lawful_new : (id limit buffer : ℕ) → id ≤ MAX_VARINT → limit ≤ MAX_VARINT → IsLawful (new_sending id limit buffer)
 lawful_new id limit buffer small_id small_limit =
@@ -24,8 +21,8 @@ lawful_new id limit buffer small_id small_limit =
       order = record { small_id = small_id; small = omega arith; small_limit = small_limit; sent_written = omega arith; sent_limit = omega arith; reset_size = λ r e. absurd (cc) };
       bytes = record { from = λ _. omega (arith, unacked-empty); let_go = λ _. refl; buffered = omega arith; widest = omega arith };
       parts = record {
-        acked_sent = empty_below 0;
-        due_written = empty_below 0;
+        acked_sent = AllBelow-empty 0;
+        due_written = AllBelow-empty 0;
         apart = λ q has. absurd (both_ways _ (set.contains-empty nat_cmp q) has);
         unsent_due = λ _ q le lt. absurd (omega (arith, le, lt));
         none_due = λ e. refl;
@@ -42,9 +39,6 @@ lawful_new id limit buffer small_id small_limit =
     }
 
 -- What was noted lies below what was written
-
-pub below_less : (noted t : NumberSet) (w : ℕ) → AllBelow noted w → AllBelow (set.difference noted t) w
-below_less noted t w below q has = grind (arith, nat_tests, contains-due noted t q, below q)
 
 pub below_more : (noted : NumberSet) (w from end w' : ℕ) → w ≤ w' → end ≤ w' → AllBelow noted w → AllBelow (set.union noted (numbers from end)) w'
 below_more noted w from end w' le fits below q has = grind (arith, nat_tests, contains-with_range noted from end q, below q)
@@ -111,7 +105,7 @@ lawful_reset s r size h =
       bytes = record { from = λ is. absurd (both_ways true is refl); let_go = λ _. refl; buffered = omega arith; widest = h.bytes.widest };
       parts = record {
         acked_sent = h.parts.acked_sent;
-        due_written = empty_below s.lane.written;
+        due_written = AllBelow-empty s.lane.written;
         apart = λ q has. absurd (both_ways _ (set.contains-empty nat_cmp q) has);
         unsent_due = λ is. absurd (both_ways true is refl);
         none_due = λ _. refl;
@@ -248,14 +242,11 @@ ends_acked w e f s a d r false sent h =
 pub more_acked : (acked : NumberSet) (from end q : ℕ) → IsTrue (set.contains acked q) → IsTrue (set.contains (set.union acked (numbers from end)) q)
 more_acked acked from end q has = grind (arith, nat_tests, contains-with_range acked from end q, has)
 
-pub all_more : (acked : NumberSet) (from end limit : ℕ) → AllBelow acked limit → end ≤ limit → AllBelow (set.union acked (numbers from end)) limit
-all_more acked from end limit below le q has = grind (arith, nat_tests, contains-with_range acked from end q, below q)
-
 -- the lowest offset not acknowledged moves up, within what was written
 pub unacked_moves : (l : SendLane) (c : Chunk) → WasSent l c → AllBelow l.acked l.sent_end → l.sent_end ≤ l.written → (unacked_from l ≤ missing_from (set.union l.acked (numbers c.offset (c.offset + c.len))) 0) × (missing_from (set.union l.acked (numbers c.offset (c.offset + c.len))) 0 ≤ l.written)
 unacked_moves l c sent below le =
     let first = unacked-least l.acked l.sent_end l.written below le in
-    let second = unacked-least (set.union l.acked (numbers c.offset (c.offset + c.len))) l.sent_end l.written (all_more _ _ _ _ below sent.offsets) le in
+    let second = unacked-least (set.union l.acked (numbers c.offset (c.offset + c.len))) l.sent_end l.written (AllBelow-with_range _ _ _ _ below sent.offsets) le in
     (unacked-more _ _ _ _ first.0 second.0 (more_acked l.acked c.offset (c.offset + c.len)), second.1)
 
 pub lawful_acked : (s : Sending) (c : Chunk) → WasSent s.lane c → IsLawful s → IsLawful (after_acked s c)
@@ -285,9 +276,9 @@ parts_lost : (w e from end : ℕ) (acked due : NumberSet) (r : Bool) → r ≡ f
 parts_lost w e from end acked due r open_lane sent le h =
     record {
       acked_sent = h.acked_sent;
-      due_written = λ q has. grind (arith, nat_tests, contains-either due (set.difference (numbers from end) acked) q, contains-due (numbers from end) acked q, contains-numbers from end q, h.due_written q);
-      apart = λ q has. grind (arith, nat_tests, contains-either due (set.difference (numbers from end) acked) q, contains-due (numbers from end) acked q, h.apart q);
-      unsent_due = λ o q ge lt. grind (arith, nat_tests, contains-either due (set.difference (numbers from end) acked) q, h.unsent_due o q ge lt);
+      due_written = λ q has. grind (arith, nat_tests, has_union due (set.difference (numbers from end) acked) q, has_difference (numbers from end) acked q, contains-numbers from end q, h.due_written q);
+      apart = λ q has. grind (arith, nat_tests, has_union due (set.difference (numbers from end) acked) q, has_difference (numbers from end) acked q, h.apart q);
+      unsent_due = λ o q ge lt. grind (arith, nat_tests, has_union due (set.difference (numbers from end) acked) q, h.unsent_due o q ge lt);
       none_due = λ is. absurd (both_ways _ open_lane is);
     }
 

@@ -541,14 +541,15 @@ impl<'a> Eraser<'a> {
         self.cut(start, last)
     }
 
-    /// The first of the comments that stand right above a line, and messages of errors.
+    /// The first of the comments that stand right above a line, messages of errors, and what helps a proof.
     fn comments_above(&self, line: usize) -> usize {
         let mut start = line;
         while start > 0 {
             let above = self.line_start(start - 1);
             let line = self.text[above..start].trim_start();
             let is_comment = line.starts_with("//") && !line.starts_with("//!");
-            if !is_comment && !line.starts_with("#[error") {
+            let is_attribute = line.starts_with("#[error") || line.starts_with("#[tactic");
+            if !is_comment && !is_attribute {
                 break;
             }
             start = above;

@@ -76,6 +76,19 @@ fn laws_that_are_handed_on_go() {
 }
 
 #[test]
+fn laws_go_with_all_above_them() {
+    let place = Place {
+        laws: true,
+        ..PLACE
+    };
+    let rattle = "/// What holds.\n#[tactic(auto, using(crate::proofs::A::b))]\npub fn law()\n    ensures { Holds }\n{}\n\npub fn other() {\n    act();\n}\n";
+    assert_eq!(
+        erase(&place, rattle).map_err(|unknown| unknown.what),
+        Ok("pub fn other() {\n    act();\n}\n".to_owned())
+    );
+}
+
+#[test]
 fn text_and_characters_stay() {
     is_made(
         "const A: &str = \"ghost // requires \\\" {\";\nconst B: u8 = b'\\'';\nconst C: char = '{';\n",

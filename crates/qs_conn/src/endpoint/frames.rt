@@ -11,6 +11,7 @@ ghost use Rattle.qs_conn.specs.Seen.{view_seen, SeenFits, Judges};
 
 use super::{Endpoint, is_uni, role_bit};
 use crate::places::Place;
+use crate::recv_lanes::Half;
 use crate::seen::SeenFrame;
 use qs_recv::{Highest, RecvFault};
 use qs_send::Item;
@@ -136,19 +137,11 @@ impl Endpoint {
         ensures { Judges self.now (Stream stream offset bytes.now fin) result }
     {
         let window = self.window(stream.id);
-        let len = bytes.len() as u64;
-        let check = self
-            .core
-            .recvs
-            .check_stream(window, stream.id, offset, len, fin);
-        if let Some(code) = self.credit_fault(check) {
+        let judged = Half::judge_first(self.alloc, window, offset, bytes, fin);
+        if let Some(code) = self.credit_fault(judged.stream) {
             return Err(code);
         }
-        match self
-            .core
-            .recvs
-            .check_bytes(window, stream.id, offset, bytes)
-        {
+        match judged.bytes {
             Ok(()) => Ok(true),
             Err(fault) => Err(code_of(fault)),
         }

@@ -149,6 +149,7 @@ impl Endpoint {
         self.core.outbox.learn_of_open();
         self.core.untold_recvs.open_to(stream)?;
         self.core.untold_sends.open_to(stream)?;
+        self.core.carried.open_to(stream)?;
         open_sends(
             &mut self.core.outbox,
             both(uni, !own),

@@ -86,8 +86,7 @@ impl Endpoint {
         requires limit { limit ≤ MAX_VARINT }
         ensures { self.new ≡ on_send stream (λ l. allow_lane l limit) self.old }
     {
-        self.core.outbox.learn_sending(stream);
-        self.core.outbox.allow(stream, limit);
+        self.core.allow(stream, limit);
     }
 }
 

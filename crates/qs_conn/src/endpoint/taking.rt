@@ -46,7 +46,7 @@ impl Endpoint {
                 fin,
             } => self.on_stream(stream, offset, bytes, fin),
             SeenFrame::Control(Item::MaxData { maximum }) => {
-                self.core.limits.known_data = self.core.limits.known_data.max(maximum);
+                self.on_max_data(maximum);
                 Ok(())
             }
             SeenFrame::Control(Item::MaxStreams { dir, count }) => {
@@ -85,6 +85,14 @@ impl Endpoint {
         taken
     }
 
+    // The peer allows so many bytes on all streams.
+    fn on_max_data(&mut self, maximum: u64)
+        requires { maximum ≤ MAX_VARINT }
+        ensures { self.new ≡ item_taken (items.MaxData maximum) self.old }
+    {
+        self.core.limits.known_data = self.core.limits.known_data.max(maximum);
+    }
+
     // The peer allows so many streams of a direction.
     fn on_max_streams(&mut self, dir: Dir, count: u64)
         requires { count ≤ 2 ^ 60 }
@@ -104,8 +112,7 @@ impl Endpoint {
         ensures yet { OnErr result (IsYetToOpen self.old stream) }
     {
         self.open_by_peer(stream)?;
-        self.core.outbox.learn_sending(stream);
-        self.core.outbox.allow(stream, maximum);
+        self.core.allow(stream, maximum);
         Ok(())
     }
 

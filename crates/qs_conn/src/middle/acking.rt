@@ -1,11 +1,13 @@
 //! Packets are acknowledged.
-ghost use Rattle.std.specs.Prelude.{◌≡◌, ◌<◌, ◌^◌, false, Some, OnOk, OnErr};
+ghost use Rattle.std.specs.Prelude.{if◌then◌else◌, ◌≡◌, ◌<◌, ◌^◌, false, Some, OnOk, OnErr};
 ghost use Rattle.std.specs.FinMap as fmap;
 ghost use Rattle.qs_wire.specs.Varint.{numbers_of};
 ghost use Rattle.qs_wire.specs.Layout.{ack_ranges_of};
 ghost use Rattle.qs_machine.specs.Memory.{PieceMayRunOut};
 ghost use Rattle.qs_machine.specs.Outgoing.{first_piece, first_acked_out, acked_at};
 ghost use Rattle.qs_conn.specs.Middle.{IsAtRest, KeepsStreams};
+ghost use Rattle.qs_conn.specs.Carried.{carried_without};
+ghost use Rattle.qs_conn.specs.OwnCarried.{own_left};
 ghost use Rattle.qs_conn.specs.Ended.{half_of};
 ghost use Rattle.qs_conn.specs.NewlyTold.{TellsNamed, TellsAhead};
 ghost use Rattle.qs_conn.specs.Runs.{AcksAhead, AcksBoth, AcksNamed, AcksPacket, AcksRanges, from_below, held_out};
@@ -151,9 +153,12 @@ impl Core {
         ensures rest { IsAtRest self.new }
         ensures streams { KeepsStreams self.old self.new }
     {
+        self.outbox.learn_apart();
         look_again(&mut self.untold_recvs, &mut self.untold_sends, &piece);
         let Some(stream) = half_of(&piece) else {
-            return self.outbox.ack_kept(packet, piece);
+            self.outbox.ack_kept(packet, piece)?;
+            self.drop_unless(packet, piece);
+            return Ok(());
         };
         let was = self.is_over(stream);
         self.outbox.ack_kept(packet, piece)?;
@@ -162,9 +167,19 @@ impl Core {
         if let Piece::Data { .. } = piece {
             return Ok(());
         }
+        self.drop_unless(packet, piece);
         // Of a reset that the peer has nothing is left to tell.
         self.unmark_told(Kind::ResetStream, stream);
         Ok(())
+    }
+
+    // A piece left its packet, if that was outstanding.
+    fn drop_unless(&mut self, packet: KeptPacket, piece: Piece)
+        ensures { self.new ≡ record self.old { carried = if packet.late then self.old.carried else carried_without piece self.old.recvs self.old.outbox.sends self.old.carried; own = if packet.late then self.old.own else own_left piece self.old.own } }
+    {
+        if !packet.late {
+            self.drop_carried(&piece);
+        }
     }
 }
 

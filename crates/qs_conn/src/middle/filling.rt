@@ -17,18 +17,15 @@ ghost use Rattle.qs_conn.specs.Tasks.{IsOpen};
 
 use super::Core;
 use crate::filling::{
-    Course, LEAST_STREAM_FRAME, Packet, Wish, cut_to, full_at, is_covered, put_ack_if, put_chunk,
-    put_item,
+    Course, LEAST_STREAM_FRAME, Packet, Wish, cut_to, full_at, put_ack_if, put_chunk, put_item,
 };
 use crate::outbox::Outbox;
+use crate::own_carried::OWN_ITEMS;
 use crate::send_marks::Task;
 use crate::slot::{Kind, Slot};
 use crate::untold::Untold;
 use qs_ranges::RangeSet;
 use qs_wire::{Dir, StreamId};
-
-// So many items are the connection's own: two limits and two counts of streams for the peer, and what this end lacks of its own three.
-const OWN_ITEMS: usize = 6;
 
 impl Core {
     /// Fills a packet from its first byte on with what is asked for, and answers how far it is: the ACK, control items, and the
@@ -184,7 +181,7 @@ impl Core {
             → Stage wish room old (take result.len out.new) (end_of self.new e) result.is_full (and_slot passed slot) }
         ensures filled { FillsOn self.old out.old packet.len self.new out.new result.len 1 }
     {
-        if self.limits.has_told(&self.outbox, &slot) {
+        if self.limits.has_told(&self.outbox, &self.own, &slot) {
             return packet;
         }
         self.put_slot(slot, out, packet)
@@ -206,10 +203,12 @@ impl Core {
         let Some(item) = self.limits.current(&self.outbox, &self.recvs, slot) else {
             return packet;
         };
-        if is_covered(&self.outbox, &item) {
+        if self.has_covered(&item) {
             return packet;
         }
-        put_item(&mut self.outbox, &item, out, packet)
+        let packet = put_item(&mut self.outbox, &item, out, packet);
+        self.note_put(&item, packet.is_full);
+        packet
     }
 
     // Puts the bytes of the streams into the packet that are asked for: of one alone, or of those from it on before the others and lower

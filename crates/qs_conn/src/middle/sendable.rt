@@ -6,7 +6,6 @@ ghost use Rattle.qs_conn.specs.Filling.{Passed, and_slot, and_kind, all_items};
 ghost use Rattle.qs_conn.specs.Sending.{TellsDue, TellsGoing, TellsAnyGoing, TellsFrame, TellsItem, TellsStream, TellsWanted};
 
 use super::Core;
-use crate::filling::is_covered;
 use crate::slot::{Kind, Slot};
 use qs_calls::Fill;
 use qs_wire::{Dir, StreamId};
@@ -125,7 +124,7 @@ impl Core {
         if is_found {
             return true;
         }
-        if self.limits.has_told(&self.outbox, &slot) {
+        if self.limits.has_told(&self.outbox, &self.own, &slot) {
             return false;
         }
         self.has_slot(slot, false)
@@ -142,7 +141,7 @@ impl Core {
         let Some(item) = self.limits.current(&self.outbox, &self.recvs, slot) else {
             return false;
         };
-        !is_covered(&self.outbox, &item)
+        !self.has_covered(&item)
     }
 
     // Bytes of some stream may go, or its end.

@@ -5,7 +5,6 @@ ghost use Rattle.qs_conn.specs.Middle.{IsCore, end_of};
 ghost use Rattle.qs_conn.specs.Marks.{IsIdle};
 
 use super::Core;
-use crate::filling::is_covered;
 use crate::slot::{Kind, Slot};
 use qs_wire::StreamId;
 
@@ -57,9 +56,9 @@ impl Core {
         requires { IsCore self.now }
         ensures { (e : End) → result ≡ true → IsIdle (end_of self.now e) slot }
     {
-        match self.limits.current(&self.outbox, &self.recvs, slot) {
-            Some(item) => is_covered(&self.outbox, &item),
-            None => true,
-        }
+        let Some(item) = self.limits.current(&self.outbox, &self.recvs, slot) else {
+            return true;
+        };
+        self.has_covered(&item)
     }
 }

@@ -19,7 +19,6 @@ use super::halves::half_of;
 use crate::places::{index_of, type_of};
 use crate::send_lanes::SendLanes;
 use crate::told::ToldItems;
-use crate::told_index::ToldIndex;
 use qs_ranges::NoMemory;
 use qs_send::{AckPass, Chunk, Item, Piece, Records, SendState};
 use qs_wire::StreamId;
@@ -136,7 +135,6 @@ impl Outbox {
         let _next = self.next;
         piece_acked(&mut self.types, &mut self.told, &piece)?;
         self.records.drop_first(number);
-        forget(&mut self.index, piece);
         Ok(())
     }
 
@@ -169,7 +167,6 @@ impl Outbox {
         piece_lost(&mut self.types, &piece)?;
         self.lost.add(number, piece);
         self.records.drop_first(number);
-        forget(&mut self.index, piece);
         Ok(())
     }
 }
@@ -299,14 +296,4 @@ fn chunk_lost(types: &mut [SendLanes; 4], stream: StreamId, chunk: Chunk) -> Res
 {
     let lanes = &mut types[type_of(stream)];
     lanes.lost(index_of(stream), chunk)
-}
-
-// An item that left the records is told no more.
-fn forget(index: &mut ToldIndex, piece: Piece)
-    ensures items { (i : Item) → Among i index.new.items ↔ (Among i index.old.items × (pieces.Told i ≡ piece → ⊥)) }
-    ensures spare { index.old.spare ≤ index.new.spare }
-{
-    if let Piece::Told(item) = piece {
-        index.remove(item);
-    }
 }

@@ -8,8 +8,7 @@ ghost use Rattle.qs_machine.specs.News.{IsLeast, IsHeld};
 ghost use Rattle.qs_conn.specs.Marks.{IsBefore, HaveTo, IsHeldOf};
 ghost use Rattle.qs_conn.specs.Tasks.{IsOpen, IsQuiet, HasTask, IsSought, IsSoughtOf};
 
-use crate::marks::least;
-use crate::places::{index_from, index_of, type_of};
+use crate::places::{index_from, index_of, least_stream, type_of};
 use crate::send_lanes::SendLanes;
 use crate::send_marks::{Search, Task};
 use crate::told_streams::ToldStreams;
@@ -75,9 +74,12 @@ pub(super) fn least_marked(types: &[SendLanes; 4], task: Task, from: u64) -> Opt
     ensures open { IfSome result (IsOpen (tables_of types.now)) }
     ensures quiet { (n : ℕ) (s : Sending) → from ≤ n → IsBefore n result → lookup (tables_of types.now) n ≡ Some s → IsQuiet task s }
 {
-    let bidi = least(next_of(types, task, 0, from), next_of(types, task, 1, from));
-    let uni = least(next_of(types, task, 2, from), next_of(types, task, 3, from));
-    StreamId::new(least(bidi, uni)?)
+    least_stream(
+        next_of(types, task, 0, from),
+        next_of(types, task, 1, from),
+        next_of(types, task, 2, from),
+        next_of(types, task, 3, from),
+    )
 }
 
 // The least such number among the streams of a type.
@@ -86,7 +88,8 @@ fn next_of(types: &[SendLanes; 4], task: Task, stream_type: usize, from: u64) ->
     requires len { length types.now ≡ 4 }
     requires stream_type { stream_type < 4 }
     requires from { from ≤ 2 ^ 62 }
-    ensures found { IfSome result (λ n. (from ≤ n) × (n < 2 ^ 62)) }
+    ensures from { IfSome result (λ n. from ≤ n) }
+    ensures small { IfSome result (λ n. n < 2 ^ 62) }
     ensures open { IfSome result (IsOpen (tables_of types.now)) }
     ensures quiet { HaveTo (IsQuiet task) (tables_of types.now) from result stream_type }
 {
@@ -104,18 +107,12 @@ pub(super) fn next_with(types: &[SendLanes; 4], task: Task, from: u64) -> Option
     requires from { from ≤ 2 ^ 62 }
     ensures { IsLeast (IsHeld (HasTask task) (tables_of types.now)) from result }
 {
-    let bidi = least(
+    least_stream(
         next_with_of(types, task, 0, from),
         next_with_of(types, task, 1, from),
-    );
-    let uni = least(
         next_with_of(types, task, 2, from),
         next_with_of(types, task, 3, from),
-    );
-    match least(bidi, uni) {
-        Some(number) => StreamId::new(number),
-        None => None,
-    }
+    )
 }
 
 // The least such number among the streams of a type.
@@ -146,18 +143,12 @@ pub(super) fn next_sought(
     requires from { from ≤ 2 ^ 62 }
     ensures { IsLeast (IsSought search (tables_of types.now) told.now) from result }
 {
-    let bidi = least(
+    least_stream(
         next_sought_of(types, search, told, 0, from),
         next_sought_of(types, search, told, 1, from),
-    );
-    let uni = least(
         next_sought_of(types, search, told, 2, from),
         next_sought_of(types, search, told, 3, from),
-    );
-    match least(bidi, uni) {
-        Some(number) => StreamId::new(number),
-        None => None,
-    }
+    )
 }
 
 // The least such number among the streams of a type.

@@ -1,5 +1,5 @@
 //! What an end has to tell of its sending side.
-ghost use Rattle.std.specs.Prelude.{nat_lt, ◌-◌, ◌≡◌, ◌≤◌, ◌<◌, ◌^◌, ◌↔◌, ◌||◌, IsTrue, ℕ, length, IfSome, IfNone, true, false};
+ghost use Rattle.std.specs.Prelude.{nat_lt, ◌-◌, ◌≡◌, ◌≤◌, ◌<◌, ◌^◌, ◌↔◌, ◌||◌, IsTrue, ℕ, length, IfSome, IfNone, option_map, true, false};
 ghost use Rattle.qs_ranges.specs.Numbers.{MAX_VARINT};
 ghost use Rattle.qs_send.specs.declared.piece.Piece.TheVariants as pieces;
 ghost use Rattle.qs_machine.specs.Tables.{lookup};
@@ -16,7 +16,7 @@ ghost use Rattle.qs_conn.specs.Tasks.{IsOpen, IsQuietAt};
 ghost use Rattle.qs_machine.specs.Outgoing.{IsCarried, IsAckedOut, IsAckedReset, IsBlockedAt, WantsMore, reset_by, with_outgoing};
 
 use super::Outbox;
-use super::halves::{half_of, is_open, least_marked, may_have, next_sought, next_with};
+use super::halves::{half_of, least_marked, may_have, next_sought, next_with};
 use crate::marks::Marks;
 use crate::send_marks::{Search, Task};
 use crate::told_streams::ToldStreams;
@@ -24,14 +24,6 @@ use qs_send::{Item, MAX_VARINT, Reset, SendState, SendView};
 use qs_wire::StreamId;
 
 impl Outbox {
-    /// Whether an outstanding packet told the item with this value.
-    pub(crate) fn tells(&self, item: Item) -> bool
-        ensures { IsTrue result ↔ IsCarried self.now.outstanding (pieces.Told item) }
-    {
-        let _next = self.next;
-        self.index.has(item)
-    }
-
     /// Whether an acknowledged packet told the item with this value.
     pub(crate) fn is_acked(&self, item: Item) -> bool
         ensures { IsTrue result ↔ IsAckedOut self.now item }
@@ -46,10 +38,10 @@ impl Outbox {
     pub(crate) fn is_reset_acked(&self, stream: StreamId) -> bool
         ensures { IsTrue result ↔ IsAckedReset (lookup self.now.sends stream) }
     {
-        if !is_open(&self.types, stream) {
+        let Some(half) = self.half(stream) else {
             return false;
-        }
-        matches!(half_of(&self.types, stream).state(), SendState::ResetRecvd)
+        };
+        matches!(half.state(), SendState::ResetRecvd)
     }
 
     /// The reset of a stream. A frame can tell it.
@@ -57,10 +49,7 @@ impl Outbox {
         ensures value { result ≡ (or_none (lookup self.now.sends stream)).was_reset }
         ensures small { IfSome result (λ r. (r.code ≤ MAX_VARINT) × (r.size ≤ MAX_VARINT)) }
     {
-        if !is_open(&self.types, stream) {
-            return None;
-        }
-        let half = half_of(&self.types, stream);
+        let half = self.half(stream)?;
         reset_by(half.reset_code(), half.final_size())
     }
 
@@ -70,10 +59,7 @@ impl Outbox {
         ensures none { IfNone result ((m : ℕ) → IsBlockedAt (lookup self.now.sends stream) m → ⊥) }
         ensures small { IfSome result (λ limit. limit ≤ MAX_VARINT) }
     {
-        if !is_open(&self.types, stream) {
-            return None;
-        }
-        let half = half_of(&self.types, stream);
+        let half = self.half(stream)?;
         if let Some(_code) = half.reset_code() {
             return None;
         }
@@ -87,34 +73,41 @@ impl Outbox {
         Some(limit)
     }
 
+    /// The limit of an open stream.
+    pub(crate) fn limit_of(&self, stream: StreamId) -> Option<u64>
+        ensures { result ≡ option_map (λ l. l.limit) (lookup self.now.sends stream) }
+    {
+        let half = self.half(stream)?;
+        Some(half.limit())
+    }
+
     /// Whether a MAX_STREAM_DATA of this limit would raise that of an open stream.
     pub(crate) fn limit_rises(&self, stream: StreamId, limit: u64) -> bool
         ensures { result ≡ half_changes (λ l. nat_lt l.limit limit) (lookup self.now.sends stream) }
     {
-        if !is_open(&self.types, stream) {
+        let Some(half) = self.half(stream) else {
             return false;
-        }
-        half_of(&self.types, stream).limit() < limit
+        };
+        half.limit() < limit
     }
 
     /// Whether a STOP_SENDING, which the owner answers or not, would change an open stream.
     pub(crate) fn stop_changes(&self, stream: StreamId, owner_answers: bool) -> bool
         ensures { result ≡ half_changes (changes_by_stop owner_answers) (lookup self.now.sends stream) }
     {
-        if !is_open(&self.types, stream) {
+        let Some(half) = self.half(stream) else {
             return false;
-        }
-        changed_by_stop(&half_of(&self.types, stream), owner_answers)
+        };
+        changed_by_stop(&half, owner_answers)
     }
 
     /// Whether a stream has bytes that only the connection's credit holds back.
     pub(crate) fn wants_more(&self, stream: StreamId) -> bool
         ensures { IsTrue result ↔ WantsMore (lookup self.now.sends stream) }
     {
-        if !is_open(&self.types, stream) {
+        let Some(half) = self.half(stream) else {
             return false;
-        }
-        let half = half_of(&self.types, stream);
+        };
         if let Some(_code) = half.reset_code() {
             return false;
         }
@@ -125,10 +118,9 @@ impl Outbox {
     pub(crate) fn waits_for_credit(&self, stream: StreamId, is_used_up: bool) -> bool
         ensures { result ≡ waits_for_credit is_used_up (lookup self.now.sends stream) }
     {
-        if !is_open(&self.types, stream) {
+        let Some(half) = self.half(stream) else {
             return false;
-        }
-        let half = half_of(&self.types, stream);
+        };
         if let Some(_code) = half.reset_code() {
             return false;
         }
@@ -142,10 +134,9 @@ impl Outbox {
     pub(crate) fn room(&self, stream: StreamId) -> u64
         ensures { result ≡ buffer_room (lookup self.now.sends stream) }
     {
-        if !is_open(&self.types, stream) {
+        let Some(half) = self.half(stream) else {
             return 0;
-        }
-        let half = half_of(&self.types, stream);
+        };
         if half.refusal().is_some() {
             return 0;
         }
@@ -156,10 +147,9 @@ impl Outbox {
     pub(crate) fn limit_left(&self, stream: StreamId) -> u64
         ensures { result ≡ limit_left (or_none (lookup self.now.sends stream)) }
     {
-        if !is_open(&self.types, stream) {
+        let Some(half) = self.half(stream) else {
             return 0;
-        }
-        let half = half_of(&self.types, stream);
+        };
         half.limit().saturating_sub(half.written())
     }
 
@@ -167,10 +157,9 @@ impl Outbox {
     pub(crate) fn unsent(&self, stream: StreamId) -> u64
         ensures { result ≡ unsent_of (lookup self.now.sends stream) }
     {
-        if !is_open(&self.types, stream) {
+        let Some(half) = self.half(stream) else {
             return 0;
-        }
-        let half = half_of(&self.types, stream);
+        };
         if let Some(_code) = half.reset_code() {
             return 0;
         }
@@ -181,10 +170,7 @@ impl Outbox {
     pub(crate) fn acked_below(&self, stream: StreamId) -> Option<u64>
         ensures { result ≡ acked_below_of (lookup self.now.sends stream) }
     {
-        if !is_open(&self.types, stream) {
-            return None;
-        }
-        let half = half_of(&self.types, stream);
+        let half = self.half(stream)?;
         Some(half.unacked_from())
     }
 

@@ -2,10 +2,12 @@
 //! One end of a connection.
 
 use crate::proved::qs_conn::by_dir::ByDir;
+use crate::proved::qs_conn::carried::Carried;
 use crate::proved::qs_conn::held::Held;
 use crate::proved::qs_conn::limits::Limits;
 use crate::proved::qs_conn::middle::Core;
 use crate::proved::qs_conn::outbox::Outbox;
+use crate::proved::qs_conn::own_carried::OwnCarried;
 use crate::proved::qs_conn::places::type_of;
 use crate::proved::qs_conn::recv_tables::RecvTables;
 use crate::proved::qs_conn::setup::{setup_fault, wide_setup_fault};
@@ -112,6 +114,8 @@ impl Endpoint {
                 recvs: RecvTables::new(alloc),
                 untold_recvs: Untold::new(alloc),
                 untold_sends: Untold::new(alloc),
+                carried: Carried::new(alloc),
+                own: OwnCarried::new(),
                 ended: ByDir::new(0, 0),
             },
             peer,
@@ -174,7 +178,9 @@ impl Endpoint {
         if self.is_settled {
             return;
         }
-        self.core.recvs.raise_all(&mut self.core.untold_recvs);
+        self.core
+            .recvs
+            .raise_all(&mut self.core.untold_recvs, &mut self.core.carried.limits);
         let taken = self.core.recvs.tally().taken;
         let settings = &self.core.limits.settings;
         let step = self.core.limits.tuning.count_step;

@@ -104,14 +104,6 @@ pub(crate) fn put_item(outbox: &mut Outbox, item: &Item, out: &mut [u8], packet:
     }
 }
 
-/// Whether an outstanding or acknowledged packet told the item with this value.
-pub(crate) fn is_covered(outbox: &Outbox, item: &Item) -> bool {
-    if outbox.tells(*item) {
-        return true;
-    }
-    outbox.is_acked(*item)
-}
-
 /// A packet that is full, with so many bytes of streams left of the cap.
 pub(crate) fn full_at(len: usize, quota: usize) -> Course {
     Course {

@@ -3,8 +3,8 @@
 
 use crate::proved::qs_conn::by_dir::ByDir;
 use crate::proved::qs_conn::endpoint::{is_uni, role_bit};
-use crate::proved::qs_conn::filling::is_covered;
 use crate::proved::qs_conn::outbox::Outbox;
+use crate::proved::qs_conn::own_carried::OwnCarried;
 use crate::proved::qs_conn::places::type_of;
 use crate::proved::qs_conn::recv_tables::RecvTables;
 use crate::proved::qs_conn::send_marks::Task;
@@ -47,11 +47,11 @@ impl Limits {
     }
 
     /// Whether a look at few numbers tells that of a slot of the connection no item is due.
-    pub(crate) fn has_told(&self, outbox: &Outbox, slot: &Slot) -> bool {
+    pub(crate) fn has_told(&self, outbox: &Outbox, own: &OwnCarried, slot: &Slot) -> bool {
         match *slot {
             Slot::MaxData => self.max_data().is_none(),
             Slot::MaxStreams(dir) => self.max_streams(dir).is_none(),
-            Slot::DataBlocked => self.has_told_blocked(outbox),
+            Slot::DataBlocked => self.has_told_blocked(outbox, own),
             Slot::StreamsBlocked(dir) => self.streams_blocked(dir).is_none(),
             _ => false,
         }
@@ -59,12 +59,12 @@ impl Limits {
 
     // The connection's limit holds nothing back, or was told. No stream is looked at.
     #[inline(always)]
-    fn has_told_blocked(&self, outbox: &Outbox) -> bool {
+    fn has_told_blocked(&self, outbox: &Outbox, own: &OwnCarried) -> bool {
         if outbox.sent_sum() < self.known_data {
             return true;
         }
         let limit = self.known_data;
-        is_covered(outbox, &Item::DataBlocked { limit })
+        own.is_told(outbox, &Item::DataBlocked { limit })
     }
 
     /// Sets the connection's window where so much was taken. A greater one moves the limit at once (RFC 9000, section 4.1).

@@ -2,15 +2,18 @@
 //! What an end knows and has to tell.
 
 use crate::proved::qs_conn::by_dir::ByDir;
+use crate::proved::qs_conn::carried::Carried;
 use crate::proved::qs_conn::endpoint::{is_uni, role_bit};
 use crate::proved::qs_conn::limits::Limits;
 use crate::proved::qs_conn::outbox::Outbox;
+use crate::proved::qs_conn::own_carried::OwnCarried;
 use crate::proved::qs_conn::places::type_of;
 use crate::proved::qs_conn::recv_tables::RecvTables;
 use crate::proved::qs_conn::untold::Untold;
 use crate::proved::qs_wire::StreamId;
 
 mod acking;
+mod carrying;
 mod filling;
 mod losing;
 mod sendable;
@@ -25,6 +28,10 @@ pub(crate) struct Core {
     pub untold_recvs: Untold,
     /// Of which sending halves a reset or a limit may still have to be told.
     pub untold_sends: Untold,
+    /// Which items of halves are outstanding.
+    pub carried: Carried,
+    /// Which items of the connection itself are.
+    pub own: OwnCarried,
     /// How many of the peer's streams came to their end, of each direction.
     pub ended: ByDir<u64>,
 }

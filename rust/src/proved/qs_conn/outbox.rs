@@ -6,11 +6,10 @@ use crate::proved::qs_conn::piece_room::PieceRoom;
 use crate::proved::qs_conn::places::{index_of, type_of};
 use crate::proved::qs_conn::send_lanes::SendLanes;
 use crate::proved::qs_conn::told::ToldItems;
-use crate::proved::qs_conn::told_index::ToldIndex;
 use halves::{half_of, is_open};
 use crate::proved::qs_calls::SendReport;
 use crate::proved::qs_ranges::NoMemory;
-use crate::proved::qs_send::{LostRecords, Piece, Records, SendFault, SendState};
+use crate::proved::qs_send::{LostRecords, Piece, Records, SendFault, SendState, SendView};
 use crate::proved::qs_wire::StreamId;
 use crate::shim::alloc::Global;
 
@@ -34,8 +33,6 @@ pub(crate) struct Outbox {
     pending: Vec<Piece>,
     // Memory in which they will be kept.
     room: PieceRoom,
-    // The items that outstanding packets and the one in the making told.
-    index: ToldIndex,
     // For how many more pieces there is memory.
     spare: usize,
     next: u64,
@@ -55,7 +52,6 @@ impl Outbox {
             records: Records::new(alloc),
             lost: LostRecords::new(alloc),
             pending: Vec::new(alloc),
-            index: ToldIndex::new(alloc),
             spare: 0,
             next: 0,
             told: ToldItems::new(alloc),
@@ -66,6 +62,16 @@ impl Outbox {
     /// Whether the stream has a sending half.
     pub(crate) fn is_open(&self, stream: StreamId) -> bool {
         is_open(&self.types, stream)
+    }
+
+    /// A stream's sending half, where it is open.
+    #[inline(always)]
+    pub(crate) fn half(&self, stream: StreamId) -> Option<SendView<'_>> {
+        if !is_open(&self.types, stream) {
+            return None;
+        }
+        let half = half_of(&self.types, stream);
+        Some(half)
     }
 
     /// How many streams of the type of this one are open.
@@ -82,19 +88,15 @@ impl Outbox {
 
     /// Whether a stream's sending half is in Data Recvd or Reset Recvd (RFC 9000, section 3.1).
     pub(crate) fn has_ended(&self, stream: StreamId) -> bool {
-        if !is_open(&self.types, stream) {
+        let Some(half) = self.half(stream) else {
             return false;
-        }
-        let half = half_of(&self.types, stream);
+        };
         matches!(half.state(), SendState::DataRecvd | SendState::ResetRecvd)
     }
 
     /// How a stream's sending half stands, where it is open.
     pub(crate) fn report(&self, stream: StreamId) -> Option<SendReport> {
-        if !is_open(&self.types, stream) {
-            return None;
-        }
-        let half = half_of(&self.types, stream);
+        let half = self.half(stream)?;
         Some(SendReport {
             state: half.state(),
             written: half.written(),
@@ -200,10 +202,7 @@ impl Outbox {
 
     /// The code of the first STOP_SENDING that came of a stream.
     pub(crate) fn stop_code(&self, stream: StreamId) -> Option<u64> {
-        if !is_open(&self.types, stream) {
-            return None;
-        }
-        let half = half_of(&self.types, stream);
+        let half = self.half(stream)?;
         half.stop_code()
     }
 

@@ -1,6 +1,7 @@
 // Made from crates/qs_conn/src/places.rt by rust/erase; not edited by hand.
 //! Where a stream stands in a table.
 
+use crate::proved::qs_conn::marks::least;
 use crate::proved::qs_wire::StreamId;
 
 /// A stream with its place in a table, which is worked out once for a frame.
@@ -45,5 +46,21 @@ pub(crate) fn lesser(a: Option<StreamId>, b: Option<StreamId>) -> Option<StreamI
         (Some(first), Some(second)) if second.value() < first.value() => b,
         (Some(_first), _) => a,
         (None, _) => b,
+    }
+}
+
+/// The stream of the least of four numbers, one for each type, where there are some.
+#[inline(always)]
+pub(crate) fn least_stream(
+    a: Option<u64>,
+    b: Option<u64>,
+    c: Option<u64>,
+    d: Option<u64>,
+) -> Option<StreamId> {
+    let bidi = least(a, b);
+    let uni = least(c, d);
+    match least(bidi, uni) {
+        Some(number) => StreamId::new(number),
+        None => None,
     }
 }

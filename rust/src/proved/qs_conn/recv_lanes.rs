@@ -3,14 +3,13 @@
 use crate::shim::Vec;
 
 use crate::proved::qs_conn::marks::Marks;
-use crate::proved::qs_conn::recv_marks::{RecvMarks, RecvTask, has};
+use crate::proved::qs_conn::recv_marks::{RecvMarks, RecvTask};
 use crate::proved::qs_conn::told_marks::ToldMarks;
 use crate::proved::qs_conn::touches::Touches;
 use crate::proved::qs_conn::untold::Untold;
-use crate::proved::qs_calls::RecvReport;
 use crate::proved::qs_machine::Tally;
 use crate::proved::qs_ranges::NoMemory;
-use crate::proved::qs_recv::{Highest, Peek, Read, RecvFault, RecvHalf, RecvState, RingAssembly, Share};
+use crate::proved::qs_recv::{Highest, Read, RecvFault, RecvHalf, RingAssembly, Share};
 use crate::proved::qs_wire::StreamId;
 use crate::shim::alloc::Global;
 
@@ -23,7 +22,7 @@ pub(crate) struct RecvLanes {
     tally: Tally,
     // A lane that wasn't touched has no limit that is to be raised.
     touched: Touches,
-    // A lane without a mark has no answer for its owner.
+    // Which lanes have an answer for their owner.
     news: RecvMarks,
 }
 
@@ -66,39 +65,6 @@ impl RecvLanes {
         held_of(&self.halves)
     }
 
-    /// Whether a frame may be taken at an index, whose lane may have yet to be opened.
-    pub(crate) fn check_stream(
-        &self,
-        window: u64,
-        index: usize,
-        offset: u64,
-        len: u64,
-        fin: bool,
-    ) -> Result<Highest, RecvFault> {
-        debug_assert!(1 <= window);
-        debug_assert!(window <= 1 << 30);
-        match self.halves.get(index) {
-            Some(half) => half.check_stream(offset, len, fin),
-            None => Half::check_first(self.alloc, window, offset, len, fin),
-        }
-    }
-
-    /// Whether a frame's bytes are those that are stored at an index, whose lane may have yet to be opened.
-    pub(crate) fn check_bytes(
-        &self,
-        window: u64,
-        index: usize,
-        offset: u64,
-        bytes: &[u8],
-    ) -> Result<(), RecvFault> {
-        debug_assert!(1 <= window);
-        debug_assert!(window <= 1 << 30);
-        match self.halves.get(index) {
-            Some(half) => half.check_bytes(offset, bytes),
-            None => Half::check_first_bytes(self.alloc, window, offset, bytes),
-        }
-    }
-
     /// Whether a reset may be taken at an index, whose lane may have yet to be opened.
     pub(crate) fn check_reset(
         &self,
@@ -113,22 +79,6 @@ impl RecvLanes {
             Some(half) => half.check_reset(size),
             None => Half::check_first_reset(self.alloc, window, size),
         }
-    }
-
-    /// Whether a frame that passed both checks would change an open lane.
-    pub(crate) fn stream_changes(&self, index: usize, offset: u64, len: u64, fin: bool) -> bool {
-        let Some(half) = self.halves.get(index) else {
-            return false;
-        };
-        half.stream_changes(offset, len, fin)
-    }
-
-    /// Whether a reset that passed the check would change an open lane.
-    pub(crate) fn reset_changes(&self, index: usize) -> bool {
-        let Some(half) = self.halves.get(index) else {
-            return false;
-        };
-        matches!(half.state(), RecvState::Recv | RecvState::SizeKnown)
     }
 
     /// Opens the lanes of all indexes below a count.
@@ -214,14 +164,6 @@ impl RecvLanes {
         self.news.may_tell(index)
     }
 
-    /// Whether a read of one byte of a lane tells something new.
-    pub(crate) fn is_readable(&self, index: usize) -> bool {
-        match self.halves.get(index) {
-            Some(half) => half.is_readable(),
-            None => false,
-        }
-    }
-
     /// Reads at an open lane.
     pub(crate) fn read(&mut self, index: usize, into: &mut [u8]) -> Read {
         let half = &mut self.halves[index];
@@ -244,12 +186,6 @@ impl RecvLanes {
         self.tally = moved(self.tally, was, is);
         self.touched.touch(index);
         answer
-    }
-
-    /// Tells what a read at an open lane would, and changes nothing.
-    pub(crate) fn peek(&self, index: usize) -> Peek<'_> {
-        let half = &self.halves[index];
-        half.peek()
     }
 
     /// Stops an open lane.
@@ -289,60 +225,26 @@ impl RecvLanes {
         self.touched.touch(index);
     }
 
-    /// Whether a lane is in Data Read or Reset Read (RFC 9000, section 3.2).
-    pub(crate) fn has_ended(&self, index: usize) -> bool {
-        match self.halves.get(index) {
-            Some(half) => half.has_ended(),
-            None => false,
-        }
-    }
-
-    /// How a lane stands, where it is open.
-    pub(crate) fn report(&self, index: usize) -> Option<RecvReport> {
-        let half = self.halves.get(index)?;
-        Some(RecvReport {
-            state: half.state(),
-            read_count: half.read_count(),
-            highest: half.sizes().spent,
-            limit: half.limit(),
-            final_size: half.final_size(),
-            reset_code: half.reset_code(),
-            stop_code: half.stop_code(),
-        })
-    }
-
-    /// How many bytes of a lane count as taken, where it is open.
-    pub(crate) fn taken(&self, index: usize) -> Option<u64> {
-        let half = self.halves.get(index)?;
-        Some(half.sizes().taken)
-    }
-
-    /// The limit of an open lane of which no final size is known.
-    pub(crate) fn limit_to_tell(&self, index: usize) -> Option<u64> {
-        let half = self.halves.get(index)?;
-        match half.final_size() {
-            Some(_known) => None,
-            None => Some(half.limit()),
-        }
-    }
-
-    /// The code of a stop that the peer is to be told of.
-    pub(crate) fn stop_to_tell(&self, index: usize) -> Option<u64> {
-        let half = self.halves.get(index)?;
-        match half.state() {
-            RecvState::Recv | RecvState::SizeKnown => half.stop_code(),
-            _ => None,
-        }
-    }
-
-    /// Each limit becomes the next one, and a stream whose limit rises is marked. Only lanes that were touched are looked at.
+    /// Each limit becomes the next one, and a stream whose limit rises is marked: the new one is untold, and none that is outstanding is
+    /// the present one. Only lanes that were touched are looked at.
     #[inline]
-    pub(crate) fn raise_all(&mut self, stream_type: usize, untold: &mut Untold) {
+    pub(crate) fn raise_all(
+        &mut self,
+        stream_type: usize,
+        untold: &mut Untold,
+        carried: &mut Untold,
+    ) {
         debug_assert!(stream_type < 4);
         if self.touched.is_none() {
             return;
         }
-        raise_touched(&mut self.halves, &mut self.touched, stream_type, untold);
+        raise_touched(
+            &mut self.halves,
+            &mut self.touched,
+            stream_type,
+            untold,
+            carried,
+        );
     }
 
     /// The marks of the lanes that may have come to their end. One without a mark hasn't.
@@ -352,14 +254,7 @@ impl RecvLanes {
 
     /// The least index from one on whose lane has an answer for its owner.
     pub(crate) fn next_with(&self, task: RecvTask, from: usize) -> Option<usize> {
-        let mut next = from;
-        while let Some(index) = self.news.next(task, next) {
-            if has(task, &self.halves[index]) {
-                return Some(index);
-            }
-            next = index + 1;
-        }
-        None
+        self.news.next(task, from)
     }
 }
 
@@ -373,14 +268,7 @@ impl RecvLanes {
     /// The least index whose lane has an answer for its owner that wasn't told.
     #[inline(never)]
     pub(crate) fn next_untold(&self, task: RecvTask, told: &ToldMarks) -> Option<usize> {
-        let mut next = 0;
-        while let Some(index) = self.news.next_untold(task, told, next) {
-            if has(task, &self.halves[index]) {
-                return Some(index);
-            }
-            next = index + 1;
-        }
-        None
+        self.news.next_untold(task, told, 0)
     }
 }
 
@@ -437,20 +325,28 @@ fn raise_touched(
     touched: &mut Touches,
     stream_type: usize,
     untold: &mut Untold,
+    carried: &mut Untold,
 ) {
     debug_assert!(stream_type < 4);
     while let Some(index) = touched.pop() {
         if index < halves.len() {
-            raise_at(halves, index, stream_type, untold);
+            raise_at(halves, index, stream_type, untold, carried);
         }
     }
 }
 
-fn raise_at(halves: &mut Vec<Half>, index: usize, stream_type: usize, untold: &mut Untold) {
+fn raise_at(
+    halves: &mut Vec<Half>,
+    index: usize,
+    stream_type: usize,
+    untold: &mut Untold,
+    carried: &mut Untold,
+) {
     debug_assert!(stream_type < 4);
     let half = &mut halves[index];
     if let Some(_limit) = half.raise() {
         let stream = StreamId::new((index * 4 + stream_type) as u64).unwrap();
         untold.set(stream, true);
+        carried.set(stream, false);
     }
 }

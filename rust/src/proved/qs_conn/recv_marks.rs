@@ -16,7 +16,7 @@ pub(crate) enum RecvTask {
     Ended,
 }
 
-/// The halves of one type with an answer for their owner, for each task. A half without a mark has none.
+/// The halves of one type with an answer for their owner, for each task.
 pub(crate) struct RecvMarks {
     readable: Marks,
     ended: Marks,
@@ -87,13 +87,5 @@ impl RecvMarks {
             RecvTask::Readable => self.readable.next_untold(&self.readable, told, from),
             RecvTask::Ended => self.ended.next_untold(&self.ended, told, from),
         }
-    }
-}
-
-/// Whether a half has an answer of that kind.
-pub(crate) fn has(task: RecvTask, half: &RecvHalf<RingAssembly>) -> bool {
-    match task {
-        RecvTask::Readable => half.is_readable(),
-        RecvTask::Ended => half.has_ended(),
     }
 }

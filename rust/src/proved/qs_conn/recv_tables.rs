@@ -1,8 +1,8 @@
 // Made from crates/qs_conn/src/recv_tables.rt by rust/erase; not edited by hand.
 //! The receiving halves of an end.
 
-use crate::proved::qs_conn::marks::{Marks, least};
-use crate::proved::qs_conn::places::{Place, index_from, index_of, type_of};
+use crate::proved::qs_conn::marks::Marks;
+use crate::proved::qs_conn::places::{Place, index_from, index_of, least_stream, type_of};
 use crate::proved::qs_conn::recv_lanes::{Half, RecvLanes};
 use crate::proved::qs_conn::recv_marks::RecvTask;
 use crate::proved::qs_conn::told_streams::ToldStreams;
@@ -10,7 +10,7 @@ use crate::proved::qs_conn::untold::Untold;
 use crate::proved::qs_calls::RecvReport;
 use crate::proved::qs_machine::Tally;
 use crate::proved::qs_ranges::NoMemory;
-use crate::proved::qs_recv::{Highest, Peek, Read, RecvFault, Share};
+use crate::proved::qs_recv::{Highest, Peek, Read, RecvFault, RecvState, Share};
 use crate::proved::qs_wire::StreamId;
 use crate::shim::alloc::Global;
 
@@ -44,35 +44,6 @@ impl RecvTables {
         lanes.half(stream.index)
     }
 
-    /// Whether a frame may be taken, at a stream that may have yet to be opened with that window.
-    pub(crate) fn check_stream(
-        &self,
-        window: u64,
-        stream: StreamId,
-        offset: u64,
-        len: u64,
-        fin: bool,
-    ) -> Result<Highest, RecvFault> {
-        debug_assert!(1 <= window);
-        debug_assert!(window <= 1 << 30);
-        let lanes = &self.types[type_of(stream)];
-        lanes.check_stream(window, index_of(stream), offset, len, fin)
-    }
-
-    /// Whether a frame's bytes are those that are stored, at a stream that may have yet to be opened with that window.
-    pub(crate) fn check_bytes(
-        &self,
-        window: u64,
-        stream: StreamId,
-        offset: u64,
-        bytes: &[u8],
-    ) -> Result<(), RecvFault> {
-        debug_assert!(1 <= window);
-        debug_assert!(window <= 1 << 30);
-        let lanes = &self.types[type_of(stream)];
-        lanes.check_bytes(window, index_of(stream), offset, bytes)
-    }
-
     /// Whether a reset may be taken, at a stream that may have yet to be opened with that window.
     pub(crate) fn check_reset(
         &self,
@@ -89,14 +60,18 @@ impl RecvTables {
 
     /// Whether a frame that passed both checks would change an open stream.
     pub(crate) fn stream_changes(&self, stream: StreamId, offset: u64, len: u64, fin: bool) -> bool {
-        let lanes = &self.types[type_of(stream)];
-        lanes.stream_changes(index_of(stream), offset, len, fin)
+        let Some(half) = self.half(Place::of(stream)) else {
+            return false;
+        };
+        half.stream_changes(offset, len, fin)
     }
 
     /// Whether a reset that passed the check would change an open stream.
     pub(crate) fn reset_changes(&self, stream: StreamId) -> bool {
-        let lanes = &self.types[type_of(stream)];
-        lanes.reset_changes(index_of(stream))
+        let Some(half) = self.half(Place::of(stream)) else {
+            return false;
+        };
+        matches!(half.state(), RecvState::Recv | RecvState::SizeKnown)
     }
 
     /// How many streams of the type of this one are open.
@@ -163,8 +138,10 @@ impl RecvTables {
 
     /// Whether a read of one byte of a stream tells something new.
     pub(crate) fn is_readable(&self, stream: StreamId) -> bool {
-        let lanes = &self.types[type_of(stream)];
-        lanes.is_readable(index_of(stream))
+        match self.half(Place::of(stream)) {
+            Some(half) => half.is_readable(),
+            None => false,
+        }
     }
 
     /// Reads at an open stream.
@@ -181,8 +158,8 @@ impl RecvTables {
 
     /// Tells what a read at an open stream would, and changes nothing.
     pub(crate) fn peek(&self, stream: StreamId) -> Peek<'_> {
-        let lanes = &self.types[type_of(stream)];
-        lanes.peek(index_of(stream))
+        let half = self.half(Place::of(stream)).unwrap();
+        half.peek()
     }
 
     /// Stops an open stream.
@@ -209,49 +186,65 @@ impl RecvTables {
 
     /// Whether a stream's receiving half is in Data Read or Reset Read (RFC 9000, section 3.2).
     pub(crate) fn has_ended(&self, stream: StreamId) -> bool {
-        let lanes = &self.types[type_of(stream)];
-        lanes.has_ended(index_of(stream))
+        match self.half(Place::of(stream)) {
+            Some(half) => half.has_ended(),
+            None => false,
+        }
     }
 
     /// How a stream stands, where it is open.
     pub(crate) fn report(&self, stream: StreamId) -> Option<RecvReport> {
-        let lanes = &self.types[type_of(stream)];
-        lanes.report(index_of(stream))
+        let half = self.half(Place::of(stream))?;
+        Some(RecvReport {
+            state: half.state(),
+            read_count: half.read_count(),
+            highest: half.sizes().spent,
+            limit: half.limit(),
+            final_size: half.final_size(),
+            reset_code: half.reset_code(),
+            stop_code: half.stop_code(),
+        })
     }
 
     /// How many bytes of a stream count as taken, where it is open.
     pub(crate) fn taken(&self, stream: StreamId) -> Option<u64> {
-        let lanes = &self.types[type_of(stream)];
-        lanes.taken(index_of(stream))
+        let half = self.half(Place::of(stream))?;
+        Some(half.sizes().taken)
+    }
+
+    /// The limit of an open stream.
+    pub(crate) fn limit_of(&self, stream: StreamId) -> Option<u64> {
+        let half = self.half(Place::of(stream))?;
+        Some(half.limit())
     }
 
     /// The limit of an open stream of which no final size is known.
     pub(crate) fn limit_to_tell(&self, stream: StreamId) -> Option<u64> {
-        let lanes = &self.types[type_of(stream)];
-        lanes.limit_to_tell(index_of(stream))
+        let half = self.half(Place::of(stream))?;
+        match half.final_size() {
+            Some(_known) => None,
+            None => Some(half.limit()),
+        }
     }
 
     /// The code of a stop that the peer is to be told of.
     pub(crate) fn stop_to_tell(&self, stream: StreamId) -> Option<u64> {
-        let lanes = &self.types[type_of(stream)];
-        lanes.stop_to_tell(index_of(stream))
+        let half = self.half(Place::of(stream))?;
+        match half.state() {
+            RecvState::Recv | RecvState::SizeKnown => half.stop_code(),
+            _ => None,
+        }
     }
 
     /// The least number from one on of a stream whose receiving half has an answer for its owner.
     pub(crate) fn next_with(&self, task: RecvTask, from: u64) -> Option<StreamId> {
         debug_assert!(from <= 1 << 62);
-        let bidi = least(
+        least_stream(
             self.next_with_of(task, 0, from),
             self.next_with_of(task, 1, from),
-        );
-        let uni = least(
             self.next_with_of(task, 2, from),
             self.next_with_of(task, 3, from),
-        );
-        match least(bidi, uni) {
-            Some(number) => StreamId::new(number),
-            None => None,
-        }
+        )
     }
 
     // The least such number among the streams of a type.
@@ -268,18 +261,12 @@ impl RecvTables {
     /// The least number of a stream whose receiving half has an answer for its owner that wasn't told.
     #[inline(always)]
     pub(crate) fn next_untold(&self, task: RecvTask, told: &ToldStreams) -> Option<StreamId> {
-        let bidi = least(
+        least_stream(
             self.next_untold_of(task, 0, told),
             self.next_untold_of(task, 1, told),
-        );
-        let uni = least(
             self.next_untold_of(task, 2, told),
             self.next_untold_of(task, 3, told),
-        );
-        match least(bidi, uni) {
-            Some(number) => StreamId::new(number),
-            None => None,
-        }
+        )
     }
 
     // The least such number among the streams of a type.
@@ -321,12 +308,13 @@ impl RecvTables {
         bidi.saturating_add(uni)
     }
 
-    /// Each limit becomes the next one, and a stream whose limit rises is marked.
-    pub(crate) fn raise_all(&mut self, untold: &mut Untold) {
-        self.types[0].raise_all(0, untold);
-        self.types[1].raise_all(1, untold);
-        self.types[2].raise_all(2, untold);
-        self.types[3].raise_all(3, untold);
+    /// Each limit becomes the next one, and a stream whose limit rises is marked: the new one is untold, and none that is outstanding is
+    /// the present one.
+    pub(crate) fn raise_all(&mut self, untold: &mut Untold, carried: &mut Untold) {
+        self.types[0].raise_all(0, untold, carried);
+        self.types[1].raise_all(1, untold, carried);
+        self.types[2].raise_all(2, untold, carried);
+        self.types[3].raise_all(3, untold, carried);
     }
 }
 

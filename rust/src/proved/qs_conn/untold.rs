@@ -1,9 +1,9 @@
 // Made from crates/qs_conn/src/untold.rt by rust/erase; not edited by hand.
 //! Of which halves of streams a control item may still have to be told.
 
-use crate::proved::qs_conn::marks::{Marks, least};
+use crate::proved::qs_conn::marks::Marks;
 use crate::proved::qs_conn::outbox::Outbox;
-use crate::proved::qs_conn::places::{index_from, index_of, type_of};
+use crate::proved::qs_conn::places::{index_from, index_of, least_stream, type_of};
 use crate::proved::qs_ranges::NoMemory;
 use crate::proved::qs_send::{Item, Piece};
 use crate::proved::qs_wire::StreamId;
@@ -31,6 +31,13 @@ impl UntoldLanes {
             return;
         }
         self.marks.set(index, is_marked);
+    }
+
+    fn has(&self, index: usize) -> bool {
+        if index >= self.marks.len() {
+            return false;
+        }
+        self.marks.has(index)
     }
 
     #[inline(always)]
@@ -73,6 +80,12 @@ impl Untold {
         lanes.set(index_of(stream), is_marked);
     }
 
+    /// Whether a stream is marked.
+    pub(crate) fn has(&self, stream: StreamId) -> bool {
+        let lanes = &self.types[type_of(stream)];
+        lanes.has(index_of(stream))
+    }
+
     /// A sending half was written to, or its bytes went into a packet: it is marked where it stands at its limit with more written
     /// (RFC 9000, section 4.1).
     #[inline(always)]
@@ -95,9 +108,12 @@ impl Untold {
     #[inline(never)]
     fn least_marked(&self, from: u64) -> Option<StreamId> {
         debug_assert!(from <= 1 << 62);
-        let bidi = least(self.next_of(0, from), self.next_of(1, from));
-        let uni = least(self.next_of(2, from), self.next_of(3, from));
-        StreamId::new(least(bidi, uni)?)
+        least_stream(
+            self.next_of(0, from),
+            self.next_of(1, from),
+            self.next_of(2, from),
+            self.next_of(3, from),
+        )
     }
 
     /// Whether any stream may be marked.

@@ -4,8 +4,8 @@ use crate::shim::Box;
 
 use crate::proved::qs_recv::assembly::{Assembly, Peeking, Skipping};
 use crate::proved::qs_recv::credit::Share;
-use crate::proved::qs_recv::kept::Kept;
 use crate::proved::qs_recv::live::LiveHalf;
+use crate::proved::qs_recv::over::Over;
 use crate::proved::qs_recv::rest::Rest;
 use crate::proved::qs_ranges::NoMemory;
 use crate::shim::alloc::Global;
@@ -98,8 +98,14 @@ pub struct RecvHalf<A: Assembly> {
 }
 
 enum Parts<A: Assembly> {
-    Resting(Kept),
+    Kept(Kept),
     Live(Box<LiveHalf<A>>),
+}
+
+// One that stores nothing. It is an enum of its own, so that a look at one that may takes one comparison.
+enum Kept {
+    Over(Over),
+    Rest(Box<Rest>),
 }
 
 impl<A: Assembly> RecvHalf<A> {
@@ -113,40 +119,20 @@ impl<A: Assembly> RecvHalf<A> {
         };
         Ok(RecvHalf {
             alloc,
-            parts: Parts::Resting(Kept::boxed(rest)),
+            parts: Parts::Kept(Kept::Rest(rest)),
         })
     }
 
-    /// Whether a STREAM frame may be taken by a half for which nothing came. It takes no memory.
-    pub fn check_first(
-        alloc: Global,
-        window: u64,
-        offset: u64,
-        len: u64,
-        fin: bool,
-    ) -> Result<Highest, RecvFault> {
+    /// What is said of a STREAM frame by a half for which nothing came. It takes no memory.
+    pub fn judge_first(alloc: Global, window: u64, offset: u64, bytes: &[u8], fin: bool) -> Judged {
         debug_assert!(1 <= window);
         debug_assert!(window <= 1 << 30);
         let rest = Rest::new(window, Share::Half);
         let fresh: LiveHalf<A> = LiveHalf::revived(alloc, &rest);
-        fresh.check_stream(offset, len, fin)
+        fresh.judge(offset, bytes, fin)
     }
 
-    /// Whether a STREAM frame's bytes may be taken by one. It takes no memory.
-    pub fn check_first_bytes(
-        alloc: Global,
-        window: u64,
-        offset: u64,
-        bytes: &[u8],
-    ) -> Result<(), RecvFault> {
-        debug_assert!(1 <= window);
-        debug_assert!(window <= 1 << 30);
-        let rest = Rest::new(window, Share::Half);
-        let fresh: LiveHalf<A> = LiveHalf::revived(alloc, &rest);
-        fresh.check_bytes(offset, bytes)
-    }
-
-    /// Whether a RESET_STREAM frame may be taken by one. It takes no memory.
+    /// Whether a RESET_STREAM frame may be taken by a half for which nothing came. It takes no memory.
     pub fn check_first_reset(alloc: Global, window: u64, size: u64) -> Result<Highest, RecvFault> {
         debug_assert!(1 <= window);
         debug_assert!(window <= 1 << 30);
@@ -160,7 +146,10 @@ impl<A: Assembly> RecvHalf<A> {
     /// credit.
     pub fn check_stream(&self, offset: u64, len: u64, fin: bool) -> Result<Highest, RecvFault> {
         match &self.parts {
-            Parts::Resting(kept) => self.revived(&kept.rest()).check_stream(offset, len, fin),
+            Parts::Kept(Kept::Over(over)) => self
+                .revived(&over.rest())
+                .check_stream(offset, len, fin),
+            Parts::Kept(Kept::Rest(rest)) => self.revived(rest).check_stream(offset, len, fin),
             Parts::Live(live) => live.check_stream(offset, len, fin),
         }
     }
@@ -169,8 +158,12 @@ impl<A: Assembly> RecvHalf<A> {
     /// memory.
     pub fn check_bytes(&self, offset: u64, bytes: &[u8]) -> Result<(), RecvFault> {
         match &self.parts {
-            Parts::Resting(kept) => {
-                let _none = kept.rest().stored();
+            Parts::Kept(Kept::Over(over)) => {
+                over.is_over();
+                Ok(())
+            }
+            Parts::Kept(Kept::Rest(rest)) => {
+                let _none = rest.stored();
                 Ok(())
             }
             Parts::Live(live) => live.check_bytes(offset, bytes),
@@ -181,14 +174,11 @@ impl<A: Assembly> RecvHalf<A> {
     /// are those that are stored. A caller with credit of its own asks for that in between. It takes no memory.
     pub fn judge(&self, offset: u64, bytes: &[u8], fin: bool) -> Judged {
         match &self.parts {
-            Parts::Resting(_) => Judged {
+            Parts::Kept(_) => Judged {
                 stream: self.check_stream(offset, bytes.len() as u64, fin),
                 bytes: self.check_bytes(offset, bytes),
             },
-            Parts::Live(live) => Judged {
-                stream: live.check_stream(offset, bytes.len() as u64, fin),
-                bytes: live.check_bytes(offset, bytes),
-            },
+            Parts::Live(live) => live.judge(offset, bytes, fin),
         }
     }
 
@@ -196,7 +186,10 @@ impl<A: Assembly> RecvHalf<A> {
     /// come before, and no reset did.
     pub fn stream_changes(&self, offset: u64, len: u64, fin: bool) -> bool {
         match &self.parts {
-            Parts::Resting(kept) => self.revived(&kept.rest()).stream_changes(offset, len, fin),
+            Parts::Kept(Kept::Over(over)) => self
+                .revived(&over.rest())
+                .stream_changes(offset, len, fin),
+            Parts::Kept(Kept::Rest(rest)) => self.revived(rest).stream_changes(offset, len, fin),
             Parts::Live(live) => live.stream_changes(offset, len, fin),
         }
     }
@@ -205,11 +198,15 @@ impl<A: Assembly> RecvHalf<A> {
     /// or a stop its bytes are counted and thrown away.
     pub fn take_stream(&mut self, offset: u64, bytes: &[u8], fin: bool) -> Result<(), RecvFault> {
         match &mut self.parts {
-            Parts::Resting(kept) => {
-                if kept.takes(offset, bytes, fin) {
+            Parts::Kept(Kept::Over(over)) => {
+                over.is_over();
+                Ok(())
+            }
+            Parts::Kept(Kept::Rest(rest)) => {
+                if rest.takes(offset, bytes, fin) {
                     return Ok(());
                 }
-                let mut live: LiveHalf<A> = LiveHalf::revived(self.alloc, &kept.rest());
+                let mut live: LiveHalf<A> = LiveHalf::revived(self.alloc, rest);
                 live.take_stream(offset, bytes, fin)?;
                 let Ok(boxed) = Box::new(self.alloc, live) else {
                     return Err(RecvFault::NoMemory);
@@ -229,7 +226,8 @@ impl<A: Assembly> RecvHalf<A> {
     pub fn check_reset(&self, size: u64) -> Result<Highest, RecvFault> {
         debug_assert!(size <= 0x3fff_ffff_ffff_ffff);
         match &self.parts {
-            Parts::Resting(kept) => self.revived(&kept.rest()).check_reset(size),
+            Parts::Kept(Kept::Over(over)) => self.revived(&over.rest()).check_reset(size),
+            Parts::Kept(Kept::Rest(rest)) => self.revived(rest).check_reset(size),
             Parts::Live(live) => live.check_reset(size),
         }
     }
@@ -239,14 +237,15 @@ impl<A: Assembly> RecvHalf<A> {
     pub fn take_reset(&mut self, code: u64, size: u64) {
         debug_assert!(size <= 0x3fff_ffff_ffff_ffff);
         match &mut self.parts {
-            Parts::Resting(kept) => kept.take_reset(code, size),
+            Parts::Kept(Kept::Over(over)) => over.is_over(),
+            Parts::Kept(Kept::Rest(rest)) => rest.take_reset(code, size),
             Parts::Live(live) => {
                 let Some(rest) = live.reset(code, size) else {
                     return;
                 };
                 live.let_go(self.alloc, &rest);
                 if let Ok(boxed) = Box::new(self.alloc, rest) {
-                    self.parts = Parts::Resting(Kept::boxed(boxed));
+                    self.parts = Parts::Kept(Kept::Rest(boxed));
                 }
             }
         }
@@ -255,7 +254,11 @@ impl<A: Assembly> RecvHalf<A> {
     /// Reads the bytes that are next into the slice's front, or tells how the stream stands. The rest of the slice stays.
     pub fn read(&mut self, into: &mut [u8]) -> Read {
         let answer = match &mut self.parts {
-            Parts::Resting(kept) => kept.read(),
+            Parts::Kept(Kept::Over(over)) => {
+                over.is_over();
+                Read::End
+            }
+            Parts::Kept(Kept::Rest(rest)) => rest.read(),
             Parts::Live(live) => live.read(into),
         };
         if matches!(answer, Read::End) {
@@ -269,7 +272,8 @@ impl<A: Assembly> RecvHalf<A> {
     pub fn stop(&mut self, code: u64) {
         debug_assert!(code <= 0x3fff_ffff_ffff_ffff);
         match &mut self.parts {
-            Parts::Resting(kept) => kept.stop(code),
+            Parts::Kept(Kept::Over(over)) => over.is_over(),
+            Parts::Kept(Kept::Rest(rest)) => rest.stop(code),
             Parts::Live(live) => live.stop(code),
         }
     }
@@ -279,7 +283,8 @@ impl<A: Assembly> RecvHalf<A> {
     pub fn stop_and_forget(&mut self, code: u64) {
         debug_assert!(code <= 0x3fff_ffff_ffff_ffff);
         match &mut self.parts {
-            Parts::Resting(kept) => kept.stop_and_forget(code),
+            Parts::Kept(Kept::Over(over)) => over.is_over(),
+            Parts::Kept(Kept::Rest(rest)) => rest.stop_and_forget(code),
             Parts::Live(live) => live.stop_and_forget(code),
         }
     }
@@ -288,7 +293,11 @@ impl<A: Assembly> RecvHalf<A> {
     /// (section 4.2). Once the final size is known it stays.
     pub fn raise(&mut self) -> Option<u64> {
         match &mut self.parts {
-            Parts::Resting(kept) => kept.raise(),
+            Parts::Kept(Kept::Over(over)) => {
+                over.is_over();
+                None
+            }
+            Parts::Kept(Kept::Rest(rest)) => rest.raise(),
             Parts::Live(live) => live.raise(),
         }
     }
@@ -299,7 +308,8 @@ impl<A: Assembly> RecvHalf<A> {
         debug_assert!(1 <= window);
         debug_assert!(window <= 1 << 30);
         match &mut self.parts {
-            Parts::Resting(kept) => kept.set_window(window),
+            Parts::Kept(Kept::Over(over)) => over.set_window(window),
+            Parts::Kept(Kept::Rest(rest)) => rest.set_window(window),
             Parts::Live(live) => live.set_window(window),
         }
     }
@@ -307,7 +317,8 @@ impl<A: Assembly> RecvHalf<A> {
     /// What it adds to the sums over all halves.
     pub fn sizes(&self) -> Sizes {
         match &self.parts {
-            Parts::Resting(kept) => kept.rest().sizes(),
+            Parts::Kept(Kept::Over(over)) => over.rest().sizes(),
+            Parts::Kept(Kept::Rest(rest)) => rest.sizes(),
             Parts::Live(live) => live.sizes(),
         }
     }
@@ -316,7 +327,8 @@ impl<A: Assembly> RecvHalf<A> {
     /// Of a stopped half only the end and a reset are told (sections 2.2, 3.2 and 3.5).
     pub fn standing(&self) -> Standing {
         match &self.parts {
-            Parts::Resting(kept) => kept.rest().standing(),
+            Parts::Kept(Kept::Over(over)) => over.rest().standing(),
+            Parts::Kept(Kept::Rest(rest)) => rest.standing(),
             Parts::Live(live) => live.standing(),
         }
     }
@@ -324,7 +336,8 @@ impl<A: Assembly> RecvHalf<A> {
     /// Whether the end or a reset was told: Data Read and Reset Read (section 3.2).
     pub fn has_ended(&self) -> bool {
         match &self.parts {
-            Parts::Resting(kept) => kept.rest().is_over(),
+            Parts::Kept(Kept::Over(over)) => over.rest().is_over(),
+            Parts::Kept(Kept::Rest(rest)) => rest.is_over(),
             Parts::Live(live) => live.is_over(),
         }
     }
@@ -332,7 +345,8 @@ impl<A: Assembly> RecvHalf<A> {
     /// The limit on the highest offset that was granted (section 4.1).
     pub fn limit(&self) -> u64 {
         match &self.parts {
-            Parts::Resting(kept) => kept.rest().limit(),
+            Parts::Kept(Kept::Over(over)) => over.rest().limit(),
+            Parts::Kept(Kept::Rest(rest)) => rest.limit(),
             Parts::Live(live) => live.limit(),
         }
     }
@@ -340,7 +354,8 @@ impl<A: Assembly> RecvHalf<A> {
     /// How long the stream is, where that is known (section 4.5).
     pub fn final_size(&self) -> Option<u64> {
         match &self.parts {
-            Parts::Resting(kept) => kept.rest().final_size(),
+            Parts::Kept(Kept::Over(over)) => over.rest().final_size(),
+            Parts::Kept(Kept::Rest(rest)) => rest.final_size(),
             Parts::Live(live) => live.final_size(),
         }
     }
@@ -348,7 +363,8 @@ impl<A: Assembly> RecvHalf<A> {
     /// Whether all is told that is to be: the end or a reset was, or it was stopped and forgotten.
     pub fn is_told(&self) -> bool {
         match &self.parts {
-            Parts::Resting(kept) => kept.rest().is_told(),
+            Parts::Kept(Kept::Over(over)) => over.rest().is_told(),
+            Parts::Kept(Kept::Rest(rest)) => rest.is_told(),
             Parts::Live(live) => live.is_told(),
         }
     }
@@ -356,7 +372,8 @@ impl<A: Assembly> RecvHalf<A> {
     /// The state by what came and what a reader was told (section 3.2).
     pub fn state(&self) -> RecvState {
         match &self.parts {
-            Parts::Resting(kept) => kept.rest().state(),
+            Parts::Kept(Kept::Over(over)) => over.rest().state(),
+            Parts::Kept(Kept::Rest(rest)) => rest.state(),
             Parts::Live(live) => live.state(),
         }
     }
@@ -365,7 +382,8 @@ impl<A: Assembly> RecvHalf<A> {
     /// end and a reset are told (sections 2.2, 3.2 and 3.5).
     pub fn is_readable(&self) -> bool {
         match &self.parts {
-            Parts::Resting(kept) => kept.rest().standing().is_readable,
+            Parts::Kept(Kept::Over(over)) => over.rest().standing().is_readable,
+            Parts::Kept(Kept::Rest(rest)) => rest.standing().is_readable,
             Parts::Live(live) => live.standing().is_readable,
         }
     }
@@ -374,7 +392,8 @@ impl<A: Assembly> RecvHalf<A> {
     /// four times the highest offset less what was taken; none once the end was told, or where bytes are thrown away.
     pub fn held(&self) -> u64 {
         match &self.parts {
-            Parts::Resting(kept) => kept.rest().stored(),
+            Parts::Kept(Kept::Over(over)) => over.rest().stored(),
+            Parts::Kept(Kept::Rest(rest)) => rest.stored(),
             Parts::Live(live) => live.held(),
         }
     }
@@ -382,7 +401,8 @@ impl<A: Assembly> RecvHalf<A> {
     /// How many bytes were read.
     pub fn read_count(&self) -> u64 {
         match &self.parts {
-            Parts::Resting(kept) => kept.rest().read_count(),
+            Parts::Kept(Kept::Over(over)) => over.rest().read_count(),
+            Parts::Kept(Kept::Rest(rest)) => rest.read_count(),
             Parts::Live(live) => live.read_count(),
         }
     }
@@ -390,7 +410,8 @@ impl<A: Assembly> RecvHalf<A> {
     /// The code of the first stop, if there was one: at most 2^62 - 1.
     pub fn stop_code(&self) -> Option<u64> {
         match &self.parts {
-            Parts::Resting(kept) => kept.rest().stop_code(),
+            Parts::Kept(Kept::Over(over)) => over.rest().stop_code(),
+            Parts::Kept(Kept::Rest(rest)) => rest.stop_code(),
             Parts::Live(live) => live.stop_code(),
         }
     }
@@ -398,7 +419,8 @@ impl<A: Assembly> RecvHalf<A> {
     /// The code of the reset that was taken, if there was one.
     pub fn reset_code(&self) -> Option<u64> {
         match &self.parts {
-            Parts::Resting(kept) => kept.rest().reset_code(),
+            Parts::Kept(Kept::Over(over)) => over.rest().reset_code(),
+            Parts::Kept(Kept::Rest(rest)) => rest.reset_code(),
             Parts::Live(live) => live.reset_code(),
         }
     }
@@ -406,14 +428,13 @@ impl<A: Assembly> RecvHalf<A> {
     // A half that was read to its end stands in the record itself, and its box is given back.
     #[inline(never)]
     fn end(&mut self) {
-        let Parts::Live(live) = &self.parts else {
-            return;
+        let over = match &self.parts {
+            Parts::Kept(Kept::Over(_)) => None,
+            Parts::Kept(Kept::Rest(rest)) => rest.over(),
+            Parts::Live(live) => live.over(),
         };
-        let Some(rest) = live.rested() else {
-            return;
-        };
-        if let Some(over) = rest.over() {
-            self.parts = Parts::Resting(Kept::here(over));
+        if let Some(over) = over {
+            self.parts = Parts::Kept(Kept::Over(over));
         }
     }
 
@@ -437,7 +458,7 @@ impl<A: Assembly> RecvHalf<A> {
             return;
         };
         if let Ok(boxed) = Box::new(self.alloc, rest) {
-            self.parts = Parts::Resting(Kept::boxed(boxed));
+            self.parts = Parts::Kept(Kept::Rest(boxed));
         }
     }
 
@@ -452,7 +473,11 @@ impl<A: Peeking> RecvHalf<A> {
     /// shown, up to the first that didn't come.
     pub fn peek(&self) -> Peek<'_> {
         match &self.parts {
-            Parts::Resting(kept) => kept.peek(),
+            Parts::Kept(Kept::Over(over)) => {
+                over.is_over();
+                Peek::End
+            }
+            Parts::Kept(Kept::Rest(rest)) => rest.peek(),
             Parts::Live(live) => live.peek(),
         }
     }
@@ -462,7 +487,11 @@ impl<A: Skipping> RecvHalf<A> {
     /// Takes the bytes that are next, as a read into a slice of so many bytes does, and copies none; or tells how the stream stands.
     pub fn skip(&mut self, most: usize) -> Read {
         let answer = match &mut self.parts {
-            Parts::Resting(kept) => kept.read(),
+            Parts::Kept(Kept::Over(over)) => {
+                over.is_over();
+                Read::End
+            }
+            Parts::Kept(Kept::Rest(rest)) => rest.read(),
             Parts::Live(live) => live.skip(most),
         };
         if matches!(answer, Read::End) {

@@ -3,7 +3,8 @@
 
 use crate::proved::qs_recv::assembly::{Assembly, Peeking, Skipping};
 use crate::proved::qs_recv::credit::{limit_with, next_limit};
-use crate::proved::qs_recv::half::{Highest, Peek, Read, RecvFault, RecvState, Sizes, Standing};
+use crate::proved::qs_recv::half::{Highest, Judged, Peek, Read, RecvFault, RecvState, Sizes, Standing};
+use crate::proved::qs_recv::over::Over;
 use crate::proved::qs_recv::rest::{Rest, given};
 use crate::proved::qs_recv::window::Windows;
 use crate::shim::alloc::Global;
@@ -27,7 +28,7 @@ pub(crate) struct LiveHalf<A: Assembly> {
 impl<A: Assembly> LiveHalf<A> {
     /// The same half as one at rest. It takes no memory.
     pub(crate) fn revived(alloc: Global, rest: &Rest) -> Self {
-        let widest = rest.windows.widest();
+        let widest = rest.windows.widest as u64;
         let discarding = rest.discards();
         LiveHalf {
             assembly: A::at_rest(
@@ -43,7 +44,7 @@ impl<A: Assembly> LiveHalf<A> {
             size: rest.size,
             reset: rest.reset,
             stop: rest.stop,
-            windows: rest.windows.copied(),
+            windows: rest.windows,
             is_sized: rest.is_sized,
             is_reset: rest.is_reset,
             is_stopped: rest.is_stopped,
@@ -73,12 +74,20 @@ impl<A: Assembly> LiveHalf<A> {
             size: self.size,
             reset: self.reset,
             stop: self.stop,
-            windows: self.windows.copied(),
+            windows: self.windows,
             is_sized: self.is_sized,
             is_reset: self.is_reset,
             is_stopped: self.is_stopped,
             told: self.told,
         })
+    }
+
+    /// The same half in few bytes, where it was read to its end.
+    pub(crate) fn over(&self) -> Option<Over> {
+        match self.rested() {
+            Some(rest) => rest.over(),
+            None => None,
+        }
     }
 
     pub(crate) fn check_stream(
@@ -114,6 +123,14 @@ impl<A: Assembly> LiveHalf<A> {
             Ok(())
         } else {
             Err(RecvFault::ChangedByte)
+        }
+    }
+
+    #[inline(always)]
+    pub(crate) fn judge(&self, offset: u64, bytes: &[u8], fin: bool) -> Judged {
+        Judged {
+            stream: self.check_stream(offset, bytes.len() as u64, fin),
+            bytes: self.check_bytes(offset, bytes),
         }
     }
 
@@ -174,7 +191,7 @@ impl<A: Assembly> LiveHalf<A> {
             size,
             reset: code,
             stop: self.stop,
-            windows: self.windows.copied(),
+            windows: self.windows,
             is_sized: true,
             is_reset: true,
             is_stopped: self.is_stopped,
@@ -229,8 +246,8 @@ impl<A: Assembly> LiveHalf<A> {
         if self.is_sized {
             return None;
         }
-        let windows = &self.windows;
-        let next = next_limit(self.limit, self.taken(), windows.size(), windows.share());
+        let windows = self.windows;
+        let next = next_limit(self.limit, self.taken(), windows.size as u64, windows.share);
         if next <= self.limit {
             return None;
         }
@@ -243,11 +260,10 @@ impl<A: Assembly> LiveHalf<A> {
         debug_assert!(window <= 1 << 30);
         let taken = self.taken();
         if !self.is_sized {
-            self.limit = limit_with(self.windows.size(), self.limit, taken, window);
+            self.limit = limit_with(self.windows.size as u64, self.limit, taken, window);
         }
         self.assembly.widen(window);
-        let widest = self.windows.widest().max(window);
-        self.windows = Windows::new(widest, window, self.windows.share());
+        self.windows = self.windows.with(window);
     }
 
     pub(crate) fn sizes(&self) -> Sizes {

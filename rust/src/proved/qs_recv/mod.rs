@@ -4,7 +4,6 @@
 mod assembly;
 mod credit;
 mod half;
-mod kept;
 pub mod laws;
 mod live;
 mod over;

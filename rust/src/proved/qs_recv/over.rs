@@ -21,7 +21,7 @@ impl Over {
             size: self.end,
             reset: 0,
             stop: 0,
-            windows: self.windows.copied(),
+            windows: self.windows,
             is_sized: true,
             is_reset: false,
             is_stopped: false,
@@ -33,8 +33,7 @@ impl Over {
     pub(crate) fn set_window(&mut self, window: u64) {
         debug_assert!(1 <= window);
         debug_assert!(window <= 1 << 30);
-        let widest = self.windows.widest().max(window);
-        self.windows = Windows::new(widest, window, self.windows.share());
+        self.windows = self.windows.with(window);
     }
 
     /// What holds of the half at all times.

@@ -23,23 +23,6 @@ pub(crate) struct Rest {
 }
 
 impl Rest {
-    /// The same.
-    pub(crate) fn copied(&self) -> Self {
-        Rest {
-            read_count: self.read_count,
-            received_end: self.received_end,
-            limit: self.limit,
-            size: self.size,
-            reset: self.reset,
-            stop: self.stop,
-            windows: self.windows.copied(),
-            is_sized: self.is_sized,
-            is_reset: self.is_reset,
-            is_stopped: self.is_stopped,
-            told: self.told,
-        }
-    }
-
     /// A half for which nothing came.
     pub(crate) fn new(window: u64, share: Share) -> Self {
         debug_assert!(1 <= window);
@@ -51,7 +34,11 @@ impl Rest {
             size: 0,
             reset: 0,
             stop: 0,
-            windows: Windows::new(window, window, share),
+            windows: Windows {
+                widest: window as u32,
+                size: window as u32,
+                share,
+            },
             is_sized: false,
             is_reset: false,
             is_stopped: false,
@@ -91,12 +78,7 @@ impl Rest {
             self.told = true;
             return Read::Reset(self.reset);
         }
-        let is_over = if self.is_stopped {
-            self.is_whole()
-        } else {
-            self.is_sized && self.size == self.read_count
-        };
-        if is_over {
+        if self.ends() {
             self.told = true;
             return Read::End;
         }
@@ -108,12 +90,7 @@ impl Rest {
         if self.is_reset {
             return Peek::Reset(self.reset);
         }
-        let is_over = if self.is_stopped {
-            self.is_whole()
-        } else {
-            self.is_sized && self.size == self.read_count
-        };
-        if is_over { Peek::End } else { Peek::Wait }
+        if self.ends() { Peek::End } else { Peek::Wait }
     }
 
     pub(crate) fn is_told(&self) -> bool {
@@ -144,12 +121,8 @@ impl Rest {
         if self.is_sized {
             return None;
         }
-        let next = next_limit(
-            self.limit,
-            self.taken(),
-            self.windows.size(),
-            self.windows.share(),
-        );
+        let windows = self.windows;
+        let next = next_limit(self.limit, self.taken(), windows.size as u64, windows.share);
         if next <= self.limit {
             return None;
         }
@@ -163,10 +136,9 @@ impl Rest {
         debug_assert!(window <= 1 << 30);
         let taken = self.taken();
         if !self.is_sized {
-            self.limit = limit_with(self.windows.size(), self.limit, taken, window);
+            self.limit = limit_with(self.windows.size as u64, self.limit, taken, window);
         }
-        let widest = self.windows.widest().max(window);
-        self.windows = Windows::new(widest, window, self.windows.share());
+        self.windows = self.windows.with(window);
     }
 
     pub(crate) fn sizes(&self) -> Sizes {
@@ -278,7 +250,7 @@ impl Rest {
         Some(Over {
             end: self.size,
             past: (self.limit - self.size) as u32,
-            windows: self.windows.copied(),
+            windows: self.windows,
         })
     }
 
@@ -293,6 +265,15 @@ impl Rest {
             return Some(end);
         }
         None
+    }
+
+    // Whether a reader is told of the end, where it isn't of a reset.
+    fn ends(&self) -> bool {
+        if self.is_stopped {
+            self.is_whole()
+        } else {
+            self.is_sized && self.read_count == self.size
+        }
     }
 
     /// Whether bytes that come are thrown away.

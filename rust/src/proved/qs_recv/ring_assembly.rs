@@ -115,16 +115,7 @@ impl Assembly for RingAssembly {
         let next = self.received.first_missing(self.read_count);
         let count = (next - self.read_count).min(into.len() as u64) as usize;
         self.ring.copy_out(self.read_count, &mut into[..count]);
-        self.read_count += count as u64;
-        self.stored -= count as u64;
-        let span = self.near - self.read_count;
-        shed(
-            self.alloc,
-            &mut self.ring,
-            self.read_count,
-            span,
-            self.window,
-        );
+        self.pass(count as u64);
         count
     }
 
@@ -275,6 +266,21 @@ impl RingAssembly {
         self.near = next;
         Ok(())
     }
+
+    // So many of the bytes that are next were read.
+    #[inline(always)]
+    fn pass(&mut self, count: u64) {
+        self.read_count += count;
+        self.stored -= count;
+        let span = self.near - self.read_count;
+        shed(
+            self.alloc,
+            &mut self.ring,
+            self.read_count,
+            span,
+            self.window,
+        );
+    }
 }
 
 impl Skipping for RingAssembly {
@@ -284,16 +290,7 @@ impl Skipping for RingAssembly {
         }
         let next = self.received.first_missing(self.read_count);
         let count = (next - self.read_count).min(most as u64) as usize;
-        self.read_count += count as u64;
-        self.stored -= count as u64;
-        let span = self.near - self.read_count;
-        shed(
-            self.alloc,
-            &mut self.ring,
-            self.read_count,
-            span,
-            self.window,
-        );
+        self.pass(count as u64);
         count
     }
 }

@@ -4,41 +4,22 @@
 use crate::proved::qs_recv::credit::Share;
 
 /// The greatest window that was set and the present one, each of at most 2^30 bytes.
+#[derive(Clone, Copy)]
 pub(crate) struct Windows {
-    widest: u32,
-    size: u32,
-    share: Share,
+    pub(crate) widest: u32,
+    pub(crate) size: u32,
+    pub(crate) share: Share,
 }
 
 impl Windows {
-    pub(crate) fn new(widest: u64, size: u64, share: Share) -> Self {
-        debug_assert!(size <= 1 << 30);
-        debug_assert!(widest <= 1 << 30);
+    /// The same, once another window is set.
+    pub(crate) fn with(self, window: u64) -> Self {
+        debug_assert!(window <= 1 << 30);
+        let size = window as u32;
         Windows {
-            widest: widest as u32,
-            size: size as u32,
-            share,
-        }
-    }
-
-    /// The same.
-    pub(crate) fn copied(&self) -> Self {
-        Windows {
-            widest: self.widest,
-            size: self.size,
+            widest: self.widest.max(size),
+            size,
             share: self.share,
         }
-    }
-
-    pub(crate) fn widest(&self) -> u64 {
-        self.widest as u64
-    }
-
-    pub(crate) fn size(&self) -> u64 {
-        self.size as u64
-    }
-
-    pub(crate) fn share(&self) -> Share {
-        self.share
     }
 }

@@ -1,4 +1,4 @@
-use Rattle.std.proofs.Common.{◌∙◌, length, false, subst, sym}
+use Rattle.std.proofs.Common.{◌∙◌, length, subst, sym}
 use Rattle.std.proofs.lemmas.Bool.{true≢false}
 use Rattle.qs_conn.specs.Filling.{IsAckLeft}
 use Rattle.qs_conn.proofs.Stages.{begun_none}

@@ -1,10 +1,11 @@
 use Rattle.std.proofs.Common.{◌∙◌, refl, ◌<◌, length, arith}
 use Rattle.qs_conn.proofs.LaneMarks.{none_yet, one_more, past_more, all_raised, all_marked, still_settled}
+use Rattle.qs_conn.proofs.LimitMarks.{stays_of, stays_twice}
 use Rattle.qs_conn.proofs.Untolds.{has_same, has_twice}
 use Rattle.qs_conn.proofs.recv_lanes.raise_touched.Goals as goal
 
 pub loop-index-init : goal.loop-index-init
-loop-index-init c = record { far = none_yet c.args.stream_type c.args.halves.now.items c.args.touched.now c.args.untold.now c.requires.settled; room = refl; more = has_same c.args.untold.now }
+loop-index-init c = record { far = none_yet c.args.stream_type c.args.halves.now.items c.args.touched.now c.args.untold.now c.requires.settled; room = refl; more = has_same c.args.untold.now; exact = stays_of c.args.stream_type c.args.halves.now.items c.args.halves.now.items c.args.carried.now refl }
 
 pub loop-index-preserved-then-index-len : goal.loop-index-preserved-then-index-len
 loop-index-preserved-then-index-len c =
@@ -14,6 +15,7 @@ loop-index-preserved-then-index-len c =
           c.raise_at.ensures.marks c.raise_at.ensures.marked;
       room = c.in-Some.ensures.len ∙ c.loop-index.invariant.room;
       more = has_twice c.args.untold.now c.loop-index.untold c.raise_at.new.untold c.loop-index.invariant.more c.raise_at.ensures.marks;
+      exact = stays_twice c.args.stream_type c.args.halves.now.items c.loop-index.halves.items c.raise_at.new.halves.items c.args.carried.now c.loop-index.carried c.raise_at.new.carried c.loop-index.invariant.exact c.raise_at.ensures.exact;
     }
 
 pub loop-index-preserved : goal.loop-index-preserved
@@ -22,6 +24,7 @@ loop-index-preserved c =
       far = past_more c.args.stream_type c.args.halves.now.items c.loop-index.halves.items c.loop-index.touched c.pop.new.self c.loop-index.untold c.in-Some.index c.loop-index.invariant.far (omega (arith, c.if-index-len.false, c.len.ensures)) c.in-Some.ensures.taken;
       room = c.in-Some.ensures.len ∙ c.loop-index.invariant.room;
       more = c.loop-index.invariant.more;
+      exact = c.loop-index.invariant.exact;
     }
 
 pub returns-clause-after : goal.returns-clause-after

@@ -1,6 +1,5 @@
 use Rattle.std.proofs.Common.{true, false, sym}
 use Rattle.std.proofs.lemmas.Bool.{true≢false}
-use Rattle.qs_conn.specs.Tasks.{IsQuiet, HasTask}
 use Rattle.qs_conn.proofs.OverHalves.{over_has}
 use Rattle.qs_conn.proofs.send_marks.has.Goals as goal
 

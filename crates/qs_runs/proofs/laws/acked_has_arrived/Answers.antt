@@ -1,5 +1,5 @@
-use Rattle.qs_runs.proofs.Clauses.{law_acked_has_arrived}
+use Rattle.qs_runs.proofs.Clauses.{each_step, acked_has_arrived}
 use Rattle.qs_runs.proofs.laws.acked_has_arrived.Goals as goal
 
 pub returns : goal.returns
-returns c = law_acked_has_arrived
+returns c = each_step acked_has_arrived

@@ -1,5 +1,5 @@
-use Rattle.qs_runs.proofs.Clauses.{law_final_sizes_agree}
+use Rattle.qs_runs.proofs.Clauses.{final_sizes}
 use Rattle.qs_runs.proofs.laws.final_sizes_agree.Goals as goal
 
 pub returns : goal.returns
-returns c = law_final_sizes_agree
+returns c = final_sizes

@@ -1,5 +1,5 @@
-use Rattle.qs_runs.proofs.Clauses.{law_known_is_within_granted}
+use Rattle.qs_runs.proofs.Clauses.{each_step, known_is_within_granted}
 use Rattle.qs_runs.proofs.laws.known_is_within_granted.Goals as goal
 
 pub returns : goal.returns
-returns c = law_known_is_within_granted
+returns c = each_step known_is_within_granted

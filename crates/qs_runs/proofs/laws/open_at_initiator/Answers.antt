@@ -1,5 +1,5 @@
-use Rattle.qs_runs.proofs.Clauses.{law_open_at_initiator}
+use Rattle.qs_runs.proofs.Clauses.{each_step, is_open_at_initiator}
 use Rattle.qs_runs.proofs.laws.open_at_initiator.Goals as goal
 
 pub returns : goal.returns
-returns c = law_open_at_initiator
+returns c = each_step is_open_at_initiator

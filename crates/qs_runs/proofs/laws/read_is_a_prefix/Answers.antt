@@ -1,5 +1,5 @@
-use Rattle.qs_runs.proofs.Clauses.{law_read_is_a_prefix}
+use Rattle.qs_runs.proofs.Clauses.{prefix}
 use Rattle.qs_runs.proofs.laws.read_is_a_prefix.Goals as goal
 
 pub returns : goal.returns
-returns c = law_read_is_a_prefix
+returns c = prefix

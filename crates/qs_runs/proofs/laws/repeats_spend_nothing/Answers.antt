@@ -1,5 +1,5 @@
-use Rattle.qs_runs.proofs.Clauses.{law_repeats_spend_nothing}
+use Rattle.qs_runs.proofs.Clauses.{step_agrees}
 use Rattle.qs_runs.proofs.laws.repeats_spend_nothing.Goals as goal
 
 pub returns : goal.returns
-returns c = law_repeats_spend_nothing
+returns c = λ a b h v w x ok step. step_agrees a b h v ok x w step

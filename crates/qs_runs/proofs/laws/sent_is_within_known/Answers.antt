@@ -1,5 +1,5 @@
-use Rattle.qs_runs.proofs.Clauses.{law_sent_is_within_known}
+use Rattle.qs_runs.proofs.Clauses.{each_step, sent_is_within_known}
 use Rattle.qs_runs.proofs.laws.sent_is_within_known.Goals as goal
 
 pub returns : goal.returns
-returns c = law_sent_is_within_known
+returns c = each_step sent_is_within_known

@@ -1,5 +1,5 @@
-use Rattle.qs_runs.proofs.Clauses.{law_stored_is_written}
+use Rattle.qs_runs.proofs.Clauses.{each_step, stored_is_written}
 use Rattle.qs_runs.proofs.laws.stored_is_written.Goals as goal
 
 pub returns : goal.returns
-returns c = law_stored_is_written
+returns c = each_step stored_is_written

@@ -3,6 +3,7 @@
 
 use super::{Endpoint, is_uni, role_bit};
 use crate::proved::qs_conn::places::Place;
+use crate::proved::qs_conn::recv_lanes::Half;
 use crate::proved::qs_conn::seen::SeenFrame;
 use crate::proved::qs_recv::{Highest, RecvFault};
 use crate::proved::qs_send::Item;
@@ -104,19 +105,11 @@ impl Endpoint {
     // The first frame of a stream opens it, so it changes this end.
     fn judge_first(&self, stream: Place, offset: u64, bytes: &[u8], fin: bool) -> Result<bool, u64> {
         let window = self.window(stream.id);
-        let len = bytes.len() as u64;
-        let check = self
-            .core
-            .recvs
-            .check_stream(window, stream.id, offset, len, fin);
-        if let Some(code) = self.credit_fault(check) {
+        let judged = Half::judge_first(self.alloc, window, offset, bytes, fin);
+        if let Some(code) = self.credit_fault(judged.stream) {
             return Err(code);
         }
-        match self
-            .core
-            .recvs
-            .check_bytes(window, stream.id, offset, bytes)
-        {
+        match judged.bytes {
             Ok(()) => Ok(true),
             Err(fault) => Err(code_of(fault)),
         }

@@ -111,6 +111,7 @@ impl Endpoint {
         let before = self.core.outbox.count(stream);
         self.core.untold_recvs.open_to(stream)?;
         self.core.untold_sends.open_to(stream)?;
+        self.core.carried.open_to(stream)?;
         open_sends(
             &mut self.core.outbox,
             both(uni, !own),

@@ -67,7 +67,7 @@ impl Endpoint {
     // An open half may send the offsets below a limit.
     fn allow_to(&mut self, stream: StreamId, limit: u64) {
         debug_assert!(limit <= 0x3fff_ffff_ffff_ffff);
-        self.core.outbox.allow(stream, limit);
+        self.core.allow(stream, limit);
     }
 }
 

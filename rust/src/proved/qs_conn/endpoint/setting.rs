@@ -81,8 +81,7 @@ impl Endpoint {
         if !self.core.recvs.is_open(stream) {
             return Err(no_half_to_set(self.core.outbox.is_open(stream)));
         }
-        self.core.recvs.set_window(stream, size);
-        self.core.untold_recvs.set(stream, true);
+        self.core.set_window(stream, size);
         self.is_settled = false;
         self.settle();
         Ok(())

@@ -26,7 +26,7 @@ impl Endpoint {
                 fin,
             } => self.on_stream(stream, offset, bytes, fin),
             SeenFrame::Control(Item::MaxData { maximum }) => {
-                self.core.limits.known_data = self.core.limits.known_data.max(maximum);
+                self.on_max_data(maximum);
                 Ok(())
             }
             SeenFrame::Control(Item::MaxStreams { dir, count }) => {
@@ -60,6 +60,12 @@ impl Endpoint {
         taken
     }
 
+    // The peer allows so many bytes on all streams.
+    fn on_max_data(&mut self, maximum: u64) {
+        debug_assert!(maximum <= 0x3fff_ffff_ffff_ffff);
+        self.core.limits.known_data = self.core.limits.known_data.max(maximum);
+    }
+
     // The peer allows so many streams of a direction.
     fn on_max_streams(&mut self, dir: Dir, count: u64) {
         debug_assert!(count <= 1 << 60);
@@ -71,7 +77,7 @@ impl Endpoint {
     fn on_max_stream_data(&mut self, stream: StreamId, maximum: u64) -> Result<(), NoMemory> {
         debug_assert!(maximum <= 0x3fff_ffff_ffff_ffff);
         self.open_by_peer(stream)?;
-        self.core.outbox.allow(stream, maximum);
+        self.core.allow(stream, maximum);
         Ok(())
     }
 

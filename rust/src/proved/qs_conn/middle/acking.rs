@@ -92,7 +92,9 @@ impl Core {
     fn ack_piece(&mut self, packet: KeptPacket, piece: Piece) -> Result<(), NoMemory> {
         look_again(&mut self.untold_recvs, &mut self.untold_sends, &piece);
         let Some(stream) = half_of(&piece) else {
-            return self.outbox.ack_kept(packet, piece);
+            self.outbox.ack_kept(packet, piece)?;
+            self.drop_unless(packet, piece);
+            return Ok(());
         };
         let was = self.is_over(stream);
         self.outbox.ack_kept(packet, piece)?;
@@ -101,9 +103,17 @@ impl Core {
         if let Piece::Data { .. } = piece {
             return Ok(());
         }
+        self.drop_unless(packet, piece);
         // Of a reset that the peer has nothing is left to tell.
         self.unmark_told(Kind::ResetStream, stream);
         Ok(())
+    }
+
+    // A piece left its packet, if that was outstanding.
+    fn drop_unless(&mut self, packet: KeptPacket, piece: Piece) {
+        if !packet.late {
+            self.drop_carried(&piece);
+        }
     }
 }
 

@@ -3,18 +3,15 @@
 
 use super::Core;
 use crate::proved::qs_conn::filling::{
-    Course, LEAST_STREAM_FRAME, Packet, Wish, cut_to, full_at, is_covered, put_ack_if, put_chunk,
-    put_item,
+    Course, LEAST_STREAM_FRAME, Packet, Wish, cut_to, full_at, put_ack_if, put_chunk, put_item,
 };
 use crate::proved::qs_conn::outbox::Outbox;
+use crate::proved::qs_conn::own_carried::OWN_ITEMS;
 use crate::proved::qs_conn::send_marks::Task;
 use crate::proved::qs_conn::slot::{Kind, Slot};
 use crate::proved::qs_conn::untold::Untold;
 use crate::proved::qs_ranges::RangeSet;
 use crate::proved::qs_wire::{Dir, StreamId};
-
-// So many items are the connection's own: two limits and two counts of streams for the peer, and what this end lacks of its own three.
-const OWN_ITEMS: usize = 6;
 
 impl Core {
     /// Fills a packet from its first byte on with what is asked for, and answers how far it is: the ACK, control items, and the
@@ -113,7 +110,7 @@ impl Core {
     // Puts the item of a slot of the connection into the packet, if it is due. Mostly a look at two numbers tells that none is.
     #[inline(always)]
     fn put_own_slot(&mut self, slot: Slot, out: &mut [u8], packet: Packet) -> Packet {
-        if self.limits.has_told(&self.outbox, &slot) {
+        if self.limits.has_told(&self.outbox, &self.own, &slot) {
             return packet;
         }
         self.put_slot(slot, out, packet)
@@ -127,10 +124,12 @@ impl Core {
         let Some(item) = self.limits.current(&self.outbox, &self.recvs, slot) else {
             return packet;
         };
-        if is_covered(&self.outbox, &item) {
+        if self.has_covered(&item) {
             return packet;
         }
-        put_item(&mut self.outbox, &item, out, packet)
+        let packet = put_item(&mut self.outbox, &item, out, packet);
+        self.note_put(&item, packet.is_full);
+        packet
     }
 
     // Puts the bytes of the streams into the packet that are asked for: of one alone, or of those from it on before the others and lower

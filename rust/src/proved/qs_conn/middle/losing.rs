@@ -18,6 +18,7 @@ impl Core {
         while let Some(piece) = self.outbox.first(number) {
             look_again(&mut self.untold_recvs, &mut self.untold_sends, &piece);
             self.outbox.lose_first(number, piece)?;
+            self.drop_carried(&piece);
         }
         Ok(())
     }

@@ -2,7 +2,6 @@
 //! Whether anything is due that may go.
 
 use super::Core;
-use crate::proved::qs_conn::filling::is_covered;
 use crate::proved::qs_conn::slot::{Kind, Slot};
 use crate::proved::qs_calls::Fill;
 use crate::proved::qs_wire::{Dir, StreamId};
@@ -97,7 +96,7 @@ impl Core {
         if is_found {
             return true;
         }
-        if self.limits.has_told(&self.outbox, &slot) {
+        if self.limits.has_told(&self.outbox, &self.own, &slot) {
             return false;
         }
         self.has_slot(slot, false)
@@ -111,7 +110,7 @@ impl Core {
         let Some(item) = self.limits.current(&self.outbox, &self.recvs, slot) else {
             return false;
         };
-        !is_covered(&self.outbox, &item)
+        !self.has_covered(&item)
     }
 
     // Bytes of some stream may go, or its end.

@@ -2,7 +2,6 @@
 //! Halves of which all was told are marked no more.
 
 use super::Core;
-use crate::proved::qs_conn::filling::is_covered;
 use crate::proved::qs_conn::slot::{Kind, Slot};
 use crate::proved::qs_wire::StreamId;
 
@@ -38,9 +37,9 @@ impl Core {
 
     // Whether what is current of a slot was told.
     fn is_idle(&self, slot: Slot) -> bool {
-        match self.limits.current(&self.outbox, &self.recvs, slot) {
-            Some(item) => is_covered(&self.outbox, &item),
-            None => true,
-        }
+        let Some(item) = self.limits.current(&self.outbox, &self.recvs, slot) else {
+            return true;
+        };
+        self.has_covered(&item)
     }
 }

@@ -6,7 +6,6 @@ use super::halves::half_of;
 use crate::proved::qs_conn::places::{index_of, type_of};
 use crate::proved::qs_conn::send_lanes::SendLanes;
 use crate::proved::qs_conn::told::ToldItems;
-use crate::proved::qs_conn::told_index::ToldIndex;
 use crate::proved::qs_ranges::NoMemory;
 use crate::proved::qs_send::{AckPass, Chunk, Item, Piece, Records, SendState};
 use crate::proved::qs_wire::StreamId;
@@ -81,7 +80,6 @@ impl Outbox {
         let _next = self.next;
         piece_acked(&mut self.types, &mut self.told, &piece)?;
         self.records.drop_first(number);
-        forget(&mut self.index, piece);
         Ok(())
     }
 
@@ -101,7 +99,6 @@ impl Outbox {
         piece_lost(&mut self.types, &piece)?;
         self.lost.add(number, piece);
         self.records.drop_first(number);
-        forget(&mut self.index, piece);
         Ok(())
     }
 }
@@ -187,11 +184,4 @@ fn piece_lost(types: &mut [SendLanes; 4], piece: &Piece) -> Result<(), NoMemory>
 fn chunk_lost(types: &mut [SendLanes; 4], stream: StreamId, chunk: Chunk) -> Result<(), NoMemory> {
     let lanes = &mut types[type_of(stream)];
     lanes.lost(index_of(stream), chunk)
-}
-
-// An item that left the records is told no more.
-fn forget(index: &mut ToldIndex, piece: Piece) {
-    if let Piece::Told(item) = piece {
-        index.remove(item);
-    }
 }

@@ -1,8 +1,7 @@
 // Made from crates/qs_conn/src/outbox/halves.rt by rust/erase; not edited by hand.
 //! The sending halves of an end, by the type of the stream and by its index: one that is named, and searches.
 
-use crate::proved::qs_conn::marks::least;
-use crate::proved::qs_conn::places::{index_from, index_of, type_of};
+use crate::proved::qs_conn::places::{index_from, index_of, least_stream, type_of};
 use crate::proved::qs_conn::send_lanes::SendLanes;
 use crate::proved::qs_conn::send_marks::{Search, Task};
 use crate::proved::qs_conn::told_streams::ToldStreams;
@@ -43,9 +42,12 @@ pub(super) fn may_have(types: &[SendLanes; 4], task: Task) -> bool {
 #[inline(never)]
 pub(super) fn least_marked(types: &[SendLanes; 4], task: Task, from: u64) -> Option<StreamId> {
     debug_assert!(from <= 1 << 62);
-    let bidi = least(next_of(types, task, 0, from), next_of(types, task, 1, from));
-    let uni = least(next_of(types, task, 2, from), next_of(types, task, 3, from));
-    StreamId::new(least(bidi, uni)?)
+    least_stream(
+        next_of(types, task, 0, from),
+        next_of(types, task, 1, from),
+        next_of(types, task, 2, from),
+        next_of(types, task, 3, from),
+    )
 }
 
 // The least such number among the streams of a type.
@@ -64,18 +66,12 @@ fn next_of(types: &[SendLanes; 4], task: Task, stream_type: usize, from: u64) ->
 /// The least number from one on of a stream whose half has something of a task.
 pub(super) fn next_with(types: &[SendLanes; 4], task: Task, from: u64) -> Option<StreamId> {
     debug_assert!(from <= 1 << 62);
-    let bidi = least(
+    least_stream(
         next_with_of(types, task, 0, from),
         next_with_of(types, task, 1, from),
-    );
-    let uni = least(
         next_with_of(types, task, 2, from),
         next_with_of(types, task, 3, from),
-    );
-    match least(bidi, uni) {
-        Some(number) => StreamId::new(number),
-        None => None,
-    }
+    )
 }
 
 // The least such number among the streams of a type.
@@ -99,18 +95,12 @@ pub(super) fn next_sought(
     from: u64,
 ) -> Option<StreamId> {
     debug_assert!(from <= 1 << 62);
-    let bidi = least(
+    least_stream(
         next_sought_of(types, search, told, 0, from),
         next_sought_of(types, search, told, 1, from),
-    );
-    let uni = least(
         next_sought_of(types, search, told, 2, from),
         next_sought_of(types, search, told, 3, from),
-    );
-    match least(bidi, uni) {
-        Some(number) => StreamId::new(number),
-        None => None,
-    }
+    )
 }
 
 // The least such number among the streams of a type.

@@ -17,7 +17,6 @@ impl Outbox {
     pub(crate) fn begin(&mut self, count: usize) -> Result<(), NoMemory> {
         self.records.make_room(self.next)?;
         self.pending.reserve(count)?;
-        self.index.reserve(count)?;
         self.room.prepare()?;
         self.spare = count;
         Ok(())
@@ -65,7 +64,6 @@ impl Outbox {
         let _next = self.next;
         note_told(&mut self.types, &item);
         hold(&mut self.pending, Piece::Told(item));
-        self.index.insert(item);
         self.spare -= 1;
     }
 

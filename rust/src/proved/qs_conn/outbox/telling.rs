@@ -2,7 +2,7 @@
 //! What an end has to tell of its sending side.
 
 use super::Outbox;
-use super::halves::{half_of, is_open, least_marked, may_have, next_sought, next_with};
+use super::halves::{half_of, least_marked, may_have, next_sought, next_with};
 use crate::proved::qs_conn::marks::Marks;
 use crate::proved::qs_conn::send_marks::{Search, Task};
 use crate::proved::qs_conn::told_streams::ToldStreams;
@@ -10,12 +10,6 @@ use crate::proved::qs_send::{Item, MAX_VARINT, Reset, SendState, SendView};
 use crate::proved::qs_wire::StreamId;
 
 impl Outbox {
-    /// Whether an outstanding packet told the item with this value.
-    pub(crate) fn tells(&self, item: Item) -> bool {
-        let _next = self.next;
-        self.index.has(item)
-    }
-
     /// Whether an acknowledged packet told the item with this value.
     pub(crate) fn is_acked(&self, item: Item) -> bool {
         if let Item::ResetStream { stream, .. } = item {
@@ -26,27 +20,21 @@ impl Outbox {
 
     /// Whether the reset of a stream was acknowledged.
     pub(crate) fn is_reset_acked(&self, stream: StreamId) -> bool {
-        if !is_open(&self.types, stream) {
+        let Some(half) = self.half(stream) else {
             return false;
-        }
-        matches!(half_of(&self.types, stream).state(), SendState::ResetRecvd)
+        };
+        matches!(half.state(), SendState::ResetRecvd)
     }
 
     /// The reset of a stream. A frame can tell it.
     pub(crate) fn reset_of(&self, stream: StreamId) -> Option<Reset> {
-        if !is_open(&self.types, stream) {
-            return None;
-        }
-        let half = half_of(&self.types, stream);
+        let half = self.half(stream)?;
         reset_by(half.reset_code(), half.final_size())
     }
 
     /// The limit at which a stream is blocked. A frame can tell it.
     pub(crate) fn blocked_at(&self, stream: StreamId) -> Option<u64> {
-        if !is_open(&self.types, stream) {
-            return None;
-        }
-        let half = half_of(&self.types, stream);
+        let half = self.half(stream)?;
         if let Some(_code) = half.reset_code() {
             return None;
         }
@@ -60,28 +48,33 @@ impl Outbox {
         Some(limit)
     }
 
+    /// The limit of an open stream.
+    pub(crate) fn limit_of(&self, stream: StreamId) -> Option<u64> {
+        let half = self.half(stream)?;
+        Some(half.limit())
+    }
+
     /// Whether a MAX_STREAM_DATA of this limit would raise that of an open stream.
     pub(crate) fn limit_rises(&self, stream: StreamId, limit: u64) -> bool {
-        if !is_open(&self.types, stream) {
+        let Some(half) = self.half(stream) else {
             return false;
-        }
-        half_of(&self.types, stream).limit() < limit
+        };
+        half.limit() < limit
     }
 
     /// Whether a STOP_SENDING, which the owner answers or not, would change an open stream.
     pub(crate) fn stop_changes(&self, stream: StreamId, owner_answers: bool) -> bool {
-        if !is_open(&self.types, stream) {
+        let Some(half) = self.half(stream) else {
             return false;
-        }
-        changed_by_stop(&half_of(&self.types, stream), owner_answers)
+        };
+        changed_by_stop(&half, owner_answers)
     }
 
     /// Whether a stream has bytes that only the connection's credit holds back.
     pub(crate) fn wants_more(&self, stream: StreamId) -> bool {
-        if !is_open(&self.types, stream) {
+        let Some(half) = self.half(stream) else {
             return false;
-        }
-        let half = half_of(&self.types, stream);
+        };
         if let Some(_code) = half.reset_code() {
             return false;
         }
@@ -90,10 +83,9 @@ impl Outbox {
 
     /// Whether bytes of a stream weren't sent, and its limit alone holds them back, or that of the connection, where that is used up.
     pub(crate) fn waits_for_credit(&self, stream: StreamId, is_used_up: bool) -> bool {
-        if !is_open(&self.types, stream) {
+        let Some(half) = self.half(stream) else {
             return false;
-        }
-        let half = half_of(&self.types, stream);
+        };
         if let Some(_code) = half.reset_code() {
             return false;
         }
@@ -105,10 +97,9 @@ impl Outbox {
 
     /// How many bytes a stream has room for now, however many are written.
     pub(crate) fn room(&self, stream: StreamId) -> u64 {
-        if !is_open(&self.types, stream) {
+        let Some(half) = self.half(stream) else {
             return 0;
-        }
-        let half = half_of(&self.types, stream);
+        };
         if half.refusal().is_some() {
             return 0;
         }
@@ -117,19 +108,17 @@ impl Outbox {
 
     /// How many bytes more may be written to a stream that its own limit lets go.
     pub(crate) fn limit_left(&self, stream: StreamId) -> u64 {
-        if !is_open(&self.types, stream) {
+        let Some(half) = self.half(stream) else {
             return 0;
-        }
-        let half = half_of(&self.types, stream);
+        };
         half.limit().saturating_sub(half.written())
     }
 
     /// How many bytes of a stream were written that are still to be sent for the first time.
     pub(crate) fn unsent(&self, stream: StreamId) -> u64 {
-        if !is_open(&self.types, stream) {
+        let Some(half) = self.half(stream) else {
             return 0;
-        }
-        let half = half_of(&self.types, stream);
+        };
         if let Some(_code) = half.reset_code() {
             return 0;
         }
@@ -138,10 +127,7 @@ impl Outbox {
 
     /// The lowest offset of a stream that isn't acknowledged.
     pub(crate) fn acked_below(&self, stream: StreamId) -> Option<u64> {
-        if !is_open(&self.types, stream) {
-            return None;
-        }
-        let half = half_of(&self.types, stream);
+        let half = self.half(stream)?;
         Some(half.unacked_from())
     }
 

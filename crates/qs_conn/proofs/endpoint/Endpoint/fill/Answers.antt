@@ -1,7 +1,5 @@
-use Rattle.std.proofs.Common.{◌≡◌, ℕ, true, ◌↔◌, ◌∙◌, arith, refl, sym, subst, length, drop, ap}
+use Rattle.std.proofs.Common.{◌≡◌, ℕ, ◌∙◌, arith, refl, sym, subst, length, drop, ap}
 use Rattle.qs_calls.specs.declared.token.Token.{Token}
-use Rattle.qs_machine.specs.Filling.{WantedGoes}
-use Rattle.qs_machine.specs.Outgoing.{Outgoing}
 use Rattle.qs_conn.proofs.Cores.{core_outbox, kept_streams}
 use Rattle.qs_conn.proofs.MadePackets.{fill_exhausted, fill_none, fill_idle, fill_next, fill_some, fill_order}
 use Rattle.qs_conn.proofs.Rests.{behind_none, behind_kept}

@@ -39,7 +39,7 @@ pub invariant_of-self : goal.invariant_of-self
 invariant_of-self c =
     let k = c.self.invariant in
     record {
-      rest = rest_known c.self.inside.core k.rest _ _ (search rules) (greater_data _ _ c.args.limits.now k.rest.core.fits.known (spelled _ _ c.requires) c.max-self-inside.ensures)
+      rest = rest_known c.self.inside.core k.rest _ _ (search rules) (search rules) (search rules) (greater_data _ _ c.args.limits.now k.rest.core.fits.known (spelled _ _ c.requires) c.max-self-inside.ensures)
           (greater_bidi _ _ c.args.limits.now k.rest.core.fits.bidi (counted (are_spellable c.args.limits.now) _ c.requires) c.max-self-inside-2.ensures)
           (greater_uni _ _ c.args.limits.now k.rest.core.fits.uni (counted (are_spellable c.args.limits.now) _ c.requires) c.max-self-inside-3.ensures);
       peer_fits = ap are_spellable c.greater_limits-self-inside.ensures ∙ greater_spelled c.self.inside.peer c.args.limits.now k.peer_fits (spelled _ _ c.requires);

@@ -1,6 +1,5 @@
-use Rattle.std.proofs.Common.{refl, sym, subst, ◌∙◌, ◌<◌, ℕ, arith}
+use Rattle.std.proofs.Common.{refl, subst, ◌<◌, ℕ, arith}
 use Rattle.qs_conn.proofs.Hearing.{takes_found, takes_full, takes_untold, takes_next, takes_none}
-use Rattle.qs_conn.proofs.Least.{clear_at}
 use Rattle.qs_conn.proofs.endpoint.Endpoint.next_writable_of.Goals as goal
 
 pub returns-then-is_window_full : goal.returns-then-is_window_full

@@ -1,4 +1,4 @@
-use Rattle.std.proofs.Common.{ℕ, ◌-◌, ◌<◌, ◌≤◌, ◌^◌, ◌≡◌, true}
+use Rattle.std.proofs.Common.{◌-◌, ◌<◌, ◌≤◌, ◌^◌, ◌≡◌, true}
 use Rattle.qs_machine.specs.Asking.{room}
 use Rattle.qs_machine.specs.Heard.{is_told}
 use Rattle.qs_conn.proofs.Least.{IsClear}

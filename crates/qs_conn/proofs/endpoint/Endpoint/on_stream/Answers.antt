@@ -1,9 +1,11 @@
-use Rattle.std.proofs.Common.{ap, sym, ◌∙◌, is_some, subst}
+use Rattle.std.proofs.Common.{refl, ap, sym, ◌∙◌, is_some, subst}
+use Rattle.qs_recv.specs.Lane.{take_stream}
 use Rattle.qs_machine.specs.Tables.{lookup}
 use Rattle.qs_machine.specs.Ends.{End}
 use Rattle.qs_machine.specs.Standing.{IsInCredit, HasLawfulLane}
 use Rattle.qs_machine.proofs.Taken.{in_there, stream_in, stream_checked, stream_unchanged, stream_sound}
 use Rattle.qs_conn.proofs.Calm.{told_streamed}
+use Rattle.qs_conn.proofs.CarriedSteps.{carried_recv}
 use Rattle.qs_conn.proofs.Cores.{rest_recvs}
 use Rattle.qs_conn.proofs.Plains.{plain_next, fit_plain}
 use Rattle.qs_conn.proofs.endpoint.Endpoint.on_stream.Goals as goal
@@ -41,7 +43,8 @@ invariant_of-self-then-is_plain c =
           rest_recvs core h c.take_stream.new.self core.untold_recvs core.ended
           (stream_sound c.args.self.now _ c.args.stream c.args.offset c.args.bytes.now c.args.fin c.take_stream.new.self sound c.requires.passed opened after)
           (fit_plain core.recvs c.take_stream.new.self c.args.stream c.args.offset c.args.bytes.now c.args.fin _ found lane after _ _ _ _ _ _ h.core.counts _ _ h.core.sound checked)
-          (told_streamed core.limits.role core.limits.settings core.recvs core.outbox.outstanding core.outbox.acked core.untold_recvs h.core.told_in c.take_stream.new.self c.args.stream _ _ h.core.sound c.args.offset c.args.bytes.now c.args.fin checked after);
+          (told_streamed core.limits.role core.limits.settings core.recvs core.outbox.outstanding core.outbox.acked core.untold_recvs h.core.told_in c.take_stream.new.self c.args.stream _ _ h.core.sound c.args.offset c.args.bytes.now c.args.fin checked after)
+          (carried_recv core.recvs core.outbox.sends core.outbox.outstanding core.carried h.core.carried c.take_stream.new.self c.args.stream (λ l. take_stream l c.args.offset c.args.bytes.now c.args.fin) after (λ l. refl) (λ l v e. e));
       peer_fits = k.peer_fits;
       closing_fits = k.closing_fits;
       few = k.few;

@@ -1,4 +1,4 @@
-use Rattle.std.proofs.Common.{◌≤◌, Bool, true, false, cond, sym, subst}
+use Rattle.std.proofs.Common.{◌≤◌, Bool, false, cond, sym, subst}
 use Rattle.std.specs.Prelude.{Result, Ok, Err, IfOk}
 use Rattle.qs_ranges.specs.Numbers.{MAX_VARINT}
 use Rattle.qs_recv.specs.declared.credit.Share.TheVariants.{Half}
@@ -9,9 +9,8 @@ use Rattle.qs_conn.proofs.endpoint.Endpoint.reset_fault.Goals as goal
 
 -- a check that passes answers the size
 in_range : (b c : Bool) (h : Highest) → h.after ≤ MAX_VARINT → IfOk (cond b (Err FinalSize) (cond c (Err StreamCredit) (Ok h))) (λ (k : Highest). k.after ≤ MAX_VARINT)
-in_range true c h fits = tt
-in_range false true h fits = tt
 in_range false false h fits = fits
+in_range _ _ _ _ = tt
 
 pub credit_fault-requires : goal.credit_fault-requires
 credit_fault-requires c =

@@ -1,5 +1,5 @@
 use Rattle.std.proofs.Common.{arith, refl, ap, sym, ◌∙◌, ℕ, subst}
-use Rattle.std.specs.Prelude.{max}
+use Rattle.std.specs.Prelude.{max, ◌≤◌}
 use Rattle.std.proofs.lemmas.Bool.Decides.{nat_tests}
 use Rattle.qs_recv.specs.Lane.{RecvLane, highest, taken, raise, next_limit}
 use Rattle.qs_wire.specs.declared.stream_id.Dir.TheVariants.{Bidi, Uni}
@@ -8,9 +8,12 @@ use Rattle.qs_machine.specs.Tables.{Tables, total}
 use Rattle.qs_machine.specs.Standing.{KeepsCredit}
 use Rattle.qs_machine.proofs.TableLaws.{total_each}
 use Rattle.qs_machine.proofs.CallsSound.{keeps_settle}
+use Rattle.qs_machine.proofs.Rising.{next_limit_grows}
 use Rattle.qs_conn.proofs.Counted.{fit_settled}
 use Rattle.qs_conn.specs.Filling.{present_of}
 use Rattle.qs_conn.specs.Untold.{TellsAt}
+use Rattle.qs_conn.proofs.CarriedSteps.{carried_raised}
+use Rattle.qs_conn.proofs.Owns.{own_risen}
 use Rattle.qs_conn.proofs.Untolds.{told_each}
 use Rattle.qs_conn.proofs.Unmoved.{next_now, settled_already}
 use Rattle.qs_conn.proofs.endpoint.Endpoint.settle.Goals as goal
@@ -53,6 +56,8 @@ invariant_of-self c =
           counts = fit_settled _ _ _ _ _ _ _ h.counts limits.tuning (present_of limits) _ _ _ c.raise_all.ensures.after c.next_count.ensures c.next_count-2.ensures;
           told_in = told_each (TellsAt limits.role limits.settings) core.recvs core.outbox.outstanding core.outbox.acked core.untold_recvs h.told_in raise c.raise_all.new.self c.raise_all.new.untold c.raise_all.ensures.after c.raise_all.ensures.marks c.raise_all.ensures.marked;
           told_out = h.told_out;
+          own = own_risen limits core.outbox.outstanding core.own h.own _ (subst (λ k. limits.granted ≤ k) (sym limit) (next_limit_grows limits.granted (total taken core.recvs) limits.conn_window limits.tuning.credit_step)) (omega (arith, c.next_count.ensures)) (omega (arith, c.next_count-2.ensures)) (omega arith) (omega arith) (omega arith);
+          carried = carried_raised core.recvs core.outbox.sends core.outbox.outstanding core.carried h.carried c.raise_all.new.self c.raise_all.new.carried c.raise_all.ensures.after (c.raise_all.ensures.exact core.outbox.outstanding h.carried.limits);
         };
         idle = k.rest.idle;
       };

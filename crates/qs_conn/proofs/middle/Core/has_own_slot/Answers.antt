@@ -1,4 +1,4 @@
-use Rattle.std.proofs.Common.{true, false, refl, subst, sym}
+use Rattle.std.proofs.Common.{true, refl, subst}
 use Rattle.qs_conn.specs.Middle.{end_of}
 use Rattle.qs_conn.specs.Filling.{and_slot}
 use Rattle.qs_conn.specs.Sending.{TellsDue}

@@ -14,4 +14,7 @@ returns-in_default c = λ e passed before.
 
 pub returns : goal.returns
 returns c = λ e passed before.
-    tells_item (end_of c.args.self.now e) c.args.is_found passed c.args.slot c.in-Some.item c.is_covered.result c.if-is_found.false (c.in-Some.ensures.current e) (c.is_covered.ensures.yes c.args.self.now.limits c.args.self.now.recvs e) (c.is_covered.ensures.no c.args.self.now.limits c.args.self.now.recvs e) before
+    tells_item (end_of c.args.self.now e) c.args.is_found passed c.args.slot c.in-Some.item c.has_covered.result c.if-is_found.false (c.in-Some.ensures.current e) (c.has_covered.ensures.yes e) (c.has_covered.ensures.no e) before
+
+pub has_covered-requires-clause-current : goal.has_covered-requires-clause-current
+has_covered-requires-clause-current c = λ e. (c.in-Some.ensures.current e).0

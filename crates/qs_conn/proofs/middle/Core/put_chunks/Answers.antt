@@ -51,7 +51,7 @@ loop-chunk-preserved c =
       chunking = λ around first wish room old e asked at on f. chunking_put around first self.limits self.recvs self.outbox _ e c.loop-chunk.quota (c.loop-chunk.quota - c.in-Some.chunk.len) wish room old c.loop-chunk.out c.put_chunk-put.new.out c.loop-chunk.len c.put_chunk-put.result.len n c.in-Some.chunk left c.loop-chunk.fresh s put.outbox h next c.in-Some.ensures.2.1 filled.filling.within (at ∙ sym filled.room) refl c.loop-chunk.invariant.fresh put.count (omega (arith, c.if-chunk-quota.false)) put.text (c.loop-chunk.invariant.chunking around first wish room old e asked at on f);
       is_open = subst (λ x. is_some (lookup x.sends n) ≡ true) (sym put.outbox) (still_open self.outbox n s c.in-Some.chunk h);
       fresh = ap (λ k. known - k) c.sent_sum-in-Some.ensures.value;
-      filled = fills_on _ _ _ _ _ _ _ _ _ _ _ filled (fills_outbox self c.put_chunk-put.new.outbox c.look_unless_free.new.marks _ _ _ _ _ (core_chunk self filled.filling.core n c.in-Some.chunk _ _ _ put.outbox put.count credit c.look_unless_free.ensures.more c.look_unless_free.ensures.marked) put.within (λ own. chunk_memory self c.args.stream c.in-Some.ensures.0 c.in-Some.chunk left c.loop-chunk.fresh c.in-Some.ensures.1 c.in-Some.ensures.2.0.allowed c.loop-chunk.invariant.fresh c.put_chunk-put.new.outbox c.look_unless_free.new.marks _ _ _ _ own put.spare) put.rest put.room);
+      filled = fills_on _ _ _ _ _ _ _ _ _ _ _ filled (fills_outbox self c.put_chunk-put.new.outbox c.look_unless_free.new.marks self.carried self.own _ _ _ _ _ (core_chunk self filled.filling.core n c.in-Some.chunk _ _ _ put.outbox put.count credit c.look_unless_free.ensures.more c.look_unless_free.ensures.marked) put.within (λ own. chunk_memory self c.args.stream c.in-Some.ensures.0 c.in-Some.chunk left c.loop-chunk.fresh c.in-Some.ensures.1 c.in-Some.ensures.2.0.allowed c.loop-chunk.invariant.fresh c.put_chunk-put.new.outbox c.look_unless_free.new.marks _ _ _ _ own put.spare) put.rest put.room);
     }
 
 pub returns-then-out-len-lt-LEAST_STREAM_FRAME-clause-flow : goal.returns-then-out-len-lt-LEAST_STREAM_FRAME-clause-flow
@@ -72,7 +72,7 @@ returns-then-out-len-lt-LEAST_STREAM_FRAME-clause-filled c =
     let put = c.put_chunk-put.ensures in
     let left = length c.loop-chunk.out - c.loop-chunk.len in
     let credit = sum_within self.outbox n c.in-Some.ensures.0 c.in-Some.chunk left c.loop-chunk.fresh self.limits.known_data c.in-Some.ensures.1 c.in-Some.ensures.2.0.allowed c.loop-chunk.invariant.fresh filled.filling.core.credit in
-    rw c.full_at-then-out-len-lt-LEAST_STREAM_FRAME.ensures (fills_on _ _ _ _ _ _ _ _ _ _ _ filled (fills_outbox self c.put_chunk-put.new.outbox c.look_unless_free.new.marks _ _ _ _ _ (core_chunk self filled.filling.core n c.in-Some.chunk _ _ _ put.outbox put.count credit c.look_unless_free.ensures.more c.look_unless_free.ensures.marked) put.within (λ own. chunk_memory self c.args.stream c.in-Some.ensures.0 c.in-Some.chunk left c.loop-chunk.fresh c.in-Some.ensures.1 c.in-Some.ensures.2.0.allowed c.loop-chunk.invariant.fresh c.put_chunk-put.new.outbox c.look_unless_free.new.marks _ _ _ _ own put.spare) put.rest put.room))
+    rw c.full_at-then-out-len-lt-LEAST_STREAM_FRAME.ensures (fills_on _ _ _ _ _ _ _ _ _ _ _ filled (fills_outbox self c.put_chunk-put.new.outbox c.look_unless_free.new.marks self.carried self.own _ _ _ _ _ (core_chunk self filled.filling.core n c.in-Some.chunk _ _ _ put.outbox put.count credit c.look_unless_free.ensures.more c.look_unless_free.ensures.marked) put.within (λ own. chunk_memory self c.args.stream c.in-Some.ensures.0 c.in-Some.chunk left c.loop-chunk.fresh c.in-Some.ensures.1 c.in-Some.ensures.2.0.allowed c.loop-chunk.invariant.fresh c.put_chunk-put.new.outbox c.look_unless_free.new.marks _ _ _ _ own put.spare) put.rest put.room))
 
 -- the stream is done
 
@@ -105,7 +105,7 @@ returns-then-put-clause-filled c =
     let next = c.in-Some.ensures.2.0 in
     let left = length c.loop-chunk.out - c.loop-chunk.len in
     let credit = sum_within self.outbox n s c.in-Some.chunk left c.loop-chunk.fresh self.limits.known_data c.in-Some.ensures.1 next.allowed c.loop-chunk.invariant.fresh filled.filling.core.credit in
-    fills_on _ _ _ _ _ _ _ _ _ _ _ filled (fills_outbox self c.put_chunk-put.new.outbox c.look_unless_free.new.marks _ _ _ _ _ (core_chunk self filled.filling.core n c.in-Some.chunk _ _ _ put.outbox put.count credit c.look_unless_free.ensures.more c.look_unless_free.ensures.marked) put.within (λ own. chunk_memory self n s c.in-Some.chunk left c.loop-chunk.fresh c.in-Some.ensures.1 next.allowed c.loop-chunk.invariant.fresh c.put_chunk-put.new.outbox c.look_unless_free.new.marks _ _ _ _ own put.spare) put.rest put.room)
+    fills_on _ _ _ _ _ _ _ _ _ _ _ filled (fills_outbox self c.put_chunk-put.new.outbox c.look_unless_free.new.marks self.carried self.own _ _ _ _ _ (core_chunk self filled.filling.core n c.in-Some.chunk _ _ _ put.outbox put.count credit c.look_unless_free.ensures.more c.look_unless_free.ensures.marked) put.within (λ own. chunk_memory self n s c.in-Some.chunk left c.loop-chunk.fresh c.in-Some.ensures.1 next.allowed c.loop-chunk.invariant.fresh c.put_chunk-put.new.outbox c.look_unless_free.new.marks _ _ _ _ own put.spare) put.rest put.room)
 
 pub returns-clause-flow : goal.returns-clause-flow
 returns-clause-flow c = λ around first wish room old e asked at on f.
@@ -170,4 +170,4 @@ returns-then-chunk-quota-clause-filled c =
     let left = length c.loop-chunk.out - c.loop-chunk.len in
     let part = cut_part c.in-Some.ensures.0 c.in-Some.chunk c.cut_to-part.result left c.loop-chunk.fresh c.loop-chunk.quota c.in-Some.ensures.2 c.cut_to-part.ensures (omega (arith, c.if-quota-eq0.false)) c.if-chunk-quota.true in
     let credit = sum_within self.outbox n c.in-Some.ensures.0 c.cut_to-part.result left c.loop-chunk.fresh self.limits.known_data c.in-Some.ensures.1 part.0 c.loop-chunk.invariant.fresh filled.filling.core.credit in
-    rw c.full_at-then-chunk-quota.ensures (fills_on _ _ _ _ _ _ _ _ _ _ _ filled (fills_outbox self c.put_chunk-cut.new.outbox c.look_blocked.new.self _ _ _ _ _ (core_chunk self filled.filling.core n c.cut_to-part.result _ _ _ put.outbox put.count credit c.look_blocked.ensures.more c.look_blocked.ensures.marked) put.within (λ own. chunk_memory self c.args.stream c.in-Some.ensures.0 c.in-Some.chunk left c.loop-chunk.fresh c.in-Some.ensures.1 c.in-Some.ensures.2.0.allowed c.loop-chunk.invariant.fresh c.put_chunk-cut.new.outbox c.look_blocked.new.self _ _ _ _ own put.spare) put.rest put.room))
+    rw c.full_at-then-chunk-quota.ensures (fills_on _ _ _ _ _ _ _ _ _ _ _ filled (fills_outbox self c.put_chunk-cut.new.outbox c.look_blocked.new.self self.carried self.own _ _ _ _ _ (core_chunk self filled.filling.core n c.cut_to-part.result _ _ _ put.outbox put.count credit c.look_blocked.ensures.more c.look_blocked.ensures.marked) put.within (λ own. chunk_memory self c.args.stream c.in-Some.ensures.0 c.in-Some.chunk left c.loop-chunk.fresh c.in-Some.ensures.1 c.in-Some.ensures.2.0.allowed c.loop-chunk.invariant.fresh c.put_chunk-cut.new.outbox c.look_blocked.new.self _ _ _ _ own put.spare) put.rest put.room))

@@ -5,15 +5,14 @@ use Rattle.qs_machine.specs.Sums.{tables_of}
 use Rattle.qs_conn.proofs.outbox.Outbox.ack_lost.Goals as goal
 
 pub piece_acked-requires : goal.piece_acked-requires
-piece_acked-requires c = c.self.invariant.2 c.args.piece (first_in c.self.inside.lost.pieces c.args.number c.args.piece (rw (← c.self.view_is) at c.requires.first))
+piece_acked-requires c = c.self.invariant.1 c.args.piece (first_in c.self.inside.lost.pieces c.args.number c.args.piece (rw (← c.self.view_is) at c.requires.first))
 
 pub invariant_of-self-2 : goal.invariant_of-self-2
 invariant_of-self-2 c = (
   box_late _ _ _ _ _ _ _ _ _ c.args.piece c.self.invariant.0 c.in_ok-piece_acked.ensures.halves
-      (c.self.invariant.2 c.args.piece (first_in c.self.inside.lost.pieces c.args.number c.args.piece (rw (← c.self.view_is) at c.requires.first))),
-  c.self.invariant.1,
+      (c.self.invariant.1 c.args.piece (first_in c.self.inside.lost.pieces c.args.number c.args.piece (rw (← c.self.view_is) at c.requires.first))),
   sent_less (tables_of c.piece_acked.new.types) c.self.inside.lost.pieces c.drop_first.new.self.pieces c.args.number c.drop_first.ensures.pieces
-      (sent_acked (tables_of c.self.inside.types) (tables_of c.piece_acked.new.types) c.self.inside.lost.pieces c.self.invariant.2 c.args.piece c.in_ok-piece_acked.ensures.halves),
+      (sent_acked (tables_of c.self.inside.types) (tables_of c.piece_acked.new.types) c.self.inside.lost.pieces c.self.invariant.1 c.args.piece c.in_ok-piece_acked.ensures.halves),
   c.piece_acked.ensures.len,
 )
 

@@ -1,7 +1,6 @@
 use Rattle.std.proofs.Common.{refl, arith}
 use Rattle.qs_conn.proofs.OutboxMaking.{room_stays}
 use Rattle.qs_conn.proofs.OutboxAcks.{idle_none, first_at, tied_at, sent_piece, box_acked, acked_value, idle_after, stop_asks}
-use Rattle.qs_conn.proofs.Indexed.{indexed_first_gone}
 use Rattle.qs_machine.proofs.LostSent.{sent_acked}
 use Rattle.qs_machine.specs.Sums.{tables_of}
 use Rattle.qs_conn.proofs.outbox.Outbox.ack_outstanding.Goals as goal
@@ -17,8 +16,7 @@ invariant_of-self-2 c =
     let none = idle_none _ c.args.self.now c.self.inside.records.pieces c.self.inside.pending.items c.self.view_is refl c.requires.idle in
     let first = first_at _ c.args.self.now c.self.inside.records.pieces c.self.inside.pending.items c.args.number c.args.piece c.self.view_is refl c.requires.idle c.requires.first in (
       box_acked _ _ _ _ _ _ _ _ _ _ _ c.args.number c.args.piece c.self.invariant.0 none first c.in_ok-piece_acked.ensures.halves c.drop_first.ensures.pieces (room_stays c.self.inside.next c.self.inside.records.room c.drop_first.new.self.room (let same = c.drop_first.ensures.room in omega (arith, same))),
-      indexed_first_gone _ _ _ c.args.number c.args.piece _ _ _ _ _ _ c.self.invariant.1 c.self.invariant.0.tied.apart none first c.drop_first.ensures.pieces c.forget.ensures.items c.forget.ensures.spare,
-      sent_acked (tables_of c.self.inside.types) (tables_of c.piece_acked.new.types) _ c.self.invariant.2 c.args.piece c.in_ok-piece_acked.ensures.halves,
+      sent_acked (tables_of c.self.inside.types) (tables_of c.piece_acked.new.types) _ c.self.invariant.1 c.args.piece c.in_ok-piece_acked.ensures.halves,
       c.piece_acked.ensures.len,
     )
 

@@ -10,15 +10,15 @@ use Rattle.qs_conn.proofs.Outboxes.{half_there, lane_step, box_allowed}
 use Rattle.qs_conn.proofs.outbox.Outbox.allow.Goals as goal
 
 pub allow-requires-clause-there : goal.allow-requires-clause-there
-allow-requires-clause-there c = open_there c.self.inside.types c.args.stream _ _ _ c.self.invariant.3 c.type_of.ensures.value c.index_of.ensures.value (half_there _ c.args.self.now (tables_of c.self.inside.types) c.args.stream c.self.view_is refl c.requires.open)
+allow-requires-clause-there c = open_there c.self.inside.types c.args.stream _ _ _ c.self.invariant.2 c.type_of.ensures.value c.index_of.ensures.value (half_there _ c.args.self.now (tables_of c.self.inside.types) c.args.stream c.self.view_is refl c.requires.open)
 
 pub invariant_of-self : goal.invariant_of-self
 invariant_of-self c =
     let there = half_there _ c.args.self.now (tables_of c.self.inside.types) c.args.stream c.self.view_is refl c.requires.open in
-    let is = updated_is c.self.inside.types c.args.stream _ _ _ _ (λ s. after_allow s c.args.limit) c.self.invariant.3 c.type_of.ensures.value c.index_of.ensures.value c.allow.ensures in
-    (box_allowed _ _ _ _ _ _ _ _ _ c.self.invariant.0 c.args.stream c.args.limit there is, c.self.invariant.1, sent_allow (tables_of c.self.inside.types) _ _ c.self.invariant.2 c.args.stream c.args.limit is, length-set _ _ _ ∙ c.self.invariant.3)
+    let is = updated_is c.self.inside.types c.args.stream _ _ _ _ (λ s. after_allow s c.args.limit) c.self.invariant.2 c.type_of.ensures.value c.index_of.ensures.value c.allow.ensures in
+    (box_allowed _ _ _ _ _ _ _ _ _ c.self.invariant.0 c.args.stream c.args.limit there is, sent_allow (tables_of c.self.inside.types) _ _ c.self.invariant.1 c.args.stream c.args.limit is, length-set _ _ _ ∙ c.self.invariant.2)
 
 pub returns : goal.returns
 returns c =
-    let is = updated_is c.self.inside.types c.args.stream _ _ _ _ (λ s. after_allow s c.args.limit) c.self.invariant.3 c.type_of.ensures.value c.index_of.ensures.value c.allow.ensures in
+    let is = updated_is c.self.inside.types c.args.stream _ _ _ _ (λ s. after_allow s c.args.limit) c.self.invariant.2 c.type_of.ensures.value c.index_of.ensures.value c.allow.ensures in
     lane_step _ c.args.self.now c.args.stream _ _ c.self.view_is (ap lanes_of is ∙ lanes_updated (tables_of c.self.inside.types) c.args.stream (λ s. after_allow s c.args.limit) (λ l. allow_lane l c.args.limit) (λ s there. refl))

@@ -1,14 +1,12 @@
 use Rattle.std.proofs.Common.{◌+◌, nat_lt}
 use Rattle.qs_conn.proofs.OutboxMaking.{box_committed, idle_committed}
-use Rattle.qs_conn.proofs.Indexed.{indexed_committed}
 use Rattle.qs_conn.proofs.outbox.Outbox.commit.Goals as goal
 
 pub invariant_of-self : goal.invariant_of-self
 invariant_of-self c = (
   box_committed _ _ _ _ _ _ _ _ _ _ _ _ c.self.invariant.0 c.put_pieces.ensures.kept c.put_pieces.ensures.left,
-  indexed_committed c.self.inside.records.pieces _ _ c.self.inside.pending.items _ _ _ _ c.self.invariant.1 c.put_pieces.ensures.kept c.put_pieces.ensures.left,
+  c.self.invariant.1,
   c.self.invariant.2,
-  c.self.invariant.3,
 )
 
 pub returns-clause-idle : goal.returns-clause-idle

@@ -12,17 +12,17 @@ pub learn_lawful-requires-clause-open : goal.learn_lawful-requires-clause-open
 learn_lawful-requires-clause-open c = half_there _ c.args.self.now (tables_of c.self.inside.types) c.args.stream c.self.view_is refl c.requires
 
 pub finish-requires : goal.finish-requires
-finish-requires c = open_there c.self.inside.types c.args.stream _ _ _ c.self.invariant.3 c.type_of.ensures.value c.index_of.ensures.value (half_there _ c.args.self.now (tables_of c.self.inside.types) c.args.stream c.self.view_is refl c.requires)
+finish-requires c = open_there c.self.inside.types c.args.stream _ _ _ c.self.invariant.2 c.type_of.ensures.value c.index_of.ensures.value (half_there _ c.args.self.now (tables_of c.self.inside.types) c.args.stream c.self.view_is refl c.requires)
 
 pub invariant_of-self : goal.invariant_of-self
 invariant_of-self c =
-    let is = updated_is c.self.inside.types c.args.stream _ _ _ _ after_finish c.self.invariant.3 c.type_of.ensures.value c.index_of.ensures.value c.finish.ensures.after in
-    (box_finished _ _ _ _ _ _ _ _ _ c.self.invariant.0 c.args.stream _ (half_found _ c.args.stream (half_there _ c.args.self.now (tables_of c.self.inside.types) c.args.stream c.self.view_is refl c.requires)) c.learn_lawful.ensures is, c.self.invariant.1, sent_finish (tables_of c.self.inside.types) _ _ c.self.invariant.2 c.args.stream is, length-set _ _ _ ∙ c.self.invariant.3)
+    let is = updated_is c.self.inside.types c.args.stream _ _ _ _ after_finish c.self.invariant.2 c.type_of.ensures.value c.index_of.ensures.value c.finish.ensures.after in
+    (box_finished _ _ _ _ _ _ _ _ _ c.self.invariant.0 c.args.stream _ (half_found _ c.args.stream (half_there _ c.args.self.now (tables_of c.self.inside.types) c.args.stream c.self.view_is refl c.requires)) c.learn_lawful.ensures is, sent_finish (tables_of c.self.inside.types) _ _ c.self.invariant.1 c.args.stream is, length-set _ _ _ ∙ c.self.invariant.2)
 
 pub returns : goal.returns
 returns c =
-    let is = updated_is c.self.inside.types c.args.stream _ _ _ _ after_finish c.self.invariant.3 c.type_of.ensures.value c.index_of.ensures.value c.finish.ensures.after in
-    let answer = c.finish.ensures.answer ∙ ap (λ (s : Sending). answer_of (refusal s.lane)) (sym (half_is c.self.inside.types c.args.stream _ _ _ c.self.invariant.3 c.type_of.ensures.value c.index_of.ensures.value)) in record {
+    let is = updated_is c.self.inside.types c.args.stream _ _ _ _ after_finish c.self.invariant.2 c.type_of.ensures.value c.index_of.ensures.value c.finish.ensures.after in
+    let answer = c.finish.ensures.answer ∙ ap (λ (s : Sending). answer_of (refusal s.lane)) (sym (half_is c.self.inside.types c.args.stream _ _ _ c.self.invariant.2 c.type_of.ensures.value c.index_of.ensures.value)) in record {
       answer = answer ∙ ap (λ l. answer_of (refusal l)) (sym (lane_now _ c.args.self.now (tables_of c.self.inside.types) c.args.stream c.self.view_is refl));
       ok = on_ok c.finish.result _ _ (λ lanes. lane_step _ c.args.self.now c.args.stream finish_lane _ c.self.view_is lanes) (finish_ok (tables_of c.self.inside.types) _ c.args.stream c.finish.result (half_there _ c.args.self.now (tables_of c.self.inside.types) c.args.stream c.self.view_is refl c.requires) is answer);
       err = on_error c.finish.result _ _ (λ same. same_step _ c.args.self.now _ c.self.view_is (ap lanes_of same)) (finish_err (tables_of c.self.inside.types) _ c.args.stream c.finish.result (half_there _ c.args.self.now (tables_of c.self.inside.types) c.args.stream c.self.view_is refl c.requires) is answer);

@@ -10,4 +10,4 @@ use Rattle.qs_conn.proofs.outbox.Outbox.reserve.Goals as goal
 pub invariant_of-self : goal.invariant_of-self
 invariant_of-self c =
     let is = same_is c.self.inside.types _ _ _ c.reserve_to.ensures in
-    (box_same _ _ _ _ _ _ _ _ _ c.self.invariant.0 is, c.self.invariant.1, subst (λ (t : Tables Sending). AreSent t c.self.inside.lost.pieces) (sym is) c.self.invariant.2, length-set _ _ _ ∙ c.self.invariant.3)
+    (box_same _ _ _ _ _ _ _ _ _ c.self.invariant.0 is, subst (λ (t : Tables Sending). AreSent t c.self.inside.lost.pieces) (sym is) c.self.invariant.1, length-set _ _ _ ∙ c.self.invariant.2)

@@ -10,18 +10,18 @@ use Rattle.qs_conn.proofs.Outboxes.{half_there, lane_now, lane_step, same_step, 
 use Rattle.qs_conn.proofs.outbox.Outbox.reset.Goals as goal
 
 pub reset-requires-clause-there : goal.reset-requires-clause-there
-reset-requires-clause-there c = open_there c.self.inside.types c.args.stream _ _ _ c.self.invariant.3 c.type_of.ensures.value c.index_of.ensures.value (half_there _ c.args.self.now (tables_of c.self.inside.types) c.args.stream c.self.view_is refl c.requires.open)
+reset-requires-clause-there c = open_there c.self.inside.types c.args.stream _ _ _ c.self.invariant.2 c.type_of.ensures.value c.index_of.ensures.value (half_there _ c.args.self.now (tables_of c.self.inside.types) c.args.stream c.self.view_is refl c.requires.open)
 
 pub invariant_of-self : goal.invariant_of-self
 invariant_of-self c =
     let there = half_there _ c.args.self.now (tables_of c.self.inside.types) c.args.stream c.self.view_is refl c.requires.open in
-    let is = updated_is c.self.inside.types c.args.stream _ _ _ _ (λ s. after_reset s c.args.code) c.self.invariant.3 c.type_of.ensures.value c.index_of.ensures.value c.reset.ensures.after in
-    (box_reset _ _ _ _ _ _ _ _ _ c.self.invariant.0 c.args.stream c.args.code there is, c.self.invariant.1, sent_reset (tables_of c.self.inside.types) _ _ c.self.invariant.2 c.args.stream c.args.code is, length-set _ _ _ ∙ c.self.invariant.3)
+    let is = updated_is c.self.inside.types c.args.stream _ _ _ _ (λ s. after_reset s c.args.code) c.self.invariant.2 c.type_of.ensures.value c.index_of.ensures.value c.reset.ensures.after in
+    (box_reset _ _ _ _ _ _ _ _ _ c.self.invariant.0 c.args.stream c.args.code there is, sent_reset (tables_of c.self.inside.types) _ _ c.self.invariant.1 c.args.stream c.args.code is, length-set _ _ _ ∙ c.self.invariant.2)
 
 pub returns : goal.returns
 returns c =
-    let is = updated_is c.self.inside.types c.args.stream _ _ _ _ (λ s. after_reset s c.args.code) c.self.invariant.3 c.type_of.ensures.value c.index_of.ensures.value c.reset.ensures.after in
-    let answer = c.reset.ensures.answer ∙ ap (λ (s : Sending). answer_of (reset_refusal s.lane)) (sym (half_is c.self.inside.types c.args.stream _ _ _ c.self.invariant.3 c.type_of.ensures.value c.index_of.ensures.value)) in record {
+    let is = updated_is c.self.inside.types c.args.stream _ _ _ _ (λ s. after_reset s c.args.code) c.self.invariant.2 c.type_of.ensures.value c.index_of.ensures.value c.reset.ensures.after in
+    let answer = c.reset.ensures.answer ∙ ap (λ (s : Sending). answer_of (reset_refusal s.lane)) (sym (half_is c.self.inside.types c.args.stream _ _ _ c.self.invariant.2 c.type_of.ensures.value c.index_of.ensures.value)) in record {
       answer = answer ∙ ap (λ l. answer_of (reset_refusal l)) (sym (lane_now _ c.args.self.now (tables_of c.self.inside.types) c.args.stream c.self.view_is refl));
       after = lane_step _ c.args.self.now c.args.stream (λ l. reset_lane l c.args.code) _ c.self.view_is (ap lanes_of is ∙ lanes_updated (tables_of c.self.inside.types) c.args.stream (λ s. after_reset s c.args.code) (λ l. reset_lane l c.args.code) (λ s there. refl));
       err = on_error c.reset.result _ _ (λ same. same_step _ c.args.self.now _ c.self.view_is (ap lanes_of same)) (reset_err (tables_of c.self.inside.types) _ c.args.stream c.args.code c.reset.result (half_there _ c.args.self.now (tables_of c.self.inside.types) c.args.stream c.self.view_is refl c.requires.open) is answer);

@@ -10,15 +10,15 @@ use Rattle.qs_conn.proofs.Outboxes.{half_there, lane_step, box_buffered}
 use Rattle.qs_conn.proofs.outbox.Outbox.set_buffer.Goals as goal
 
 pub set_buffer-requires : goal.set_buffer-requires
-set_buffer-requires c = open_there c.self.inside.types c.args.stream _ _ _ c.self.invariant.3 c.type_of.ensures.value c.index_of.ensures.value (half_there _ c.args.self.now (tables_of c.self.inside.types) c.args.stream c.self.view_is refl c.requires)
+set_buffer-requires c = open_there c.self.inside.types c.args.stream _ _ _ c.self.invariant.2 c.type_of.ensures.value c.index_of.ensures.value (half_there _ c.args.self.now (tables_of c.self.inside.types) c.args.stream c.self.view_is refl c.requires)
 
 pub invariant_of-self : goal.invariant_of-self
 invariant_of-self c =
     let there = half_there _ c.args.self.now (tables_of c.self.inside.types) c.args.stream c.self.view_is refl c.requires in
-    let is = updated_is c.self.inside.types c.args.stream _ _ _ _ (λ s. after_buffer s c.args.size) c.self.invariant.3 c.type_of.ensures.value c.index_of.ensures.value c.set_buffer.ensures in
-    (box_buffered _ _ _ _ _ _ _ _ _ c.self.invariant.0 c.args.stream c.args.size there is, c.self.invariant.1, sent_buffer (tables_of c.self.inside.types) _ _ c.self.invariant.2 c.args.stream c.args.size is, length-set _ _ _ ∙ c.self.invariant.3)
+    let is = updated_is c.self.inside.types c.args.stream _ _ _ _ (λ s. after_buffer s c.args.size) c.self.invariant.2 c.type_of.ensures.value c.index_of.ensures.value c.set_buffer.ensures in
+    (box_buffered _ _ _ _ _ _ _ _ _ c.self.invariant.0 c.args.stream c.args.size there is, sent_buffer (tables_of c.self.inside.types) _ _ c.self.invariant.1 c.args.stream c.args.size is, length-set _ _ _ ∙ c.self.invariant.2)
 
 pub returns : goal.returns
 returns c =
-    let is = updated_is c.self.inside.types c.args.stream _ _ _ _ (λ s. after_buffer s c.args.size) c.self.invariant.3 c.type_of.ensures.value c.index_of.ensures.value c.set_buffer.ensures in
+    let is = updated_is c.self.inside.types c.args.stream _ _ _ _ (λ s. after_buffer s c.args.size) c.self.invariant.2 c.type_of.ensures.value c.index_of.ensures.value c.set_buffer.ensures in
     lane_step _ c.args.self.now c.args.stream _ _ c.self.view_is (ap lanes_of is ∙ lanes_updated (tables_of c.self.inside.types) c.args.stream (λ s. after_buffer s c.args.size) (λ l. buffer_lane l c.args.size) (λ s there. refl))

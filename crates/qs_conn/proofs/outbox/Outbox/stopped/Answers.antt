@@ -10,15 +10,15 @@ use Rattle.qs_conn.proofs.Outboxes.{half_there, lane_step, box_stopped, stop_lan
 use Rattle.qs_conn.proofs.outbox.Outbox.stopped.Goals as goal
 
 pub stopped-requires-clause-there : goal.stopped-requires-clause-there
-stopped-requires-clause-there c = open_there c.self.inside.types c.args.stream _ _ _ c.self.invariant.3 c.type_of.ensures.value c.index_of.ensures.value (half_there _ c.args.self.now (tables_of c.self.inside.types) c.args.stream c.self.view_is refl c.requires.open)
+stopped-requires-clause-there c = open_there c.self.inside.types c.args.stream _ _ _ c.self.invariant.2 c.type_of.ensures.value c.index_of.ensures.value (half_there _ c.args.self.now (tables_of c.self.inside.types) c.args.stream c.self.view_is refl c.requires.open)
 
 pub invariant_of-self : goal.invariant_of-self
 invariant_of-self c =
     let there = half_there _ c.args.self.now (tables_of c.self.inside.types) c.args.stream c.self.view_is refl c.requires.open in
-    let is = updated_is c.self.inside.types c.args.stream _ _ _ _ (λ s. after_stop c.args.owner_answers s c.args.code) c.self.invariant.3 c.type_of.ensures.value c.index_of.ensures.value c.stopped.ensures in
-    (box_stopped _ _ _ _ _ _ _ _ _ c.self.invariant.0 c.args.owner_answers c.args.stream c.args.code there is, c.self.invariant.1, sent_stop (tables_of c.self.inside.types) _ _ c.self.invariant.2 c.args.owner_answers c.args.stream c.args.code is, length-set _ _ _ ∙ c.self.invariant.3)
+    let is = updated_is c.self.inside.types c.args.stream _ _ _ _ (λ s. after_stop c.args.owner_answers s c.args.code) c.self.invariant.2 c.type_of.ensures.value c.index_of.ensures.value c.stopped.ensures in
+    (box_stopped _ _ _ _ _ _ _ _ _ c.self.invariant.0 c.args.owner_answers c.args.stream c.args.code there is, sent_stop (tables_of c.self.inside.types) _ _ c.self.invariant.1 c.args.owner_answers c.args.stream c.args.code is, length-set _ _ _ ∙ c.self.invariant.2)
 
 pub returns : goal.returns
 returns c =
-    let is = updated_is c.self.inside.types c.args.stream _ _ _ _ (λ s. after_stop c.args.owner_answers s c.args.code) c.self.invariant.3 c.type_of.ensures.value c.index_of.ensures.value c.stopped.ensures in
+    let is = updated_is c.self.inside.types c.args.stream _ _ _ _ (λ s. after_stop c.args.owner_answers s c.args.code) c.self.invariant.2 c.type_of.ensures.value c.index_of.ensures.value c.stopped.ensures in
     lane_step _ c.args.self.now c.args.stream _ _ c.self.view_is (ap lanes_of is ∙ lanes_updated (tables_of c.self.inside.types) c.args.stream (λ s. after_stop c.args.owner_answers s c.args.code) (λ l. stop_taken c.args.owner_answers l c.args.code) (λ s there. stop_lane c.args.owner_answers s c.args.code))

@@ -12,5 +12,5 @@ invariant_of-result c = (
     room = rw (c.new.ensures.items, c.new-2.ensures.marks) refl;
     few = rw c.new.ensures.items (omega arith);
   },
-  λ t. rw (c.new.ensures.items, c.new-3.ensures t) tt,
+  λ t. rw (c.new.ensures.items, c.new-3.ensures t) refl,
 )

@@ -37,7 +37,7 @@ invariant_of-self-in_default-open_to-2 c =
     let was = c.loop-opened.invariant.touched in (
       opened _ _ _ _ _ _ _ _ _ _ c.requires.some c.requires.small few all c.loop-opened.invariant.items c.loop-opened.invariant.tally (c.open_to.ensures.lanes ∙ ap (λ t. t.lanes) was)
           (c.in_default-open_to.ensures.ok ∙ ap (λ t. t.marks ++ replicate (c.args.count - length t.marks) false) was) c.self.invariant.0,
-      noted_opened c.args.window c.args.share c.self.inside.halves.items c.loop-opened.self-inside.halves.items c.self.inside.news _ c.args.count c.loop-opened._opened c.saturating_sub-missing.result c.self.invariant.0.few c.requires.few c.loop-opened.invariant.items
+      noted_opened c.args.window c.args.share c.self.inside.halves.items c.loop-opened.self-inside.halves.items c.self.inside.news _ c.args.count c.loop-opened._opened c.saturating_sub-missing.result c.loop-opened.invariant.items
           c.loop-opened.auto._opened-end c.loop-opened-test.false (c.saturating_sub-missing.ensures ∙ ap (λ k. c.args.count - k) len)
           (λ t. c.in_default-open_to-2.ensures.ok t ∙ ap (λ ms. marks_of ms t ++ replicate (c.args.count - length (marks_of ms t)) false) c.loop-opened.invariant.news) c.self.invariant.1,
     )

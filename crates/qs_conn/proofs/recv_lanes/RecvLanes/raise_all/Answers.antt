@@ -1,9 +1,10 @@
-use Rattle.std.proofs.Common.{◌∙◌, sym}
+use Rattle.std.proofs.Common.{refl, ◌∙◌, sym}
 use Rattle.std.proofs.lemmas.List.{length-map}
 use Rattle.qs_machine.proofs.Counts.{tally_raised, lawful_raised}
 use Rattle.qs_conn.proofs.RecvNews.{noted_raised}
 use Rattle.qs_conn.proofs.LaneMarks.{still_settled, none_marked}
 use Rattle.qs_conn.proofs.Settling.{none_raised}
+use Rattle.qs_conn.proofs.LimitMarks.{stays_of}
 use Rattle.qs_conn.proofs.Untolds.{has_same}
 use Rattle.qs_conn.proofs.recv_lanes.RecvLanes.raise_all.Goals as goal
 
@@ -35,3 +36,9 @@ returns-then-is_none-clause-marked c = rw (← c.self.view_is) (none_marked c.ar
 
 pub returns-then-is_none-clause-marks : goal.returns-then-is_none-clause-marks
 returns-then-is_none-clause-marks c = has_same c.args.untold.now
+
+pub returns-then-is_none-clause-exact : goal.returns-then-is_none-clause-exact
+returns-then-is_none-clause-exact c = stays_of c.args.stream_type c.args.self.now c.args.self.now c.args.carried.now refl
+
+pub returns-clause-exact : goal.returns-clause-exact
+returns-clause-exact c = rw (← c.self.view_is) c.raise_touched.ensures.exact

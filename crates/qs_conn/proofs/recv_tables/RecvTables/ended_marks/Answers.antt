@@ -1,4 +1,3 @@
-use Rattle.std.proofs.Common.{refl}
 use Rattle.qs_conn.proofs.Overs.{recv_ends_marked}
 use Rattle.qs_conn.proofs.recv_tables.RecvTables.ended_marks.Goals as goal
 

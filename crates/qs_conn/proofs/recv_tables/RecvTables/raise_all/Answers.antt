@@ -1,6 +1,7 @@
 use Rattle.qs_recv.specs.Lane.{raise}
 use Rattle.qs_machine.proofs.TableEdits.{each_is}
 use Rattle.qs_conn.proofs.LaneMarks.{raised_tables}
+use Rattle.qs_conn.proofs.LimitMarks.{stays_four}
 use Rattle.qs_conn.proofs.Untolds.{has_twice}
 use Rattle.qs_conn.proofs.recv_tables.RecvTables.raise_all.Goals as goal
 
@@ -17,3 +18,8 @@ pub returns-clause-marked : goal.returns-clause-marked
 returns-clause-marked c =
     rw (← c.self.view_is)
     (raised_tables c.self.inside.types _ _ _ _ _ _ _ _ _ _ _ c.self.invariant c.raise_all.ensures.marked c.raise_all-2.ensures.marked c.raise_all-3.ensures.marked c.raise_all-4.ensures.marked c.raise_all-2.ensures.marks c.raise_all-3.ensures.marks c.raise_all-4.ensures.marks)
+
+pub returns-clause-exact : goal.returns-clause-exact
+returns-clause-exact c =
+    rw (← c.self.view_is)
+    (stays_four c.self.inside.types _ _ _ _ _ _ _ _ _ _ _ _ _ c.self.invariant c.raise_all.ensures.exact c.raise_all-2.ensures.exact c.raise_all-3.ensures.exact c.raise_all-4.ensures.exact)

@@ -1,10 +1,11 @@
+use Rattle.std.proofs.Common.{refl}
 use Rattle.qs_send.specs.Lane.{after_acked}
 use Rattle.qs_conn.specs.declared.send_marks.Task.TheVariants as tasks
 use Rattle.qs_conn.specs.Tasks.{IsQuiet, marks_of}
-use Rattle.qs_conn.proofs.SendEdits.{ok_at, asked_at, acked_again, acked_stop}
+use Rattle.qs_conn.proofs.SendEdits.{ok_at, asked_at, acked_again, stop_of, acked_leaves}
 use Rattle.qs_conn.proofs.Marked.{mark_there}
 use Rattle.qs_conn.proofs.Tasks.{all_looked, still_quiet, still_unstopped}
-use Rattle.qs_conn.proofs.Promised.{promised_of, kept_of, acked_promises, sum_same, sum_moved}
+use Rattle.qs_conn.proofs.Promised.{promised_of, kept_of, sum_same, sum_moved}
 use Rattle.qs_conn.proofs.OverHalves.{lent_at, over_acked, unchanged_at}
 use Rattle.qs_conn.proofs.send_lanes.SendLanes.acked.Goals as goal
 
@@ -17,13 +18,13 @@ look_acked-requires-clause-again c =
     (acked_again c.acked-answer.result c.in-Some.half.now c.acked-answer.new.self c.args.chunk c.acked-answer.ensures.ok c.acked-answer.ensures.err)
 
 pub look_acked-requires-clause-stop : goal.look_acked-requires-clause-stop
-look_acked-requires-clause-stop c = still_unstopped c.self.inside.halves c.self.inside.marks c.args.index c.in-Some.half.now c.acked-answer.new.self c.self.invariant.1 (rw c.self.view_is c.requires.there) (lent_at c.self.inside.halves c.args.index c.in-Some.half.now (rw c.self.view_is c.requires.there) c.in-Some.ensures.found) (acked_stop c.acked-answer.result c.in-Some.half.now c.acked-answer.new.self c.args.chunk c.acked-answer.ensures.ok c.acked-answer.ensures.err)
+look_acked-requires-clause-stop c = still_unstopped c.self.inside.halves c.self.inside.marks c.args.index c.in-Some.half.now c.acked-answer.new.self c.self.invariant.1 (rw c.self.view_is c.requires.there) (lent_at c.self.inside.halves c.args.index c.in-Some.half.now (rw c.self.view_is c.requires.there) c.in-Some.ensures.found) (acked_leaves stop_of c.acked-answer.result c.in-Some.half.now c.acked-answer.new.self c.args.chunk refl c.acked-answer.ensures.ok c.acked-answer.ensures.err)
 
 pub invariant_of-self-then-not-ends : goal.invariant_of-self-then-not-ends
 invariant_of-self-then-not-ends c =
     all_looked _ _ _ _ _ _ _ c.args.index c.acked-answer.new.self c.look_acked.ensures c.self.invariant
     (record {
-      promised = sum_same promised_of c.self.inside.halves c.self.inside.promised c.args.index c.in-Some.half.now c.acked-answer.new.self (rw c.self.view_is c.requires.there) (lent_at c.self.inside.halves c.args.index c.in-Some.half.now (rw c.self.view_is c.requires.there) c.in-Some.ensures.found) (acked_promises c.acked-answer.result c.in-Some.half.now c.acked-answer.new.self c.args.chunk c.acked-answer.ensures.ok c.acked-answer.ensures.err) c.self.invariant.2.promised;
+      promised = sum_same promised_of c.self.inside.halves c.self.inside.promised c.args.index c.in-Some.half.now c.acked-answer.new.self (rw c.self.view_is c.requires.there) (lent_at c.self.inside.halves c.args.index c.in-Some.half.now (rw c.self.view_is c.requires.there) c.in-Some.ensures.found) (acked_leaves promised_of c.acked-answer.result c.in-Some.half.now c.acked-answer.new.self c.args.chunk refl c.acked-answer.ensures.ok c.acked-answer.ensures.err) c.self.invariant.2.promised;
       kept = sum_moved kept_of c.self.inside.halves c.self.inside.kept c.args.index c.kept-had.result c.kept-has.result c.in-Some.half.now c.acked-answer.new.self (rw c.self.view_is c.requires.there) (lent_at c.self.inside.halves c.args.index c.in-Some.half.now (rw c.self.view_is c.requires.there) c.in-Some.ensures.found) c.kept-had.ensures.value c.kept-has.ensures.value c.kept-has.ensures.small c.self.invariant.2.kept;
     })
 
@@ -32,7 +33,7 @@ invariant_of-self-2 c =
     rw c.settle.ensures
     (all_looked _ _ _ _ _ _ _ c.args.index c.acked-answer.new.self c.look_acked.ensures c.self.invariant
     (record {
-      promised = sum_same promised_of c.self.inside.halves c.self.inside.promised c.args.index c.in-Some.half.now c.acked-answer.new.self (rw c.self.view_is c.requires.there) (lent_at c.self.inside.halves c.args.index c.in-Some.half.now (rw c.self.view_is c.requires.there) c.in-Some.ensures.found) (acked_promises c.acked-answer.result c.in-Some.half.now c.acked-answer.new.self c.args.chunk c.acked-answer.ensures.ok c.acked-answer.ensures.err) c.self.invariant.2.promised;
+      promised = sum_same promised_of c.self.inside.halves c.self.inside.promised c.args.index c.in-Some.half.now c.acked-answer.new.self (rw c.self.view_is c.requires.there) (lent_at c.self.inside.halves c.args.index c.in-Some.half.now (rw c.self.view_is c.requires.there) c.in-Some.ensures.found) (acked_leaves promised_of c.acked-answer.result c.in-Some.half.now c.acked-answer.new.self c.args.chunk refl c.acked-answer.ensures.ok c.acked-answer.ensures.err) c.self.invariant.2.promised;
       kept = sum_moved kept_of c.self.inside.halves c.self.inside.kept c.args.index c.kept-had.result c.kept-has.result c.in-Some.half.now c.acked-answer.new.self (rw c.self.view_is c.requires.there) (lent_at c.self.inside.halves c.args.index c.in-Some.half.now (rw c.self.view_is c.requires.there) c.in-Some.ensures.found) c.kept-had.ensures.value c.kept-has.ensures.value c.kept-has.ensures.small c.self.invariant.2.kept;
     }))
 

@@ -1,4 +1,4 @@
-use Rattle.std.proofs.Common.{◌<◌, length, refl, sym, ap, ◌∙◌}
+use Rattle.std.proofs.Common.{◌<◌, length, refl, ap, ◌∙◌}
 use Rattle.qs_send.specs.Halves.{half_at}
 use Rattle.qs_send.specs.Lane.{after_blocked}
 use Rattle.qs_conn.specs.Tasks.{IsQuiet, marks_of}
@@ -7,7 +7,6 @@ use Rattle.qs_conn.proofs.SendEdits.{stop_of}
 use Rattle.qs_conn.proofs.Marked.{mark_there}
 use Rattle.qs_conn.proofs.OverHalves.{there_at, set_read, put_looked, still_marked}
 use Rattle.qs_conn.proofs.Tasks.{still_unstopped}
-use Rattle.qs_conn.proofs.Promised.{sums_same}
 use Rattle.qs_conn.proofs.send_lanes.SendLanes.note_blocked.Goals as goal
 
 pub look-requires-clause-there : goal.look-requires-clause-there

@@ -1,6 +1,5 @@
-use Rattle.std.proofs.Common.{ℕ, Some, rules, ap, sym, subst, ◌∙◌, arith, ◌≡◌, ◌+◌, ◌-◌, ◌*◌, ◌++◌, length, take, replicate}
+use Rattle.std.proofs.Common.{ℕ, Some, rules, ap, ◌∙◌, arith, ◌≡◌, ◌+◌, ◌-◌, ◌*◌, ◌++◌, length, take, replicate}
 use Rattle.qs_send.specs.Lane.{new_sending}
-use Rattle.qs_conn.specs.Promised.{AreSums}
 use Rattle.qs_conn.proofs.LaneEdits.{opened_more, opened_all, opened_back}
 use Rattle.qs_conn.specs.Tasks.{begins, marks_of}
 use Rattle.qs_conn.proofs.Tasks.{all_undone, all_opened}

@@ -1,16 +1,10 @@
-use Rattle.std.proofs.Common.{None, Some, sym, ◌∙◌}
+use Rattle.std.proofs.Common.{◌≤◌}
 use Rattle.qs_conn.specs.Untold.{IsUnmarked}
-use Rattle.qs_conn.proofs.Marked.{all_kinds, before_id, least_four}
+use Rattle.qs_conn.proofs.Marked.{all_kinds, four_have}
 use Rattle.qs_conn.proofs.untold.Untold.least_marked.Goals as goal
 
-pub returns-in_err-least-clause-unmarked : goal.returns-in_err-least-clause-unmarked
-returns-in_err-least-clause-unmarked c = λ n s le before.
-    all_kinds IsUnmarked c.args.self.now c.args.from c.next_of.result c.next_of-2.result c.next_of-3.result c.next_of-4.result None c.next_of.ensures.unmarked c.next_of-2.ensures.unmarked c.next_of-3.ensures.unmarked c.next_of-4.ensures.unmarked
-    (sym c.in_err-least.was ∙ least_four c.next_of.result c.next_of-2.result c.next_of-3.result c.next_of-4.result c.least-bidi.result c.least-uni.result c.least.result c.least-bidi.ensures c.least-uni.ensures c.least.ensures) n s le tt
+pub returns-clause-from : goal.returns-clause-from
+returns-clause-from c = rw c.least_stream.ensures (four_have (λ n. c.args.from ≤ n) _ _ _ _ c.next_of.ensures.from c.next_of-2.ensures.from c.next_of-3.ensures.from c.next_of-4.ensures.from)
 
 pub returns-clause-unmarked : goal.returns-clause-unmarked
-returns-clause-unmarked c = λ n s le before. (
-    let is = least_four c.next_of.result c.next_of-2.result c.next_of-3.result c.next_of-4.result c.least-bidi.result c.least-uni.result c.least.result c.least-bidi.ensures c.least-uni.ensures c.least.ensures in
-    all_kinds IsUnmarked c.args.self.now c.args.from c.next_of.result c.next_of-2.result c.next_of-3.result c.next_of-4.result (Some c.in_ok-least.field-0) c.next_of.ensures.unmarked c.next_of-2.ensures.unmarked c.next_of-3.ensures.unmarked c.next_of-4.ensures.unmarked
-    (sym c.in_ok-least.was ∙ is) n s le
-    (before_id c.new.result c.next_of.result c.next_of-2.result c.next_of-3.result c.next_of-4.result c.least.result c.in_ok-least.field-0 c.args.from n is c.in_ok-least.was c.next_of.ensures.found c.next_of-2.ensures.found c.next_of-3.ensures.found c.next_of-4.ensures.found c.new.ensures.some c.new.ensures.none before))
+returns-clause-unmarked c = all_kinds IsUnmarked c.args.self.now c.args.from _ _ _ _ _ c.next_of.ensures.unmarked c.next_of-2.ensures.unmarked c.next_of-3.ensures.unmarked c.next_of-4.ensures.unmarked c.least_stream.ensures

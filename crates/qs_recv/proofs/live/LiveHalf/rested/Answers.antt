@@ -7,14 +7,13 @@ pub invariant_of-result : goal.invariant_of-result
 invariant_of-result g c =
     let s = c.self.inside in
     let done = rw (← c.self.view_is) at (sym c.is_done.ensures ∙ c.if-not-is_done.false) in
-    rw (c.copied.ensures)
     (subst (λ l. IsAtRest l s.read_count s.received_end)
-    (sym (rested_is _ s.windows.0 s.read_count s.received_end _ done (rw c.received.ensures at (c.covers.ensures.0 c.if-not-covers.false)) c.self.invariant.0 c.self.invariant.1))
-    (done_at_rest _ s.windows.0 s.read_count s.received_end _ done c.self.invariant.0 c.self.invariant.1))
+    (sym (rested_is _ s.windows.widest s.read_count s.received_end _ done (rw c.received.ensures at (c.covers.ensures.0 c.if-not-covers.false)) c.self.invariant.0 c.self.invariant.1))
+    (done_at_rest _ s.windows.widest s.read_count s.received_end _ done c.self.invariant.0 c.self.invariant.1))
 
 pub returns : goal.returns
 returns g c =
     let s = c.self.inside in
     let done = rw (← c.self.view_is) at (sym c.is_done.ensures ∙ c.if-not-is_done.false) in
-    rw (← c.self.view_is, c.copied.ensures)
-    (rested_is _ s.windows.0 s.read_count s.received_end _ done (rw c.received.ensures at (c.covers.ensures.0 c.if-not-covers.false)) c.self.invariant.0 c.self.invariant.1)
+    rw (← c.self.view_is)
+    (rested_is _ s.windows.widest s.read_count s.received_end _ done (rw c.received.ensures at (c.covers.ensures.0 c.if-not-covers.false)) c.self.invariant.0 c.self.invariant.1)

@@ -11,10 +11,10 @@ at_rest-requires-clause-came g c = came_at_rest _ _ _ _ _ _ _ _ c.rest.invariant
 pub invariant_of-result : goal.invariant_of-result
 invariant_of-result g c =
     let off = rw (← c.rest.view_is) at c.discards-discarding.ensures in
-    rw (c.at_rest.ensures.nothing, c.widest-widest.ensures, c.copied.ensures, off)
+    rw (c.at_rest.ensures.nothing, off)
     (sound_at_rest _ _ _ _ _ _ _ _ c.rest.invariant, let_go_at_rest _ _ _ _ refl c.at_rest.ensures.small c.rest.invariant)
 
 pub returns : goal.returns
 returns g c =
     let off = rw (← c.rest.view_is) at c.discards-discarding.ensures in
-    rw (← c.rest.view_is, c.at_rest.ensures.nothing, c.widest-widest.ensures, c.copied.ensures, off) refl
+    rw (← c.rest.view_is, c.at_rest.ensures.nothing, off) refl

@@ -1,32 +1,25 @@
 use Rattle.std.proofs.Common.{◌≡◌, ◌≤◌, ◌+◌, ◌-◌, ◌*◌, ◌/◌, ◌&&◌, ℕ, nat_lt, refl, arith, true, false}
 use Rattle.std.proofs.lemmas.Bool.{both_ways}
 use Rattle.std.specs.FinSet as set
-use Rattle.qs_recv.specs.Ring.{byte_of}
+use Rattle.qs_recv.specs.Ring.{IsApart, byte_of}
 use Rattle.qs_recv.proofs.RingApart.{IsDrawn, apart_drawn, drawn_last, drawn_low, drawn_same, end_within, whole_less}
 use Rattle.qs_recv.proofs.RingLaws.{same_bytes, same_ring}
 use Rattle.qs_recv.proofs.WrittenLaws.{came_drawn}
+use Rattle.qs_recv.proofs.ring_assembly.RingAssembly.draw.Goals.{After-is_empty, After-move_into}
 use Rattle.qs_recv.proofs.ring_assembly.RingAssembly.draw.Goals as goal
 
+on : (c : After-is_empty) → c.self.inside.discarding ≡ false
+on c = rw (← c.self.view_is) at c.requires.on
+
+apart : (c : After-is_empty) → IsApart c.self.inside.ring.0 c.self.inside.apart.pages c.self.inside.received c.self.inside.read_count c.self.inside.near c.self.inside.end
+apart c = (rw (on c) at c.self.invariant.1).apart refl
+
 pub gap_past-next-requires-clause-small : goal.gap_past-next-requires-clause-small
-gap_past-next-requires-clause-small c =
-    let s = c.self.inside in
-    let old = s.apart.pages in
-    let f = byte_of s.ring.0 s.near old in
-    let on = rw (← c.self.view_is) at c.requires.on in
-    let kept = rw on at c.self.invariant.0 in
-    let sized = rw on at c.self.invariant.1 in
-    let a = sized.apart refl in
-    a.small
+gap_past-next-requires-clause-small c = (apart (goal.at.gap_past-next-requires-clause-small c).After-is_empty).small
 
 pub gap_past-next-requires-clause-at : goal.gap_past-next-requires-clause-at
 gap_past-next-requires-clause-at c =
-    let s = c.self.inside in
-    let old = s.apart.pages in
-    let f = byte_of s.ring.0 s.near old in
-    let on = rw (← c.self.view_is) at c.requires.on in
-    let kept = rw on at c.self.invariant.0 in
-    let sized = rw on at c.self.invariant.1 in
-    let a = sized.apart refl in
+    let a = apart (goal.at.gap_past-next-requires-clause-at c).After-is_empty in
     let small = a.small in
     let before = a.before in
     let ends = a.ends in
@@ -35,47 +28,29 @@ gap_past-next-requires-clause-at c =
 pub reach-requires-clause-fits : goal.reach-requires-clause-fits
 reach-requires-clause-fits c =
     let s = c.self.inside in
-    let old = s.apart.pages in
-    let f = byte_of s.ring.0 s.near old in
-    let on = rw (← c.self.view_is) at c.requires.on in
-    let kept = rw on at c.self.invariant.0 in
-    let sized = rw on at c.self.invariant.1 in
-    let a = sized.apart refl in
-    let within = end_within s.received f s.window s.read_count s.stored kept in
-    let ends = a.ends in
+    let h = (goal.at.reach-requires-clause-fits c).After-is_empty in
+    let within = end_within s.received (byte_of s.ring.0 s.near s.apart.pages) s.window s.read_count s.stored (rw (on h) at c.self.invariant.0) in
+    let ends = (apart h).ends in
     omega (arith, within, ends, c.gap_past-next.ensures.within)
 
 pub move_into-requires-clause-small : goal.move_into-requires-clause-small
 move_into-requires-clause-small c =
-    let s = c.self.inside in
-    let old = s.apart.pages in
-    let f = byte_of s.ring.0 s.near old in
-    let on = rw (← c.self.view_is) at c.requires.on in
-    let kept = rw on at c.self.invariant.0 in
-    let sized = rw on at c.self.invariant.1 in
-    let a = sized.apart refl in
-    let small = a.small in
+    let small = (apart (goal.at.move_into-requires-clause-small c).After-is_empty).small in
     omega (arith, small, c.gap_past-next.ensures.within)
 
-pub invariant_of-self-2 : goal.invariant_of-self-2
-invariant_of-self-2 c =
+-- Pages were moved into the ring
+
+abbrev Drawn : After-move_into → Type 0
+Drawn c =
     let s = c.self.inside in
-    let old = s.apart.pages in
-    let f = byte_of s.ring.0 s.near old in
-    let on = rw (← c.self.view_is) at c.requires.on in
-    let kept = rw on at c.self.invariant.0 in
-    let sized = rw on at c.self.invariant.1 in
-    let a = sized.apart refl in
-    let r = s.received in
-    let next = c.gap_past-next.result in
+    IsDrawn s.received s.read_count s.near s.end c.gap_past-next.result c.args.end s.ring.0 c.reach.new.ring.0 c.move_into.new.ring.0 s.apart.pages c.move_into.new.self.pages
+
+drawn : (c : After-move_into) → Drawn c
+drawn c =
     let gap = c.gap_past-next.ensures in
-    let wide = c.reach.new.ring.0 in
-    let new = c.move_into.new.ring.0 in
-    let less = c.move_into.new.self.pages in
     let reach = c.in_ok-reach.ensures.ok in
-    let d : IsDrawn r s.read_count s.near s.end next c.args.end s.ring.0 wide new old less =
     record {
-      apart = a;
+      apart = (rw (rw (← c.self.view_is) at c.requires.on) at c.self.invariant.1).apart refl;
       within = gap.within;
       past = λ h. (let p = gap.past h in omega (arith, p, c.max.ensures));
       whole = gap.whole;
@@ -86,90 +61,42 @@ invariant_of-self-2 c =
       same_len = c.move_into.ensures.same_len;
       left = c.move_into.ensures.left;
       moved = c.move_into.ensures.moved;
-    } in
-    let g = byte_of new next less in
-    let same : (q : ℕ) → s.read_count ≤ q → set.contains r q ≡ true → g q ≡ f q = λ q low came. drawn_same r s.read_count s.near s.end next c.args.end q s.ring.0 wide new old less d low came in
-    let later = drawn_low r s.read_count s.near s.end next c.args.end s.ring.0 wide new old less d in
+    }
+
+same : (c : After-move_into) (q : ℕ) → c.self.inside.read_count ≤ q → set.contains c.self.inside.received q ≡ true → byte_of c.move_into.new.ring.0 c.gap_past-next.result c.move_into.new.self.pages q ≡ byte_of c.self.inside.ring.0 c.self.inside.near c.self.inside.apart.pages q
+same c q low came = drawn_same _ _ _ _ _ _ q _ _ _ _ _ (drawn c) low came
+
+pub invariant_of-self-2 : goal.invariant_of-self-2
+invariant_of-self-2 c =
+    let s = c.self.inside in
+    let h = (goal.at.invariant_of-self-2 c).After-move_into in
+    let d = drawn h in
+    let old = s.apart.pages in
+    let next = c.gap_past-next.result in
+    let on = rw (← c.self.view_is) at c.requires.on in
+    let sized = rw on at c.self.invariant.1 in
+    let later = drawn_low _ _ _ _ _ _ _ _ _ _ _ d in
     let same_len = d.same_len in
-    let within = reach.within in
-    let bound = reach.bound in
+    let within = c.in_ok-reach.ensures.ok.within in
+    let bound = c.in_ok-reach.ensures.ok.bound in
     let was = sized.bound in
     rw on (
-      same_ring r f g s.window s.read_count s.stored kept same,
+      same_ring _ _ _ _ _ _ (rw on at c.self.invariant.0) (same h),
       record {
         within = omega (arith, same_len, within);
         bound = omega (arith, same_len, bound, was, later);
-        whole = whole_less old less (λ n. nat_lt (s.near / 16384) n && nat_lt (n * 16384) next) sized.whole d.left;
+        whole = whole_less old c.move_into.new.self.pages (λ n. nat_lt (s.near / 16384) n && nat_lt (n * 16384) next) sized.whole d.left;
         none = λ off. absurd (both_ways false refl off);
-        apart = λ _. apart_drawn r s.read_count s.near s.end next c.args.end s.ring.0 wide new old less d;
+        apart = λ _. apart_drawn _ _ _ _ _ _ _ _ _ _ _ d;
       },
-      came_drawn r s.read_count s.near next s.end (s.read_count + (s.near - s.read_count)) s.ring c.reach.new.ring c.move_into.new.ring old (rw on at c.self.invariant.2) a (omega arith) c.reach.ensures.there c.move_into.ensures.kept c.move_into.ensures.there,
+      came_drawn s.received s.read_count s.near next s.end (s.read_count + (s.near - s.read_count)) s.ring c.reach.new.ring c.move_into.new.ring old (rw on at c.self.invariant.2) d.apart (omega arith) c.reach.ensures.there c.move_into.ensures.kept c.move_into.ensures.there,
     )
 
 pub returns-clause-same : goal.returns-clause-same
 returns-clause-same c =
     let s = c.self.inside in
-    let old = s.apart.pages in
-    let f = byte_of s.ring.0 s.near old in
-    let on = rw (← c.self.view_is) at c.requires.on in
-    let kept = rw on at c.self.invariant.0 in
-    let sized = rw on at c.self.invariant.1 in
-    let a = sized.apart refl in
-    let r = s.received in
-    let next = c.gap_past-next.result in
-    let gap = c.gap_past-next.ensures in
-    let wide = c.reach.new.ring.0 in
-    let new = c.move_into.new.ring.0 in
-    let less = c.move_into.new.self.pages in
-    let reach = c.in_ok-reach.ensures.ok in
-    let d : IsDrawn r s.read_count s.near s.end next c.args.end s.ring.0 wide new old less =
-    record {
-      apart = a;
-      within = gap.within;
-      past = λ h. (let p = gap.past h in omega (arith, p, c.max.ensures));
-      whole = gap.whole;
-      none = gap.none;
-      room = reach.reaches;
-      more = reach.more;
-      kept = reach.moved;
-      same_len = c.move_into.ensures.same_len;
-      left = c.move_into.ensures.left;
-      moved = c.move_into.ensures.moved;
-    } in
-    let g = byte_of new next less in
-    let same : (q : ℕ) → s.read_count ≤ q → set.contains r q ≡ true → g q ≡ f q = λ q low came. drawn_same r s.read_count s.near s.end next c.args.end q s.ring.0 wide new old less d low came in
-    rw (← c.self.view_is, on, same_bytes r f g s.window s.read_count same) refl
+    let bytes = same_bytes s.received (byte_of s.ring.0 s.near s.apart.pages) (byte_of c.move_into.new.ring.0 c.gap_past-next.result c.move_into.new.self.pages) s.window s.read_count (same (goal.at.returns-clause-same c).After-move_into) in
+    rw (← c.self.view_is, rw (← c.self.view_is) at c.requires.on, bytes) refl
 
 pub returns-clause-near : goal.returns-clause-near
-returns-clause-near c =
-    let s = c.self.inside in
-    let old = s.apart.pages in
-    let f = byte_of s.ring.0 s.near old in
-    let on = rw (← c.self.view_is) at c.requires.on in
-    let kept = rw on at c.self.invariant.0 in
-    let sized = rw on at c.self.invariant.1 in
-    let a = sized.apart refl in
-    let r = s.received in
-    let next = c.gap_past-next.result in
-    let gap = c.gap_past-next.ensures in
-    let wide = c.reach.new.ring.0 in
-    let new = c.move_into.new.ring.0 in
-    let less = c.move_into.new.self.pages in
-    let reach = c.in_ok-reach.ensures.ok in
-    let d : IsDrawn r s.read_count s.near s.end next c.args.end s.ring.0 wide new old less =
-    record {
-      apart = a;
-      within = gap.within;
-      past = λ h. (let p = gap.past h in omega (arith, p, c.max.ensures));
-      whole = gap.whole;
-      none = gap.none;
-      room = reach.reaches;
-      more = reach.more;
-      kept = reach.moved;
-      same_len = c.move_into.ensures.same_len;
-      left = c.move_into.ensures.left;
-      moved = c.move_into.ensures.moved;
-    } in
-    let g = byte_of new next less in
-    let same : (q : ℕ) → s.read_count ≤ q → set.contains r q ≡ true → g q ≡ f q = λ q low came. drawn_same r s.read_count s.near s.end next c.args.end q s.ring.0 wide new old less d low came in
-    λ q past came. drawn_last r s.read_count s.near s.end next c.args.end q s.ring.0 wide new old less d past came
+returns-clause-near c = λ q past came. drawn_last _ _ _ _ _ _ q _ _ _ _ _ (drawn (goal.at.returns-clause-near c).After-move_into) past came

@@ -1,10 +1,13 @@
-use Rattle.std.proofs.Common.{ℕ, ◌∙◌, ◌+◌, ◌-◌, ◌≤◌, ◌≡◌, ◌++◌, sym, ap, arith, length, take, drop, refl, true}
-use Rattle.std.specs.FinSet as set
+use Rattle.std.proofs.Common.{◌∙◌, ◌+◌, ◌-◌, ◌≤◌, ◌≡◌, ◌++◌, sym, ap, arith, length, take, drop, refl, true}
 use Rattle.std.proofs.lemmas.List.{length-take}
-use Rattle.qs_recv.specs.Ring.{byte_of}
-use Rattle.qs_recv.proofs.RingApart.{byte_near, next_near, ring_moved, sized_taken}
-use Rattle.qs_recv.proofs.RingLaws.{came_next, empty_front, front_next, next_stored, nothing_taken, rest_next, ring_read, same_bytes, same_ring}
-use Rattle.qs_recv.proofs.WrittenLaws.{came_moved, came_still}
+use Rattle.qs_ranges.specs.Numbers.{ContainsRange}
+use Rattle.qs_recv.specs.Assembled.{front}
+use Rattle.qs_recv.specs.Ring.{byte_of, ring_bytes}
+use Rattle.qs_recv.proofs.ReadLaws.{take_done}
+use Rattle.qs_recv.proofs.RingApart.{byte_near, next_near}
+use Rattle.qs_recv.proofs.RingLaws.{came_next, empty_front, front_next, nothing_taken}
+use Rattle.qs_recv.proofs.WrittenLaws.{came_still}
+use Rattle.qs_recv.proofs.ring_assembly.RingAssemblyAssembly.take.Goals.{After-copy_out}
 use Rattle.qs_recv.proofs.ring_assembly.RingAssemblyAssembly.take.Goals as goal
 
 pub returns-then-self-clause-count : goal.returns-then-self-clause-count
@@ -19,111 +22,44 @@ pub returns-then-self-clause-rest : goal.returns-then-self-clause-rest
 returns-then-self-clause-rest c =
     rw (← c.self.view_is, c.if-self.true) (nothing_taken c.self.inside.received c.self.inside.read_count c.self.inside.window ((length c.args.into.now)) true)
 
-pub overflow_sub-self : goal.overflow_sub-self
-overflow_sub-self c =
-    let s = c.self.inside in
-    let pages = s.apart.pages in
-    let f = byte_of s.ring.0 s.near pages in
-    let n = c.min-count.result in
-    let kept = rw c.if-self.false at c.self.invariant.0 in
-    let sized = rw c.if-self.false at c.self.invariant.1 in
-    let came = came_next s.received s.read_count c.first_missing-next.result (length c.args.into.now) n c.first_missing-next.ensures.missing c.min-count.ensures in
-    let low = next_near s.ring.0 pages s.received s.read_count s.near s.end n (sized.apart refl) came in
-    next_stored s.received f s.window s.read_count n s.stored kept came
+-- What is next was copied out
 
-pub overflow_sub-span : goal.overflow_sub-span
-overflow_sub-span c =
-    let s = c.self.inside in
-    let pages = s.apart.pages in
-    let f = byte_of s.ring.0 s.near pages in
-    let n = c.min-count.result in
-    let kept = rw c.if-self.false at c.self.invariant.0 in
-    let sized = rw c.if-self.false at c.self.invariant.1 in
-    let came = came_next s.received s.read_count c.first_missing-next.result (length c.args.into.now) n c.first_missing-next.ensures.missing c.min-count.ensures in
-    let low = next_near s.ring.0 pages s.received s.read_count s.near s.end n (sized.apart refl) came in
-    omega (arith, low)
+came : (c : After-copy_out) → ContainsRange c.self.inside.received c.self.inside.read_count (c.self.inside.read_count + c.min-count.result)
+came c = came_next _ _ c.first_missing-next.result (length c.args.into.now) _ c.first_missing-next.ensures.missing c.min-count.ensures
 
-pub shed-requires-clause-reaches : goal.shed-requires-clause-reaches
-shed-requires-clause-reaches c =
+fronts : (c : After-copy_out) → (let s = c.self.inside in let m = ring_bytes s.received (byte_of s.ring.0 s.near s.apart.pages) s.read_count s.window in
+    (front m s.read_count c.min-count.result ≡ c.copy_out.new.into) × (front m s.read_count (length c.args.into.now) ≡ c.copy_out.new.into) × (length c.copy_out.new.into ≡ c.min-count.result))
+fronts c =
     let s = c.self.inside in
-    let pages = s.apart.pages in
-    let f = byte_of s.ring.0 s.near pages in
     let n = c.min-count.result in
-    let kept = rw c.if-self.false at c.self.invariant.0 in
-    let sized = rw c.if-self.false at c.self.invariant.1 in
-    let came = came_next s.received s.read_count c.first_missing-next.result (length c.args.into.now) n c.first_missing-next.ensures.missing c.min-count.ensures in
-    let low = next_near s.ring.0 pages s.received s.read_count s.near s.end n (sized.apart refl) came in
-    let fits = (sized.apart refl).reaches in
-    rw c.copy_out.ensures.same (omega (arith, low, fits))
+    let low = next_near _ _ _ _ _ _ _ ((rw c.if-self.false at c.self.invariant.1).apart refl) (came c) in
+    front_next _ _ c.args.into.now c.copy_out.new.into _ _ c.first_missing-next.result n _ (rw c.if-self.false at c.self.invariant.0) c.first_missing-next.ensures.missing c.min-count.ensures c.copy_out.auto.into
+    (λ k below. c.copy_out.ensures.out k below ∙ sym (byte_near s.ring.0 s.near s.apart.pages (s.read_count + k) (let len : length (take n c.args.into.now) ≤ n = simp length-take (omega arith) in omega (arith, below, low, len))))
 
 pub invariant_of-self : goal.invariant_of-self
 invariant_of-self c =
     let s = c.self.inside in
-    let pages = s.apart.pages in
-    let f = byte_of s.ring.0 s.near pages in
-    let n = c.min-count.result in
-    let kept = rw c.if-self.false at c.self.invariant.0 in
-    let sized = rw c.if-self.false at c.self.invariant.1 in
-    let came = came_next s.received s.read_count c.first_missing-next.result (length c.args.into.now) n c.first_missing-next.ensures.missing c.min-count.ensures in
-    let low = next_near s.ring.0 pages s.received s.read_count s.near s.end n (sized.apart refl) came in
-    let within = c.first_missing-next.ensures.within in
-    let small = kept.small_count in
-    let after = ring_read s.received f s.window s.read_count n s.stored kept came (omega (arith, within, small, c.min-count.ensures)) in
-    let new = c.shed.new.ring.0 in
-    let moved = rw c.copy_out.ensures.same at c.shed.ensures.moved in
-    let same : (q : ℕ) → s.read_count + n ≤ q → set.contains s.received q ≡ true → byte_of new s.near pages q ≡ f q = λ q at there. ring_moved s.ring.0 new pages (s.read_count + n) s.near (s.near - (s.read_count + n)) q refl moved at in
-    rw c.if-self.false (
-      same_ring s.received f (byte_of new s.near pages) s.window (s.read_count + n) (s.stored - n) after same,
-      sized_taken s.ring.0 new pages s.received s.read_count (s.read_count + n) s.near s.end s.window sized low c.shed.ensures.reaches (rw c.copy_out.ensures.same at c.shed.ensures.fewer) c.shed.ensures.bound,
-      came_moved s.received s.read_count (s.read_count + n) s.near (s.read_count + n + (s.near - (s.read_count + n))) c.copy_out.new.self c.shed.new.ring (came_still s.received s.read_count s.near s.ring c.copy_out.new.self (rw c.if-self.false at c.self.invariant.2) c.copy_out.ensures.kept)
-          (omega arith) (omega arith) c.shed.ensures.there,
+    let on = c.if-self.false in
+    rw on (
+      rw c.copy_out.ensures.same (rw on at c.self.invariant.0),
+      rw c.copy_out.ensures.same (rw on at c.self.invariant.1),
+      came_still s.received s.read_count s.near s.ring c.copy_out.new.self (rw on at c.self.invariant.2) c.copy_out.ensures.kept,
     )
+
+pub pass-requires : goal.pass-requires
+pass-requires c = record { on = c.if-self.false; came = came (goal.at.pass-requires c).After-copy_out }
 
 pub returns-clause-count : goal.returns-clause-count
 returns-clause-count c =
-    let s = c.self.inside in
-    let pages = s.apart.pages in
-    let f = byte_of s.ring.0 s.near pages in
-    let n = c.min-count.result in
-    let kept = rw c.if-self.false at c.self.invariant.0 in
-    let sized = rw c.if-self.false at c.self.invariant.1 in
-    let came = came_next s.received s.read_count c.first_missing-next.result (length c.args.into.now) n c.first_missing-next.ensures.missing c.min-count.ensures in
-    let low = next_near s.ring.0 pages s.received s.read_count s.near s.end n (sized.apart refl) came in
-    let fronts = front_next s.received f c.args.into.now c.copy_out.new.into s.window s.read_count c.first_missing-next.result n s.stored kept c.first_missing-next.ensures.missing c.min-count.ensures c.copy_out.auto.into
-    (λ k below. c.copy_out.ensures.out k below ∙ sym (byte_near s.ring.0 s.near pages (s.read_count + k) (let len : length (take n c.args.into.now) ≤ n = simp length-take (omega arith) in omega (arith, below, low, len)))) in
+    let fronts = fronts (goal.at.returns-clause-count c).After-copy_out in
     rw (← c.self.view_is, c.if-self.false) (sym (ap length fronts.1 ∙ fronts.2))
 
 pub returns-clause-bytes : goal.returns-clause-bytes
 returns-clause-bytes c =
-    let s = c.self.inside in
-    let pages = s.apart.pages in
-    let f = byte_of s.ring.0 s.near pages in
-    let n = c.min-count.result in
-    let kept = rw c.if-self.false at c.self.invariant.0 in
-    let sized = rw c.if-self.false at c.self.invariant.1 in
-    let came = came_next s.received s.read_count c.first_missing-next.result (length c.args.into.now) n c.first_missing-next.ensures.missing c.min-count.ensures in
-    let low = next_near s.ring.0 pages s.received s.read_count s.near s.end n (sized.apart refl) came in
-    let fronts = front_next s.received f c.args.into.now c.copy_out.new.into s.window s.read_count c.first_missing-next.result n s.stored kept c.first_missing-next.ensures.missing c.min-count.ensures c.copy_out.auto.into
-    (λ k below. c.copy_out.ensures.out k below ∙ sym (byte_near s.ring.0 s.near pages (s.read_count + k) (let len : length (take n c.args.into.now) ≤ n = simp length-take (omega arith) in omega (arith, below, low, len)))) in
-    rw (← c.self.view_is, c.if-self.false) (sym (ap (λ xs. xs ++ drop n c.args.into.now) fronts.1))
+    let fronts = fronts (goal.at.returns-clause-bytes c).After-copy_out in
+    rw (← c.self.view_is, c.if-self.false) (sym (ap (λ xs. xs ++ drop c.min-count.result c.args.into.now) fronts.1))
 
 pub returns-clause-rest : goal.returns-clause-rest
 returns-clause-rest c =
-    let s = c.self.inside in
-    let pages = s.apart.pages in
-    let f = byte_of s.ring.0 s.near pages in
-    let n = c.min-count.result in
-    let kept = rw c.if-self.false at c.self.invariant.0 in
-    let sized = rw c.if-self.false at c.self.invariant.1 in
-    let came = came_next s.received s.read_count c.first_missing-next.result (length c.args.into.now) n c.first_missing-next.ensures.missing c.min-count.ensures in
-    let low = next_near s.ring.0 pages s.received s.read_count s.near s.end n (sized.apart refl) came in
-    let within = c.first_missing-next.ensures.within in
-    let small = kept.small_count in
-    let after = ring_read s.received f s.window s.read_count n s.stored kept came (omega (arith, within, small, c.min-count.ensures)) in
-    let new = c.shed.new.ring.0 in
-    let moved = rw c.copy_out.ensures.same at c.shed.ensures.moved in
-    let same : (q : ℕ) → s.read_count + n ≤ q → set.contains s.received q ≡ true → byte_of new s.near pages q ≡ f q = λ q at there. ring_moved s.ring.0 new pages (s.read_count + n) s.near (s.near - (s.read_count + n)) q refl moved at in
-    let fronts = front_next s.received f c.args.into.now c.copy_out.new.into s.window s.read_count c.first_missing-next.result n s.stored kept c.first_missing-next.ensures.missing c.min-count.ensures c.copy_out.auto.into
-    (λ k below. c.copy_out.ensures.out k below ∙ sym (byte_near s.ring.0 s.near pages (s.read_count + k) (let len : length (take n c.args.into.now) ≤ n = simp length-take (omega arith) in omega (arith, below, low, len)))) in
-    rw (← c.self.view_is, c.if-self.false, same_bytes s.received f (byte_of new s.near pages) s.window (s.read_count + n) same)
-    (rest_next s.received f c.copy_out.new.into s.window s.window s.read_count ((length c.args.into.now)) n s.stored kept fronts)
+    let fronts = fronts (goal.at.returns-clause-rest c).After-copy_out in
+    rw (← c.self.view_is, c.if-self.false) ((rw (c.copy_out.ensures.same, c.if-self.false) at c.pass.ensures) ∙ take_done _ c.min-count.result (length c.args.into.now) (ap length fronts.0 ∙ fronts.2) (fronts.1 ∙ sym fronts.0))

@@ -1,13 +1,7 @@
 use Rattle.std.proofs.Common.{◌≡◌, ap, arith}
 use Rattle.qs_send.specs.AckPass.{Passing}
-use Rattle.qs_send.proofs.LostPassing.{count_given, greatest_is_seen, not_below_itself, look_turns}
+use Rattle.qs_send.proofs.LostPassing.{count_given, look_turns}
 use Rattle.qs_send.proofs.ack_pass.AckPass.lost_in_range.Goals as goal
-
-pub returns-then-number-self-clause-seen : goal.returns-then-number-self-clause-seen
-returns-then-number-self-clause-seen c = rw c.look.ensures.same.1 (greatest_is_seen _ _ _ c.in_ok-number.ensures.found)
-
-pub returns-clause-seen : goal.returns-clause-seen
-returns-clause-seen c = not_below_itself _ _
 
 pub returns-clause-turns : goal.returns-clause-turns
 returns-clause-turns c =

@@ -1,38 +1,6 @@
 use Rattle.std.proofs.Common.{◌≡◌, ◌∷◌, length, ap, arith}
-use Rattle.qs_send.proofs.Passing.{passed_range, turns_read, given_number, passed_falls}
+use Rattle.qs_send.proofs.Passing.{passed_range, turns_read}
 use Rattle.qs_send.proofs.ack_pass.AckPass.next.Goals as goal
-
-pub returns-in-Some : goal.returns-in-Some
-returns-in-Some c =
-    let start = c.args.self.now in
-    let q = c.loop-number.self in
-    let cut = c.in_range.new.self in
-    let m = c.args.records.now in
-    let k = c.in-Some.number in
-    let was = c.in-Some.ensures in
-    let so_far = c.loop-number.invariant in
-    let lower = so_far.below in
-    let at = was.found in
-    let is = at.0 in
-    let lt = at.1 in
-    let turns_now = was.turns in
-    let turns_before = so_far.turns in
-    let len : length cut.unread ≡ length q.unread = ap length was.same.1 in
-    let one = was.one in
-    let rise = was.counted in
-    let until = so_far.counted in
-    let each = so_far.each in
-    let reads = so_far.reads in
-    record {
-      answer = λ falls. given_number m.pieces start q cut k (so_far.passed falls) was.same.0 was.same.1 at was.above;
-      falls = passed_falls m.pieces start q cut was.same.0 was.same.1 so_far.passed;
-      below = (is, omega (arith, lt, lower));
-      turns = omega (arith, turns_now, turns_before, len);
-      counted = omega (arith, rise, until);
-      each = omega (arith, one, each, len, reads);
-      reads = omega (arith, reads, len);
-      ended = λ none. absurd cc;
-    }
 
 pub loop-number-preserved : goal.loop-number-preserved
 loop-number-preserved c =

@@ -2,19 +2,8 @@ use Rattle.std.proofs.Common.{◌≡◌, ◌∙◌, refl, ◌-◌, ◌∷◌, le
 use Rattle.qs_wire.specs.Acks.{FallBelow}
 use Rattle.qs_send.specs.AckPass.{Passing}
 use Rattle.qs_send.proofs.Passing.{passed_range}
-use Rattle.qs_send.proofs.LostPassing.{passed_itself, not_below_itself, seen_lower, lost_turns_look, lost_turns_read, lost_turns_end, each_step, each_read, none_ahead}
+use Rattle.qs_send.proofs.LostPassing.{seen_lower, lost_turns_look, lost_turns_read, lost_turns_end, each_step, each_read, none_ahead}
 use Rattle.qs_send.proofs.ack_pass.AckPass.next_lost.Goals as goal
-
-pub loop-number-init : goal.loop-number-init
-loop-number-init c = rw (← c.self.view_is) (record {
-  passed = λ falls. passed_itself _ _ falls;
-  below = omega arith;
-  turns = omega arith;
-  counted = omega arith;
-  seen = not_below_itself _ _;
-  looks = omega arith;
-  each = grind arith;
-})
 
 pub returns-then-not-read_range : goal.returns-then-not-read_range
 returns-then-not-read_range c =

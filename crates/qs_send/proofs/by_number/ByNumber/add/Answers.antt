@@ -2,7 +2,7 @@ use Rattle.std.proofs.Common.{◌∙◌, sym, ap}
 use Rattle.std.specs.FinMap as fmap
 use Rattle.qs_send.specs.ByNumber.{IsAt, map_of}
 use Rattle.qs_send.specs.LostRecords.{with_piece}
-use Rattle.qs_send.proofs.LostLists.{IsItem, item_at, get_at, map-set, one_more, rising-set, room_at, room_new}
+use Rattle.qs_send.proofs.LostLists.{IsItem, item_at, get_at, map-set, one_more, rising-set, room_at}
 use Rattle.qs_send.proofs.by_number.ByNumber.add.Goals as goal
 
 pub push-requires : goal.push-requires
@@ -21,9 +21,6 @@ invariant_of-self c =
       rising-set c.args.number 0 rs c.in-Ok.place c.push.new.self c.self.invariant.0 place (c.push.ensures.number ∙ item.number) (one_more c.index_mut.result.now.pieces c.push.new.self.pieces c.args.piece c.push.ensures.pieces),
       c.self.invariant.1,
     )
-
-pub insert-requires-clause-room : goal.insert-requires-clause-room
-insert-requires-clause-room c = room_new c.args.self.now c.args.number c.in-Err.ensures.none c.requires
 
 pub returns-in-Ok : goal.returns-in-Ok
 returns-in-Ok c =

@@ -1,7 +1,7 @@
 use Rattle.std.proofs.Common.{◌∙◌, sym, ap}
 use Rattle.qs_send.specs.Records.{first_piece}
 use Rattle.qs_send.specs.ByNumber.{IsAt}
-use Rattle.qs_send.proofs.LostLists.{item_at, get_at, get_none}
+use Rattle.qs_send.proofs.LostLists.{item_at, get_at}
 use Rattle.qs_send.proofs.by_number.ByNumber.first.Goals as goal
 
 pub returns-in-Ok : goal.returns-in-Ok
@@ -10,6 +10,3 @@ returns-in-Ok c =
     let at : IsAt c.args.number rs c.in-Ok.place = rw (← c.self.view_is) at c.in-Ok.ensures.found in
     let item = item_at c.args.number 0 rs c.in-Ok.place c.index.result.now c.self.invariant.0 at c.index.ensures in
     rw (← c.self.view_is) (c.first.ensures ∙ sym (ap first_piece (get_at c.args.number rs c.index.result.now item)))
-
-pub returns-in-Err : goal.returns-in-Err
-returns-in-Err c = sym (ap first_piece (get_none _ _ c.in-Err.ensures.none))

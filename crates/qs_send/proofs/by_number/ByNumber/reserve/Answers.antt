@@ -1,7 +1,7 @@
-use Rattle.std.proofs.Common.{◌≡◌, ◌∙◌, ◌<◌, None, sym, ap, subst, length}
+use Rattle.std.proofs.Common.{◌∙◌, ◌<◌, sym, ap, subst, length}
 use Rattle.std.specs.FinMap as fmap
-use Rattle.qs_send.specs.ByNumber.{IsAt, lookup, map_of}
-use Rattle.qs_send.proofs.LostLists.{item_at, get_at, map-set, insert_same, rising-set, reserved_at, reserved_new, room_set, room_gone}
+use Rattle.qs_send.specs.ByNumber.{IsAt, map_of}
+use Rattle.qs_send.proofs.LostLists.{item_at, get_at, map-set, insert_same, rising-set, reserved_at, room_set, room_gone}
 use Rattle.qs_send.proofs.by_number.ByNumber.reserve.Goals as goal
 
 pub invariant_of-self : goal.invariant_of-self
@@ -29,11 +29,6 @@ returns-in-Ok-clause-ok c =
     let place : IsAt c.args.number rs c.in-Ok.place = rw (← c.self.view_is) at c.in-Ok.ensures.found in
     let item = item_at c.args.number 0 rs c.in-Ok.place c.index_mut.result.now c.self.invariant.0 place c.index_mut.ensures.value in
     reserved_at c.reserve.result c.args.number _ rs c.in-Ok.place c.reserve.new.self place (c.reserve.ensures.number ∙ item.number) c.reserve.ensures.ok
-
-pub returns-in-Err-clause-ok : goal.returns-in-Err-clause-ok
-returns-in-Err-clause-ok c =
-    let none : lookup c.args.number c.reserve_record.new.self.records ≡ None = ap (lookup c.args.number) c.reserve_record.ensures.same ∙ c.in-Err.ensures.none in
-    reserved_new c.reserve_record.result c.reserve_record.new.self c.args.number none c.reserve_record.ensures.ok
 
 pub returns-in-Ok-clause-more : goal.returns-in-Ok-clause-more
 returns-in-Ok-clause-more c =

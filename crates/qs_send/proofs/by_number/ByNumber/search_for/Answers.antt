@@ -3,7 +3,7 @@ use Rattle.std.specs.Ordering.{nat_cmp}
 use Rattle.std.specs.List.Sorted.{IsBinarySearchResult}
 use Rattle.std.proofs.lemmas.List.Sorted.{answers_always}
 use Rattle.qs_send.specs.ByNumber.{Numbered, AreRising, IsAt, IsGapAt}
-use Rattle.qs_send.proofs.LostLists.{found_by, gap_by, held_by, none_by, in_range_ok, in_range_err}
+use Rattle.qs_send.proofs.LostLists.{found_by, gap_by, held_by, none_by}
 use Rattle.qs_send.proofs.by_number.ByNumber.search_for.Goals as goal
 
 searched : (c : goal.After-binary_search_by_key) → IsBinarySearchResult (λ x. nat_cmp x.number c.args.number) c.deref.result.now c.binary_search_by_key.result
@@ -28,9 +28,3 @@ returns-clause-is c =
 
 pub returns-clause-none : goal.returns-clause-none
 returns-clause-none c = rw (← c.self.view_is, ← c.deref.ensures.value) (none_by _ _ _ (rw c.deref.ensures.value c.self.invariant.0) (gap c))
-
-pub returns-clause-held : goal.returns-clause-held
-returns-clause-held c = rw (← c.self.view_is, ← c.deref.ensures.value) (in_range_ok _ _ c.binary_search_by_key.ensures.bound)
-
-pub returns-clause-free : goal.returns-clause-free
-returns-clause-free c = rw (← c.self.view_is, ← c.deref.ensures.value) (in_range_err _ _ c.binary_search_by_key.ensures.bound)

@@ -19,14 +19,6 @@ invariant_of-self-2 c =
     rw c.in_default-write.ensures.ok
     (lawful_write _ _ open_lane unfinished (omega (arith, taken, len, most, small)) (omega (arith, taken, len, most, room, buffered, widest)) h, c.in_default-write.ensures.room (omega (arith, taken, len, most, room, buffered, widest)) c.self.invariant.1, freed_open _ _ _ _ h open_lane unfinished)
 
-pub returns-clause-accepted : goal.returns-clause-accepted
-returns-clause-accepted c =
-    let room = rw (← c.self.view_is) at c.room.ensures in (
-      sym c.refusal.ensures ∙ c.in_default.is,
-      rw (← c.self.view_is, c.min-len.ensures, c.min-most.ensures, c.written.ensures.exact, room) refl,
-      rw (← c.self.view_is, c.in_default-write.ensures.ok, ← c.split_at.ensures.front, c.split_at.ensures.front_len) refl,
-    )
-
 pub returns-then-len-eq0-clause-accepted : goal.returns-then-len-eq0-clause-accepted
 returns-then-len-eq0-clause-accepted c =
     let room = rw (← c.self.view_is) at c.room.ensures in (

@@ -1,6 +1,6 @@
 use Rattle.std.proofs.Common.{refl, arith}
 use Rattle.qs_send.specs.Lane.{after_allow}
-use Rattle.qs_send.proofs.SlotEdits.{none_of, in_slots, place_there, changed_full, changed_over, placed_changed, allowed_over, allowed_slot}
+use Rattle.qs_send.proofs.SlotEdits.{none_of, in_slots, place_there, changed_full, changed_over, allowed_over}
 use Rattle.qs_send.proofs.halves.SendHalves.allow.Goals as goal
 
 pub index_mut-slot-requires : goal.index_mut-slot-requires
@@ -16,11 +16,6 @@ pub returns-then-not-is_over : goal.returns-then-not-is_over
 returns-then-not-is_over c =
     let t = in_slots _ _ _ _ c.args.index c.self.view_is c.requires.there in
     rw (← c.self.view_is) (changed_full c.self.inside.stream_type c.self.inside.full.items c.self.inside.slots.items c.args.index c.index_mut-slot.result.now c.self.invariant.1 t c.index_mut-slot.ensures.value c.index_mut.result.now c.allow.new.self (λ h. after_allow h c.args.limit) (none_of _ c.if-not-is_over.ensures) c.index_mut.ensures.value c.allow.ensures)
-
-pub invariant_of-self-2 : goal.invariant_of-self-2
-invariant_of-self-2 c =
-    let t = in_slots _ _ _ _ c.args.index c.self.view_is c.requires.there in
-    (c.self.invariant.0, placed_changed c.self.inside.stream_type c.self.inside.full.items c.self.inside.slots.items c.args.index c.index_mut-slot.result.now c.self.invariant.1 t c.index_mut-slot.ensures.value _ refl c.if-not-is_over.ensures (allowed_slot c.index_mut-slot.result.now _ c.max.result c.args.limit c.max.ensures c.requires.limit refl))
 
 pub returns : goal.returns
 returns c =

@@ -1,6 +1,6 @@
 use Rattle.std.proofs.Common.{refl, arith}
 use Rattle.qs_send.specs.Lane.{after_buffer}
-use Rattle.qs_send.proofs.SlotEdits.{none_of, in_slots, place_there, changed_full, changed_over, placed_changed, buffered_slot}
+use Rattle.qs_send.proofs.SlotEdits.{none_of, in_slots, place_there, changed_full, changed_over}
 use Rattle.qs_send.proofs.halves.SendHalves.set_buffer.Goals as goal
 
 pub index_mut-slot-requires : goal.index_mut-slot-requires
@@ -16,11 +16,6 @@ pub returns-then-not-is_over : goal.returns-then-not-is_over
 returns-then-not-is_over c =
     let t = in_slots _ _ _ _ c.args.index c.self.view_is c.requires in
     rw (← c.self.view_is) (changed_full c.self.inside.stream_type c.self.inside.full.items c.self.inside.slots.items c.args.index c.index_mut-slot.result.now c.self.invariant.1 t c.index_mut-slot.ensures.value c.index_mut.result.now c.set_buffer.new.self (λ h. after_buffer h c.args.size) (none_of _ c.if-not-is_over.ensures) c.index_mut.ensures.value c.set_buffer.ensures)
-
-pub invariant_of-self-2 : goal.invariant_of-self-2
-invariant_of-self-2 c =
-    let t = in_slots _ _ _ _ c.args.index c.self.view_is c.requires in
-    (c.self.invariant.0, placed_changed c.self.inside.stream_type c.self.inside.full.items c.self.inside.slots.items c.args.index c.index_mut-slot.result.now c.self.invariant.1 t c.index_mut-slot.ensures.value _ refl c.if-not-is_over.ensures (buffered_slot c.index_mut-slot.result.now _ c.args.size c.max-slot.result c.max-slot.ensures refl))
 
 pub returns : goal.returns
 returns c =

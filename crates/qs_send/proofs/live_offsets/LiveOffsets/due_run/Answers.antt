@@ -1,9 +1,5 @@
-use Rattle.std.proofs.Common.{arith}
 use Rattle.qs_send.proofs.Runs.{none_due_all, none_due_past, run_alone, run_until}
 use Rattle.qs_send.proofs.live_offsets.LiveOffsets.due_run.Goals as goal
-
-pub loop-start-init : goal.loop-start-init
-loop-start-init c = λ k below. absurd (omega (arith, below))
 
 pub returns-in-None-clause-found : goal.returns-in-None-clause-found
 returns-in-None-clause-found c =

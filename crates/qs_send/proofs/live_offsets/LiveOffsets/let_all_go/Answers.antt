@@ -1,4 +1,4 @@
-use Rattle.std.proofs.Common.{◌≡◌, [], length, refl, ap, ◌∙◌, arith}
+use Rattle.std.proofs.Common.{◌≡◌, [], refl, ◌∙◌, arith}
 use Rattle.std.proofs.lemmas.List.{drop_all}
 use Rattle.qs_send.proofs.AtRest.{offsets_without}
 use Rattle.qs_send.proofs.Sets.{due-none}
@@ -12,6 +12,3 @@ invariant_of-self c = rw (none_left c, c.drop_below.ensures) (offsets_without _ 
 
 pub returns-clause-parts : goal.returns-clause-parts
 returns-clause-parts c = rw (← c.self.view_is, none_left c, c.drop_below.ensures, due-none c.self.inside.noted c.self.inside.acked c.self.inside.written c.self.invariant.noted_written) refl
-
-pub returns-clause-room : goal.returns-clause-room
-returns-clause-room c = c.let_go.ensures.over refl (ap length (none_left c))

@@ -1,7 +1,8 @@
 use Rattle.std.proofs.Common.{◌+◌, ◌-◌, refl}
+use Rattle.qs_ranges.proofs.Members.{on_err}
 use Rattle.qs_ranges.specs.Numbers.{MissesRange}
 use Rattle.qs_send.proofs.AtRest.{offsets_lost}
-use Rattle.qs_send.proofs.Sets.{due-lost, due_misses, on_err}
+use Rattle.qs_send.proofs.Sets.{due-lost, due_misses}
 use Rattle.qs_send.proofs.live_offsets.LiveOffsets.lost.Goals as goal
 
 pub invariant_of-self-2 : goal.invariant_of-self-2

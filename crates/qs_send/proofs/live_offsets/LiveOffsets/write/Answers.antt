@@ -1,5 +1,6 @@
 use Rattle.std.proofs.Common.{refl}
-use Rattle.qs_send.proofs.AtRest.{offsets_written, all_below}
+use Rattle.qs_ranges.proofs.Algebra.{AllBelow-more}
+use Rattle.qs_send.proofs.AtRest.{offsets_written}
 use Rattle.qs_send.proofs.Sets.{due-write}
 use Rattle.qs_send.proofs.live_offsets.LiveOffsets.write.Goals as goal
 
@@ -11,5 +12,5 @@ invariant_of-self-2 c =
 
 pub returns-clause-ok : goal.returns-clause-ok
 returns-clause-ok c =
-    let below = all_below _ _ _ c.self.invariant.acked_sent c.self.invariant.sent_written in
+    let below = AllBelow-more _ _ _ c.self.invariant.acked_sent c.self.invariant.sent_written in
     rw (← c.self.view_is, c.in_ok-append.ensures.ok, c.in_default.ensures.ok, due-write c.self.inside.noted c.self.inside.acked c.self.inside.written _ below) refl

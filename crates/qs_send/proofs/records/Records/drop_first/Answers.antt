@@ -1,4 +1,4 @@
-use Rattle.std.proofs.Common.{◌≡◌, ◌∙◌, ℕ, ◌+◌, ◌<◌, cond, nat_eq, List, [], ◌∷◌, Option, length, drop, slice_set, slice_index_or, false, refl, sym, ap, subst, arith}
+use Rattle.std.proofs.Common.{◌≡◌, ◌∙◌, ℕ, ◌+◌, ◌<◌, cond, nat_eq, List, [], Option, length, drop, slice_set, slice_index_or, false, refl, sym, ap, subst, arith}
 use Rattle.std.proofs.lemmas.List.{get_or_read, length-set}
 use Rattle.std.specs.FinMap as fmap
 use Rattle.qs_send.specs.declared.piece.Piece.{Piece}
@@ -9,8 +9,7 @@ use Rattle.qs_send.proofs.records.Records.drop_first.Goals as goal
 
 rest_kept : (s : List Piece) → kept (drop 1 s) ≡ rest_of (kept s)
 rest_kept [] = refl
-rest_kept (p ∷ []) = refl
-rest_kept (p ∷ q ∷ ps) = refl
+rest_kept _ = refl
 
 shorter : (base k n : ℕ) (ss : List (List Piece)) → base + k ≡ n → k < length ss
     → packets_of base (slice_set ss k (drop 1 (slot_at ss k))) ≡ without_first (packets_of base ss) n (fmap.get (packets_of base ss) n)

@@ -1,0 +1,77 @@
+-- Of private contracts.
+-- Which items of the connection itself are outstanding.
+use Rattle.std.specs.Prelude.{◌≡◌, ◌+◌, ◌≤◌, ◌<◌, ◌==◌, ℕ, Bool, false, if◌then◌else◌, List, [], ◌∷◌, Option, None, Some, length, slice_index_or, slice_set, nat_lt}
+use Rattle.qs_send.specs.Records.{IsCarried}
+use Rattle.qs_send.specs.PieceCodes.{dir_number}
+use Rattle.qs_send.specs.declared.piece.Item.{Item}
+use Rattle.qs_send.specs.declared.piece.Item.TheVariants.{MaxData, MaxStreamData, MaxStreams, ResetStream, StopSending, DataBlocked, StreamDataBlocked, StreamsBlocked}
+use Rattle.qs_send.specs.declared.piece.Piece.{Piece}
+use Rattle.qs_send.specs.declared.piece.Piece.TheVariants.{Data, Told}
+use Rattle.qs_machine.specs.Ends.{Records}
+use Rattle.qs_conn.specs.declared.limits.Limits.{Limits}
+
+-- for each kind of item of the connection itself a value that may be kept
+abbrev pub Kept : Type 0
+Kept = List (Option ℕ)
+
+-- the place of an item's kind; an item of a stream has none below 6
+abbrev pub own_place : Item → ℕ
+own_place (MaxData m) = 0
+own_place (MaxStreamData n m) = 6
+own_place (MaxStreams d m) = 1 + dir_number d
+own_place (ResetStream n code size) = 6
+own_place (StopSending n code) = 6
+own_place (DataBlocked m) = 3
+own_place (StreamDataBlocked n m) = 6
+own_place (StreamsBlocked d m) = 4 + dir_number d
+
+-- its value
+abbrev pub own_value : Item → ℕ
+own_value (MaxData m) = m
+own_value (MaxStreamData n m) = 0
+own_value (MaxStreams d m) = m
+own_value (ResetStream n code size) = 0
+own_value (StopSending n code) = 0
+own_value (DataBlocked m) = m
+own_value (StreamDataBlocked n m) = 0
+own_value (StreamsBlocked d m) = m
+
+-- the present value of a kind (RFC 9000, sections 4.1 and 4.6)
+abbrev pub present_at : Limits → ℕ → ℕ
+present_at t k = slice_index_or (t.granted ∷ t.granted_streams.bidi ∷ t.granted_streams.uni ∷ t.known_data ∷ t.known_streams.bidi ∷ t.known_streams.uni ∷ []) k 0
+
+-- the value that is kept of a kind
+abbrev pub kept_at : Kept → ℕ → Option ℕ
+kept_at xs k = slice_index_or xs k None
+
+abbrev pub is_value : Option ℕ → ℕ → Bool
+is_value None v = false
+is_value (Some k) v = k == v
+
+-- whether an item's value is kept
+abbrev pub has_own : Item → Kept → Bool
+has_own i xs = if nat_lt (own_place i) 6 then is_value (kept_at xs (own_place i)) (own_value i) else false
+
+-- what is kept once an item went into a packet
+abbrev pub own_with : Item → Kept → Kept
+own_with i xs = if nat_lt (own_place i) 6 then slice_set xs (own_place i) (Some (own_value i)) else xs
+
+-- and once it left that
+abbrev pub own_without : Item → Kept → Kept
+own_without i xs = if has_own i xs then slice_set xs (own_place i) None else xs
+
+abbrev pub own_left : Piece → Kept → Kept
+own_left (Data n c) xs = xs
+own_left (Told i) xs = own_without i xs
+
+-- Of an item of the connection itself: one that is kept is outstanding, one that is outstanding tells the present value or a smaller one,
+-- and if it tells the present one it is kept.
+pub record IsOwn (t : Limits) (m : Records) (xs : Kept) (i : Item) : Type 0 where
+  pub told : kept_at xs (own_place i) ≡ Some (own_value i) → IsCarried m (Told i)
+  pub below : IsCarried m (Told i) → own_value i ≤ present_at t (own_place i)
+  pub found : IsCarried m (Told i) → own_value i ≡ present_at t (own_place i) → kept_at xs (own_place i) ≡ Some (own_value i)
+
+-- what is kept tells whether the present items of the connection itself are outstanding
+pub record AreOwn (t : Limits) (m : Records) (xs : Kept) : Type 0 where
+  pub places : length xs ≡ 6
+  pub each : (i : Item) → own_place i < 6 → IsOwn t m xs i

@@ -1,0 +1,70 @@
+//! Of which halves of streams an outstanding packet told the present items.
+ghost use Rattle.std.specs.Prelude.{◌≡◌, OnOk, OnErr};
+ghost use Rattle.qs_machine.specs.Tables.{no_streams};
+ghost use Rattle.qs_conn.specs.Carried.{HasPlaces, places_to, item_carried, is_carried_at};
+
+use crate::slot::Kind;
+use crate::untold::Untold;
+use qs_ranges::NoMemory;
+use qs_send::Item;
+use qs_wire::StreamId;
+use std::alloc::Global;
+
+/// A mark for each half of which an outstanding packet told the present item of a kind: its stop or its limit, its reset, or that it
+/// stands at its limit. So a packet that is filled needs no search among all that is outstanding.
+#[derive(Drop)]
+pub(crate) struct Carried {
+    pub stops: Untold,
+    pub limits: Untold,
+    pub resets: Untold,
+    pub blocks: Untold,
+}
+
+impl Carried {
+    pub(crate) fn new(alloc: Global) -> Self
+        ensures { result ≡ record { stops = no_streams; limits = no_streams; resets = no_streams; blocks = no_streams } }
+    {
+        Carried {
+            stops: Untold::new(alloc),
+            limits: Untold::new(alloc),
+            resets: Untold::new(alloc),
+            blocks: Untold::new(alloc),
+        }
+    }
+
+    /// Makes room for a stream and all lower ones of its type: the new ones aren't marked. A refusal may leave some room.
+    pub(crate) fn open_to(&mut self, stream: StreamId) -> Result<(), NoMemory>
+        ensures ok { OnOk result (self.new ≡ places_to stream self.old) }
+        ensures err { OnErr result (HasPlaces self.old self.new) }
+    {
+        self.stops.open_to(stream)?;
+        self.limits.open_to(stream)?;
+        self.resets.open_to(stream)?;
+        self.blocks.open_to(stream)
+    }
+
+    /// Whether an outstanding packet told the present item of a kind.
+    pub(crate) fn has(&self, kind: Kind, stream: StreamId) -> bool
+        ensures { result ≡ is_carried_at kind self.now stream }
+    {
+        match kind {
+            Kind::ResetStream => self.resets.has(stream),
+            Kind::StopSending => self.stops.has(stream),
+            Kind::MaxStreamData => self.limits.has(stream),
+            Kind::StreamDataBlocked => self.blocks.has(stream),
+        }
+    }
+
+    /// The present item of a half is outstanding now, or is so no more. Items of the connection itself aren't noted here.
+    pub(crate) fn set(&mut self, item: &Item, is_carried: bool)
+        ensures { self.new ≡ item_carried item.now is_carried self.old }
+    {
+        match *item {
+            Item::ResetStream { stream, .. } => self.resets.set(stream, is_carried),
+            Item::StopSending { stream, .. } => self.stops.set(stream, is_carried),
+            Item::MaxStreamData { stream, .. } => self.limits.set(stream, is_carried),
+            Item::StreamDataBlocked { stream, .. } => self.blocks.set(stream, is_carried),
+            _ => {}
+        }
+    }
+}
