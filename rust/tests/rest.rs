@@ -3,10 +3,11 @@
 mod support;
 
 use gotsavena::{
-    Dir, Endpoint, LostFault, OpenFault, Read, Received, RecvState, SendState, Settings, StreamId,
-    UseFault,
+    Dir, Endpoint, LostFault, OpenFault, PeerLimits, Read, Received, RecvState, Role, SendState,
+    Settings, StreamId, Tuning, UseFault,
 };
 use std::collections::BTreeMap;
+use support::pairs::rest;
 use support::{Random, two_ends};
 
 const SEEDS: u64 = 300;
@@ -372,4 +373,61 @@ fn plain_rounds_lead_every_run_to_rest() {
     assert!(resets > 50, "{resets} streams were reset");
     assert!(stops > 50, "{stops} streams were stopped");
     assert!(refused > 200, "{refused} streams were refused");
+}
+
+// The two premises of what holds at rest that README.md names. Without either of them a run rests with work undone, so neither
+// can be left out of the sentence.
+
+/// A client of which this is chosen and that was told these limits, and a server.
+fn told(settings: Settings, tuning: Tuning, limits: PeerLimits) -> [Endpoint; 2] {
+    let client = Endpoint::new_wide(Role::Client, settings, tuning, limits);
+    let server = Endpoint::new(Role::Server, settings, settings.limits());
+    [client, server].map(|end| end.expect("in range"))
+}
+
+#[test]
+fn at_rest_bytes_wait_where_an_end_was_told_less_than_its_peer_grants() {
+    let settings = Settings::default();
+    let less = PeerLimits {
+        max_data: 0,
+        bidi_remote: 0,
+        ..settings.limits()
+    };
+    let [mut client, mut server] = told(settings, Tuning::default(), less);
+    let stream = client.open(Dir::Bidi).expect("granted");
+    assert_eq!(client.write(stream, b"hello"), Ok(5));
+    rest(&mut client, &mut server);
+    assert!(is_idle(&client) && is_idle(&server));
+    // Not all that was written was read, and of the window nothing is left to its sender.
+    assert_eq!(server.read(stream, &mut [0; 8]), Ok(Read::Wait));
+    assert_eq!(client.credit_left(), 0);
+    assert!(server.granted() > 0);
+}
+
+#[test]
+fn at_rest_a_stopped_stream_waits_for_an_owner_that_chose_to_answer() {
+    let settings = Settings::default();
+    let tuning = Tuning::default().answers_stops(true);
+    let [mut client, mut server] = told(settings, tuning, settings.limits());
+    let stream = client.open(Dir::Bidi).expect("granted");
+    assert_eq!(client.write(stream, b"hello"), Ok(5));
+    rest(&mut client, &mut server);
+    server.stop(stream, 7).expect("open");
+    rest(&mut client, &mut server);
+    assert!(is_idle(&client) && is_idle(&server));
+    let state = |end: &Endpoint| {
+        let report = end.report(stream).expect("open");
+        (
+            report.send.expect("open").state,
+            report.recv.expect("open").state,
+        )
+    };
+    assert_eq!(state(&client).0, SendState::Send);
+    assert_eq!(state(&server).1, RecvState::Recv);
+    // Its answer leads both halves to their last state.
+    client.reset(stream, 7).expect("open");
+    rest(&mut client, &mut server);
+    assert_eq!(server.read(stream, &mut [0; 8]), Ok(Read::Reset(7)));
+    assert_eq!(state(&client).0, SendState::ResetRecvd);
+    assert_eq!(state(&server).1, RecvState::ResetRead);
 }
