@@ -219,7 +219,14 @@ def main(arguments):
     print(f"{tally.tests:6} tests of what contracts ask of numbers")
     for fault in tally.faults:
         print(fault)
-    print(f"{tally.files} files, {tally.same} tokens of Rust, {sum(tally.counts.values())} differences of {len(tally.counts)} kinds")
+    for name, count in (
+        ("files", tally.files),
+        ("tokens", tally.same),
+        ("differences", sum(tally.counts.values())),
+        ("kinds", len(tally.counts)),
+        ("tests", tally.tests),
+    ):
+        print(f"figure audit_{name} {count}")
     print(f"{tally.files} passed, {len(tally.faults)} failed")
     return 1 if tally.faults or tally.files == 0 else 0
 

@@ -200,6 +200,7 @@ fn any_call_answers() {
         "{made} ends, {invalid} invalid"
     );
     println!("{} calls of {made} ends, {invalid} invalid", made * CALLS);
+    println!("figure tried_calls {}", made * CALLS);
 }
 
 #[test]

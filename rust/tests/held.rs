@@ -256,3 +256,25 @@ fn what_streams_hold() {
     a_ring_follows_its_span();
     a_ring_shrinks_as_it_is_read();
 }
+
+// The figures that README.md and docs/LIMITS.md quote.
+#[test]
+fn an_end_without_streams_takes_its_own_value() {
+    println!("figure idle_bytes {}", size_of::<Endpoint>());
+    let left = [1200, 16_383].map(ping);
+    assert_eq!(left[0], left[1]);
+    println!("figure ping_bytes {}", left[0]);
+}
+
+/// What a PING leaves of the heap, with the packet that answers it in this room.
+fn ping(room: usize) -> usize {
+    const PING: u8 = 0x01;
+    let mut payload = vec![0; room];
+    let before = live();
+    let mut end = Two::new(Settings::default()).server;
+    assert_eq!(live(), before);
+    end.receive(0, &[PING]).expect("a frame");
+    let made = end.make_packet(&mut payload).expect("memory");
+    assert!(made.is_some());
+    live() - before
+}

@@ -108,6 +108,7 @@ fn each_allocation_may_be_refused() {
     }
     assert!(all > 300 && told > 200, "{all} allocations, {told} told");
     println!("{all} allocations were refused in turn; {told} times a call told so");
+    println!("figure refused_allocations {all}");
 }
 
 /// The calls of an end that take memory, as scripts name them; the last is what the peer's `receive` takes.

@@ -202,6 +202,7 @@ fn hostile_payloads_do_no_harm() {
     );
     assert!(most <= BOUND, "{most} bytes");
     println!("{closings} closings, {done} went on, at most {most} bytes of memory");
+    println!("figure hostile_payload_bytes {most}");
 }
 
 fn use_it(end: &mut Endpoint, random: &mut Random) {

@@ -50,4 +50,5 @@ fn random_scripts_print_the_same() {
     }
     std::fs::remove_dir_all(&folder).expect("the folder");
     println!("{SCRIPTS} scripts, {events} events");
+    println!("figure transcript_events {events}");
 }
