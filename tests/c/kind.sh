@@ -73,8 +73,8 @@ plain() {
   try "$name over the archive" "$C" "${strict[@]}" "$@" "$archive" -o "$room/$name-a"
   try "$name over the shared library" "$C" "${strict[@]}" "$@" "-L$libs" -lgotsavena "-Wl,-rpath,$libs" -o "$room/$name-so"
 }
-sed -n '/^```c$/,/^```$/p' "$root/README.md" | sed '/^```/d' >"$room/readme.c"
-plain readme "$room/readme.c"
+sed -n '/^```c$/,/^```$/p' "$root/docs/C.md" | sed '/^```/d' >"$room/hello.c"
+plain hello "$room/hello.c"
 plain pipe "$root/c/examples/pipe.c"
 plain arguments "$tests/arguments.c"
 plain handed "$tests/handed.c"
@@ -85,8 +85,8 @@ plain refused "$tests/refused.c"
 plain allocators "$tests/allocators.c" -pthread -Wl,--wrap=malloc -Wl,--wrap=realloc
 says_hello() { [ "$("$1")" = hello ]; }
 for form in a so; do
-  try "what the README prints ($form)" says_hello "$room/readme-$form"
-  for name in readme pipe stack arguments handed written lent refused allocators; do
+  try "what the program of docs/C.md prints ($form)" says_hello "$room/hello-$form"
+  for name in hello pipe stack arguments handed written lent refused allocators; do
     if has valgrind "$name under valgrind"; then
       try "$name under valgrind ($form)" timeout 600 valgrind -q --error-exitcode=1 --leak-check=full "$room/$name-$form"
     fi

@@ -1,4 +1,4 @@
-/* Plays a script (docs/SCRIPTS.md) through the calls of C, and prints what `qstream play` prints. Beside it, what the calls that ask
+/* Plays a script (docs/QSTREAM.md) through the calls of C, and prints what `qstream play` prints. Beside it, what the calls that ask
  * an end say before a call is held against what the call answers. */
 #include <inttypes.h>
 #include <stdarg.h>

@@ -1,4 +1,4 @@
-//! What the tests share: random numbers, and scripts (docs/SCRIPTS.md) that are played over two ends.
+//! What the tests share: random numbers, and scripts (docs/QSTREAM.md) that are played over two ends.
 #![allow(dead_code)]
 
 pub mod doubled;
