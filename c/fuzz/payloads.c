@@ -2,7 +2,8 @@
  * to: no more is stored than was granted, nor than the window; and an end that closed stays so. The frames of each payload are read
  * one by one, too, and each is written, and read again as the same. Frames are handed in without their packets, and filled in.
  *
- * By libFuzzer: clang -g -O1 -fsanitize=fuzzer,address,undefined -DLIBFUZZER .. The plain program replays the files that it is given. */
+ * By libFuzzer: clang -g -O1 -fsanitize=fuzzer,address,undefined -DLIBFUZZER .. The plain program replays the
+ * inputs of the files that it is given, one on a line, in hex: a corpus for libFuzzer has each line in a file of its own (xxd -r -p). */
 #include <stdio.h>
 #include <stdlib.h>
 #include <string.h>
@@ -268,16 +269,23 @@ static int run(const uint8_t *bytes, size_t len) {
 int LLVMFuzzerTestOneInput(const uint8_t *bytes, size_t len);
 int LLVMFuzzerTestOneInput(const uint8_t *bytes, size_t len) { return run(bytes, len); }
 #else
+static unsigned digit(char c) { return (unsigned)(c <= '9' ? c - '0' : c - 'a' + 10); }
+
 int main(int count, char **names) {
-  static uint8_t bytes[1 << 16];
+  static char line[1 << 17];
+  static uint8_t bytes[sizeof line / 2];
+  int inputs = 0;
   for (int i = 1; i < count; i++) {
-    FILE *file = fopen(names[i], "rb");
+    FILE *file = fopen(names[i], "r");
     if (file == NULL) return 1;
-    size_t len = fread(bytes, 1, sizeof bytes, file);
+    for (; fgets(line, sizeof line, file) != NULL; inputs++) {
+      size_t len = strcspn(line, "\n") / 2;
+      for (size_t at = 0; at < len; at++) bytes[at] = (uint8_t)(digit(line[2 * at]) << 4 | digit(line[2 * at + 1]));
+      (void)run(bytes, len);
+    }
     (void)fclose(file);
-    (void)run(bytes, len);
   }
-  printf("%d inputs\n", count - 1);
+  printf("%d inputs\n", inputs);
   return 0;
 }
 #endif

@@ -64,7 +64,7 @@ if "$root/c/has-cargo" >/dev/null 2>&1; then
 else
   echo 'skipped: the defaults of the Rust crate (no cargo)'
 fi
-try 'payloads' timeout 300 "$room/payloads" "$root"/c/fuzz/inputs/*
+try 'payloads' timeout 300 "$room/payloads" "$root/c/fuzz/inputs.txt"
 
 # Over the libraries as they are: the archive, and the shared one.
 plain() {

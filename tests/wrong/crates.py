@@ -114,9 +114,9 @@ class Crate:
         count = file.read_text().count(old) if path.startswith("src/") and file.is_file() and old else 0
         return f"an 'old:' text stands in '{path}' {count} times, and not once" if count != 1 else "it changes nothing" * (old == new)
 
-    def edit(self, file):
+    def edit(self, name, text):
         changes, path, old = [], "", ""
-        for line in file.read_text().splitlines():
+        for line in text.splitlines():
             if line.startswith("file: "):
                 path = line[6:].strip()
             elif line.startswith("old: "):
@@ -125,7 +125,10 @@ class Crate:
                 changes.append((path, old, line[4:].removeprefix(" ")))
         bad = [why for why in (self.why_not(*it) for it in changes) if why] or ["it has no 'old:' and 'new:' pair"] * (not changes)
         functions = [] if bad else [name for path, old, _ in changes for name in self.functions.changed_by(path, old)]
-        return Edit(file.stem, changes, frozenset(functions), "".join(bad[:1]))
+        return Edit(name, changes, frozenset(functions), "".join(bad[:1]))
 
     def edits(self):
-        return [self.edit(it) for it in sorted((self.folder / "wrong").glob("*.edit"))]
+        """Those of its file wrong.edits, each below a line `## NAME`."""
+        file = self.folder / "wrong.edits"
+        parts = re.split(r"^## (\w+)\n", file.read_text() if file.is_file() else "", flags=re.M)[1:]
+        return [self.edit(name, text) for name, text in zip(parts[::2], parts[1::2])]

@@ -4,7 +4,7 @@ import pathlib
 import shutil
 import tempfile
 
-# How the verdict on each edit of sample/wrong begins.
+# How the verdict on each edit of sample/wrong.edits begins.
 WANTED = {
     "one_too_many": "refused: ",
     "the_lesser": "refused: ",
@@ -23,8 +23,8 @@ def failures(tool):
     with tempfile.TemporaryDirectory(prefix="wrong-own-") as room:
         root = pathlib.Path(room)
         crate = root / "crates/sample"
-        shutil.copytree(sample / "wrong", crate / "wrong")
-        (crate / "src").mkdir()
+        (crate / "src").mkdir(parents=True)
+        shutil.copy(sample / "wrong.edits", crate / "wrong.edits")
         shutil.copy(sample / "lib.rattle", crate / "src/lib.rt")
         for it in (sample / "proofs").rglob("*.antt-sample"):
             to = crate / it.relative_to(sample).with_suffix(".antt")
