@@ -64,6 +64,8 @@ impl Assembly for ChunkAssembly {
 
     ghost size = { λ a. map.len a.stored };
 
+    ghost least = { λ a. map.len a.stored };
+
     fn new(alloc: Global, window: u64) -> Self {
         ChunkAssembly {
             chunks: ChunkList::new(alloc),

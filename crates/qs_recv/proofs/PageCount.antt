@@ -2,7 +2,7 @@
 --     used_bytes, used_all      how many of the n offsets from `a` on lie in pages that are
 --     room_fits      what is stored has room
 --     none_used, pages_fit      how many pages there may be
---     held_fits, held_idle, held_small, room_held      and bytes of memory
+--     held_fits, held_idle, held_small, room_held, least_held      and bytes of memory
 use Rattle.std.specs.Prelude.{◌≡◌, ℕ, ◌+◌, ◌-◌, ◌*◌, ◌/◌, ◌<◌, ◌≤◌, ◌^◌, ◌==◌, nat_lt, zero, suc, max, min, Bool, true, false, cond, if◌then◌else◌, nat_eq, List, [], ◌∷◌, length, Option, Some, None, is_some, refl}
 use Rattle.std.proofs.Common.{◌∙◌, ap, arith, inl, inr}
 use Rattle.std.specs.Ordering.{is_lt, nat_cmp}
@@ -239,3 +239,18 @@ unused (e ∷ es) n is = absurd (omega (arith, is))
 
 pub none_apart : (ring : List ℕ) (pages : Pages) (r : NumberSet) (from near end last : ℕ) → IsApart ring pages r from near end → btree_map_len pages ≡ 0 → (q : ℕ) → near ≤ q → set.contains r q ≡ true → last ≤ near
 none_apart ring pages r from near end last a none q past came = absurd (both_ways _ (unused pages.entries (q / 16384) none) (a.had q past came))
+
+-- what lies between what was read and the end of what came has room, up to a page
+pub least_held : (f : ℕ → ℕ) (ring : List ℕ) (pages : Pages) (r : NumberSet) (from near end window : ℕ) (off : Bool) → IsSized ring pages r from near end window off → 0 < map.len (stored_in_ring r f window from off)
+    → min 16384 (end_of r - from) ≤ length ring + btree_map_len pages * 16384
+least_held f ring pages r from near end window true s some = let none = map.len-empty nat_cmp ℕ in absurd (omega (arith, none, some))
+least_held f ring pages r from near end window false s some =
+    let a = s.apart refl in
+    let reaches = a.reaches in
+    elim (cases_lt 0 (btree_map_len pages)) [
+      | inl used ↦ omega (arith, used)
+      | inr none ↦ elim (cases_lt near (end_of r)) [
+        | inl more ↦ (let past = none_apart ring pages r from near end (end_of r) a (omega (arith, none)) (end_of r - 1) (omega (arith, more)) (end_of-member r (omega (arith, more))) in absurd (omega (arith, past, more)))
+        | inr over ↦ omega (arith, reaches, over)
+      ]
+    ]

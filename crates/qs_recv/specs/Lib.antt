@@ -12,4 +12,5 @@ pub mod Parts
 pub mod Peek
 pub mod Rest
 pub mod Ring
+pub mod Room
 pub mod Sound

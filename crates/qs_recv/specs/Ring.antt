@@ -27,12 +27,13 @@ padded size bytes = bytes ++ replicate (size - length bytes) 0
 abbrev pub places_of : ℕ → ℕ → List ℕ → List ℕ
 places_of turn size bytes = drop turn (padded size bytes) ++ take turn (padded size bytes)
 
--- there is room for as many bytes as there are places
+-- there is room for as many bytes as there are places, and where there are none no memory is taken
 pub record IsKept (turn size count room : ℕ) : Type 0 where
   pub small : size ≤ MAX_WINDOW
   pub turned : turn ≤ size
   pub within : count ≤ size
   pub fits : size ≤ room
+  pub none : size ≡ 0 → room ≡ 0
 
 -- so many bytes from a place on, where the first follows the last
 abbrev pub around : ℕ → ℕ → List ℕ → List ℕ

@@ -17,6 +17,9 @@ pub trait Assembly: Drop {
     /// How many bytes of memory are taken to store some, as the assembly counts them.
     ghost size: { Self → ℕ };
 
+    /// The least that this can be, while some are stored.
+    ghost least: { Assembled → ℕ };
+
     /// An assembly of which at most `window` bytes past those that were read are stored. It takes no memory.
     fn new(alloc: Global, window: u64) -> Self
         requires some { 1 ≤ window }
@@ -89,6 +92,7 @@ pub trait Assembly: Drop {
     fn held(&self) -> u64
         ensures value { result ≡ size self.now }
         ensures room { map.len (holds self.now).stored ≤ result }
+        ensures least { 0 < map.len (holds self.now).stored → least (holds self.now) ≤ result }
         ensures bound { result ≤ max 4096 (4 * (end_of (holds self.now).received - (holds self.now).read_count)) }
         ensures idle { map.len (holds self.now).stored ≡ 0 → result ≤ 4096 };
 

@@ -1,5 +1,5 @@
 //! The receiving half of a stream (RFC 9000, sections 2.2, 3.2, 3.5 and 4).
-ghost use Rattle.std.specs.Prelude.{max, ◌≡◌, ◌+◌, ◌-◌, ◌*◌, ◌≤◌, ◌++◌, length, drop, IsOk, IfOk, OnOk, OnErr, IfErr, IsTrue, is_some, false, None};
+ghost use Rattle.std.specs.Prelude.{max, ◌≡◌, ◌+◌, ◌-◌, ◌*◌, ◌<◌, ◌≤◌, ◌++◌, length, drop, IsOk, IfOk, OnOk, OnErr, IfErr, IsTrue, is_some, false, None};
 ghost use Rattle.std.specs.FinMap as map;
 ghost use Rattle.qs_ranges.specs.Numbers.{MAX_VARINT, MissesRange, covers};
 ghost use Rattle.qs_recv.specs.Lawful.{IsLawful};
@@ -8,6 +8,7 @@ ghost use Rattle.qs_recv.specs.News.{is_readable};
 ghost use Rattle.qs_recv.specs.Lane.{new_lane, highest, highest_after, noted, taken, state, check_stream, check_bytes, take_stream, check_reset, take_reset, is_over, read_answer, bytes_read, after_read, stop, stop_and_forget, raise, raise_answer, set_window, MAX_WINDOW};
 ghost use Rattle.qs_recv.specs.Changes.{stream_changes};
 ghost use Rattle.qs_recv.specs.Peek.{IsPeek};
+ghost use Rattle.qs_recv.specs.Room.{IsRoomOf};
 
 use crate::assembly::{Assembly, Peeking, Skipping};
 use crate::credit::Share;
@@ -515,7 +516,9 @@ impl<A: Assembly> RecvHalf<A> {
     /// How many bytes of memory are taken to store some, as the assembly counts them: at most 4,096, or while some are stored
     /// four times the highest offset less what was taken; none once the end was told, or where bytes are thrown away.
     pub fn held(&self) -> u64
+        ensures exact { 0 < map.len self.now.arrived.stored → IsRoomOf A.holds A.size self.now.arrived result }
         ensures room { map.len self.now.arrived.stored ≤ result }
+        ensures least { 0 < map.len self.now.arrived.stored → A.least self.now.arrived ≤ result }
         ensures bound { result ≤ max 4096 (4 * (highest self.now - taken self.now)) }
         ensures idle { map.len self.now.arrived.stored ≡ 0 → result ≤ 4096 }
         ensures over { IsTrue self.now.told → result ≡ 0 }

@@ -1,5 +1,5 @@
 //! A receiving half that may store bytes.
-ghost use Rattle.std.specs.Prelude.{true, None, if◌then◌else◌, ◌==◌, max, ◌≡◌, ◌+◌, ◌-◌, ◌*◌, ◌≤◌, ◌++◌, ◌||◌, length, drop, IsOk, IfOk, IfSome, IfNone, OnOk, OnErr, IfErr, IsTrue, is_some, false};
+ghost use Rattle.std.specs.Prelude.{true, None, if◌then◌else◌, ◌==◌, max, ◌≡◌, ◌+◌, ◌-◌, ◌*◌, ◌<◌, ◌≤◌, ◌++◌, ◌||◌, length, drop, IsOk, IfOk, IfSome, IfNone, OnOk, OnErr, IfErr, IsTrue, is_some, false};
 ghost use Rattle.std.specs.FinMap as map;
 ghost use Rattle.qs_ranges.specs.Numbers.{MAX_VARINT, MissesRange, covers};
 ghost use Rattle.qs_recv.specs.Lawful.{IsLawful};
@@ -8,6 +8,7 @@ ghost use Rattle.qs_recv.specs.News.{is_readable};
 ghost use Rattle.qs_recv.specs.Lane.{highest, highest_after, noted, taken, state, check_stream, check_bytes, take_stream, check_reset, take_reset, is_whole, is_over, at_final_size, breaks_final_size, read_answer, bytes_read, after_read, stop, stop_and_forget, raise, raise_answer, set_window, MAX_WINDOW};
 ghost use Rattle.qs_recv.specs.Changes.{stream_changes};
 ghost use Rattle.qs_recv.specs.Peek.{IsPeek};
+ghost use Rattle.qs_recv.specs.Room.{IsRoomOf};
 
 use crate::assembly::{Assembly, Peeking, Skipping};
 use crate::credit::{limit_with, next_limit};
@@ -477,7 +478,9 @@ impl<A: Assembly> LiveHalf<A> {
     }
 
     pub(crate) fn held(&self) -> u64
+        ensures exact { 0 < map.len self.now.arrived.stored → IsRoomOf A.holds A.size self.now.arrived result }
         ensures room { map.len self.now.arrived.stored ≤ result }
+        ensures least { 0 < map.len self.now.arrived.stored → A.least self.now.arrived ≤ result }
         ensures bound { result ≤ max 4096 (4 * (highest self.now - taken self.now)) }
         ensures idle { map.len self.now.arrived.stored ≡ 0 → result ≤ 4096 }
         ensures over { IsTrue self.now.told → result ≡ 0 }

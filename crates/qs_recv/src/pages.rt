@@ -8,7 +8,7 @@ ghost use Rattle.qs_recv.specs.Ring.{IsThere, StayWritten};
 ghost use Rattle.qs_recv.specs.Pages.{AreWhole, has_page, is_used, moved_byte, page_byte};
 
 use crate::ring::{Ring, is_at, write_at};
-use qs_ranges::NoMemory;
+use qs_ranges::{NoMemory, reserve};
 use std::alloc::Global;
 use std::collections::BTreeMap;
 
@@ -180,7 +180,8 @@ impl Pages {
 fn zeros(alloc: Global) -> Result<Vec<u8>, NoMemory>
     ensures { IfOk result (λ page. (length page.items ≡ 16384) × ((k : ℕ) → slice_index page.items k ≡ 0)) }
 {
-    let mut page = Vec::with_capacity(alloc, PAGE as usize)?;
-    page.resize(PAGE as usize, 0)?;
+    let mut page = Vec::new(alloc);
+    let size = reserve(&mut page, PAGE as usize)?;
+    page.resize(size, 0)?;
     Ok(page)
 }

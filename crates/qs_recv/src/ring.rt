@@ -4,7 +4,7 @@ ghost use Rattle.qs_ranges.specs.Numbers.{is_within};
 ghost use Rattle.qs_recv.specs.Ring.{AreAt, AreWritten, IsMoved, IsWritten, StayWritten, StayWrittenTo, around};
 ghost use Rattle.qs_recv.specs.Lane.{MAX_WINDOW};
 
-use qs_ranges::NoMemory;
+use qs_ranges::{NoMemory, reserve};
 use std::alloc::Global;
 use std::marker::Model;
 
@@ -147,14 +147,23 @@ impl Ring {
         ensures err { OnErr result (self.new ≡ self.old) }
     {
         let turn = size - place_of(from, size);
-        let mut bytes = Vec::with_capacity(alloc, size)?;
+        let mut bytes = Vec::new(alloc);
+        let room = reserve(&mut bytes, size)?;
         if count == 0 {
-            return Ok(Ring { bytes, size, turn });
+            return Ok(Ring {
+                bytes,
+                size: room,
+                turn,
+            });
         }
         let place = place_of(from + self.turn as u64, self.size);
         fill(&mut self.bytes, self.size, place, count);
         copy_to(&mut bytes, &self.bytes, self.size, place, count);
-        Ok(Ring { bytes, size, turn })
+        Ok(Ring {
+            bytes,
+            size: room,
+            turn,
+        })
     }
 
     /// Brings the ring to a larger size, with the bytes of so many offsets from `from` on: in memory that grows, where they keep
@@ -186,8 +195,7 @@ impl Ring {
             *self = self.resized(alloc, from, count, size)?;
             return Ok(());
         }
-        self.bytes.reserve_exact(size - self.bytes.len())?;
-        self.size = size;
+        self.size = reserve(&mut self.bytes, size)?;
         self.turn = turn_to(place, from, size);
         Ok(())
     }

@@ -6,6 +6,7 @@ ghost use Rattle.qs_ranges.specs.Numbers.{ContainsRange, EndsBefore, MAX_VARINT,
 ghost use Rattle.qs_recv.specs.Assembled.{put};
 ghost use Rattle.qs_recv.specs.Bytes.{take_exactly};
 ghost use Rattle.qs_recv.specs.Pages.{AreWhole, IsFilledApart, has_page, is_used, page_byte};
+ghost use Rattle.qs_recv.specs.Room.{least_room};
 ghost use Rattle.qs_recv.specs.Ring.{AreFilled, AreKept, IsFilled, IsMoved, IsNextGap, IsNextRun, IsReach, IsSizeFor, StayWritten, StayWrittenTo, byte_of, missing_count};
 ghost use Rattle.qs_recv.specs.Lane.{MAX_WINDOW};
 
@@ -78,6 +79,8 @@ impl Assembly for RingAssembly {
     ghost holds = { λ a. a.0 };
 
     ghost size = { λ a. a.1.0 };
+
+    ghost least = { least_room };
 
     fn new(alloc: Global, window: u64) -> Self {
         RingAssembly {

@@ -19,11 +19,13 @@ around start count ring = take count (drop start ring ++ ring)
 abbrev pub place_in : ℕ → ℕ → ℕ
 place_in size at = if nat_lt at size then at else at - size
 
--- of a ring with so many places: the first byte stands at one of them, the bytes have room, and where nothing is kept it is small
-pub record IsRing (start count size : ℕ) : Type 0 where
+-- of a ring with so many places: the first byte stands at one of them, the bytes have room, where nothing is kept it is small, and
+-- one without a place takes no memory
+pub record IsRing (start count size memory : ℕ) : Type 0 where
   pub begins : start ≤ size
   pub within : count ≤ size
   pub idle : count ≡ 0 → size ≤ 4096
+  pub none : size ≡ 0 → memory ≡ 0
 
 -- a buffer out of which nothing is sent any more takes no memory: after a reset, and once all that was written and the end were
 -- acknowledged

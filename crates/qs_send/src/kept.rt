@@ -1,9 +1,9 @@
 //! Bytes that come in at the back and are let go at the front.
-ghost use Rattle.std.specs.Prelude.{◌≡◌, ℕ, ◌+◌, ◌-◌, ◌*◌, ◌≤◌, ◌<◌, true, [], ◌++◌, if◌then◌else◌, length, take, drop, max, vec_len, slice_index, IfOk, OnOk, OnErr};
+ghost use Rattle.std.specs.Prelude.{◌≡◌, ℕ, ◌+◌, ◌-◌, ◌*◌, ◌≤◌, ◌<◌, true, [], ◌++◌, if◌then◌else◌, length, take, drop, max, vec_len, vec_capacity, slice_index, IfOk, OnOk, OnErr};
 ghost use Rattle.qs_ranges.specs.Numbers.{is_within};
 ghost use Rattle.qs_send.specs.KeptBytes.{around, place_in};
 
-use qs_ranges::NoMemory;
+use qs_ranges::{NoMemory, reserve};
 use std::alloc::Global;
 use std::marker::Model;
 
@@ -22,7 +22,7 @@ pub struct Kept {
 }
 
 impl Model for Kept {
-    ghost use Rattle.std.specs.Prelude.{vec_len};
+    ghost use Rattle.std.specs.Prelude.{vec_capacity, vec_len};
     ghost use Rattle.qs_send.specs.KeptBytes.{KeptBytes, IsRing, around, kept_code};
 
     ghost Value = { KeptBytes };
@@ -31,7 +31,7 @@ impl Model for Kept {
 
     ghost view = { λ k. record { bytes = around k.start k.count k.ring.items; room = vec_len k.ring } };
 
-    ghost invariant = { λ k. IsRing k.start k.count (vec_len k.ring) };
+    ghost invariant = { λ k. IsRing k.start k.count (vec_len k.ring) (vec_capacity k.ring) };
 }
 
 impl Kept {
@@ -184,25 +184,20 @@ fn pieces(ring: &[u8], start: usize, count: usize) -> (&[u8], &[u8])
     }
 }
 
-// Puts bytes behind the first `count` of a ring, which goes on where it stands, to so many places. Where memory is refused these
-// stay, if not all.
+// Puts bytes behind the first `count` of a ring, which goes on where it stands, to so many places. Unchanged where memory is refused.
 fn grow(ring: &mut Vec<u8>, count: usize, bytes: &[u8], size: usize) -> Result<(), NoMemory>
     requires kept { count ≤ length ring.old.items }
     requires grows { length ring.old.items ≤ size }
     requires fits { count + length bytes.now ≤ size }
     ensures size { OnOk result (length ring.new.items ≡ size) }
     ensures ok { OnOk result (take (count + length bytes.now) ring.new.items ≡ take count ring.old.items ++ bytes.now) }
-    ensures err { OnErr result (take count ring.new.items ≡ take count ring.old.items) }
-    ensures stays { OnErr result (count ≤ length ring.new.items) }
-    ensures fewer { OnErr result (length ring.new.items ≤ length ring.old.items) }
+    ensures err { OnErr result (ring.new.items ≡ ring.old.items) }
+    ensures refused { OnErr result (vec_capacity ring.new ≡ vec_capacity ring.old) }
 {
-    ring.reserve_exact(size - ring.len())?;
+    let room = reserve(ring, size)?;
     ring.truncate(count);
-    ring.extend_from_slice(bytes)?;
-    if ring.resize(size, 0).is_err() {
-        ring.truncate(count);
-        return Err(NoMemory);
-    }
+    let _written = ring.extend_from_slice(bytes);
+    let _filled = ring.resize(room, 0);
     Ok(())
 }
 
@@ -248,10 +243,10 @@ fn joined(
     ensures bytes { IfOk result (λ ring. around 0 (length (front.now ++ back.now) + length bytes.now) ring.items ≡ (front.now ++ back.now) ++ bytes.now) }
 {
     let mut ring = Vec::new(alloc);
-    ring.reserve_exact(size)?;
+    let room = reserve(&mut ring, size)?;
     ring.extend_from_slice(front)?;
     ring.extend_from_slice(back)?;
     ring.extend_from_slice(bytes)?;
-    ring.resize(size, 0)?;
+    ring.resize(room, 0)?;
     Ok(ring)
 }
