@@ -59,9 +59,8 @@ pub enum Received {
     /// The peer closed the connection, now or before, with this code. The frames before its CONNECTION_CLOSE took
     /// effect, but bytes that weren't read before can't be read any more: `read` answers `Closed`.
     PeerClosed(u64),
-    /// Memory was refused. The first frames took effect, the number isn't kept, and the same payload may come again. So it may
-    /// where all took effect, but what they say to hold the peer back couldn't be noted
-    /// ([`hear_blocked`](crate::Endpoint::hear_blocked)).
+    /// Memory was refused. The first frames took effect, or none, the number isn't kept or acknowledged, and the same payload
+    /// may come again.
     NoMemory,
 }
 

@@ -13,7 +13,7 @@ use crate::faults::{
 use crate::filling::{Fill, Filled};
 use crate::frame::{Frame, MAX_VARINT};
 use crate::ids::{Dir, Role, StreamId};
-use crate::proved::{qs_calls as calls, qs_conn as conn, qs_wire as wire};
+use crate::proved::{qs_conn as conn, qs_wire as wire};
 use crate::settings::{PeerLimits, Settings};
 use crate::shim::Vec;
 use crate::shim::alloc::Global;
@@ -600,9 +600,8 @@ impl Endpoint {
     ///
     /// `Closing` where the frame breaks a rule (sections 4, 19 and 20.1), or has values that no text has
     /// (FRAME_ENCODING_ERROR); the end is closed from now on, and [`Endpoint::close_payload`] tells the peer so. It names the
-    /// type of the frame's canonical text, and place 0. `NoMemory`: nothing changed, or a STREAM_DATA_BLOCKED alone opened its
-    /// stream and wasn't noted for [`next_event`](Endpoint::next_event); the frame may come again. An end that is closed says so
-    /// again: `Closing`, or `PeerClosed` with the peer's code.
+    /// type of the frame's canonical text, and place 0. `NoMemory`: nothing changed, and the frame may come again. An end that is
+    /// closed says so again, before it asks for memory: `Closing`, or `PeerClosed` with the peer's code.
     #[inline]
     pub fn take_frame(&mut self, frame: &Frame<'_>) -> Result<Taken, TakeFault> {
         if let Frame::Stream {
@@ -617,16 +616,16 @@ impl Endpoint {
                 .take_stream_frame(stream.inner(), offset, bytes, fin);
             return taken.map(Taken::of).map_err(TakeFault::of);
         }
-        let frame = frame.inner();
-        let taken = self.inner.take_frame(&frame);
-        self.told_of(taken, slice::from_ref(&frame))
+        self.take_heard(slice::from_ref(&frame.inner()))
     }
 
     /// Takes in the frames of one packet, as [`take_frame`](Endpoint::take_frame) each of them, one after the other, but that
     /// limits move once, as the call ends: what [`receive`](Endpoint::receive) does with them (RFC 9000, sections 4.1 and
-    /// 12.4). Frames of other kinds are passed over. Up to 16 frames take no memory.
+    /// 12.4). Frames of other kinds are passed over. Up to 16 frames are handed on without memory, and any number of those of
+    /// other kinds.
     ///
-    /// It answers [`Taken::Took`] where one of them changed something, else [`Taken::Unchanged`] where one was taken.
+    /// It answers [`Taken::Took`] where one of them changed something, else [`Taken::Unchanged`] where one was taken, and
+    /// [`Taken::NotOurs`] where none was, as of no frame.
     ///
     /// ```
     /// use gotsavena::{Dir, Endpoint, Role, Settings, Taken, frames};
@@ -650,39 +649,51 @@ impl Endpoint {
     /// # Errors
     ///
     /// As of [`take_frame`](Endpoint::take_frame), by the first frame that is refused: those before it took effect. After
-    /// `NoMemory` the same frames may come again.
+    /// `NoMemory` none of them took effect, or some first ones, and the same frames may come again.
     pub fn take_frames(&mut self, frames: &[Frame<'_>]) -> Result<Taken, TakeFault> {
         if frames.len() <= FEW_FRAMES {
             let few: [_; FEW_FRAMES] =
                 array::from_fn(|place| frames.get(place).unwrap_or(&Frame::Ping).inner());
-            let few = &few[..frames.len()];
-            let taken = self.inner.take_frames(few);
-            return self.told_of(taken, few);
+            return self.take_heard(&few[..frames.len()]);
         }
-        let Ok(mut all) = Vec::with_capacity(Global, frames.len()) else {
+        // A closed end says so before memory is asked for, and frames of other kinds want none.
+        self.ask_open()?;
+        let ours = || frames.iter().filter(|frame| frame.is_of_end());
+        let Ok(mut all) = Vec::with_capacity(Global, ours().count()) else {
             return Err(TakeFault::NoMemory);
         };
-        for frame in frames {
-            // (there is room)
-            let _ = all.push(frame.inner());
+        for frame in ours() {
+            all.push_reserved(frame.inner());
         }
-        let taken = self.inner.take_frames(&all);
-        self.told_of(taken, &all)
+        self.take_heard(&all)
     }
 
-    // What came of frames, once it is noted what they say to hold the peer back.
-    fn told_of(
-        &mut self,
-        taken: Result<calls::Taken, calls::TakeFault>,
-        frames: &[wire::Frame<'_>],
-    ) -> Result<Taken, TakeFault> {
-        let taken = taken.map_err(TakeFault::of)?;
-        for frame in frames {
-            if self.hearing.was_told(&self.inner, frame).is_err() {
-                return Err(TakeFault::NoMemory);
-            }
+    // Takes frames in. What they say to hold the peer back is noted behind, for which there has to be room before.
+    fn take_heard(&mut self, frames: &[wire::Frame<'_>]) -> Result<Taken, TakeFault> {
+        let blocked = || frames.iter().filter(|frame| says_blocked(frame));
+        if !self.hearing.is_heard() || blocked().next().is_none() {
+            return self.take_given(frames);
         }
-        Ok(Taken::of(taken))
+        self.ask_open()?;
+        if self.hearing.expect(&self.inner, blocked().count()).is_err() {
+            return Err(TakeFault::NoMemory);
+        }
+        let taken = self.take_given(frames)?;
+        blocked().for_each(|frame| self.hearing.was_told(&self.inner, frame));
+        Ok(taken)
+    }
+
+    fn take_given(&mut self, frames: &[wire::Frame<'_>]) -> Result<Taken, TakeFault> {
+        let taken = self.inner.take_frames(frames);
+        taken.map(Taken::of).map_err(TakeFault::of)
+    }
+
+    // An end that is closed says so, to a frame that does nothing else.
+    fn ask_open(&mut self) -> Result<(), TakeFault> {
+        match self.inner.take_frame(&wire::Frame::Ping) {
+            Ok(_passed) => Ok(()),
+            Err(fault) => Err(TakeFault::of(fault)),
+        }
     }
 
     /// The token of a packet that [`make_packet`](Endpoint::make_packet) made, by the number of [`Made`], for a stack that
@@ -748,8 +759,7 @@ impl Endpoint {
         if number > MAX_VARINT || payload.len() > MAX_PAYLOAD {
             return Err(ReceiveFault::Invalid);
         }
-        let answer = answer_of(self.inner.receive(number, payload));
-        self.hearing.received(&self.inner, number, payload, answer)
+        self.hearing_through(payload, |end| answer_of(end.receive(number, payload)))
     }
 
     /// As [`Endpoint::receive`], and `told` is told each packet that the payload newly acknowledges, once: one that was
@@ -795,8 +805,30 @@ impl Endpoint {
             return Err(ReceiveFault::Invalid);
         }
         let mut telling = Telling(&mut told);
-        let answer = answer_of(self.inner.receive_telling(number, payload, &mut telling));
-        self.hearing.received(&self.inner, number, payload, answer)
+        self.hearing_through(payload, |end| {
+            answer_of(end.receive_telling(number, payload, &mut telling))
+        })
+    }
+
+    // Takes a payload in, and looks it through where that is chosen: before, so that there is room for each note, and behind.
+    #[inline]
+    fn hearing_through(
+        &mut self,
+        payload: &[u8],
+        receive: impl FnOnce(&mut conn::Endpoint) -> Result<Received, ReceiveFault>,
+    ) -> Result<Received, ReceiveFault> {
+        let mut count = 0;
+        if self.hearing.is_looking() && self.ask_open().is_ok() {
+            each_blocked(payload, |_frame| count += 1);
+            if self.hearing.expect(&self.inner, count).is_err() {
+                return Ok(Received::NoMemory);
+            }
+        }
+        let answer = receive(&mut self.inner);
+        if count > 0 && answer == Ok(Received::Done) {
+            each_blocked(payload, |frame| self.hearing.was_told(&self.inner, frame));
+        }
+        answer
     }
 
     /// Writes the payload that tells of this end's own closing: a CONNECTION_CLOSE with an empty reason (RFC 9000,
@@ -1161,6 +1193,27 @@ struct Telling<'a>(&'a mut dyn FnMut(u64));
 impl conn::Told for Telling<'_> {
     fn tell(&mut self, number: u64) {
         (self.0)(number);
+    }
+}
+
+// Whether a frame says what holds the peer back (RFC 9000, sections 19.12 to 19.14).
+fn says_blocked(frame: &wire::Frame<'_>) -> bool {
+    matches!(
+        frame,
+        wire::Frame::DataBlocked { .. }
+            | wire::Frame::StreamDataBlocked { .. }
+            | wire::Frame::StreamsBlocked { .. }
+    )
+}
+
+// Each such frame of a payload, up to its first fault.
+#[cold]
+fn each_blocked(payload: &[u8], mut act: impl FnMut(&wire::Frame<'_>)) {
+    let mut frames = wire::Frames::new(payload);
+    while let Ok(Some(placed)) = frames.next() {
+        if says_blocked(&placed.frame) {
+            act(&placed.frame);
+        }
     }
 }
 

@@ -138,7 +138,8 @@ pub enum TakeFault {
     Closing(Closing),
     /// The end saw its peer close before, with this code. Nothing changed.
     PeerClosed(u64),
-    /// Memory was refused. The frame changed nothing, and may come again.
+    /// Memory was refused. Of [`take_frame`](crate::Endpoint::take_frame) nothing changed; of
+    /// [`take_frames`](crate::Endpoint::take_frames) the frames before took effect. The same may come again.
     NoMemory,
 }
 
