@@ -155,9 +155,8 @@ static bool is_own(struct stack *stack, const gv_frame *frame) {
 /* Frames of the peer's are handed to the end. */
 static void hand_in(struct stack *stack, const gv_frame *frames, size_t count) {
   gv_taken taken = GV_TAKEN_NOT_OURS;
-  size_t went = 0;
   if (count == 0) return;
-  want(gv_take_frames(stack->end, frames, count, &went, &taken), GV_OK, "take frames");
+  want(gv_take_frames(stack->end, frames, count, &taken), GV_OK, "take frames");
   want(taken == GV_TAKEN_NOT_OURS ? GV_INVALID : GV_OK, GV_OK, "a frame that this stack has no use for");
 }
 

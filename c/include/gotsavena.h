@@ -470,9 +470,9 @@ GV_API gv_status gv_set_grant(gv_endpoint *end, gv_dir dir, uint64_t streams);
  * @{ */
 
 /** Takes in the payload of a packet, all bytes of its frames, under the packet's number, below 2^62 (sections 12.4 and 13.1).
- * ::GV_OK: all frames took effect. ::GV_DUPLICATE, ::GV_TOO_OLD: nothing changed. ::GV_NO_MEMORY: the frames before took effect, and
- * the same payload may come again. ::GV_CLOSED_BY_PEER: gv_peer_closed() tells the peer's code. ::GV_PROTOCOL_ERROR: the payload breaks
- * a rule, this end is closed, gv_closing() tells why, and gv_close_payload() tells the peer. */
+ * ::GV_OK: all frames took effect. ::GV_DUPLICATE, ::GV_TOO_OLD: nothing changed. ::GV_NO_MEMORY: the first frames took effect, or none,
+ * the number isn't kept or acknowledged, and the same payload may come again. ::GV_CLOSED_BY_PEER: gv_peer_closed() tells the peer's code.
+ * ::GV_PROTOCOL_ERROR: the payload breaks a rule, this end is closed, gv_closing() tells why, and gv_close_payload() tells the peer. */
 GV_API gv_status gv_receive(gv_endpoint *end, uint64_t number, const uint8_t *payload, size_t len);
 
 /** As gv_receive(), and told is called for each packet that the payload newly acknowledged, once: one that was outstanding, that an ACK of
@@ -537,17 +537,17 @@ GV_API gv_status gv_next_newly_acked(const gv_endpoint *end, const uint8_t *payl
  * control takes effect as in a payload, and then the limits move; one of any other kind changes nothing. *taken tells which it was. The
  * stack acknowledges a packet only once each of its frames was taken (sections 13.1 and 19). ::GV_PROTOCOL_ERROR: the frame breaks a rule,
  * or has numbers that no text has, as an offset plus a length above 2^62-1; this end is closed, gv_closing() tells why, at place 0, and
- * gv_close_payload() tells the peer. ::GV_NO_MEMORY: nothing changed, or one that says what holds the peer back wasn't noted for
- * gv_next_event(); the frame may come again. An end that was closed before says so: ::GV_PROTOCOL_ERROR, or ::GV_CLOSED_BY_PEER.
+ * gv_close_payload() tells the peer. ::GV_NO_MEMORY: nothing changed, and the frame may come again. An end that was closed before says so,
+ * before it asks for memory: ::GV_PROTOCOL_ERROR, or ::GV_CLOSED_BY_PEER.
  * ::GV_INVALID, too, where kind or dir is none, or stream isn't below 2^62. */
 GV_API gv_status gv_take_frame(gv_endpoint *end, const gv_frame *frame, gv_taken *taken);
 
 /** Takes in frames of one packet, as gv_take_frame() each of them, one after the other, but that the limits move once, as the call ends
- * (sections 4.1 and 12.4). The count frames lie behind one another, and have the size that the first one tells. *went is count, and *taken
- * tells ::GV_TAKEN_TOOK where one of them changed something, else ::GV_TAKEN_UNCHANGED where one was taken. ::GV_NO_MEMORY: the first *went
- * of them went in, and the others may come again, or all of them; each was handed in alone then. Refused as gv_take_frame() is by the
+ * (sections 4.1 and 12.4). The count frames lie behind one another, and have the size that the first one tells. *taken tells
+ * ::GV_TAKEN_TOOK where one of them changed something, else ::GV_TAKEN_UNCHANGED where one was taken, else ::GV_TAKEN_NOT_OURS, as of no frame.
+ * ::GV_NO_MEMORY: none of them took effect, or some first ones, and the same frames may come again. Refused as gv_take_frame() is by the
  * first frame that is refused, and those before it took effect; but ::GV_INVALID where any of them is so refused: nothing changed. */
-GV_API gv_status gv_take_frames(gv_endpoint *end, const gv_frame *frames, size_t count, size_t *went, gv_taken *taken);
+GV_API gv_status gv_take_frames(gv_endpoint *end, const gv_frame *frames, size_t count, gv_taken *taken);
 
 /** Writes frames of what is due and asked for at the front of out, which has any room, and tells it in *filled: never an ACK, which stays
  * due; control items first, then bytes of streams by turns (sections 2.3, 4, 12.4 and 13.3). ::GV_NONE: nothing that is asked for may go,
@@ -589,7 +589,8 @@ GV_API gv_status gv_accept_of(gv_endpoint *end, gv_dir dir, uint64_t *stream);
 
 /** Accepts the front of the bytes for sending, and writes to *count how many (section 2.2): where that is fewer than were handed in,
  * gv_next_event() tells once more may be written. ::GV_CONNECTION_CLOSED, ::GV_NO_SUCH_STREAM, ::GV_WRONG_DIRECTION, ::GV_SENDING_RESET,
- * ::GV_SENDING_FINISHED, ::GV_NO_MEMORY: no byte was taken. */
+ * ::GV_SENDING_FINISHED, ::GV_NO_MEMORY: no byte was taken. The last may come, too, where there is still none to note that a write before
+ * was cut short. */
 GV_API gv_status gv_write(gv_endpoint *end, uint64_t stream, const uint8_t *bytes, size_t len, size_t *count);
 
 /** Sets anew how many bytes that aren't acknowledged the stream's sending half keeps at most: 1 to 2^30 (sections 2.2 and 13.3). No byte
@@ -685,9 +686,9 @@ GV_API gv_status gv_acked_below(const gv_endpoint *end, uint64_t stream, uint64_
  * @{ */
 
 /** Writes the next event of an end to *event, each once. ::GV_NONE: there is none; what the owner or the peer does next may bring one.
- * ::GV_NO_MEMORY: there is none for the note that it was told; nothing changed, and it comes again. *event is as things stand now: an
- * event that no longer holds, as ::GV_EVENT_READABLE of a stream that was read or stopped since, isn't told. An end keeps notes, in
- * memory of its own, from the first call on, or from the first write that is cut short.
+ * ::GV_NO_MEMORY: there is none for the note that it was told, or for one that is missing; nothing changed, and it comes again. *event is as
+ * things stand now: an event that no longer holds, as ::GV_EVENT_READABLE of a stream that was read or stopped since, isn't told. An end
+ * keeps notes, in memory of its own, from the first call on, or from the first write that is cut short.
  *
  * ::GV_EVENT_READABLE comes again once a stream was read until nothing was left, and more came; until then the stream isn't told again.
  * ::GV_EVENT_WRITABLE comes for each stream to which gv_write() accepted fewer bytes than it was handed, ::GV_EVENT_AVAILABLE for each
@@ -697,9 +698,10 @@ GV_API gv_status gv_acked_below(const gv_endpoint *end, uint64_t stream, uint64_
  * gv_set_conn_window(), gv_set_stream_window() or gv_set_grant(). The others come at most once of a stream (sections 2 to 4). */
 GV_API gv_status gv_next_event(gv_endpoint *end, gv_event *event);
 
-/** Chooses whether gv_receive() and gv_receive_telling() look each payload through, once it was taken in, for what the peer says to hold
- * it back (sections 19.12 to 19.14). Not at first, since the payload is read a second time for it. ::GV_NO_MEMORY of gv_receive() may tell
- * then that all took effect, and one of these couldn't be noted; the same payload may come again. */
+/** Chooses whether gv_receive() and gv_receive_telling() look each payload through for what the peer says to hold it back (sections 19.12 to
+ * 19.14). Not at first, since the payload is read a second time for it, and a third time where it says so. With it gv_take_frame() and
+ * gv_take_frames() note that before an event was asked for, too. Room for the notes is asked for before the payload takes effect:
+ * ::GV_NO_MEMORY where there is none, nothing changed, and the same payload may come again. */
 GV_API gv_status gv_hear_blocked(gv_endpoint *end, bool is_chosen);
 
 /** @}

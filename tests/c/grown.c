@@ -174,10 +174,10 @@ static void of_fills(gv_endpoint *from, gv_endpoint *to) {
   frame->size = size;
   check(gv_take_frame(to, frame, &taken) == GV_OK && taken == GV_TAKEN_TOOK, "it is handed in");
   gv_frame both[2] = {*frame, *frame};
-  check(gv_take_frames(to, both, 2, &count, &taken) == GV_OK && count == 2 && taken == GV_TAKEN_UNCHANGED, "it is handed in twice");
+  check(gv_take_frames(to, both, 2, &taken) == GV_OK && taken == GV_TAKEN_UNCHANGED, "it is handed in twice");
 #ifdef GROWN
   both[1].later = 1;
-  check(gv_take_frames(to, both, 2, &count, &taken) == (has_later ? GV_OK : GV_INVALID), "a frame's field that isn't known");
+  check(gv_take_frames(to, both, 2, &taken) == (has_later ? GV_OK : GV_INVALID), "a frame's field that isn't known");
 #endif
   drop(want, sizeof *want);
   DROP(filled);
