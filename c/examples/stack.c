@@ -74,8 +74,7 @@ static void put_new(struct stack *stack, struct packet *packet, struct record *r
     want(status, GV_OK, "fill");
     packet->len += filled.len;
     record->has_token = true;
-    record->token = (gv_token){.size = sizeof record->token};
-    want(gv_token_of(stack->end, filled.token, &record->token), GV_OK, "its token");
+    record->token = filled.token;
   }
   record->number = packet->number;
   record->is_out = record->has_done || record->has_token;

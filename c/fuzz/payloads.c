@@ -182,7 +182,7 @@ static void read_some(gv_endpoint *end, uint64_t stream, size_t size) {
 
 /* A token is told. */
 static void tell(gv_endpoint *end, uint64_t number, gv_status (*call)(gv_endpoint *, const gv_token *)) {
-  gv_token token = {.size = sizeof token};
+  gv_token token;
   check(gv_token_of(end, number, &token) == GV_OK && token.first == number && token.number == number, "a token");
   (void)call(end, &token);
 }
@@ -190,7 +190,7 @@ static void tell(gv_endpoint *end, uint64_t number, gv_status (*call)(gv_endpoin
 static void fill(gv_endpoint *end, input *in) {
   uint8_t out[MOST];
   unsigned wishes = next_byte(in);
-  gv_fill_request want = {sizeof want, wishes & 1, wishes & 2, wishes & 4, next_byte(in), wishes & 8 ? next_byte(in) : 0};
+  gv_fill_request want = {sizeof want, wishes & 1, wishes & 2, wishes & 4, wishes & 8, next_byte(in), wishes & 8 ? next_byte(in) : 0};
   gv_filled filled = {.size = sizeof filled};
   size_t room = 4 * (size_t)next_byte(in);
   gv_status status = gv_fill(end, &want, out, room, &filled);

@@ -14,7 +14,6 @@ ENDS_WITH(gv_allocator, release);
 ENDS_WITH(gv_made, len);
 ENDS_WITH(gv_fill_request, most_bytes);
 ENDS_WITH(gv_filled, last_stream);
-ENDS_WITH(gv_token, number);
 ENDS_WITH(gv_event, code);
 ENDS_WITH(gv_sending, reset_code);
 ENDS_WITH(gv_receiving, stop_code);
@@ -688,55 +687,56 @@ gv_status gv_take_frames(gv_endpoint *end, const gv_frame *frames, size_t count,
 
 gv_status gv_take_frame(gv_endpoint *end, const gv_frame *frame, gv_taken *taken) { return gv_take_frames(end, frame, 1, taken); }
 
+static gv_token token_of(const gvp_token *from) {
+  gv_token told = {from->epoch, from->first, from->number};
+  return told;
+}
+
+static gvp_token given_token(const gv_token *from) {
+  gvp_token given = {from->epoch, from->first, from->number};
+  return given;
+}
+
 gv_status gv_fill(gv_endpoint *end, const gv_fill_request *want, uint8_t *out, size_t room, gv_filled *filled) {
   gv_fill_request w;
   gvp_filled got = {false, false, 0, 0, 0};
-  if (end == NULL || !is_slice(out, room) || !copy_in(&w, sizeof w, want, UP_TO(gv_fill_request, first))) return GV_INVALID;
+  gvp_token token = {0, 0, 0};
+  if (end == NULL || !is_slice(out, room) || !copy_in(&w, sizeof w, want, UP_TO(gv_fill_request, most_bytes))) return GV_INVALID;
   if (!is_sized(filled, UP_TO(gv_filled, last_stream))) return GV_INVALID;
-  gvp_request given = {w.items, w.streams, w.alone, w.first, w.most_bytes == 0 ? SIZE_MAX : w.most_bytes};
+  gvp_request given = {w.items, w.streams, w.alone, w.first, w.is_capped ? w.most_bytes : SIZE_MAX};
   gv_status status = leave(end, gvp_fill(enter(end), &given, written_to(out, room), room, &got));
-  gv_filled told = {0, got.has_last_stream, got.more, got.token, got.len, got.last_stream};
-  if (status == GV_OK) copy_out(filled, &told, sizeof told);
-  return status;
-}
-
-static bool take_token(gvp_token *to, const gv_token *from) {
-  gv_token t;
-  if (!copy_in(&t, sizeof t, from, UP_TO(gv_token, number))) return false;
-  gvp_token own = {t.epoch, t.first, t.number};
-  *to = own;
-  return true;
-}
-
-static void tell_token(gv_token *to, const gvp_token *from) {
-  gv_token told = {0, from->epoch, from->first, from->number};
-  copy_out(to, &told, sizeof told);
+  if (status != GV_OK) return status;
+  (void)leave(end, gvp_token_of(enter(end), got.token, &token));
+  gv_filled told = {0, got.has_last_stream, got.more, token_of(&token), got.len, got.last_stream};
+  copy_out(filled, &told, sizeof told);
+  return GV_OK;
 }
 
 gv_status gv_token_of(const gv_endpoint *end, uint64_t number, gv_token *token) {
   gvp_token got = {0, 0, 0};
-  if (end == NULL || !is_sized(token, UP_TO(gv_token, number))) return GV_INVALID;
+  if (end == NULL || token == NULL) return GV_INVALID;
   gv_status status = leave(end, gvp_token_of(enter(end), number, &got));
-  if (status == GV_OK) tell_token(token, &got);
+  if (status == GV_OK) *token = token_of(&got);
   return status;
 }
 
 gv_status gv_token_and(gv_token *token, const gv_token *next) {
-  gvp_token first, second, both = {0, 0, 0};
-  if (!take_token(&first, token) || !take_token(&second, next)) return GV_INVALID;
+  gvp_token both = {0, 0, 0};
+  if (token == NULL || next == NULL) return GV_INVALID;
+  gvp_token first = given_token(token), second = given_token(next);
   gv_status status = (gv_status)gvp_token_and(&first, &second, &both);
-  if (status == GV_OK) tell_token(token, &both);
+  if (status == GV_OK) *token = token_of(&both);
   return status;
 }
 
 gv_status gv_token_acked(gv_endpoint *end, const gv_token *token) {
-  gvp_token given;
-  if (end == NULL || !take_token(&given, token)) return GV_INVALID;
+  if (end == NULL || token == NULL) return GV_INVALID;
+  gvp_token given = given_token(token);
   return leave(end, gvp_token_acked(enter(end), &given));
 }
 
 gv_status gv_token_lost(gv_endpoint *end, const gv_token *token) {
-  gvp_token given;
-  if (end == NULL || !take_token(&given, token)) return GV_INVALID;
+  if (end == NULL || token == NULL) return GV_INVALID;
+  gvp_token given = given_token(token);
   return leave(end, gvp_token_lost(enter(end), &given));
 }

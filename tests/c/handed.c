@@ -183,17 +183,18 @@ static void where_memory_ends(void) {
 static uint8_t wide[100000];
 
 /* Tokens of two fills that follow one another. */
-static void tokens(gv_endpoint *end, uint64_t number, uint64_t after) {
-  gv_token token = {.size = sizeof token, .number = 99}, next = token, other = token;
-  want(gv_token_of(NULL, number, &token), GV_INVALID, "of no end");
+static void tokens(gv_endpoint *end, gv_token token, gv_token next) {
+  uint64_t number = token.number, after = next.number;
+  gv_token other = {.number = 99};
+  want(gv_token_of(NULL, number, &other), GV_INVALID, "of no end");
   want(gv_token_of(end, number, NULL), GV_INVALID, "told to null");
-  token.size = sizeof token - 1;
-  want(gv_token_of(end, number, &token), GV_INVALID, "told to a small struct");
-  token.size = sizeof token;
-  holds(token.number == 99, "nothing was told");
-  want(gv_token_of(end, number, &token), GV_OK, "a token");
-  holds(token.epoch == 7 && token.first == number && token.number == number, "its numbers");
-  want(gv_token_of(end, after, &next), GV_OK, "the one behind it");
+  holds(other.number == 99, "nothing was told");
+  holds(token.epoch == 7 && token.first == number, "its numbers");
+  want(gv_token_of(end, after, &other), GV_OK, "by its number");
+  holds(other.epoch == next.epoch && other.first == next.first && other.number == after, "the same");
+  other.first = after + 1;
+  want(gv_token_acked(end, &other), GV_NOT_GIVEN, "acked from a number above its last");
+  want(gv_token_lost(end, &other), GV_NOT_GIVEN, "lost from a number above its last");
   other = next;
   want(gv_token_and(NULL, &next), GV_INVALID, "of null");
   want(gv_token_and(&token, NULL), GV_INVALID, "and null");
@@ -212,7 +213,7 @@ static void tokens(gv_endpoint *end, uint64_t number, uint64_t after) {
 /* What may not be asked, and what is asked for. */
 static void fills(gv_endpoint *end) {
   gv_fill_request all = {.size = sizeof all, .items = true, .streams = true}, none = {.size = sizeof none}, low = all;
-  gv_filled filled = {.size = sizeof filled, .token = 99};
+  gv_filled filled = {.size = sizeof filled, .token = {.number = 99}};
   uint8_t out[200];
   size_t count = 0;
   uint64_t stream = 0, other = 0;
@@ -238,26 +239,25 @@ static void fills(gv_endpoint *end) {
   is_refused = true;
   want(gv_fill(end, &all, wide, sizeof wide, &filled), GV_NO_MEMORY, "no memory");
   is_refused = false;
-  holds(filled.token == 99 && wide[0] == 0, "nothing was told or written");
+  holds(filled.token.number == 99 && wide[0] == 0, "nothing was told or written");
   low = all;
   low.alone = true;
   low.first = other;
+  low.is_capped = true;
+  want(gv_fill(end, &low, out, sizeof out, &filled), GV_NONE, "no byte of one stream, which has no end");
   low.most_bytes = 1;
   want(gv_fill(end, &low, out, sizeof out, &filled), GV_OK, "one byte of one stream");
   holds(filled.len > 1 && out[filled.len - 1] == 'h' && !filled.more && out[filled.len] == 0xee, "the byte");
-  low.most_bytes = 0;
+  low.is_capped = false;
   want(gv_fill(end, &low, out, sizeof out, &filled), GV_OK, "of one stream");
   holds(filled.has_last_stream && filled.last_stream == other && filled.len > 4 && out[filled.len] == 0xee, "its bytes");
-  uint64_t token = filled.token;
+  gv_token token = filled.token;
   want(gv_fill(end, &all, out, GV_MIN_FILL, &filled), GV_OK, "the others");
-  holds(filled.has_last_stream && filled.last_stream == stream && !filled.more && filled.token != token, "that is all");
+  holds(filled.has_last_stream && filled.last_stream == stream && !filled.more && filled.token.number != token.number, "that is all");
   tokens(end, token, filled.token);
-  gv_token first = {.size = sizeof first}, next = {.size = sizeof next};
-  want(gv_token_of(end, token, &first), GV_OK, "the first token");
-  want(gv_token_of(end, filled.token, &next), GV_OK, "the next token");
-  want(gv_token_acked(end, &next), GV_OK, "acked");
+  want(gv_token_acked(end, &filled.token), GV_OK, "acked");
   want(gv_fill(end, &all, out, sizeof out, &filled), GV_NONE, "nothing is due");
-  want(gv_token_lost(end, &first), GV_OK, "lost");
+  want(gv_token_lost(end, &token), GV_OK, "lost");
   all.items = false;
   want(gv_fill(end, &all, out, sizeof out, &filled), GV_OK, "it is due again");
   holds(filled.last_stream == other, "which it is");
