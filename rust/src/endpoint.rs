@@ -151,8 +151,9 @@ impl Endpoint {
 
     /// Sets anew how many streams of a direction the peer may have open (RFC 9000, section 4.6). A greater grant moves
     /// the count of its streams at once, beside those that came to their end, up to the lifetime's, and the next packet
-    /// tells it. Under a smaller one, 0 even, the count stands until so many streams ended that it moves again: no
-    /// count falls. What the peer was told as the end was made, [`Settings`], stays, and so does the lifetime.
+    /// tells it. Streams that ended count each there, also where counts move by steps
+    /// ([`count_step`](crate::Tuning::count_step)). Under a smaller one, 0 even, the count stands until so many streams ended
+    /// that it moves again: no count falls. What the peer was told as the end was made, [`Settings`], stays, and so does the lifetime.
     ///
     /// ```
     /// use gotsavena::{Dir, Endpoint, Role, SetFault, Settings};
@@ -477,8 +478,10 @@ impl Endpoint {
 
     /// Fills a slice with frames of what is due and asked for, for a packet of a stack that owns its packets: never an ACK,
     /// which stays due. Control items come first, and then bytes of streams by turns (RFC 9000, sections 2.3, 4, 12.4 and
-    /// 13.3). `None` where nothing that is asked for may go, or the room is too little: with [`MIN_FILL`](crate::MIN_FILL)
-    /// bytes it says that nothing may. The slice may have any length; of it changes only what is filled.
+    /// 13.3). `None` where nothing that is asked for may go, within the cap ([`Fill::at_most`](crate::Fill::at_most)), or the
+    /// room is too little: with [`MIN_FILL`](crate::MIN_FILL) bytes it says that nothing may. The slice may have any length; of
+    /// it changes only what is filled, and that is the payload of a packet: under its token's number a peer's
+    /// [`receive`](Endpoint::receive) takes it, too.
     ///
     /// What went in has a token, which takes the place of a packet number that the stack keeps to itself: it is told to be
     /// acknowledged or lost.
@@ -573,7 +576,9 @@ impl Endpoint {
     /// section 13.1). A frame of streams or of flow control takes effect as in a payload, and then the limits move; one of
     /// any other kind changes nothing: an ACK (tell its packets by [`Endpoint::acked`]), a CONNECTION_CLOSE, PADDING.
     /// `Took` and `Unchanged` say whether anything changed: a frame that came before, carries no new byte or raises nothing
-    /// doesn't, and a stack counts these against a peer that only makes work. Acknowledge a packet to the peer only once each of its frames was taken.
+    /// doesn't, and a stack counts these against a peer that only makes work, but for DATA_BLOCKED, STREAM_DATA_BLOCKED and
+    /// STREAMS_BLOCKED, which an honest peer sends and which change nothing ([`Taken::Unchanged`]). Acknowledge a packet to the
+    /// peer only once each of its frames was taken.
     ///
     /// ```
     /// use gotsavena::{Dir, Endpoint, Read, Role, Settings, Taken, frames};
@@ -849,9 +854,10 @@ impl Endpoint {
         self.inner.stored()
     }
 
-    /// How many bytes of a stream count as taken: those that were read, or all that came once its owner stopped it, or its
-    /// final size once the peer reset it (RFC 9000, sections 3.5 and 4.2). The stream's limit is at most a window above
-    /// them. `None` where the stream has no receiving half here. It takes constant time.
+    /// How many bytes of a stream count as taken: those that were read, or those up to the highest offset that came, gaps
+    /// among them, once its owner stopped it, or its final size once the peer reset it (RFC 9000, sections 3.5 and 4.2). The
+    /// stream's limit is at most a window above them. `None` where the stream has no receiving half here. It takes constant
+    /// time.
     ///
     /// An owner that looks now and then tells how fast a window is used up.
     ///
@@ -910,8 +916,9 @@ impl Endpoint {
     ///
     /// The rings take at least what is [`stored`](Self::stored). A peer can't make them take more than four times the
     /// widest window of the connection that was set, and 4,096 bytes for each receiving half that wasn't read to its end, reset or
-    /// stopped. A buffer takes at most twice the settings' `send_buffer`, no more than 4,096 bytes where all of it is acknowledged, and nothing where the
-    /// end is too, or the stream was reset.
+    /// stopped. A buffer takes at most twice the most that was set for it ([`send_buffer`](crate::Settings::send_buffer),
+    /// [`set_send_buffer`](Endpoint::set_send_buffer)), no more than 4,096 bytes where all of it is acknowledged, and nothing
+    /// where the end is too, or the stream was reset.
     ///
     /// ```
     /// use gotsavena::{Dir, Endpoint, Held, Role, Settings};
@@ -941,14 +948,15 @@ impl Endpoint {
     }
 
     /// How many streams of a direction the peer may open: the grant, and one more for each of its streams that came to
-    /// its end, up to the settings' count of all, and no fewer than before (RFC 9000, section 4.6).
+    /// its end, up to the settings' count of all, and no fewer than before (RFC 9000, section 4.6). Where counts move by steps
+    /// ([`count_step`](crate::Tuning::count_step)) whole steps of those count alone.
     pub fn granted_streams(&self, dir: Dir) -> u64 {
         self.inner.granted_streams(dir.inner())
     }
 
     /// The least stream at or above `from` at which a read of one byte tells something new: bytes, or an end or a reset that
     /// wasn't told yet (RFC 9000, sections 2.2 and 3.2). Of a stopped stream the end and a reset are told, too. `None` where
-    /// there is none, and of a closed end.
+    /// there is none, and of a closed end, but where [`reads_when_closed`](crate::Tuning::reads_when_closed) was chosen.
     ///
     /// A loop over all of them goes on from the number behind each; it costs a look at one word for 64 streams:
     ///
@@ -1091,7 +1099,8 @@ impl Endpoint {
     }
 
     /// The lowest offset of a stream that isn't acknowledged, in bytes from its start: all below it are (RFC 9000, section
-    /// 13.3). Where it is the count written, every byte is. `None` where the stream has no sending half here.
+    /// 13.3). Where it is the count written, every byte is. An acknowledgement that comes after a reset moves it still. `None`
+    /// where the stream has no sending half here.
     pub fn acked_below(&self, stream: StreamId) -> Option<u64> {
         self.inner.acked_below(stream.inner())
     }
@@ -1157,10 +1166,11 @@ impl Endpoint {
         self.inner.told_close().map(ToldClose::of)
     }
 
-    /// The least stream at or above `from` at which a write of one byte is accepted, if there is memory for it: it wasn't
-    /// finished, reset or stopped by the peer, and its buffer has room (RFC 9000, sections 2.2 and 2.4). `None` where there
-    /// is none, and of a closed end. It doesn't ask for credit: where writes keep within it, [`room`](Endpoint::room) tells
-    /// whether such a stream has some.
+    /// The least stream at or above `from` that wasn't finished, reset or stopped by the peer, and whose own buffer has room
+    /// (RFC 9000, sections 2.2 and 2.4): a write of one byte is accepted, if there is memory for it. `None` where there is none,
+    /// and of a closed end. It asks neither for credit nor for what other streams keep: where writes keep within credit, or
+    /// all streams together are bounded ([`send_window`](crate::Tuning::send_window)), [`room`](Endpoint::room) tells whether
+    /// such a stream takes a byte.
     pub fn next_writable(&self, from: StreamId) -> Option<StreamId> {
         self.inner.next_writable(from.inner()).map(StreamId::of)
     }

@@ -204,7 +204,8 @@ impl Endpoint {
     /// those of lower streams first, or of bidirectional ones. What isn't so any more as it would be told isn't told: bytes that
     /// were read meanwhile, or a stream that was reset before it could be written to again. Of a closed end come no
     /// [`Writable`](Event::Writable), no [`Available`](Event::Available) and nothing that holds the peer back, and
-    /// [`Readable`](Event::Readable) only where [`reads_when_closed`](crate::Tuning::reads_when_closed) was chosen.
+    /// [`Readable`](Event::Readable) only where [`reads_when_closed`](crate::Tuning::reads_when_closed) was chosen; all others
+    /// come still.
     ///
     /// An owner calls it after each call that takes in what came from the peer, and after its own reads, writes, resets and
     /// settings, until it answers `None`. It needn't call it at all, or may begin late: then it is told all that still is so.
@@ -253,7 +254,8 @@ impl Endpoint {
     ///
     /// # Errors
     ///
-    /// `NoMemory` where there was none to note what is told. Then nothing changed, and the same comes again.
+    /// `NoMemory` where there was none to note what is told, or what is still to be noted. Then nothing changed, and the same
+    /// comes again. Where there was none for the notes as a whole the end counts as never asked.
     pub fn next_event(&mut self) -> Result<Option<Event>, EventFault> {
         match self.hearing.next(&self.inner) {
             Ok(news) => Ok(news.map(Event::of)),
