@@ -74,8 +74,7 @@ static void put_new(struct stack *stack, struct packet *packet, struct record *r
     want(status, GV_OK, "fill");
     packet->len += filled.len;
     record->has_token = true;
-    record->token = (gv_token){.size = sizeof record->token};
-    want(gv_token_of(stack->end, filled.token, &record->token), GV_OK, "its token");
+    record->token = filled.token;
   }
   record->number = packet->number;
   record->is_out = record->has_done || record->has_token;
@@ -155,9 +154,8 @@ static bool is_own(struct stack *stack, const gv_frame *frame) {
 /* Frames of the peer's are handed to the end. */
 static void hand_in(struct stack *stack, const gv_frame *frames, size_t count) {
   gv_taken taken = GV_TAKEN_NOT_OURS;
-  size_t went = 0;
   if (count == 0) return;
-  want(gv_take_frames(stack->end, frames, count, &went, &taken), GV_OK, "take frames");
+  want(gv_take_frames(stack->end, frames, count, &taken), GV_OK, "take frames");
   want(taken == GV_TAKEN_NOT_OURS ? GV_INVALID : GV_OK, GV_OK, "a frame that this stack has no use for");
 }
 

@@ -150,7 +150,7 @@ static void hand_in(gv_endpoint *end, input *in) {
 /* Hands in the frames of some bytes together, up to the first fault. */
 static void hand_in_together(gv_endpoint *end, input *in) {
   enum { TOGETHER = 24 };
-  size_t len = 8 * (size_t)next_byte(in), count = 0, went = 0;
+  size_t len = 8 * (size_t)next_byte(in), count = 0;
   if (len > in->len) len = in->len;
   gv_frames frames = {in->at, len, 0};
   gv_frame frame[TOGETHER];
@@ -158,8 +158,8 @@ static void hand_in_together(gv_endpoint *end, input *in) {
   gv_taken taken = GV_TAKEN_TOOK;
   for (size_t i = 0; i < TOGETHER; i++) frame[i].size = sizeof *frame;
   while (count < TOGETHER && gv_frames_next(&frames, &frame[count], &fault) == GV_OK) count++;
-  gv_status status = gv_take_frames(end, frame, count, &went, &taken);
-  check(status == GV_OK ? went == count : status == GV_PROTOCOL_ERROR || status == GV_CLOSED_BY_PEER, "frames are handed in");
+  gv_status status = gv_take_frames(end, frame, count, &taken);
+  check(status == GV_OK || status == GV_PROTOCOL_ERROR || status == GV_CLOSED_BY_PEER, "frames are handed in");
   check(status == GV_OK || is_closed(end), "an end that refuses a frame is closed");
   in->at += len;
   in->len -= len;
@@ -183,7 +183,7 @@ static void read_some(gv_endpoint *end, uint64_t stream, size_t size) {
 
 /* A token is told. */
 static void tell(gv_endpoint *end, uint64_t number, gv_status (*call)(gv_endpoint *, const gv_token *)) {
-  gv_token token = {.size = sizeof token};
+  gv_token token;
   check(gv_token_of(end, number, &token) == GV_OK && token.first == number && token.number == number, "a token");
   (void)call(end, &token);
 }
@@ -191,7 +191,7 @@ static void tell(gv_endpoint *end, uint64_t number, gv_status (*call)(gv_endpoin
 static void fill(gv_endpoint *end, input *in) {
   uint8_t out[MOST];
   unsigned wishes = next_byte(in);
-  gv_fill_request want = {sizeof want, wishes & 1, wishes & 2, wishes & 4, next_byte(in), wishes & 8 ? next_byte(in) : 0};
+  gv_fill_request want = {sizeof want, wishes & 1, wishes & 2, wishes & 4, wishes & 8, next_byte(in), wishes & 8 ? next_byte(in) : 0};
   gv_filled filled = {.size = sizeof filled};
   size_t room = 4 * (size_t)next_byte(in);
   gv_status status = gv_fill(end, &want, out, room, &filled);

@@ -168,7 +168,9 @@ typedef enum gv_fault_kind {
 /** What came of a frame that was handed in. A later version may have more. */
 typedef enum gv_taken {
   GV_TAKEN_TOOK = 0,      /**< it took effect, and something changed */
-  GV_TAKEN_UNCHANGED = 1, /**< it took effect, and nothing changed: it came before, or raises nothing */
+  GV_TAKEN_UNCHANGED = 1, /**< it took effect, and nothing changed: it came before, or raises nothing. Who counts these against a peer
+                               that only makes work doesn't count DATA_BLOCKED, STREAM_DATA_BLOCKED and STREAMS_BLOCKED, which an honest
+                               peer sends and which change nothing, but that a STREAM_DATA_BLOCKED may open its stream */
   GV_TAKEN_NOT_OURS = 2   /**< it is of a kind that is the stack's own affair, and changed nothing */
 } gv_taken;
 
@@ -178,7 +180,8 @@ typedef enum gv_event_kind {
   GV_EVENT_OPENED = 0,              /**< the peer opened the stream, be it accepted or not; the first of its events (section 2.1) */
   GV_EVENT_READABLE = 1,            /**< a read of the stream tells something new: bytes, the end or a reset (sections 2.2 and 3.2) */
   GV_EVENT_WRITABLE = 2,            /**< a write to the stream was cut short, and now one of a byte is accepted (sections 2.2 and 2.4) */
-  GV_EVENT_STOPPED = 3,             /**< the peer asked for no more of the stream, with this code first (section 3.5) */
+  GV_EVENT_STOPPED = 3,             /**< the peer asked for no more of the stream, with this code first, while it could be reset: neither reset
+                                         by its owner nor acknowledged whole (section 3.5) */
   GV_EVENT_FINISHED = 4,            /**< all that was written was acknowledged, and the end too (section 3.1) */
   GV_EVENT_RESET_ACKED = 5,         /**< the reset of the stream was acknowledged (section 3.1) */
   GV_EVENT_ENDED = 6,               /**< each half that the stream has here came to its end (section 3) */
@@ -211,13 +214,14 @@ typedef struct gv_settings {
 } gv_settings;
 
 /** How an end goes about what its owner may choose. gv_tuning_init() sets what stands in parentheses. A window or a grant that
- * gv_set_conn_window(), gv_set_stream_window() or gv_set_grant() makes greater moves its limit without a wait for a step. */
+ * gv_set_conn_window(), gv_set_stream_window() or gv_set_grant() makes greater moves its limit without a wait for a step; streams that ended
+ * count each there. */
 typedef struct gv_tuning {
   size_t size;            /**< of this struct */
-  gv_share credit_step;   /**< how much of its window has to be taken until a limit on bytes moves (section 4.2): a share
-                               (GV_SHARE_HALF) */
-  gv_share count_step;    /**< how many of its grant's streams have to end until a count of streams moves (section 4.6): GV_SHARE_NONE
-                               where each one moves it (GV_SHARE_NONE) */
+  gv_share credit_step;   /**< how much of its window, as it is set at the time, has to be taken until a limit on bytes moves (section 4.2): a
+                               share (GV_SHARE_HALF) */
+  gv_share count_step;    /**< how many of its grant's streams, as it is set at the time, have to end until a count of streams moves (section
+                               4.6), one at least: GV_SHARE_NONE where each one moves it (GV_SHARE_NONE) */
   gv_switch within_credit;     /**< whether a write takes no more bytes than may be sent at once, by the stream's limit and the
                                     connection's (GV_OFF) */
   gv_switch reads_when_closed; /**< whether what came in is read on once the end closed (GV_OFF) */
@@ -270,27 +274,28 @@ typedef struct gv_fill_request {
   bool items;        /**< control items: limits, resets, STOP_SENDING and what is blocked (section 13.3) */
   bool streams;      /**< bytes and ends of streams */
   bool alone;        /**< of the stream first alone; else from it on, and then those below it (section 2.3) */
+  bool is_capped;    /**< most_bytes is a cap; else as many bytes of streams go in as fit */
   uint64_t first;    /**< a stream, below 2^62 */
-  size_t most_bytes; /**< so many bytes of streams at most; 0: as many as fit */
+  size_t most_bytes; /**< where is_capped, so many bytes of streams at most; with 0 ends of streams alone */
 } gv_fill_request;
+
+/** By what a packet is told to be acknowledged or lost. A packet that was filled in parts has several, which gv_token_and() makes one. This
+ * struct doesn't grow. */
+typedef struct gv_token {
+  uint64_t epoch;  /**< of the end that gave it (gv_tuning) */
+  uint64_t first;  /**< the lowest of its numbers */
+  uint64_t number; /**< the highest of them */
+} gv_token;
 
 /** What was filled in. */
 typedef struct gv_filled {
   size_t size;          /**< of this struct */
   bool has_last_stream; /**< there is a STREAM frame */
-  bool more;            /**< more of what was asked for is due that may go; bytes that most_bytes holds back aren't counted */
-  uint64_t token;       /**< the number under which the end keeps it, for gv_token_of(); no packet number of the stack's */
+  bool more;            /**< more of what was asked for is due that may go; bytes that the cap holds back aren't counted */
+  gv_token token;       /**< by which it is told to be acknowledged or lost; its numbers are no packet numbers of the stack's */
   size_t len;           /**< how many bytes it has */
   uint64_t last_stream; /**< where has_last_stream, the stream of the last STREAM frame, else 0; streams that take turns go on behind it */
 } gv_filled;
-
-/** By what a packet is told to be acknowledged or lost. A packet that was filled in parts has several, which gv_token_and() makes one. */
-typedef struct gv_token {
-  size_t size;     /**< of this struct */
-  uint64_t epoch;  /**< of the end that gave it (gv_tuning) */
-  uint64_t first;  /**< the lowest of its numbers */
-  uint64_t number; /**< the highest of them */
-} gv_token;
 
 /** A piece of news of an end. */
 typedef struct gv_event {
@@ -470,9 +475,9 @@ GV_API gv_status gv_set_grant(gv_endpoint *end, gv_dir dir, uint64_t streams);
  * @{ */
 
 /** Takes in the payload of a packet, all bytes of its frames, under the packet's number, below 2^62 (sections 12.4 and 13.1).
- * ::GV_OK: all frames took effect. ::GV_DUPLICATE, ::GV_TOO_OLD: nothing changed. ::GV_NO_MEMORY: the frames before took effect, and
- * the same payload may come again. ::GV_CLOSED_BY_PEER: gv_peer_closed() tells the peer's code. ::GV_PROTOCOL_ERROR: the payload breaks
- * a rule, this end is closed, gv_closing() tells why, and gv_close_payload() tells the peer. */
+ * ::GV_OK: all frames took effect. ::GV_DUPLICATE, ::GV_TOO_OLD: nothing changed. ::GV_NO_MEMORY: the first frames took effect, or none,
+ * the number isn't kept or acknowledged, and the same payload may come again. ::GV_CLOSED_BY_PEER: gv_peer_closed() tells the peer's code.
+ * ::GV_PROTOCOL_ERROR: the payload breaks a rule, this end is closed, gv_closing() tells why, and gv_close_payload() tells the peer. */
 GV_API gv_status gv_receive(gv_endpoint *end, uint64_t number, const uint8_t *payload, size_t len);
 
 /** As gv_receive(), and told is called for each packet that the payload newly acknowledged, once: one that was outstanding, that an ACK of
@@ -537,25 +542,27 @@ GV_API gv_status gv_next_newly_acked(const gv_endpoint *end, const uint8_t *payl
  * control takes effect as in a payload, and then the limits move; one of any other kind changes nothing. *taken tells which it was. The
  * stack acknowledges a packet only once each of its frames was taken (sections 13.1 and 19). ::GV_PROTOCOL_ERROR: the frame breaks a rule,
  * or has numbers that no text has, as an offset plus a length above 2^62-1; this end is closed, gv_closing() tells why, at place 0, and
- * gv_close_payload() tells the peer. ::GV_NO_MEMORY: nothing changed, or one that says what holds the peer back wasn't noted for
- * gv_next_event(); the frame may come again. An end that was closed before says so: ::GV_PROTOCOL_ERROR, or ::GV_CLOSED_BY_PEER.
+ * gv_close_payload() tells the peer. ::GV_NO_MEMORY: nothing changed, and the frame may come again. An end that was closed before says so,
+ * before it asks for memory: ::GV_PROTOCOL_ERROR, or ::GV_CLOSED_BY_PEER.
  * ::GV_INVALID, too, where kind or dir is none, or stream isn't below 2^62. */
 GV_API gv_status gv_take_frame(gv_endpoint *end, const gv_frame *frame, gv_taken *taken);
 
 /** Takes in frames of one packet, as gv_take_frame() each of them, one after the other, but that the limits move once, as the call ends
- * (sections 4.1 and 12.4). The count frames lie behind one another, and have the size that the first one tells. *went is count, and *taken
- * tells ::GV_TAKEN_TOOK where one of them changed something, else ::GV_TAKEN_UNCHANGED where one was taken. ::GV_NO_MEMORY: the first *went
- * of them went in, and the others may come again, or all of them; each was handed in alone then. Refused as gv_take_frame() is by the
+ * (sections 4.1 and 12.4). The count frames lie behind one another, and have the size that the first one tells. *taken tells
+ * ::GV_TAKEN_TOOK where one of them changed something, else ::GV_TAKEN_UNCHANGED where one was taken, else ::GV_TAKEN_NOT_OURS, as of no frame.
+ * ::GV_NO_MEMORY: none of them took effect, or some first ones, and the same frames may come again. Refused as gv_take_frame() is by the
  * first frame that is refused, and those before it took effect; but ::GV_INVALID where any of them is so refused: nothing changed. */
-GV_API gv_status gv_take_frames(gv_endpoint *end, const gv_frame *frames, size_t count, size_t *went, gv_taken *taken);
+GV_API gv_status gv_take_frames(gv_endpoint *end, const gv_frame *frames, size_t count, gv_taken *taken);
 
 /** Writes frames of what is due and asked for at the front of out, which has any room, and tells it in *filled: never an ACK, which stays
- * due; control items first, then bytes of streams by turns (sections 2.3, 4, 12.4 and 13.3). ::GV_NONE: nothing that is asked for may go,
- * or the room is too little; with GV_MIN_FILL bytes it says that nothing may. ::GV_CONNECTION_CLOSED, ::GV_NUMBERS_EXHAUSTED,
+ * due; control items first, then bytes of streams by turns (sections 2.3, 4, 12.4 and 13.3). What is written is the payload of a packet:
+ * under its token's number gv_receive() of a peer takes it, too. ::GV_NONE: nothing that is asked for may go within the cap, or the room is
+ * too little; with GV_MIN_FILL bytes it says that nothing may. ::GV_CONNECTION_CLOSED, ::GV_NUMBERS_EXHAUSTED,
  * ::GV_NO_MEMORY: nothing changed. */
 GV_API gv_status gv_fill(gv_endpoint *end, const gv_fill_request *want, uint8_t *out, size_t room, gv_filled *filled);
 
-/** The token of what gv_fill() told this number of, or of the packet that was made under it. ::GV_INVALID: nothing was written. */
+/** The token of the packet that gv_make_packet() made under this number, for a stack that tells its packets by tokens. ::GV_INVALID: nothing
+ * was written. */
 GV_API gv_status gv_token_of(const gv_endpoint *end, uint64_t number, gv_token *token);
 
 /** Makes of *token one token for what it names and for what *next names, which was filled in next. ::GV_NONE: its numbers don't follow
@@ -563,8 +570,9 @@ GV_API gv_status gv_token_of(const gv_endpoint *end, uint64_t number, gv_token *
 GV_API gv_status gv_token_and(gv_token *token, const gv_token *next);
 
 /** The peer acknowledged the packets of a token: this does what an ACK of these packets alone does, in time or late. ::GV_OK, too, where
- * they are done: then nothing is told. ::GV_NOT_GIVEN: not all of them were made yet, or the token is of another epoch; nothing changed, as
- * with ::GV_CONNECTION_CLOSED. ::GV_NO_MEMORY: some of what they carried may be acknowledged; call once more (sections 13.2.1 and 13.3). */
+ * they are done: then nothing is told. ::GV_NOT_GIVEN: not all of them were made yet, the token is of another epoch, or its first number is
+ * above its last; nothing changed, as with ::GV_CONNECTION_CLOSED. ::GV_NO_MEMORY: some of what they carried may be acknowledged; call once
+ * more (sections 13.2.1 and 13.3). */
 GV_API gv_status gv_token_acked(gv_endpoint *end, const gv_token *token);
 
 /** Declares the packets of a token lost, each as gv_declare_lost() does. ::GV_OK, too, where they are done: then nothing changed.
@@ -589,7 +597,8 @@ GV_API gv_status gv_accept_of(gv_endpoint *end, gv_dir dir, uint64_t *stream);
 
 /** Accepts the front of the bytes for sending, and writes to *count how many (section 2.2): where that is fewer than were handed in,
  * gv_next_event() tells once more may be written. ::GV_CONNECTION_CLOSED, ::GV_NO_SUCH_STREAM, ::GV_WRONG_DIRECTION, ::GV_SENDING_RESET,
- * ::GV_SENDING_FINISHED, ::GV_NO_MEMORY: no byte was taken. */
+ * ::GV_SENDING_FINISHED, ::GV_NO_MEMORY: no byte was taken. The last may come, too, where there is still none to note that a write before
+ * was cut short. */
 GV_API gv_status gv_write(gv_endpoint *end, uint64_t stream, const uint8_t *bytes, size_t len, size_t *count);
 
 /** Sets anew how many bytes that aren't acknowledged the stream's sending half keeps at most: 1 to 2^30 (sections 2.2 and 13.3). No byte
@@ -638,10 +647,13 @@ GV_API gv_status gv_consume(gv_endpoint *end, uint64_t stream, size_t most, size
 /** A read of which stream tells something new: bytes, the end or a reset (sections 2.2 and 3.2).
  *
  * This question and the three behind it write to *stream the least one at or above from, which is below 2^62, for which it is so;
- * ::GV_NONE: there is none. To go through all, call again from *stream + 1. In a closed end the first three find none (section 10.2). */
+ * ::GV_NONE: there is none. To go through all, call again from *stream + 1. In a closed end the first three find none, but the first one where
+ * reads_when_closed was chosen (section 10.2). */
 GV_API gv_status gv_next_readable(const gv_endpoint *end, uint64_t from, uint64_t *stream);
 
-/** A write of one byte to which stream is accepted, if there is memory for it (sections 2.2 and 2.4). */
+/** Which stream wasn't finished, reset or stopped by the peer, and has room in its own buffer: a write of one byte to it is accepted, if there
+ * is memory for it (sections 2.2 and 2.4). Neither credit nor what other streams keep is asked for: where within_credit or send_window was
+ * chosen, gv_room() tells whether it takes a byte. */
 GV_API gv_status gv_next_writable(const gv_endpoint *end, uint64_t from, uint64_t *stream);
 
 /** Of which stream bytes or the end are due that its own limit lets go; the connection's credit isn't asked (sections 4.1 and 13.3). */
@@ -674,8 +686,8 @@ GV_API gv_status gv_room(const gv_endpoint *end, uint64_t stream, uint64_t *coun
  * sending half here (section 2.2). */
 GV_API gv_status gv_unsent(const gv_endpoint *end, uint64_t stream, uint64_t *count);
 
-/** The lowest offset of a stream that isn't acknowledged, in bytes from its start: all below it are (section 13.3). ::GV_NONE: the stream
- * has no sending half here. */
+/** The lowest offset of a stream that isn't acknowledged, in bytes from its start: all below it are (section 13.3). An acknowledgement that
+ * comes after a reset moves it still. ::GV_NONE: the stream has no sending half here. */
 GV_API gv_status gv_acked_below(const gv_endpoint *end, uint64_t stream, uint64_t *offset);
 
 /** @}
@@ -685,21 +697,25 @@ GV_API gv_status gv_acked_below(const gv_endpoint *end, uint64_t stream, uint64_
  * @{ */
 
 /** Writes the next event of an end to *event, each once. ::GV_NONE: there is none; what the owner or the peer does next may bring one.
- * ::GV_NO_MEMORY: there is none for the note that it was told; nothing changed, and it comes again. *event is as things stand now: an
- * event that no longer holds, as ::GV_EVENT_READABLE of a stream that was read or stopped since, isn't told. An end keeps notes, in
- * memory of its own, from the first call on, or from the first write that is cut short.
+ * ::GV_NO_MEMORY: there is none for the note that it was told, or for one that is missing; nothing changed, and it comes again. *event is as
+ * things stand now: an event that no longer holds, as ::GV_EVENT_READABLE of a stream that was read or stopped since, isn't told. An end
+ * keeps notes, in memory of its own, from the first call on, or from the first write that is cut short.
  *
- * ::GV_EVENT_READABLE comes again once a stream was read until nothing was left, and more came; until then the stream isn't told again.
- * ::GV_EVENT_WRITABLE comes for each stream to which gv_write() accepted fewer bytes than it was handed, ::GV_EVENT_AVAILABLE for each
- * direction of which gv_open() answered ::GV_STREAM_LIMIT, each once until that is so again. The last three kinds come each time that the
- * peer said so of a limit that hadn't risen, once for all that it said since the last one: from gv_take_frame() and gv_take_frames() from
- * the first call of this on, and from gv_receive() where gv_hear_blocked() chose so. An owner whose windows grow answers them with
+ * ::GV_EVENT_READABLE comes again once a stream was read until nothing was left, and more came; until then the stream isn't told again, be
+ * it that its end or a reset comes. Of a closed end come no ::GV_EVENT_WRITABLE, no ::GV_EVENT_AVAILABLE and none of the last three kinds,
+ * and ::GV_EVENT_READABLE only where reads_when_closed was chosen. ::GV_EVENT_WRITABLE comes for each stream to which gv_write() accepted
+ * fewer bytes than it was handed, ::GV_EVENT_AVAILABLE for each direction of which gv_open() answered ::GV_STREAM_LIMIT, each once until that is so again, also after gv_raise_limits(). The last three
+ * kinds come each time that the peer said so of a limit that hadn't risen, as it stands behind the whole packet, once for all that it said
+ * since the last one: from gv_take_frame() and gv_take_frames() from the first call of this on, and from gv_receive() where
+ * gv_hear_blocked() chose so, which turns the other two on as well. Frames that are handed in twice tell twice. Of a stream whose length is
+ * known none comes, of one that was stopped it does. An owner whose windows grow answers them with
  * gv_set_conn_window(), gv_set_stream_window() or gv_set_grant(). The others come at most once of a stream (sections 2 to 4). */
 GV_API gv_status gv_next_event(gv_endpoint *end, gv_event *event);
 
-/** Chooses whether gv_receive() and gv_receive_telling() look each payload through, once it was taken in, for what the peer says to hold
- * it back (sections 19.12 to 19.14). Not at first, since the payload is read a second time for it. ::GV_NO_MEMORY of gv_receive() may tell
- * then that all took effect, and one of these couldn't be noted; the same payload may come again. */
+/** Chooses whether gv_receive() and gv_receive_telling() look each payload through for what the peer says to hold it back (sections 19.12 to
+ * 19.14). Not at first, since the payload is read a second time for it, and a third time where it says so. With it gv_take_frame() and
+ * gv_take_frames() note that before an event was asked for, too. Room for the notes is asked for before the payload takes effect:
+ * ::GV_NO_MEMORY where there is none, nothing changed, and the same payload may come again. */
 GV_API gv_status gv_hear_blocked(gv_endpoint *end, bool is_chosen);
 
 /** @}
@@ -713,8 +729,9 @@ GV_API gv_status gv_unsent_sum(const gv_endpoint *end, uint64_t *count);
  * a reset (section 13.3). It takes constant time. */
 GV_API gv_status gv_kept_sum(const gv_endpoint *end, uint64_t *count);
 
-/** How many bytes of a stream count as taken, so that its limit lies a window above them at most: those that were read, or all that came
- * where the stream was stopped or reset (section 4.2). ::GV_NONE: the stream has no receiving half here. */
+/** How many bytes of a stream count as taken, so that its limit lies a window above them at most: those that were read, or those up to the
+ * highest offset, gaps among them, where the stream was stopped, or its final size where it was reset (section 4.2). ::GV_NONE: the stream
+ * has no receiving half here. */
 GV_API gv_status gv_taken_on(const gv_endpoint *end, uint64_t stream, uint64_t *count);
 
 /** How many bytes of all streams count as taken, which the connection's limit follows (section 4.2). */
@@ -729,8 +746,8 @@ GV_API gv_status gv_streams_left(const gv_endpoint *end, gv_dir dir, uint64_t *c
 /** How many streams of a direction gv_open() may open by the count that the peer told last (section 4.6). */
 GV_API gv_status gv_open_left(const gv_endpoint *end, gv_dir dir, uint64_t *count);
 
-/** How many streams of a direction the peer may open by now: the grant, and one more for each of its streams that is over, up to the
- * lifetime's count (section 4.6). It never falls: gv_set_grant() with less lets it stand. */
+/** How many streams of a direction the peer may open by now: the grant, and one more for each of its streams that is over, in whole steps
+ * where count_step was chosen, up to the lifetime's count (section 4.6). It never falls: gv_set_grant() with less lets it stand. */
 GV_API gv_status gv_granted_streams(const gv_endpoint *end, gv_dir dir, uint64_t *count);
 
 /** How many bytes are stored and wait to be read: never more than were granted and aren't taken (section 4.1). */

@@ -3,7 +3,7 @@
 #include <stdalign.h>
 #include <string.h>
 
-#include "calls.h"
+#include "hearing.h"
 
 /* No later field may stand where a struct of today has nothing. */
 #define ENDS_WITH(type, field) _Static_assert(sizeof(type) == UP_TO(type, field), #type " ends with " #field)
@@ -14,7 +14,6 @@ ENDS_WITH(gv_allocator, release);
 ENDS_WITH(gv_made, len);
 ENDS_WITH(gv_fill_request, most_bytes);
 ENDS_WITH(gv_filled, last_stream);
-ENDS_WITH(gv_token, number);
 ENDS_WITH(gv_event, code);
 ENDS_WITH(gv_sending, reset_code);
 ENDS_WITH(gv_receiving, stop_code);
@@ -104,7 +103,7 @@ gv_status gv_endpoint_new_tuned(gv_role role, const gv_settings *settings, const
   if (allocator != NULL && !take_allocator(&memory, allocator)) return GV_INVALID;
   gv_endpoint *end = memory.allocate(memory.context, sizeof *end, alignof(gv_endpoint));
   if (end == NULL) return GV_NO_MEMORY;
-  gv_endpoint fresh = {{false, NULL}, {false, NULL}, {false, false}, memory, NULL, no_numbers, 0, false, false, UINT64_MAX};
+  gv_endpoint fresh = {{false, NULL}, {false, NULL}, {false, false}, memory, NULL, {no_numbers, 0}, false, false, {no_numbers, 0}, 0, NO_STREAM};
   *end = fresh;
   gv_status status = leave(end, gvp_reserve(enter(end)));
   if (status == GV_OK) status = leave(end, gvp_new(enter(end), (uint32_t)role, &own, &chosen, &limits));
@@ -125,14 +124,11 @@ gv_status gv_endpoint_new(gv_role role, const gv_settings *settings, const gv_li
   return gv_endpoint_new_with(role, settings, peer, NULL, out);
 }
 
-static void free_told(gv_endpoint *end) {
-  if (end->told_room > 0) end->memory.release(end->memory.context, end->told, end->told_room * sizeof *end->told, alignof(uint64_t));
-}
-
 void gv_endpoint_free(gv_endpoint *end) {
   if (end == NULL) return;
   gv_allocator memory = end->memory;
-  free_told(end);
+  free_numbers(end, &end->told);
+  free_numbers(end, &end->said);
   gvp_heard_drop(enter_heard(end));
   (void)leave(end, GV_OK);
   gvp_free(enter(end));
@@ -158,68 +154,34 @@ gv_status gv_set_grant(gv_endpoint *end, gv_dir dir, uint64_t streams) {
 
 /* Packets. */
 
-/* What was heard is kept from the first note on; false where there is no memory for it. */
-static bool listens(gv_endpoint *end) { return end->heard.live || leave(end, gvp_heard_new(enter_heard(end))) == GV_OK; }
-
-/* What a frame says to hold the peer back is noted, where its owner hears of that; no other frame is looked at. */
-static gv_status note_frame(gv_endpoint *end, const gvp_frame *frame) {
-  if (frame->kind < GV_FRAME_DATA_BLOCKED || frame->kind > GV_FRAME_STREAMS_BLOCKED) return GV_OK;
-  if (!end->hears && !end->looks) return GV_OK;
-  if (!listens(end)) return GV_NO_MEMORY;
-  return leave(end, gvp_was_told(&end->heard, enter(end), frame, none, 0));
-}
-
-/* A payload was taken in, and is looked through for such frames. Of one that was processed before nothing is noted again, but where there
- * was no memory for it. */
-static gv_status look_through(gv_endpoint *end, uint64_t number, const uint8_t *payload, size_t len, gv_status status) {
-  gvp_frame frame;
-  gvp_fault fault = {0, 0, 0, 0};
-  size_t place = 0;
-  bool comes_again = status == GV_DUPLICATE && end->half_heard == number;
-  if (!end->looks || (status != GV_OK && !comes_again)) return status;
-  memset(&frame, 0, sizeof frame);
-  while (gvp_frames_next(payload, len, &place, &frame, &fault) == GV_OK) {
-    if (note_frame(end, &frame) == GV_NO_MEMORY) {
-      end->half_heard = number;
-      return GV_NO_MEMORY;
-    }
-  }
-  if (comes_again) end->half_heard = UINT64_MAX;
-  return GV_OK;
-}
-
 gv_status gv_receive(gv_endpoint *end, uint64_t number, const uint8_t *payload, size_t len) {
   gvp_closing_info told = {0, 0, 0};
+  size_t blocked;
   if (end == NULL || !is_slice(payload, len)) return GV_INVALID;
   const uint8_t *from = read_from(payload, len);
+  if (!expect_payload(end, from, len, &blocked)) return GV_NO_MEMORY;
   gv_status status = leave(end, gvp_receive(enter(end), number, from, len, &told));
-  return look_through(end, number, from, len, status);
-}
-
-/* Twice as many numbers have a place; false where memory is refused. */
-static bool grow_told(gv_endpoint *end) {
-  enum { FIRST_ROOM = 64 };
-  size_t room = end->told_room == 0 ? FIRST_ROOM : 2 * end->told_room;
-  uint64_t *told = end->memory.allocate(end->memory.context, room * sizeof *told, alignof(uint64_t));
-  if (told == NULL) return false;
-  free_told(end);
-  end->told = told;
-  end->told_room = room;
-  return true;
+  if (status == GV_OK && blocked > 0) (void)look_through(end, from, len, true);
+  return status;
 }
 
 gv_status gv_receive_telling(gv_endpoint *end, uint64_t number, const uint8_t *payload, size_t len,
                              void (*told)(void *context, uint64_t number), void *context) {
+  enum { FIRST_ROOM = 64 };
   gvp_closing_info why = {0, 0, 0};
-  size_t count = 0;
+  size_t count = 0, blocked;
+  numbers *all = NULL;
   gv_status status;
   if (end == NULL || told == NULL || !is_slice(payload, len)) return GV_INVALID;
   const uint8_t *from = read_from(payload, len);
+  if (!expect_payload(end, from, len, &blocked)) return GV_NO_MEMORY;
+  all = &end->told;
   do {
-    status = leave(end, gvp_receive_telling(enter(end), number, from, len, &why, end->told, end->told_room, &count));
-  } while (status == GV_NO_ROOM && grow_told(end));
-  for (size_t i = 0; i < count; i++) told(context, end->told[i]);
-  return status == GV_NO_ROOM ? GV_NO_MEMORY : look_through(end, number, from, len, status);
+    status = leave(end, gvp_receive_telling(enter(end), number, from, len, &why, all->at, all->room, &count));
+  } while (status == GV_NO_ROOM && has_room(end, all, all->room == 0 ? FIRST_ROOM : 2 * all->room));
+  for (size_t i = 0; i < count; i++) told(context, all->at[i]);
+  if (status == GV_OK && blocked > 0) (void)look_through(end, from, len, true);
+  return status == GV_NO_ROOM ? GV_NO_MEMORY : status;
 }
 
 static gv_status give_made(gv_made *to, gv_status status, gvp_made made) {
@@ -273,16 +235,10 @@ gv_status gv_next_newly_acked(const gv_endpoint *end, const uint8_t *payload, si
 
 /* Events. */
 
-/* A stream was read, or stopped: where nothing is left to read it is heard of again once something is. */
-static gv_status read_on(gv_endpoint *end, uint64_t stream, gv_status status) {
-  if (end->heard.live) (void)leave(end, gvp_was_read(&end->heard, enter(end), stream));
-  return status;
-}
-
 gv_status gv_next_event(gv_endpoint *end, gv_event *event) {
   gvp_news got = {0, 0, 0, 0};
   if (end == NULL || !is_sized(event, UP_TO(gv_event, code))) return GV_INVALID;
-  if (!listens(end)) return GV_NO_MEMORY;
+  if (!listens(end) || !catch_up(end) || !note_said(end)) return GV_NO_MEMORY;
   end->hears = true;
   for (uint32_t dir = GV_DIR_BIDI; dir <= GV_DIR_UNI; dir++) {
     if (end->wants[dir]) (void)leave(end, gvp_wants(enter_heard(end), dir));
@@ -317,22 +273,19 @@ gv_status gv_accept(gv_endpoint *end, uint64_t *stream) { return ask(gvp_accept,
 
 gv_status gv_accept_of(gv_endpoint *end, gv_dir dir, uint64_t *stream) { return ask_of_dir(gvp_accept_of, end, dir, stream); }
 
-/* Where a write will be cut short that is noted; false where there is no memory for it. */
-static bool note_write(gv_endpoint *end, uint64_t stream, size_t len) {
-  uint64_t room = 0;
-  if (gv_room(end, stream, &room) != GV_OK || room >= len) return true;
-  return listens(end) && leave(end, gvp_will_write(&end->heard, enter(end), stream, len)) != GV_NO_MEMORY;
-}
-
 gv_status gv_write(gv_endpoint *end, uint64_t stream, const uint8_t *bytes, size_t len, size_t *count) {
   size_t got = 0;
   if (end == NULL || count == NULL || !is_slice(bytes, len)) return GV_INVALID;
-  /* Without memory for the note no byte is taken, and a refusal goes before. */
-  bool is_noted = note_write(end, stream, len);
+  /* A write that couldn't be noted holds the next one up, and what else refuses that goes before. */
+  bool is_noted = catch_up(end);
   size_t most = is_noted ? len : 0;
   gv_status status = leave(end, gvp_write(enter(end), stream, read_from(bytes, most), most, &got));
   if (status != GV_OK) return status;
-  if (!is_noted) return GV_NO_MEMORY;
+  if (got < len) {
+    if (!is_noted) return GV_NO_MEMORY;
+    end->unnoted = stream;
+    (void)catch_up(end);
+  }
   *count = got;
   return GV_OK;
 }
@@ -666,132 +619,124 @@ gv_status gv_put_ack(const gv_range *ranges, size_t count, uint64_t delay, uint8
 
 /* Frames and tokens of an end. */
 
-gv_status gv_take_frame(gv_endpoint *end, const gv_frame *frame, gv_taken *taken) {
-  gv_frame f;
-  uint32_t got = 0;
-  if (end == NULL || taken == NULL || !copy_in(&f, sizeof f, frame, UP_TO(gv_frame, token))) return GV_INVALID;
-  if (!is_slice(f.bytes, f.len)) return GV_INVALID;
-  gvp_frame given = frame_of(&f);
-  gv_status status = leave(end, gvp_take_frame(enter(end), &given, read_from(f.bytes, f.len), f.len, &got));
-  if (status == GV_OK) status = note_frame(end, &given);
-  if (status == GV_OK) *taken = (gv_taken)got;
-  return status;
+/* Whether a frame is of streams or of flow control, which an end takes in without its packet. */
+static bool is_of_end(const gvp_frame *frame) {
+  return frame->kind == GV_FRAME_RESET_STREAM || frame->kind == GV_FRAME_STOP_SENDING ||
+         (frame->kind >= GV_FRAME_STREAM && frame->kind <= GV_FRAME_STREAMS_BLOCKED);
 }
 
-/* The frames as the library below has them; false where one of them isn't a struct of the first one's size. */
-static bool take_given(gvp_given *to, const gv_frame *frames, size_t count) {
+/* Whether a frame is of a kind and of a direction, and its stream has a number. */
+static bool is_given(const gvp_frame *frame) {
+  return frame->kind <= GV_FRAME_HANDSHAKE_DONE && frame->dir <= GV_DIR_UNI && frame->stream <= MOST_NUMBER;
+}
+
+/* The frames of the end's own kinds as the library below has them, and how many these are; false where one of all isn't a struct of the first
+ * one's size, or no frame. */
+static bool take_given(gvp_given *to, const gv_frame *frames, size_t count, size_t *ours) {
+  *ours = 0;
   for (size_t i = 0; i < count; i++) {
     const uint8_t *at = (const uint8_t *)frames + i * size_of(frames);
     gv_frame f;
     if (size_of(at) != size_of(frames) || !copy_in(&f, sizeof f, at, UP_TO(gv_frame, token)) || !is_slice(f.bytes, f.len)) return false;
     gvp_given given = {frame_of(&f), read_from(f.bytes, f.len), f.len};
-    to[i] = given;
+    if (!is_given(&given.frame)) return false;
+    if (!is_of_end(&given.frame)) continue;
+    if (to != NULL) to[*ours] = given;
+    ++*ours;
   }
   return true;
 }
 
-/* Memory was refused somewhere among the frames: each is handed in once more, where those that went in change nothing, up to the one
- * that finds none. */
-static gv_status take_each(gv_endpoint *end, const gvp_given *given, size_t count, size_t *went) {
-  uint32_t taken = 0;
-  for (size_t i = 0; i < count; i++) {
-    gv_status status = leave(end, gvp_take_frame(enter(end), &given[i].frame, given[i].bytes, given[i].bytes_len, &taken));
-    if (status == GV_OK) status = note_frame(end, &given[i].frame);
-    if (status == GV_NO_MEMORY) *went = i;
-    if (status != GV_OK) return status;
-  }
-  return GV_OK;
-}
-
-/* All frames went in; *went tells the first one that finds no memory to be noted. */
-static gv_status note_each(gv_endpoint *end, const gvp_given *given, size_t count, size_t *went) {
-  for (size_t i = 0; i < count; i++) {
-    gv_status status = note_frame(end, &given[i].frame);
-    if (status == GV_NO_MEMORY) *went = i;
-    if (status != GV_OK) return status;
-  }
-  return GV_OK;
-}
-
-static gv_status take_all(gv_endpoint *end, const gvp_given *given, size_t count, size_t *went, gv_taken *taken) {
-  uint32_t got = 0;
-  gv_status status = leave(end, gvp_take_frames(enter(end), given, count, &got));
-  if (status == GV_NO_MEMORY) {
-    got = GV_TAKEN_TOOK;
-    status = take_each(end, given, count, went);
-  } else if (status == GV_OK) {
-    status = note_each(end, given, count, went);
-  }
+/* Takes frames in. What they say to hold the peer back is noted behind, for which there has to be room before. */
+static gv_status take_all(gv_endpoint *end, const gvp_given *given, size_t count, gv_taken *taken) {
+  uint32_t got = GV_TAKEN_NOT_OURS;
+  gv_status status = GV_OK;
+  size_t blocked = 0;
+  for (size_t i = 0; i < count && (end->hears || end->looks); i++) blocked += says_blocked(&given[i].frame);
+  if (!expect(end, blocked)) return GV_NO_MEMORY;
+  if (count == 1) status = leave(end, gvp_take_frame(enter(end), &given->frame, given->bytes, given->bytes_len, &got));
+  if (count > 1) status = leave(end, gvp_take_frames(enter(end), given, count, &got));
   if (status != GV_OK) return status;
-  *went = count;
+  for (size_t i = 0; i < count && blocked > 0; i++)
+    if (says_blocked(&given[i].frame)) note_blocked(end, &given[i].frame);
   *taken = (gv_taken)got;
   return GV_OK;
 }
 
-gv_status gv_take_frames(gv_endpoint *end, const gv_frame *frames, size_t count, size_t *went, gv_taken *taken) {
+gv_status gv_take_frames(gv_endpoint *end, const gv_frame *frames, size_t count, gv_taken *taken) {
   enum { FEW = 16 };
   gvp_given few[FEW], *given = few;
-  if (end == NULL || went == NULL || taken == NULL || count > PTRDIFF_MAX / sizeof *given) return GV_INVALID;
-  if (count > 0 && (!is_sized(frames, UP_TO(gv_frame, token)) || size_of(frames) % alignof(gv_frame) != 0)) return GV_INVALID;
-  if (count > FEW) given = end->memory.allocate(end->memory.context, count * sizeof *given, alignof(gvp_given));
-  if (given == NULL) {
-    *went = 0;
-    return GV_NO_MEMORY;
-  }
-  gv_status status = take_given(given, frames, count) ? take_all(end, given, count, went, taken) : GV_INVALID;
-  if (count > FEW) end->memory.release(end->memory.context, given, count * sizeof *given, alignof(gvp_given));
+  gv_status status = GV_OK;
+  size_t ours;
+  if (end == NULL || taken == NULL || count > PTRDIFF_MAX / sizeof *given) return GV_INVALID;
+  if (count > 0 && !is_sized(frames, UP_TO(gv_frame, token))) return GV_INVALID;
+  if (count > 1 && size_of(frames) % alignof(gv_frame) != 0) return GV_INVALID;
+  bool is_few = count <= FEW;
+  if (!take_given(is_few ? few : NULL, frames, count, &ours)) return GV_INVALID;
+  /* A closed end says so before memory is asked for, which one frame mostly doesn't need. */
+  if (ours != 1 || !is_few || says_blocked(&few->frame)) status = ask_open(end);
+  if (status != GV_OK) return status;
+  if (is_few || ours == 0) return take_all(end, few, ours, taken);
+  given = end->memory.allocate(end->memory.context, ours * sizeof *given, alignof(gvp_given));
+  if (given == NULL) return GV_NO_MEMORY;
+  (void)take_given(given, frames, count, &ours);
+  status = take_all(end, given, ours, taken);
+  end->memory.release(end->memory.context, given, ours * sizeof *given, alignof(gvp_given));
   return status;
+}
+
+gv_status gv_take_frame(gv_endpoint *end, const gv_frame *frame, gv_taken *taken) { return gv_take_frames(end, frame, 1, taken); }
+
+static gv_token token_of(const gvp_token *from) {
+  gv_token told = {from->epoch, from->first, from->number};
+  return told;
+}
+
+static gvp_token given_token(const gv_token *from) {
+  gvp_token given = {from->epoch, from->first, from->number};
+  return given;
 }
 
 gv_status gv_fill(gv_endpoint *end, const gv_fill_request *want, uint8_t *out, size_t room, gv_filled *filled) {
   gv_fill_request w;
   gvp_filled got = {false, false, 0, 0, 0};
-  if (end == NULL || !is_slice(out, room) || !copy_in(&w, sizeof w, want, UP_TO(gv_fill_request, first))) return GV_INVALID;
+  gvp_token token = {0, 0, 0};
+  if (end == NULL || !is_slice(out, room) || !copy_in(&w, sizeof w, want, UP_TO(gv_fill_request, most_bytes))) return GV_INVALID;
   if (!is_sized(filled, UP_TO(gv_filled, last_stream))) return GV_INVALID;
-  gvp_request given = {w.items, w.streams, w.alone, w.first, w.most_bytes == 0 ? SIZE_MAX : w.most_bytes};
+  gvp_request given = {w.items, w.streams, w.alone, w.first, w.is_capped ? w.most_bytes : SIZE_MAX};
   gv_status status = leave(end, gvp_fill(enter(end), &given, written_to(out, room), room, &got));
-  gv_filled told = {0, got.has_last_stream, got.more, got.token, got.len, got.last_stream};
-  if (status == GV_OK) copy_out(filled, &told, sizeof told);
-  return status;
-}
-
-static bool take_token(gvp_token *to, const gv_token *from) {
-  gv_token t;
-  if (!copy_in(&t, sizeof t, from, UP_TO(gv_token, number))) return false;
-  gvp_token own = {t.epoch, t.first, t.number};
-  *to = own;
-  return true;
-}
-
-static void tell_token(gv_token *to, const gvp_token *from) {
-  gv_token told = {0, from->epoch, from->first, from->number};
-  copy_out(to, &told, sizeof told);
+  if (status != GV_OK) return status;
+  (void)leave(end, gvp_token_of(enter(end), got.token, &token));
+  gv_filled told = {0, got.has_last_stream, got.more, token_of(&token), got.len, got.last_stream};
+  copy_out(filled, &told, sizeof told);
+  return GV_OK;
 }
 
 gv_status gv_token_of(const gv_endpoint *end, uint64_t number, gv_token *token) {
   gvp_token got = {0, 0, 0};
-  if (end == NULL || !is_sized(token, UP_TO(gv_token, number))) return GV_INVALID;
+  if (end == NULL || token == NULL) return GV_INVALID;
   gv_status status = leave(end, gvp_token_of(enter(end), number, &got));
-  if (status == GV_OK) tell_token(token, &got);
+  if (status == GV_OK) *token = token_of(&got);
   return status;
 }
 
 gv_status gv_token_and(gv_token *token, const gv_token *next) {
-  gvp_token first, second, both = {0, 0, 0};
-  if (!take_token(&first, token) || !take_token(&second, next)) return GV_INVALID;
+  gvp_token both = {0, 0, 0};
+  if (token == NULL || next == NULL) return GV_INVALID;
+  gvp_token first = given_token(token), second = given_token(next);
   gv_status status = (gv_status)gvp_token_and(&first, &second, &both);
-  if (status == GV_OK) tell_token(token, &both);
+  if (status == GV_OK) *token = token_of(&both);
   return status;
 }
 
 gv_status gv_token_acked(gv_endpoint *end, const gv_token *token) {
-  gvp_token given;
-  if (end == NULL || !take_token(&given, token)) return GV_INVALID;
+  if (end == NULL || token == NULL) return GV_INVALID;
+  gvp_token given = given_token(token);
   return leave(end, gvp_token_acked(enter(end), &given));
 }
 
 gv_status gv_token_lost(gv_endpoint *end, const gv_token *token) {
-  gvp_token given;
-  if (end == NULL || !take_token(&given, token)) return GV_INVALID;
+  if (end == NULL || token == NULL) return GV_INVALID;
+  gvp_token given = given_token(token);
   return leave(end, gvp_token_lost(enter(end), &given));
 }

@@ -3,11 +3,18 @@
 #ifndef GOTSAVENA_CALLS_H
 #define GOTSAVENA_CALLS_H
 
+#include <stdalign.h>
 #include <stddef.h>
 #include <string.h>
 
 #include "memory.h"
 #include "proved.h"
+
+/* Numbers, in memory of the end. */
+typedef struct numbers {
+  uint64_t *at;
+  size_t room; /* how many have a place */
+} numbers;
 
 struct gv_endpoint {
   gvp_handle handle;
@@ -15,17 +22,21 @@ struct gv_endpoint {
   bool wants[2];   /* of which directions an opening was refused since an event was asked for: no memory is taken to refuse it */
   gv_allocator memory;
   const gv_allocator *outer; /* from where the thread takes memory again once the call ends */
-  uint64_t *told;            /* where gv_receive_telling() has the numbers written */
-  size_t told_room;          /* how many have a place there */
+  numbers told;              /* where gv_receive_telling() has the numbers written */
   bool hears;                /* whether an event was asked for: then frames are noted that say what holds the peer back */
   bool looks;                /* whether payloads are looked through for such frames */
-  uint64_t half_heard;       /* the number of a payload of which one found no memory, else above all numbers */
+  numbers said;              /* the streams of such frames that took effect and found no memory to be noted: those of one call */
+  size_t said_count;         /* how many they are */
+  uint64_t unnoted;          /* the stream of a write that was cut short, for which there was no memory to note it, else NO_STREAM */
 };
 
 /* What a struct takes up to a field, and it: what it took in the version of which this was the last field. */
 #define UP_TO(type, field) (offsetof(type, field) + sizeof((type *)0)->field)
 
 enum { MOST_SIZE = 4096, TOKEN_LEN = 16 };
+
+/* The greatest number that a frame has (section 16). */
+#define MOST_NUMBER ((UINT64_C(1) << 62) - 1)
 
 static size_t least(size_t a, size_t b) { return a < b ? a : b; }
 
@@ -59,6 +70,9 @@ static uint8_t none[1];
 
 static uint64_t no_numbers[1];
 
+/* No stream has this number. */
+#define NO_STREAM UINT64_MAX
+
 static bool is_slice(const void *at, size_t len) { return (at != NULL || len == 0) && len <= (size_t)PTRDIFF_MAX; }
 
 static const uint8_t *read_from(const uint8_t *at, size_t len) { return len == 0 ? none : at; }
@@ -81,6 +95,23 @@ static gvp_heard *enter_heard(gv_endpoint *end) {
 static gv_status leave(const gv_endpoint *end, uint32_t status) {
   (void)gvp_take_from(end->outer);
   return (gv_status)status;
+}
+
+static void free_numbers(gv_endpoint *end, numbers *all) {
+  if (all->room > 0) end->memory.release(end->memory.context, all->at, all->room * sizeof *all->at, alignof(uint64_t));
+  all->at = no_numbers;
+  all->room = 0;
+}
+
+/* So many numbers have a place, and those that had one are gone; false where memory is refused, and then nothing changed. */
+static bool has_room(gv_endpoint *end, numbers *all, size_t wanted) {
+  if (wanted <= all->room) return true;
+  uint64_t *at = end->memory.allocate(end->memory.context, wanted * sizeof *at, alignof(uint64_t));
+  if (at == NULL) return false;
+  free_numbers(end, all);
+  all->at = at;
+  all->room = wanted;
+  return true;
 }
 
 /* The shapes of calls that a number or a bool answers. */

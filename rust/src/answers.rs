@@ -52,16 +52,16 @@ pub enum Received {
     /// All frames took effect, and the packet number is kept. If the layer beneath makes ACKs of its own, they may name
     /// only numbers that were answered so.
     Done,
-    /// The packet number was processed before. Nothing changed.
+    /// The packet number was processed before. Nothing changed. A payload that was answered by `NoMemory` wasn't: it comes again
+    /// as one that is new.
     Duplicate,
     /// The packet number lies below those that are still told apart (RFC 9000, section 13.2.3). Nothing changed.
     BelowFloor,
     /// The peer closed the connection, now or before, with this code. The frames before its CONNECTION_CLOSE took
     /// effect, but bytes that weren't read before can't be read any more: `read` answers `Closed`.
     PeerClosed(u64),
-    /// Memory was refused. The first frames took effect, the number isn't kept, and the same payload may come again. So it may
-    /// where all took effect, but what they say to hold the peer back couldn't be noted
-    /// ([`hear_blocked`](crate::Endpoint::hear_blocked)).
+    /// Memory was refused. The first frames took effect, or none, the number isn't kept or acknowledged, and the same payload
+    /// may come again.
     NoMemory,
 }
 
@@ -71,7 +71,9 @@ pub enum Taken {
     /// It took effect, and changed something.
     Took,
     /// It changed nothing: what it carries came before, or it raises nothing. Many of these tell of a peer that only makes
-    /// work.
+    /// work, but not those that say what holds it back: a DATA_BLOCKED, a STREAMS_BLOCKED and a STREAM_DATA_BLOCKED of an open
+    /// stream never change anything, and an honest peer sends them wherever it waits for credit (RFC 9000, sections 19.12 to
+    /// 19.14). They aren't to be counted.
     Unchanged,
     /// It is of a kind that is the stack's own affair, and changed nothing: not of streams, and not of flow control.
     NotOurs,
@@ -120,7 +122,8 @@ pub enum Peek<'a> {
 pub struct Consumed {
     /// What a read of so many bytes tells.
     pub read: Read,
-    /// Whether the end of the stream is reached, and so counts as told: it needs no further call.
+    /// Whether the end of the stream is reached, and so counts as told: it needs no further call. It is beside `End`, too, and
+    /// not beside `Wait` or `Reset`.
     pub at_end: bool,
 }
 
@@ -144,7 +147,7 @@ pub struct Made {
 pub struct Token {
     /// That of the end ([`Tuning::epoch`](crate::Tuning::epoch)).
     pub epoch: u64,
-    /// The lowest of the numbers.
+    /// The lowest of the numbers. A token in which it is above `number` is `NotGiven`.
     pub first: u64,
     /// The highest of them. A packet that was filled at once has one: that of [`Made`].
     pub number: u64,

@@ -13,7 +13,7 @@ use crate::faults::{
 use crate::filling::{Fill, Filled};
 use crate::frame::{Frame, MAX_VARINT};
 use crate::ids::{Dir, Role, StreamId};
-use crate::proved::{qs_calls as calls, qs_conn as conn, qs_wire as wire};
+use crate::proved::{qs_conn as conn, qs_wire as wire};
 use crate::settings::{PeerLimits, Settings};
 use crate::shim::Vec;
 use crate::shim::alloc::Global;
@@ -151,8 +151,9 @@ impl Endpoint {
 
     /// Sets anew how many streams of a direction the peer may have open (RFC 9000, section 4.6). A greater grant moves
     /// the count of its streams at once, beside those that came to their end, up to the lifetime's, and the next packet
-    /// tells it. Under a smaller one, 0 even, the count stands until so many streams ended that it moves again: no
-    /// count falls. What the peer was told as the end was made, [`Settings`], stays, and so does the lifetime.
+    /// tells it. Streams that ended count each there, also where counts move by steps
+    /// ([`count_step`](crate::Tuning::count_step)). Under a smaller one, 0 even, the count stands until so many streams ended
+    /// that it moves again: no count falls. What the peer was told as the end was made, [`Settings`], stays, and so does the lifetime.
     ///
     /// ```
     /// use gotsavena::{Dir, Endpoint, Role, SetFault, Settings};
@@ -477,8 +478,10 @@ impl Endpoint {
 
     /// Fills a slice with frames of what is due and asked for, for a packet of a stack that owns its packets: never an ACK,
     /// which stays due. Control items come first, and then bytes of streams by turns (RFC 9000, sections 2.3, 4, 12.4 and
-    /// 13.3). `None` where nothing that is asked for may go, or the room is too little: with [`MIN_FILL`](crate::MIN_FILL)
-    /// bytes it says that nothing may. The slice may have any length; of it changes only what is filled.
+    /// 13.3). `None` where nothing that is asked for may go, within the cap ([`Fill::at_most`](crate::Fill::at_most)), or the
+    /// room is too little: with [`MIN_FILL`](crate::MIN_FILL) bytes it says that nothing may. The slice may have any length; of
+    /// it changes only what is filled, and that is the payload of a packet: under its token's number a peer's
+    /// [`receive`](Endpoint::receive) takes it, too.
     ///
     /// What went in has a token, which takes the place of a packet number that the stack keeps to itself: it is told to be
     /// acknowledged or lost.
@@ -573,7 +576,9 @@ impl Endpoint {
     /// section 13.1). A frame of streams or of flow control takes effect as in a payload, and then the limits move; one of
     /// any other kind changes nothing: an ACK (tell its packets by [`Endpoint::acked`]), a CONNECTION_CLOSE, PADDING.
     /// `Took` and `Unchanged` say whether anything changed: a frame that came before, carries no new byte or raises nothing
-    /// doesn't, and a stack counts these against a peer that only makes work. Acknowledge a packet to the peer only once each of its frames was taken.
+    /// doesn't, and a stack counts these against a peer that only makes work, but for DATA_BLOCKED, STREAM_DATA_BLOCKED and
+    /// STREAMS_BLOCKED, which an honest peer sends and which change nothing ([`Taken::Unchanged`]). Acknowledge a packet to the
+    /// peer only once each of its frames was taken.
     ///
     /// ```
     /// use gotsavena::{Dir, Endpoint, Read, Role, Settings, Taken, frames};
@@ -600,9 +605,8 @@ impl Endpoint {
     ///
     /// `Closing` where the frame breaks a rule (sections 4, 19 and 20.1), or has values that no text has
     /// (FRAME_ENCODING_ERROR); the end is closed from now on, and [`Endpoint::close_payload`] tells the peer so. It names the
-    /// type of the frame's canonical text, and place 0. `NoMemory`: nothing changed, or a STREAM_DATA_BLOCKED alone opened its
-    /// stream and wasn't noted for [`next_event`](Endpoint::next_event); the frame may come again. An end that is closed says so
-    /// again: `Closing`, or `PeerClosed` with the peer's code.
+    /// type of the frame's canonical text, and place 0. `NoMemory`: nothing changed, and the frame may come again. An end that is
+    /// closed says so again, before it asks for memory: `Closing`, or `PeerClosed` with the peer's code.
     #[inline]
     pub fn take_frame(&mut self, frame: &Frame<'_>) -> Result<Taken, TakeFault> {
         if let Frame::Stream {
@@ -617,16 +621,16 @@ impl Endpoint {
                 .take_stream_frame(stream.inner(), offset, bytes, fin);
             return taken.map(Taken::of).map_err(TakeFault::of);
         }
-        let frame = frame.inner();
-        let taken = self.inner.take_frame(&frame);
-        self.told_of(taken, slice::from_ref(&frame))
+        self.take_heard(slice::from_ref(&frame.inner()))
     }
 
     /// Takes in the frames of one packet, as [`take_frame`](Endpoint::take_frame) each of them, one after the other, but that
     /// limits move once, as the call ends: what [`receive`](Endpoint::receive) does with them (RFC 9000, sections 4.1 and
-    /// 12.4). Frames of other kinds are passed over. Up to 16 frames take no memory.
+    /// 12.4). Frames of other kinds are passed over. Up to 16 frames are handed on without memory, and any number of those of
+    /// other kinds.
     ///
-    /// It answers [`Taken::Took`] where one of them changed something, else [`Taken::Unchanged`] where one was taken.
+    /// It answers [`Taken::Took`] where one of them changed something, else [`Taken::Unchanged`] where one was taken, and
+    /// [`Taken::NotOurs`] where none was, as of no frame.
     ///
     /// ```
     /// use gotsavena::{Dir, Endpoint, Role, Settings, Taken, frames};
@@ -650,39 +654,51 @@ impl Endpoint {
     /// # Errors
     ///
     /// As of [`take_frame`](Endpoint::take_frame), by the first frame that is refused: those before it took effect. After
-    /// `NoMemory` the same frames may come again.
+    /// `NoMemory` none of them took effect, or some first ones, and the same frames may come again.
     pub fn take_frames(&mut self, frames: &[Frame<'_>]) -> Result<Taken, TakeFault> {
         if frames.len() <= FEW_FRAMES {
             let few: [_; FEW_FRAMES] =
                 array::from_fn(|place| frames.get(place).unwrap_or(&Frame::Ping).inner());
-            let few = &few[..frames.len()];
-            let taken = self.inner.take_frames(few);
-            return self.told_of(taken, few);
+            return self.take_heard(&few[..frames.len()]);
         }
-        let Ok(mut all) = Vec::with_capacity(Global, frames.len()) else {
+        // A closed end says so before memory is asked for, and frames of other kinds want none.
+        self.ask_open()?;
+        let ours = || frames.iter().filter(|frame| frame.is_of_end());
+        let Ok(mut all) = Vec::with_capacity(Global, ours().count()) else {
             return Err(TakeFault::NoMemory);
         };
-        for frame in frames {
-            // (there is room)
-            let _ = all.push(frame.inner());
+        for frame in ours() {
+            all.push_reserved(frame.inner());
         }
-        let taken = self.inner.take_frames(&all);
-        self.told_of(taken, &all)
+        self.take_heard(&all)
     }
 
-    // What came of frames, once it is noted what they say to hold the peer back.
-    fn told_of(
-        &mut self,
-        taken: Result<calls::Taken, calls::TakeFault>,
-        frames: &[wire::Frame<'_>],
-    ) -> Result<Taken, TakeFault> {
-        let taken = taken.map_err(TakeFault::of)?;
-        for frame in frames {
-            if self.hearing.was_told(&self.inner, frame).is_err() {
-                return Err(TakeFault::NoMemory);
-            }
+    // Takes frames in. What they say to hold the peer back is noted behind, for which there has to be room before.
+    fn take_heard(&mut self, frames: &[wire::Frame<'_>]) -> Result<Taken, TakeFault> {
+        let blocked = || frames.iter().filter(|frame| says_blocked(frame));
+        if !self.hearing.is_heard() || blocked().next().is_none() {
+            return self.take_given(frames);
         }
-        Ok(Taken::of(taken))
+        self.ask_open()?;
+        if self.hearing.expect(&self.inner, blocked().count()).is_err() {
+            return Err(TakeFault::NoMemory);
+        }
+        let taken = self.take_given(frames)?;
+        blocked().for_each(|frame| self.hearing.was_told(&self.inner, frame));
+        Ok(taken)
+    }
+
+    fn take_given(&mut self, frames: &[wire::Frame<'_>]) -> Result<Taken, TakeFault> {
+        let taken = self.inner.take_frames(frames);
+        taken.map(Taken::of).map_err(TakeFault::of)
+    }
+
+    // An end that is closed says so, to a frame that does nothing else.
+    fn ask_open(&mut self) -> Result<(), TakeFault> {
+        match self.inner.take_frame(&wire::Frame::Ping) {
+            Ok(_passed) => Ok(()),
+            Err(fault) => Err(TakeFault::of(fault)),
+        }
     }
 
     /// The token of a packet that [`make_packet`](Endpoint::make_packet) made, by the number of [`Made`], for a stack that
@@ -748,8 +764,7 @@ impl Endpoint {
         if number > MAX_VARINT || payload.len() > MAX_PAYLOAD {
             return Err(ReceiveFault::Invalid);
         }
-        let answer = answer_of(self.inner.receive(number, payload));
-        self.hearing.received(&self.inner, number, payload, answer)
+        self.hearing_through(payload, |end| answer_of(end.receive(number, payload)))
     }
 
     /// As [`Endpoint::receive`], and `told` is told each packet that the payload newly acknowledges, once: one that was
@@ -795,8 +810,30 @@ impl Endpoint {
             return Err(ReceiveFault::Invalid);
         }
         let mut telling = Telling(&mut told);
-        let answer = answer_of(self.inner.receive_telling(number, payload, &mut telling));
-        self.hearing.received(&self.inner, number, payload, answer)
+        self.hearing_through(payload, |end| {
+            answer_of(end.receive_telling(number, payload, &mut telling))
+        })
+    }
+
+    // Takes a payload in, and looks it through where that is chosen: before, so that there is room for each note, and behind.
+    #[inline]
+    fn hearing_through(
+        &mut self,
+        payload: &[u8],
+        receive: impl FnOnce(&mut conn::Endpoint) -> Result<Received, ReceiveFault>,
+    ) -> Result<Received, ReceiveFault> {
+        let mut count = 0;
+        if self.hearing.is_looking() && self.ask_open().is_ok() {
+            each_blocked(payload, |_frame| count += 1);
+            if self.hearing.expect(&self.inner, count).is_err() {
+                return Ok(Received::NoMemory);
+            }
+        }
+        let answer = receive(&mut self.inner);
+        if count > 0 && answer == Ok(Received::Done) {
+            each_blocked(payload, |frame| self.hearing.was_told(&self.inner, frame));
+        }
+        answer
     }
 
     /// Writes the payload that tells of this end's own closing: a CONNECTION_CLOSE with an empty reason (RFC 9000,
@@ -817,9 +854,10 @@ impl Endpoint {
         self.inner.stored()
     }
 
-    /// How many bytes of a stream count as taken: those that were read, or all that came once its owner stopped it, or its
-    /// final size once the peer reset it (RFC 9000, sections 3.5 and 4.2). The stream's limit is at most a window above
-    /// them. `None` where the stream has no receiving half here. It takes constant time.
+    /// How many bytes of a stream count as taken: those that were read, or those up to the highest offset that came, gaps
+    /// among them, once its owner stopped it, or its final size once the peer reset it (RFC 9000, sections 3.5 and 4.2). The
+    /// stream's limit is at most a window above them. `None` where the stream has no receiving half here. It takes constant
+    /// time.
     ///
     /// An owner that looks now and then tells how fast a window is used up.
     ///
@@ -878,8 +916,9 @@ impl Endpoint {
     ///
     /// The rings take at least what is [`stored`](Self::stored). A peer can't make them take more than four times the
     /// widest window of the connection that was set, and 4,096 bytes for each receiving half that wasn't read to its end, reset or
-    /// stopped. A buffer takes at most twice the settings' `send_buffer`, no more than 4,096 bytes where all of it is acknowledged, and nothing where the
-    /// end is too, or the stream was reset.
+    /// stopped. A buffer takes at most twice the most that was set for it ([`send_buffer`](crate::Settings::send_buffer),
+    /// [`set_send_buffer`](Endpoint::set_send_buffer)), no more than 4,096 bytes where all of it is acknowledged, and nothing
+    /// where the end is too, or the stream was reset.
     ///
     /// ```
     /// use gotsavena::{Dir, Endpoint, Held, Role, Settings};
@@ -909,14 +948,15 @@ impl Endpoint {
     }
 
     /// How many streams of a direction the peer may open: the grant, and one more for each of its streams that came to
-    /// its end, up to the settings' count of all, and no fewer than before (RFC 9000, section 4.6).
+    /// its end, up to the settings' count of all, and no fewer than before (RFC 9000, section 4.6). Where counts move by steps
+    /// ([`count_step`](crate::Tuning::count_step)) whole steps of those count alone.
     pub fn granted_streams(&self, dir: Dir) -> u64 {
         self.inner.granted_streams(dir.inner())
     }
 
     /// The least stream at or above `from` at which a read of one byte tells something new: bytes, or an end or a reset that
     /// wasn't told yet (RFC 9000, sections 2.2 and 3.2). Of a stopped stream the end and a reset are told, too. `None` where
-    /// there is none, and of a closed end.
+    /// there is none, and of a closed end, but where [`reads_when_closed`](crate::Tuning::reads_when_closed) was chosen.
     ///
     /// A loop over all of them goes on from the number behind each; it costs a look at one word for 64 streams:
     ///
@@ -1059,7 +1099,8 @@ impl Endpoint {
     }
 
     /// The lowest offset of a stream that isn't acknowledged, in bytes from its start: all below it are (RFC 9000, section
-    /// 13.3). Where it is the count written, every byte is. `None` where the stream has no sending half here.
+    /// 13.3). Where it is the count written, every byte is. An acknowledgement that comes after a reset moves it still. `None`
+    /// where the stream has no sending half here.
     pub fn acked_below(&self, stream: StreamId) -> Option<u64> {
         self.inner.acked_below(stream.inner())
     }
@@ -1125,10 +1166,11 @@ impl Endpoint {
         self.inner.told_close().map(ToldClose::of)
     }
 
-    /// The least stream at or above `from` at which a write of one byte is accepted, if there is memory for it: it wasn't
-    /// finished, reset or stopped by the peer, and its buffer has room (RFC 9000, sections 2.2 and 2.4). `None` where there
-    /// is none, and of a closed end. It doesn't ask for credit: where writes keep within it, [`room`](Endpoint::room) tells
-    /// whether such a stream has some.
+    /// The least stream at or above `from` that wasn't finished, reset or stopped by the peer, and whose own buffer has room
+    /// (RFC 9000, sections 2.2 and 2.4): a write of one byte is accepted, if there is memory for it. `None` where there is none,
+    /// and of a closed end. It asks neither for credit nor for what other streams keep: where writes keep within credit, or
+    /// all streams together are bounded ([`send_window`](crate::Tuning::send_window)), [`room`](Endpoint::room) tells whether
+    /// such a stream takes a byte.
     pub fn next_writable(&self, from: StreamId) -> Option<StreamId> {
         self.inner.next_writable(from.inner()).map(StreamId::of)
     }
@@ -1161,6 +1203,27 @@ struct Telling<'a>(&'a mut dyn FnMut(u64));
 impl conn::Told for Telling<'_> {
     fn tell(&mut self, number: u64) {
         (self.0)(number);
+    }
+}
+
+// Whether a frame says what holds the peer back (RFC 9000, sections 19.12 to 19.14).
+fn says_blocked(frame: &wire::Frame<'_>) -> bool {
+    matches!(
+        frame,
+        wire::Frame::DataBlocked { .. }
+            | wire::Frame::StreamDataBlocked { .. }
+            | wire::Frame::StreamsBlocked { .. }
+    )
+}
+
+// Each such frame of a payload, up to its first fault.
+#[cold]
+fn each_blocked(payload: &[u8], mut act: impl FnMut(&wire::Frame<'_>)) {
+    let mut frames = wire::Frames::new(payload);
+    while let Ok(Some(placed)) = frames.next() {
+        if says_blocked(&placed.frame) {
+            act(&placed.frame);
+        }
     }
 }
 

@@ -12,13 +12,15 @@ pub enum Event {
     /// that asks for it: neither needs the other.
     Opened(StreamId),
     /// A read of one byte tells something new: bytes, the end or a reset (section 2.2). It comes again once the stream was
-    /// read until nothing was left, or stopped, and something came since. After a read that left something it doesn't.
+    /// read until nothing was left, or stopped, and something came since. After a read that left something it doesn't, nor
+    /// where the end or a reset came behind bytes that weren't read: one stands for both.
     Readable(StreamId),
     /// A write took fewer bytes than were offered, and now one of one byte is accepted, if there is memory for it (sections
     /// 2.2, 2.4 and 4.1). It comes once for all writes that were cut short before it.
     Writable(StreamId),
-    /// The peer asked for no more of the stream, with this code: that of its first STOP_SENDING (section 3.5). The sending
-    /// half was reset by that, unless it was over before.
+    /// The peer asked for no more of the stream, with this code: that of its first STOP_SENDING (section 3.5). It is told only
+    /// where that came while the sending half could be reset: neither reset by its owner nor acknowledged whole. The half was
+    /// reset by it, or goes on where [`answers_stops`](crate::Tuning::answers_stops) was chosen.
     Stopped(StreamId, u64),
     /// All that was written was acknowledged, and the end too: Data Recvd (section 3.1).
     Finished(StreamId),
@@ -27,16 +29,20 @@ pub enum Event {
     /// Each half that the stream has here came to its end: all that was sent is acknowledged, or the reset, and the reader was
     /// told the end or a reset (section 3).
     Ended(StreamId),
-    /// An [`open`](crate::Endpoint::open) was `Blocked`, and now a stream of that direction may be opened (section 4.6).
+    /// An [`open`](crate::Endpoint::open) was `Blocked`, and now a stream of that direction may be opened (section 4.6): by a
+    /// frame of the peer's, or by [`raise_limits`](crate::Endpoint::raise_limits).
     Available(Dir),
     /// The peer said that the connection's limit holds its bytes back: [`granted`](crate::Endpoint::granted), as it was when it
     /// said so (sections 4.1 and 19.12). An owner whose windows grow calls
     /// [`set_conn_window`](crate::Endpoint::set_conn_window). This kind and the next two come from
     /// [`take_frame`](crate::Endpoint::take_frame) and [`take_frames`](crate::Endpoint::take_frames) once an event was asked for,
-    /// and from [`receive`](crate::Endpoint::receive) where [`hear_blocked`](crate::Endpoint::hear_blocked) was chosen.
+    /// and from [`receive`](crate::Endpoint::receive) where [`hear_blocked`](crate::Endpoint::hear_blocked) was chosen, which
+    /// turns the other two on as well. A frame is held against the limits as they stand behind its whole packet. Of a packet
+    /// that comes twice `receive` tells once; whose frames are handed in twice tells again, since nothing is kept of packets.
     DataBlocked,
     /// The peer said that the stream's limit holds its bytes back (sections 4.1 and 19.13): see
-    /// [`set_stream_window`](crate::Endpoint::set_stream_window).
+    /// [`set_stream_window`](crate::Endpoint::set_stream_window). Of a stream whose length is known it isn't told; of one that
+    /// was stopped it is.
     StreamDataBlocked(StreamId),
     /// The peer said that the count of that direction holds its streams back (sections 4.6 and 19.14): see
     /// [`set_grant`](crate::Endpoint::set_grant).

@@ -62,8 +62,8 @@ pub enum UseFault {
     WrongDirection,
     /// The end of the stream was asked for already.
     Finished,
-    /// The sending half was broken off, by this end or by the peer's STOP_SENDING, whose code [`frames`](crate::frames)
-    /// finds in the payload.
+    /// The sending half was broken off, by this end or by the peer's STOP_SENDING, whose code
+    /// [`stopped_with`](crate::Endpoint::stopped_with) and [`Event::Stopped`](crate::Event::Stopped) tell.
     WasReset,
     /// The connection is closed.
     Closed,
@@ -104,7 +104,7 @@ pub enum LostFault {
 #[derive(Clone, Copy, Debug, PartialEq, Eq)]
 #[non_exhaustive]
 pub enum TokenFault {
-    /// No packet was made yet that has it. Nothing changed.
+    /// Not all of its packets were made yet, it is of another epoch, or its first number is above its last. Nothing changed.
     NotGiven,
     /// Memory was refused. Some of what the packet carried may be told; the call may be made again.
     NoMemory,
@@ -138,7 +138,8 @@ pub enum TakeFault {
     Closing(Closing),
     /// The end saw its peer close before, with this code. Nothing changed.
     PeerClosed(u64),
-    /// Memory was refused. The frame changed nothing, and may come again.
+    /// Memory was refused. Of [`take_frame`](crate::Endpoint::take_frame) nothing changed; of
+    /// [`take_frames`](crate::Endpoint::take_frames) the frames before took effect. The same may come again.
     NoMemory,
 }
 

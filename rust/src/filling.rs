@@ -5,7 +5,7 @@ use crate::ids::StreamId;
 use crate::proved::qs_calls as calls;
 
 /// With so many bytes of room [`Endpoint::fill`](crate::Endpoint::fill) puts something in wherever something may go that
-/// it was asked for: no control item is longer than a RESET_STREAM, with a byte for its type and eight for each of its
+/// it was asked for, within the cap of [`Fill::at_most`]: no control item is longer than a RESET_STREAM, with a byte for its type and eight for each of its
 /// three numbers (RFC 9000, section 19.4).
 pub const MIN_FILL: usize = calls::MIN_FILL;
 
@@ -38,15 +38,19 @@ impl Fill {
         }
     }
 
-    /// The same, with streams from this one on, and then those below it (RFC 9000, section 2.3).
+    /// The same, with streams from this one on, and then those below it (RFC 9000, section 2.3). Where it is one stream
+    /// [alone](Fill::only) it stays that one.
     #[must_use]
     pub fn from(self, stream: StreamId) -> Fill {
+        if self.inner.alone {
+            return self;
+        }
         Fill {
             inner: self.inner.from(stream.inner()),
         }
     }
 
-    /// The same, with this stream alone.
+    /// The same, with this stream alone, whatever was chosen of streams before.
     #[must_use]
     pub fn only(self, stream: StreamId) -> Fill {
         Fill {

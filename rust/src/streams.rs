@@ -8,8 +8,9 @@ use crate::ids::StreamId;
 /// The sending half of a stream at an end (RFC 9000, section 3.1).
 ///
 /// With the feature `std` it is a [`Write`](std::io::Write): a write that finds the stream's buffer full is
-/// `WouldBlock`, and one of a stream that was finished, reset or closed is an error whose inner error is the
-/// [`UseFault`]. `write` tells how many bytes were accepted; `write_all` doesn't where the buffer becomes full.
+/// `WouldBlock`, and what is refused is an error of a kind alone, which takes no memory: `BrokenPipe` where the stream was
+/// finished or reset, `NotConnected` where the end is closed. [`try_write`](SendStream::try_write) answers the [`UseFault`].
+/// `write` tells how many bytes were accepted; `write_all` doesn't where the buffer becomes full.
 ///
 /// ```
 /// # #[cfg(feature = "std")] {
@@ -36,7 +37,8 @@ pub struct SendStream<'a> {
 /// The receiving half of a stream at an end (RFC 9000, section 3.2).
 ///
 /// With the feature `std` it is a [`Read`](std::io::Read): `WouldBlock` where nothing is there, 0 at the end, and
-/// `ConnectionReset` where the peer broke the stream off; other errors have the [`UseFault`] as inner error.
+/// `ConnectionReset` where the peer broke the stream off. An error tells its kind alone, which takes no memory:
+/// [`report`](RecvStream::report) has the peer's code, and [`try_read`](RecvStream::try_read) answers the [`UseFault`].
 /// `read_to_end` keeps the bytes that came before `WouldBlock`; `read_to_string` loses them where they end amid a
 /// character.
 ///
@@ -156,22 +158,9 @@ impl<'a> RecvStream<'a> {
 #[cfg(feature = "std")]
 mod io {
     use super::{Read, RecvStream, SendStream, UseFault};
-    use core::error::Error;
-    use core::fmt;
     use std::io::{self, ErrorKind};
 
-    /// The peer broke a stream off.
-    #[derive(Debug)]
-    struct WasReset(u64);
-
-    impl fmt::Display for WasReset {
-        fn fmt(&self, f: &mut fmt::Formatter<'_>) -> fmt::Result {
-            write!(f, "the stream was reset with code {}", self.0)
-        }
-    }
-
-    impl Error for WasReset {}
-
+    // A kind alone takes no memory; an error with the fault inside would.
     impl From<UseFault> for io::Error {
         fn from(fault: UseFault) -> io::Error {
             let kind = match fault {
@@ -179,9 +168,9 @@ mod io {
                 UseFault::WrongDirection | UseFault::Invalid => ErrorKind::InvalidInput,
                 UseFault::Finished | UseFault::WasReset => ErrorKind::BrokenPipe,
                 UseFault::Closed => ErrorKind::NotConnected,
-                UseFault::NoMemory => return ErrorKind::OutOfMemory.into(),
+                UseFault::NoMemory => ErrorKind::OutOfMemory,
             };
-            io::Error::new(kind, fault)
+            kind.into()
         }
     }
 
@@ -203,9 +192,7 @@ mod io {
             match self.try_read(into)? {
                 Read::Bytes(count) => Ok(count),
                 Read::End => Ok(0),
-                Read::Reset(code) => {
-                    Err(io::Error::new(ErrorKind::ConnectionReset, WasReset(code)))
-                }
+                Read::Reset(_) => Err(ErrorKind::ConnectionReset.into()),
                 Read::Wait if into.is_empty() => Ok(0),
                 Read::Wait => Err(ErrorKind::WouldBlock.into()),
             }

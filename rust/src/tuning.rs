@@ -38,8 +38,8 @@ impl Default for Tuning {
 }
 
 impl Tuning {
-    /// How much of its window has to be taken until a limit on bytes moves (RFC 9000, section 4.2): a half by default. A
-    /// smaller share tells the peer of new credit earlier and more often, so that a fast and long path stays full.
+    /// How much of its window, as it is set at the time, has to be taken until a limit on bytes moves (RFC 9000, section 4.2):
+    /// a half by default. A smaller share tells the peer of new credit earlier and more often, so that a fast and long path stays full.
     pub fn credit_step(mut self, share: Share) -> Tuning {
         self.0.credit_step = share.inner();
         self
@@ -47,7 +47,8 @@ impl Tuning {
 
     /// How many of its grant's streams have to end until a count of streams moves (section 4.6). `None`, the default:
     /// each one moves it, which costs a frame for each. With a share the count moves by whole steps of that share of the
-    /// grant, of one stream at least; so no peer waits for ever, since a step is no more than the grant.
+    /// grant, as it is set at the time, of one stream at least, also with a grant of 0; so no peer waits for ever, since a
+    /// step is no more than the grant.
     ///
     /// ```
     /// use gotsavena::{Dir, Endpoint, Role, Settings, Share, Tuning};
@@ -80,8 +81,10 @@ impl Tuning {
     }
 
     /// Whether what came in is read on once the end closed: [`read`](crate::Endpoint::read),
-    /// [`consume`](crate::Endpoint::consume) and [`next_readable`](crate::Endpoint::next_readable) answer then as before
-    /// the closing, and nothing else does. Not by default.
+    /// [`peek`](crate::Endpoint::peek), [`consume`](crate::Endpoint::consume) and
+    /// [`next_readable`](crate::Endpoint::next_readable) answer then as before the closing, and
+    /// [`next_event`](crate::Endpoint::next_event) tells [`Readable`](crate::Event::Readable). Nothing else does. Not by
+    /// default.
     pub fn reads_when_closed(mut self, is_chosen: bool) -> Tuning {
         self.0.reads_when_closed = is_chosen;
         self

@@ -6,8 +6,8 @@ mod refusing;
 mod support;
 
 use gotsavena::{
-    CloseKind, Closer, Dir, Endpoint, Event, Frame, OpenFault, Received, Settings, StreamId,
-    TakeFault, Taken, ToldClose, frames,
+    CloseKind, Closer, Dir, Endpoint, Event, EventFault, Frame, OpenFault, Received, Settings,
+    StreamId, TakeFault, Taken, ToldClose, frames,
 };
 use refusing::{ASKED, IS_CALLED, REFUSED};
 use support::two_ends;
@@ -218,43 +218,169 @@ fn refused<T>(which: u64, call: impl FnOnce() -> T) -> (T, bool) {
     (answer, ASKED.get() > which)
 }
 
+/// STREAM_DATA_BLOCKED of a stream with limit 400, on the wire and as a frame.
+fn stands(stream: u64) -> ([u8; 4], Frame<'static>) {
+    let limit = 400;
+    let text = [0x15, u8::try_from(stream).expect("small"), 0x41, 0x90];
+    let stream = StreamId::new(stream).expect("a stream's number");
+    (text, Frame::StreamDataBlocked { stream, limit })
+}
+
 #[test]
-fn what_finds_no_memory_comes_again() {
-    let stands = said(0, 400, 0)[2];
+fn a_frame_whose_note_finds_no_memory_comes_again() {
+    let mut refusals = 0;
     for which in 0.. {
         let mut end = asked();
-        let (taken, was_refused) = refused(which, || end.take_frame(&stands));
-        if !was_refused {
+        let frame = stands(STREAM).1;
+        let (taken, was_refused) = refused(which, || end.take_frame(&frame));
+        if taken == Err(TakeFault::NoMemory) {
+            refusals += 1;
+            assert_eq!(news(&mut end), []);
+            assert_eq!(end.take_frame(&frame), Ok(Taken::Unchanged));
+        } else {
             assert_eq!(taken, Ok(Taken::Unchanged));
-            assert!(which > 0, "a note takes memory");
+        }
+        assert_eq!(news(&mut end), [all_three()[1]]);
+        if !was_refused {
             break;
         }
-        assert_eq!(taken, Err(TakeFault::NoMemory));
-        assert_eq!(news(&mut end), []);
-        assert_eq!(end.take_frame(&stands), Ok(Taken::Unchanged));
-        assert_eq!(news(&mut end), [all_three()[1]]);
+    }
+    assert!(refusals > 0, "a note takes memory");
+}
+
+#[test]
+fn a_frame_without_memory_changes_nothing() {
+    // The stream isn't open yet: the frame would open it.
+    let (frame, mut refusals) = (stands(2).1, 0);
+    let opened = StreamId::new(2).expect("a stream's number");
+    for which in 0.. {
+        let mut end = asked();
+        let (taken, was_refused) = refused(which, || end.take_frame(&frame));
+        if taken == Err(TakeFault::NoMemory) {
+            refusals += 1;
+            assert_eq!(end.report(opened), None);
+            assert_eq!(news(&mut end), []);
+            assert_eq!(end.take_frame(&frame), Ok(Taken::Took));
+        } else {
+            assert_eq!(taken, Ok(Taken::Took));
+        }
+        let told = [Event::Opened(opened), Event::StreamDataBlocked(opened)];
+        assert_eq!(news(&mut end), told);
+        if !was_refused {
+            break;
+        }
+    }
+    assert!(refusals > 1, "{refusals} allocations were refused");
+}
+
+/// A server that looks payloads through, and whose peer may open two streams.
+fn looking() -> Endpoint {
+    let [_, mut end] = two_ends(settings().streams(2, 8));
+    end.hear_blocked(true);
+    end
+}
+
+#[test]
+fn a_payload_without_memory_changes_nothing() {
+    let (mut refusals, payload) = (0, stands(STREAM).0);
+    for which in 0.. {
+        let mut end = looking();
+        let (taken, was_refused) = refused(which, || end.receive(7, &payload));
+        if taken == Ok(Received::NoMemory) {
+            refusals += 1;
+            // As if the packet were lost: its number isn't acknowledged.
+            assert!(!end.ack_is_due() && end.report(stream()).is_none());
+            assert_eq!(end.receive(7, &payload), Ok(Received::Done));
+        } else {
+            assert_eq!(taken, Ok(Received::Done));
+        }
+        assert!(end.ack_is_due());
+        assert_eq!(end.receive(7, &payload), Ok(Received::Duplicate));
+        let told = [Event::Opened(stream()), all_three()[1]];
+        assert_eq!(news(&mut end), told);
+        if !was_refused {
+            break;
+        }
+    }
+    assert!(refusals > 2, "{refusals} allocations were refused");
+}
+
+/// What two payloads say of two streams where an allocation of each is refused; `None` where the call has no such allocation.
+fn of_two(each: [u64; 2]) -> Option<usize> {
+    let (mut end, payloads, mut refusals) = (looking(), [stands(0).0, stands(4).0], 0);
+    let mut again = Vec::new();
+    for (number, payload) in payloads.iter().enumerate() {
+        let (taken, was_refused) = refused(each[number], || end.receive(number as u64, payload));
+        if !was_refused {
+            return None;
+        }
+        if taken == Ok(Received::NoMemory) {
+            refusals += 1;
+            again.push(number);
+        }
+    }
+    for number in again {
+        let taken = end.receive(number as u64, &payloads[number]);
+        assert_eq!(taken, Ok(Received::Done), "{number} of {each:?}");
+    }
+    let streams = [0, 4].map(|number| StreamId::new(number).expect("a stream's number"));
+    let told = news(&mut end);
+    assert_eq!(told[..2], streams.map(Event::Opened), "{each:?}");
+    let said = streams.map(Event::StreamDataBlocked);
+    assert_eq!(told[2..], said, "{each:?}");
+    Some(refusals)
+}
+
+#[test]
+fn no_payload_of_two_loses_its_news() {
+    let mut refusals = 0;
+    for first in 0.. {
+        let row: Vec<_> = (0..).map_while(|second| of_two([first, second])).collect();
+        if row.is_empty() {
+            break;
+        }
+        refusals += row.iter().sum::<usize>();
+    }
+    assert!(refusals > 4, "{refusals} refusals");
+}
+
+#[test]
+fn what_was_said_waits_for_its_note() {
+    // The last allocation that the payload asks for is that of the mark.
+    let (mut end, payload) = (looking(), stands(STREAM).0);
+    let count = (0..).take_while(|which| refused(*which, || looking().receive(1, &payload)).1);
+    let last = count.count() as u64 - 1;
+    let (taken, _) = refused(last, || end.receive(1, &payload));
+    assert_eq!(taken, Ok(Received::Done));
+    // Its memory is refused once more: to the next event, and to the next payload that says so.
+    let (event, _) = refused(0, || end.next_event());
+    assert_eq!(event, Err(EventFault::NoMemory));
+    let (taken, _) = refused(0, || end.receive(2, &stands(4).0));
+    assert_eq!(taken, Ok(Received::NoMemory));
+    assert_eq!(news(&mut end), [Event::Opened(stream()), all_three()[1]]);
+}
+
+#[test]
+fn a_closed_end_says_so_without_memory() {
+    let mut end = looking();
+    let closed = ToldClose {
+        by: Closer::Peer,
+        kind: CloseKind::Transport,
+        code: 5,
+    };
+    end.tell_closed(closed);
+    let (text, frame) = stands(STREAM);
+    let (taken, was_asked) = refused(0, || end.receive(1, &text));
+    assert_eq!((taken, was_asked), (Ok(Received::PeerClosed(5)), false));
+    for frames in [vec![frame; 3], vec![frame; 17], vec![Frame::Ping; 17]] {
+        let (taken, was_asked) = refused(0, || end.take_frames(&frames));
+        assert_eq!((taken, was_asked), (Err(TakeFault::PeerClosed(5)), false));
     }
 }
 
 #[test]
-fn a_payload_whose_note_finds_no_memory_comes_again() {
-    let mut unnoted = 0;
-    for which in 0.. {
-        let mut end = asked();
-        end.hear_blocked(true);
-        // STREAM_DATA_BLOCKED of stream 0 with limit 400.
-        let payload = [0x15, 0x00, 0x41, 0x90];
-        let (taken, was_refused) = refused(which, || end.receive(1, &payload));
-        if taken == Ok(Received::NoMemory) {
-            unnoted += 1;
-            assert_eq!(news(&mut end), []);
-            assert_eq!(end.receive(1, &payload), Ok(Received::Done));
-        }
-        assert_eq!(end.receive(1, &payload), Ok(Received::Duplicate));
-        assert_eq!(news(&mut end), [all_three()[1]]);
-        if !was_refused {
-            break;
-        }
-    }
-    assert!(unnoted > 1, "{unnoted} notes were refused");
+fn frames_of_others_want_no_memory() {
+    let [_, mut end] = two_ends(settings());
+    let (taken, was_asked) = refused(0, || end.take_frames(&[Frame::Ping; 100]));
+    assert_eq!((taken, was_asked), (Ok(Taken::NotOurs), false));
 }

@@ -99,6 +99,17 @@ fn one_stream_alone() {
 }
 
 #[test]
+fn one_stream_stays_alone_from_whichever_on() {
+    let (mut end, streams) = busy();
+    let only = Fill::data().only(streams[1]);
+    assert_eq!(only.from(streams[0]), only);
+    assert_eq!(Fill::data().from(streams[2]).only(streams[1]), only);
+    let (filled, text) = fill(&mut end, 100, only.from(streams[2])).expect("bytes");
+    assert_eq!((filled.last_stream, filled.more), (Some(streams[1]), false));
+    assert_eq!(streams_of(&text), [streams[1]]);
+}
+
+#[test]
 fn more_tells_what_the_room_left_out() {
     let (mut one, streams) = busy();
     let (filled, _text) = fill(&mut one, 10, Fill::all()).expect("a reset is due");

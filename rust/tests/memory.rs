@@ -250,3 +250,95 @@ fn a_fill_without_memory_changes_nothing() {
     }
     assert!(refusals > 0);
 }
+
+/// What std's traits answer of a stream where no memory is left, and that they ask for none.
+#[cfg(feature = "std")]
+mod io {
+    use super::support::two_ends;
+    use super::{ASKED, IS_CALLED, REFUSED};
+    use gotsavena::{
+        CloseKind, Closer, Dir, Endpoint, Frame, Settings, StreamId, Taken, ToldClose,
+    };
+    use std::io::{self, ErrorKind, Read, Write};
+
+    const CLOSE: ToldClose = ToldClose {
+        by: Closer::Us,
+        kind: CloseKind::Application,
+        code: 7,
+    };
+
+    // The kind of the error that a call answers, none of whose allocations but this one is refused, and how many it asked for.
+    fn kind_of(refused: u64, call: impl FnOnce() -> io::Result<usize>) -> (ErrorKind, u64) {
+        ASKED.set(0);
+        REFUSED.set(refused);
+        IS_CALLED.set(true);
+        let answer = call();
+        IS_CALLED.set(false);
+        let error = answer.expect_err("it is refused");
+        assert!(error.get_ref().is_none(), "{error}");
+        (error.kind(), ASKED.get())
+    }
+
+    fn write(end: &mut Endpoint, stream: StreamId) -> (ErrorKind, u64) {
+        kind_of(0, || end.send_stream(stream).write(b"x"))
+    }
+
+    fn read(end: &mut Endpoint, stream: StreamId) -> (ErrorKind, u64) {
+        kind_of(0, || end.recv_stream(stream).read(&mut [0; 8]))
+    }
+
+    #[test]
+    fn each_error_of_a_write_takes_no_memory() {
+        let [mut end, _] = two_ends(Settings::small().send_buffer(4));
+        let [finished, reset, full, whole] =
+            [(); 4].map(|()| end.open(Dir::Bidi).expect("granted"));
+        end.finish(finished).expect("open");
+        end.reset(reset, 7).expect("open");
+        assert_eq!(end.write(full, b"abcde"), Ok(4));
+        let [foreign, none] = [3, 400].map(|number| StreamId::new(number).expect("a number"));
+        let opened = Frame::Stream {
+            stream: foreign,
+            offset: 0,
+            fin: true,
+            bytes: &[],
+        };
+        assert_eq!(end.take_frame(&opened), Ok(Taken::Took));
+        assert_eq!(write(&mut end, finished), (ErrorKind::BrokenPipe, 0));
+        assert_eq!(write(&mut end, reset), (ErrorKind::BrokenPipe, 0));
+        assert_eq!(write(&mut end, full), (ErrorKind::WouldBlock, 0));
+        assert_eq!(write(&mut end, foreign), (ErrorKind::InvalidInput, 0));
+        assert_eq!(write(&mut end, none), (ErrorKind::NotFound, 0));
+        assert_eq!(write(&mut end, whole).0, ErrorKind::OutOfMemory);
+        end.tell_closed(CLOSE);
+        assert_eq!(write(&mut end, whole), (ErrorKind::NotConnected, 0));
+    }
+
+    #[test]
+    fn each_error_of_a_read_takes_no_memory() {
+        let [mut client, mut server] = two_ends(Settings::small());
+        let [reset, waits] = [(); 2].map(|()| client.open(Dir::Bidi).expect("granted"));
+        client.write(waits, b"a").expect("open");
+        client.reset(reset, 7).expect("open");
+        let mut payload = [0; 1200];
+        let made = client
+            .make_packet(&mut payload)
+            .expect("open")
+            .expect("due");
+        server
+            .receive(made.number, &payload[..made.len])
+            .expect("frames");
+        let mut bytes = [0; 8];
+        server
+            .recv_stream(waits)
+            .read_exact(&mut bytes[..1])
+            .expect("it came");
+        let own = server.open(Dir::Uni).expect("granted");
+        let none = StreamId::new(400).expect("a number");
+        assert_eq!(read(&mut server, reset), (ErrorKind::ConnectionReset, 0));
+        assert_eq!(read(&mut server, waits), (ErrorKind::WouldBlock, 0));
+        assert_eq!(read(&mut server, own), (ErrorKind::InvalidInput, 0));
+        assert_eq!(read(&mut server, none), (ErrorKind::NotFound, 0));
+        server.tell_closed(CLOSE);
+        assert_eq!(read(&mut server, waits), (ErrorKind::NotConnected, 0));
+    }
+}

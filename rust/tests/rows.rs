@@ -531,8 +531,7 @@ mod io {
         sender.finish().expect("it goes on");
         let finished = sender.write(b"x").expect_err("it is finished");
         assert_eq!(finished.kind(), ErrorKind::BrokenPipe);
-        let inner = finished.get_ref().and_then(|inner| inner.downcast_ref());
-        assert_eq!(inner, Some(&UseFault::Finished));
+        assert_eq!(sender.try_write(b"x"), Err(UseFault::Finished));
 
         let mut payload = [0; 1200];
         let made = client
@@ -573,11 +572,10 @@ mod io {
         server
             .receive(made.number, &payload[..made.len])
             .expect("frames");
-        let error = server
-            .recv_stream(id)
-            .read(&mut [0; 8])
-            .expect_err("a reset");
+        let mut reader = server.recv_stream(id);
+        let error = reader.read(&mut [0; 8]).expect_err("a reset");
         assert_eq!(error.kind(), ErrorKind::ConnectionReset);
-        assert_eq!(error.to_string(), "the stream was reset with code 42");
+        let report = reader.report().expect("a half");
+        assert_eq!(report.reset_code, Some(42));
     }
 }

@@ -18,7 +18,6 @@ static void want(gv_status status, gv_status wanted, const char *what) {
 /* The token of a number. */
 static const gv_token *token_at(const gv_endpoint *end, uint64_t number) {
   static gv_token token;
-  token = (gv_token){.size = sizeof token};
   want(gv_token_of(end, number, &token), GV_OK, "a token");
   return &token;
 }

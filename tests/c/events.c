@@ -220,14 +220,14 @@ static void bounded(void) {
 }
 
 /* What the peer says to hold it back, at these limits: all three kinds, in the frames of one packet. */
-static gv_status says(gv_endpoint *end, uint64_t conn, uint64_t of_stream, uint64_t count, size_t *went) {
+static gv_status says(gv_endpoint *end, uint64_t conn, uint64_t of_stream, uint64_t count) {
   gv_frame frames[3] = {
     {.size = sizeof frames[0], .kind = GV_FRAME_STREAMS_BLOCKED, .dir = GV_DIR_BIDI, .limit = count},
     {.size = sizeof frames[0], .kind = GV_FRAME_DATA_BLOCKED, .limit = conn},
     {.size = sizeof frames[0], .kind = GV_FRAME_STREAM_DATA_BLOCKED, .stream = 0, .limit = of_stream},
   };
   gv_taken taken = GV_TAKEN_NOT_OURS;
-  return gv_take_frames(end, frames, 3, went, &taken);
+  return gv_take_frames(end, frames, 3, &taken);
 }
 
 /* Each is told once where it is said of a limit of the present, and of one that rose it isn't. */
@@ -236,18 +236,16 @@ static void held_back(void) {
   gv_endpoint *end = new_end(GV_ROLE_SERVER);
   gv_frame of_conn = {.size = sizeof of_conn, .kind = GV_FRAME_DATA_BLOCKED, .limit = 8192};
   gv_taken taken = GV_TAKEN_TOOK;
-  size_t went = 0;
-  want(says(end, 4096, 1024, 1, &went), GV_OK, "nobody asked for events yet");
+  want(says(end, 4096, 1024, 1), GV_OK, "nobody asked for events yet");
   hears(end, "opened 0;", "the stream opened");
   is_refused = true;
-  want(says(end, 4096, 1024, 1, &went), GV_NO_MEMORY, "there is no note for the stream");
+  want(says(end, 4096, 1024, 1), GV_NO_MEMORY, "there is no room for the note of the stream");
   is_refused = false;
-  holds(went == 2, "the others were noted");
-  hears(end, "conn-blocked 0;count-blocked bidi;", "so they are told");
-  want(says(end, 4096, 1024, 1, &went), GV_OK, "the same frames again");
+  hears(end, "", "so none is noted");
+  want(says(end, 4096, 1024, 1), GV_OK, "the same frames again");
   hears(end, "conn-blocked 0;blocked 0;count-blocked bidi;", "all three");
   hears(end, "", "each once");
-  want(says(end, 4095, 1023, 0, &went), GV_OK, "limits that rose");
+  want(says(end, 4095, 1023, 0), GV_OK, "limits that rose");
   hears(end, "", "hold nobody back");
   want(gv_set_conn_window(end, 8192), GV_OK, "a wider window");
   want(gv_receive(end, 1, payload, sizeof payload), GV_OK, "a payload says so");
@@ -264,6 +262,76 @@ static void held_back(void) {
   gv_endpoint_free(end);
 }
 
+/* A payload says that the limit of stream 0 or 2 holds the peer back, and so many allocations are given. */
+static gv_status say(gv_endpoint *end, uint64_t number, int gives) {
+  const uint8_t payload[] = {0x15, (uint8_t)(2 * number), 0x44, 0x00};
+  left = gives;
+  gv_status status = gv_receive(end, number, payload, sizeof payload);
+  left = -1;
+  if (status != GV_NO_MEMORY) want(status, GV_OK, "a payload that says so");
+  return status;
+}
+
+/* Where notes find no room their payloads change nothing, no number of theirs is kept, and no news is lost. */
+static bool two_payloads(int first, int second) {
+  gv_endpoint *end = new_end(GV_ROLE_SERVER);
+  uint64_t stream = 99;
+  bool is_due = true;
+  want(gv_hear_blocked(end, true), GV_OK, "payloads are looked through");
+  gv_status one = say(end, 0, first);
+  if (one == GV_NO_MEMORY) {
+    want(gv_ack_is_due(end, &is_due), GV_OK, "an ACK");
+    holds(!is_due, "it isn't acknowledged");
+    want(gv_accept(end, &stream), GV_NONE, "and opened nothing");
+  }
+  gv_status other = say(end, 1, second);
+  if (one == GV_NO_MEMORY) want(say(end, 0, -1), GV_OK, "the first again");
+  if (other == GV_NO_MEMORY) want(say(end, 1, -1), GV_OK, "the second again");
+  hears(end, "opened 0;opened 2;blocked 0;blocked 2;", "all that was said");
+  gv_endpoint_free(end);
+  return other == GV_OK;
+}
+
+static void payloads_without_memory(void) {
+  enum { ENOUGH = 48 };
+  for (int first = 0; first < ENOUGH; first++)
+    for (int second = 0; second < ENOUGH; second++) (void)two_payloads(first, second);
+  holds(two_payloads(ENOUGH, ENOUGH), "so many allocations are enough");
+}
+
+/* A write that took no byte for want of memory was not cut short, and one that couldn't be noted is, before the next. */
+static void writes_without_memory(void) {
+  enum { ENOUGH = 20 };
+  int refusals = 0;
+  for (int gives = 0; gives < ENOUGH; gives++) {
+    gv_endpoint *client = new_end(GV_ROLE_CLIENT), *server = new_end(GV_ROLE_SERVER);
+    uint64_t stream = 99;
+    size_t count = 77;
+    want(gv_open(client, GV_DIR_UNI, &stream, NULL), GV_OK, "open");
+    left = gives;
+    gv_status status = gv_write(client, stream, (const uint8_t *)"0123456789abcdefXYZ", 19, &count);
+    left = -1;
+    bool is_cut = status == GV_OK;
+    if (!is_cut) {
+      want(status, GV_NO_MEMORY, "a write without memory");
+      holds(count == 77, "took no byte");
+      write_all(client, stream, "ab", 2, "then a whole one");
+      refusals++;
+    } else {
+      holds(count == 16, "a write is cut short");
+      is_refused = true;
+      status = gv_write(client, stream, (const uint8_t *)"XYZ", 3, &count);
+      is_refused = false;
+      if (status != GV_NO_MEMORY) want(status, GV_OK, "the next one");
+    }
+    carry(client, server);
+    hears(client, is_cut ? "writable 2;" : "", "writable after a write that was cut short");
+    gv_endpoint_free(client);
+    gv_endpoint_free(server);
+  }
+  holds(refusals > 0, "a write takes memory");
+}
+
 int main(void) {
   gv_endpoint *client = new_end(GV_ROLE_CLIENT), *server = new_end(GV_ROLE_SERVER);
   arguments();
@@ -272,6 +340,8 @@ int main(void) {
   refused(client, server);
   bounded();
   held_back();
+  payloads_without_memory();
+  writes_without_memory();
   gv_endpoint_free(client);
   gv_endpoint_free(server);
   return failed;

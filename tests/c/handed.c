@@ -111,43 +111,41 @@ static void many_frames(gv_frame *many) {
 static void at_once(void) {
   gv_endpoint *end = new_end();
   gv_taken taken = untouched;
-  size_t went = 9;
   gv_frame two[2] = {first, first}, ping = {.size = sizeof ping, .kind = GV_FRAME_PING};
-  want(gv_take_frames(NULL, two, 2, &went, &taken), GV_INVALID, "frames to no end");
-  want(gv_take_frames(end, NULL, 1, &went, &taken), GV_INVALID, "frames at null");
-  want(gv_take_frames(end, two, 2, NULL, &taken), GV_INVALID, "how many to null");
-  want(gv_take_frames(end, two, 2, &went, NULL), GV_INVALID, "what came to null");
-  want(gv_take_frames(end, two, SIZE_MAX, &went, &taken), GV_INVALID, "more than there can be");
+  want(gv_take_frames(NULL, two, 2, &taken), GV_INVALID, "frames to no end");
+  want(gv_take_frames(end, NULL, 1, &taken), GV_INVALID, "frames at null");
+  want(gv_take_frames(end, two, 2, NULL), GV_INVALID, "what came to null");
+  want(gv_take_frames(end, two, SIZE_MAX, &taken), GV_INVALID, "more than there can be");
   two[1].size++;
-  want(gv_take_frames(end, two, 2, &went, &taken), GV_INVALID, "of two sizes");
+  want(gv_take_frames(end, two, 2, &taken), GV_INVALID, "of two sizes");
   two[0].size = two[1].size;
-  want(gv_take_frames(end, two, 2, &went, &taken), GV_INVALID, "of a size that none has");
+  want(gv_take_frames(end, two, 2, &taken), GV_INVALID, "of a size that none has");
   two[0] = two[1] = first;
   two[1].kind = (gv_frame_kind)21;
-  want(gv_take_frames(end, two, 2, &went, &taken), GV_INVALID, "no frame behind one");
+  want(gv_take_frames(end, two, 2, &taken), GV_INVALID, "no frame behind one");
   two[1] = first;
   two[1].bytes = NULL;
-  want(gv_take_frames(end, two, 2, &went, &taken), GV_INVALID, "bytes at null behind a frame");
-  holds(went == 9 && taken == untouched, "nothing was told");
-  want(gv_take_frames(end, NULL, 0, &went, &taken), GV_OK, "none");
-  holds(went == 0 && taken == GV_TAKEN_NOT_OURS, "none is taken");
+  want(gv_take_frames(end, two, 2, &taken), GV_INVALID, "bytes at null behind a frame");
+  holds(taken == untouched, "nothing was told");
+  want(gv_take_frames(end, NULL, 0, &taken), GV_OK, "none");
+  holds(taken == GV_TAKEN_NOT_OURS, "none is taken");
   two[1] = ping;
-  want(gv_take_frames(end, two, 2, &went, &taken), GV_OK, "two");
-  holds(went == 2 && taken == GV_TAKEN_TOOK, "one took effect");
-  want(gv_take_frames(end, two, 2, &went, &taken), GV_OK, "two again");
-  holds(went == 2 && taken == GV_TAKEN_UNCHANGED, "one was taken");
-  want(gv_take_frames(end, &ping, 1, &went, &taken), GV_OK, "a PING alone");
+  want(gv_take_frames(end, two, 2, &taken), GV_OK, "two");
+  holds(taken == GV_TAKEN_TOOK, "one took effect");
+  want(gv_take_frames(end, two, 2, &taken), GV_OK, "two again");
+  holds(taken == GV_TAKEN_UNCHANGED, "one was taken");
+  want(gv_take_frames(end, &ping, 1, &taken), GV_OK, "a PING alone");
   holds(taken == GV_TAKEN_NOT_OURS, "is the stack's own");
   two[1] = first;
   two[1].offset = 1000;
   taken = untouched;
-  want(gv_take_frames(end, two, 2, &went, &taken), GV_PROTOCOL_ERROR, "past the end of the stream");
-  want(gv_take_frames(end, two, 1, &went, &taken), GV_PROTOCOL_ERROR, "it is closed");
+  want(gv_take_frames(end, two, 2, &taken), GV_PROTOCOL_ERROR, "past the end of the stream");
+  want(gv_take_frames(end, two, 1, &taken), GV_PROTOCOL_ERROR, "it is closed");
   holds(taken == untouched, "nothing was told");
   gv_endpoint_free(end);
 }
 
-/* Each allocation of many frames is refused in turn: as many as are told went in, and all of them may come again. */
+/* Each allocation of many frames is refused in turn: some first ones went in, or none, and all of them may come again. */
 static void where_memory_ends(void) {
   gv_frame many[MANY];
   uint8_t into[MANY * LEN];
@@ -157,23 +155,19 @@ static void where_memory_ends(void) {
   for (int gives = 0; !is_given; gives++) {
     gv_endpoint *end = new_end();
     gv_taken taken = untouched;
-    size_t went = MANY, count = 0;
+    size_t count = 0;
+    uint64_t stored = 0;
     left = gives;
-    gv_status status = gv_take_frames(end, many, MANY, &went, &taken);
+    gv_status status = gv_take_frames(end, many, MANY, &taken);
     is_given = status == GV_OK;
     left = -1;
     if (!is_given) {
       want(status, GV_NO_MEMORY, "memory ends");
-      holds(went < MANY && taken == untouched, "not all went in");
-      somewhere += went > 0;
-      is_refused = true;
-      for (size_t i = 0; i < went; i++) {
-        want(gv_take_frame(end, &many[i], &taken), GV_OK, "one that went in");
-        holds(taken == GV_TAKEN_UNCHANGED, "changes nothing");
-      }
-      want(gv_take_frame(end, &many[went], &taken), GV_NO_MEMORY, "the next one didn't");
-      is_refused = false;
-      want(gv_take_frames(end, many + went, MANY - went, &went, &taken), GV_OK, "the others");
+      holds(taken == untouched, "nothing is told");
+      want(gv_stored(end, &stored), GV_OK, "how much went in");
+      holds(stored % LEN == 0 && stored < MANY * LEN, "some first ones, or none");
+      somewhere += stored > 0;
+      want(gv_take_frames(end, many, MANY, &taken), GV_OK, "all of them again");
     }
     holds(taken == GV_TAKEN_TOOK, "they took effect");
     want(gv_read(end, 3, into, sizeof into, &count, NULL), GV_OK, "all is read");
@@ -189,17 +183,18 @@ static void where_memory_ends(void) {
 static uint8_t wide[100000];
 
 /* Tokens of two fills that follow one another. */
-static void tokens(gv_endpoint *end, uint64_t number, uint64_t after) {
-  gv_token token = {.size = sizeof token, .number = 99}, next = token, other = token;
-  want(gv_token_of(NULL, number, &token), GV_INVALID, "of no end");
+static void tokens(gv_endpoint *end, gv_token token, gv_token next) {
+  uint64_t number = token.number, after = next.number;
+  gv_token other = {.number = 99};
+  want(gv_token_of(NULL, number, &other), GV_INVALID, "of no end");
   want(gv_token_of(end, number, NULL), GV_INVALID, "told to null");
-  token.size = sizeof token - 1;
-  want(gv_token_of(end, number, &token), GV_INVALID, "told to a small struct");
-  token.size = sizeof token;
-  holds(token.number == 99, "nothing was told");
-  want(gv_token_of(end, number, &token), GV_OK, "a token");
-  holds(token.epoch == 7 && token.first == number && token.number == number, "its numbers");
-  want(gv_token_of(end, after, &next), GV_OK, "the one behind it");
+  holds(other.number == 99, "nothing was told");
+  holds(token.epoch == 7 && token.first == number, "its numbers");
+  want(gv_token_of(end, after, &other), GV_OK, "by its number");
+  holds(other.epoch == next.epoch && other.first == next.first && other.number == after, "the same");
+  other.first = after + 1;
+  want(gv_token_acked(end, &other), GV_NOT_GIVEN, "acked from a number above its last");
+  want(gv_token_lost(end, &other), GV_NOT_GIVEN, "lost from a number above its last");
   other = next;
   want(gv_token_and(NULL, &next), GV_INVALID, "of null");
   want(gv_token_and(&token, NULL), GV_INVALID, "and null");
@@ -218,7 +213,7 @@ static void tokens(gv_endpoint *end, uint64_t number, uint64_t after) {
 /* What may not be asked, and what is asked for. */
 static void fills(gv_endpoint *end) {
   gv_fill_request all = {.size = sizeof all, .items = true, .streams = true}, none = {.size = sizeof none}, low = all;
-  gv_filled filled = {.size = sizeof filled, .token = 99};
+  gv_filled filled = {.size = sizeof filled, .token = {.number = 99}};
   uint8_t out[200];
   size_t count = 0;
   uint64_t stream = 0, other = 0;
@@ -244,26 +239,25 @@ static void fills(gv_endpoint *end) {
   is_refused = true;
   want(gv_fill(end, &all, wide, sizeof wide, &filled), GV_NO_MEMORY, "no memory");
   is_refused = false;
-  holds(filled.token == 99 && wide[0] == 0, "nothing was told or written");
+  holds(filled.token.number == 99 && wide[0] == 0, "nothing was told or written");
   low = all;
   low.alone = true;
   low.first = other;
+  low.is_capped = true;
+  want(gv_fill(end, &low, out, sizeof out, &filled), GV_NONE, "no byte of one stream, which has no end");
   low.most_bytes = 1;
   want(gv_fill(end, &low, out, sizeof out, &filled), GV_OK, "one byte of one stream");
   holds(filled.len > 1 && out[filled.len - 1] == 'h' && !filled.more && out[filled.len] == 0xee, "the byte");
-  low.most_bytes = 0;
+  low.is_capped = false;
   want(gv_fill(end, &low, out, sizeof out, &filled), GV_OK, "of one stream");
   holds(filled.has_last_stream && filled.last_stream == other && filled.len > 4 && out[filled.len] == 0xee, "its bytes");
-  uint64_t token = filled.token;
+  gv_token token = filled.token;
   want(gv_fill(end, &all, out, GV_MIN_FILL, &filled), GV_OK, "the others");
-  holds(filled.has_last_stream && filled.last_stream == stream && !filled.more && filled.token != token, "that is all");
+  holds(filled.has_last_stream && filled.last_stream == stream && !filled.more && filled.token.number != token.number, "that is all");
   tokens(end, token, filled.token);
-  gv_token first = {.size = sizeof first}, next = {.size = sizeof next};
-  want(gv_token_of(end, token, &first), GV_OK, "the first token");
-  want(gv_token_of(end, filled.token, &next), GV_OK, "the next token");
-  want(gv_token_acked(end, &next), GV_OK, "acked");
+  want(gv_token_acked(end, &filled.token), GV_OK, "acked");
   want(gv_fill(end, &all, out, sizeof out, &filled), GV_NONE, "nothing is due");
-  want(gv_token_lost(end, &first), GV_OK, "lost");
+  want(gv_token_lost(end, &token), GV_OK, "lost");
   all.items = false;
   want(gv_fill(end, &all, out, sizeof out, &filled), GV_OK, "it is due again");
   holds(filled.last_stream == other, "which it is");
@@ -319,6 +313,66 @@ static void is_told(gv_endpoint *end) {
   gv_endpoint_free(other);
 }
 
+/* Two frames, of which memory is refused after so many allocations: then both again. */
+static gv_status take_two(gv_endpoint *end, const gv_frame *two, int gives, gv_taken *taken) {
+  left = gives;
+  gv_status status = gv_take_frames(end, two, 2, taken);
+  left = -1;
+  if (status == GV_NO_MEMORY) status = gv_take_frames(end, two, 2, taken);
+  return status;
+}
+
+/* Whatever memory was refused the frames of a packet come to the same: the limits move behind them, and what is blocked is noted then. */
+static void as_together(int gives) {
+  static const uint8_t zeros[1021];
+  gv_endpoint *end = new_end(), *other = new_end();
+  gv_closing_info why = {.size = sizeof why};
+  gv_event event = {.size = sizeof event};
+  gv_taken taken = untouched;
+  gv_frame open = first, two[2] = {first, first};
+  open.fin = two[0].fin = two[1].fin = false;
+  want(gv_take_frame(end, &open, &taken), GV_OK, "a stream opens");
+  want(gv_stop(end, 3, 0), GV_OK, "and is stopped");
+  two[0].bytes = two[1].bytes = zeros;
+  two[0].offset = 3;
+  two[0].len = sizeof zeros;
+  two[1].offset = 1024;
+  want(take_two(end, two, gives, &taken), GV_PROTOCOL_ERROR, "one byte past the limit, which didn't move yet");
+  want(gv_closing(end, &why), GV_OK, "why");
+  holds(why.code == 3, "FLOW_CONTROL_ERROR");
+  want(gv_next_event(other, &event), GV_NONE, "events are asked for");
+  gv_frame said = {.size = sizeof said, .kind = GV_FRAME_STREAM_DATA_BLOCKED, .stream = 3, .limit = 1024};
+  gv_frame reset = {.size = sizeof reset, .kind = GV_FRAME_RESET_STREAM, .stream = 3, .code = 5};
+  two[0] = said;
+  two[1] = reset;
+  want(take_two(other, two, gives, &taken), GV_OK, "blocked, and reset in the same packet");
+  want(take_two(other, two, gives, &taken), GV_OK, "both again");
+  holds(taken == GV_TAKEN_UNCHANGED, "change nothing");
+  while (gv_next_event(other, &event) == GV_OK) holds(event.kind != GV_EVENT_STREAM_DATA_BLOCKED, "so no limit holds it back");
+  gv_endpoint_free(end);
+  gv_endpoint_free(other);
+}
+
+/* Frames of others' want no memory, and a closed end says so before it wants some. */
+static void without_memory(void) {
+  static const uint8_t payload[] = {0x1c, 0x05, 0x00, 0x00};
+  gv_endpoint *end = new_end();
+  gv_frame many[MANY];
+  gv_taken taken = untouched;
+  for (size_t i = 0; i < MANY; i++) many[i] = (gv_frame){.size = sizeof *many, .kind = GV_FRAME_PING};
+  is_refused = true;
+  want(gv_take_frames(end, many, MANY, &taken), GV_OK, "many PINGs");
+  holds(taken == GV_TAKEN_NOT_OURS, "are the stack's own");
+  is_refused = false;
+  want(gv_receive(end, 0, payload, sizeof payload), GV_CLOSED_BY_PEER, "the peer closes");
+  many_frames(many);
+  is_refused = true;
+  want(gv_take_frames(end, many, 2, &taken), GV_CLOSED_BY_PEER, "it is closed, for two frames");
+  want(gv_take_frames(end, many, MANY, &taken), GV_CLOSED_BY_PEER, "and for many");
+  is_refused = false;
+  gv_endpoint_free(end);
+}
+
 static void is_closed_by_peer(gv_endpoint *end) {
   static const uint8_t payload[] = {0x1c, 0x05, 0x00, 0x00};
   gv_taken taken = untouched;
@@ -336,6 +390,8 @@ int main(void) {
   gv_endpoint *end = new_end(), *other = new_end(), *third = new_end();
   at_once();
   where_memory_ends();
+  for (int gives = 0; gives < 8; gives++) as_together(gives);
+  without_memory();
   no_frames(end);
   frames(end);
   fills(end);

@@ -56,7 +56,7 @@ static void ask_all(const gv_endpoint *end) {
   gv_sending sending = {.size = sizeof sending};
   gv_receiving receiving = {.size = sizeof receiving};
   gv_closing_info closing = {.size = sizeof closing};
-  gv_token token = {.size = sizeof token};
+  gv_token token;
   gv_closer by;
   gv_close_kind kind;
   (void)gv_next_number(end, &number);

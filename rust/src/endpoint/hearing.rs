@@ -1,13 +1,13 @@
 //! What an end tells of by itself, and what is noted for that.
 
 use super::Endpoint;
-use crate::answers::Received;
 use crate::event::Event;
-use crate::faults::{EventFault, ReceiveFault};
+use crate::faults::EventFault;
+use crate::frame::MAX_VARINT;
 use crate::ids::{Dir, StreamId};
 use crate::proved::{qs_conn as conn, qs_ranges::NoMemory, qs_wire as wire};
-use crate::shim::Box;
 use crate::shim::alloc::Global;
+use crate::shim::{Box, Vec};
 
 /// What an owner heard of at its end. An end whose owner asks for no events, and of which no write was cut short, pays a few
 /// words.
@@ -20,9 +20,13 @@ pub(super) struct Hearing {
     wanted: [bool; 2],
     // Whether payloads are looked through for what holds the peer back.
     looks: bool,
-    // The number of a payload of which that found no memory to be noted.
-    half_heard: Option<u64>,
+    // The streams whose limits the peer said to, of frames that took effect and found no memory to be noted. They are before anything
+    // else is: so they are those of one call.
+    said: Vec<StreamId>,
 }
+
+// So many of them keep their place once they are noted.
+const FEW_SAID: usize = 512;
 
 struct Notes {
     heard: conn::Heard,
@@ -49,12 +53,13 @@ impl Hearing {
             unnoted: None,
             wanted: [false; 2],
             looks: false,
-            half_heard: None,
+            said: Vec::new(Global),
         }
     }
 
     fn next(&mut self, end: &conn::Endpoint) -> Result<Option<conn::News>, NoMemory> {
         self.catch_up(end)?;
+        self.note_said(end)?;
         let wanted = self.wanted;
         let notes = self.notes()?;
         for (dir, is_wanted) in [wire::Dir::Bidi, wire::Dir::Uni].into_iter().zip(wanted) {
@@ -120,73 +125,55 @@ impl Hearing {
         }
     }
 
-    /// A frame was taken in. Where it says what holds the peer back that is noted, once an event was asked for.
+    /// Whether what frames say to hold the peer back is noted: once an event was asked for, or where that was chosen.
     #[inline]
-    pub(super) fn was_told(
-        &mut self,
-        end: &conn::Endpoint,
-        frame: &wire::Frame<'_>,
-    ) -> Result<(), NoMemory> {
-        match frame {
-            wire::Frame::DataBlocked { .. }
-            | wire::Frame::StreamDataBlocked { .. }
-            | wire::Frame::StreamsBlocked { .. } => self.note_blocked(end, frame),
-            _ => Ok(()),
-        }
+    pub(super) fn is_heard(&self) -> bool {
+        self.looks || self.notes.as_ref().is_some_and(|notes| notes.has_told)
     }
 
-    #[cold]
-    fn note_blocked(
-        &mut self,
-        end: &conn::Endpoint,
-        frame: &wire::Frame<'_>,
-    ) -> Result<(), NoMemory> {
-        let asks = self.notes.as_ref().is_some_and(|notes| notes.has_told);
-        if asks || self.looks {
-            self.notes()?.heard.was_told(end, frame)?;
-        }
-        Ok(())
-    }
-
-    /// A payload was taken in, with this answer.
+    /// Whether payloads are looked through for that.
     #[inline]
-    pub(super) fn received(
-        &mut self,
-        end: &conn::Endpoint,
-        number: u64,
-        payload: &[u8],
-        answer: Result<Received, ReceiveFault>,
-    ) -> Result<Received, ReceiveFault> {
-        if self.looks {
-            return self.look(end, number, payload, answer);
-        }
-        answer
+    pub(super) fn is_looking(&self) -> bool {
+        self.looks
     }
 
-    // Of a payload that was processed before nothing is noted again, but where there was no memory for it.
-    #[cold]
-    fn look(
-        &mut self,
-        end: &conn::Endpoint,
-        number: u64,
-        payload: &[u8],
-        answer: Result<Received, ReceiveFault>,
-    ) -> Result<Received, ReceiveFault> {
-        let comes_again = answer == Ok(Received::Duplicate) && self.half_heard == Some(number);
-        if answer != Ok(Received::Done) && !comes_again {
-            return answer;
+    /// Before frames take effect, so many of which say what holds the peer back: takes the room that their notes may want, so that none
+    /// of them is lost behind.
+    pub(super) fn expect(&mut self, end: &conn::Endpoint, count: usize) -> Result<(), NoMemory> {
+        if count == 0 {
+            return Ok(());
         }
-        let mut frames = wire::Frames::new(payload);
-        while let Ok(Some(placed)) = frames.next() {
-            if self.was_told(end, &placed.frame).is_err() {
-                self.half_heard = Some(number);
-                return Ok(Received::NoMemory);
+        self.notes()?;
+        self.note_said(end)?;
+        self.said.reserve_exact(count).map_err(|_refused| NoMemory)
+    }
+
+    /// A frame took effect, for which there is room.
+    pub(super) fn was_told(&mut self, end: &conn::Endpoint, frame: &wire::Frame<'_>) {
+        let Some(notes) = &mut self.notes else {
+            return;
+        };
+        if notes.heard.was_told(end, frame).is_err() {
+            if let wire::Frame::StreamDataBlocked { stream, .. } = *frame {
+                self.said.push_reserved(StreamId::of(stream));
             }
         }
-        if comes_again {
-            self.half_heard = None;
+    }
+
+    // What found no memory to be noted is. A stream whose length came to be known meanwhile waits for no limit.
+    fn note_said(&mut self, end: &conn::Endpoint) -> Result<(), NoMemory> {
+        while let Some(stream) = self.said.as_slice().last() {
+            let frame = wire::Frame::StreamDataBlocked {
+                stream: stream.inner(),
+                limit: MAX_VARINT,
+            };
+            self.notes()?.heard.was_told(end, &frame)?;
+            self.said.pop();
         }
-        Ok(Received::Done)
+        if self.said.capacity() > FEW_SAID {
+            self.said = Vec::new(Global);
+        }
+        Ok(())
     }
 
     // They are made as there is something to note first.
@@ -217,7 +204,8 @@ impl Endpoint {
     /// those of lower streams first, or of bidirectional ones. What isn't so any more as it would be told isn't told: bytes that
     /// were read meanwhile, or a stream that was reset before it could be written to again. Of a closed end come no
     /// [`Writable`](Event::Writable), no [`Available`](Event::Available) and nothing that holds the peer back, and
-    /// [`Readable`](Event::Readable) only where [`reads_when_closed`](crate::Tuning::reads_when_closed) was chosen.
+    /// [`Readable`](Event::Readable) only where [`reads_when_closed`](crate::Tuning::reads_when_closed) was chosen; all others
+    /// come still.
     ///
     /// An owner calls it after each call that takes in what came from the peer, and after its own reads, writes, resets and
     /// settings, until it answers `None`. It needn't call it at all, or may begin late: then it is told all that still is so.
@@ -266,7 +254,8 @@ impl Endpoint {
     ///
     /// # Errors
     ///
-    /// `NoMemory` where there was none to note what is told. Then nothing changed, and the same comes again.
+    /// `NoMemory` where there was none to note what is told, or what is still to be noted. Then nothing changed, and the same
+    /// comes again. Where there was none for the notes as a whole the end counts as never asked.
     pub fn next_event(&mut self) -> Result<Option<Event>, EventFault> {
         match self.hearing.next(&self.inner) {
             Ok(news) => Ok(news.map(Event::of)),
@@ -275,14 +264,15 @@ impl Endpoint {
     }
 
     /// Chooses whether [`receive`](Endpoint::receive) and [`receive_telling`](Endpoint::receive_telling) look each payload
-    /// through, once it was taken in, for what the peer says to hold it back (RFC 9000, sections 19.12 to 19.14): the events
+    /// through for what the peer says to hold it back (RFC 9000, sections 19.12 to 19.14): the events
     /// [`DataBlocked`](Event::DataBlocked), [`StreamDataBlocked`](Event::StreamDataBlocked) and
-    /// [`StreamsBlocked`](Event::StreamsBlocked). Not by default, as the payload is read a second time for it;
-    /// [`take_frame`](Endpoint::take_frame) and [`take_frames`](Endpoint::take_frames) note it without that.
+    /// [`StreamsBlocked`](Event::StreamsBlocked). Not by default, as the payload is read a second time for it, and a third
+    /// time where it says so. [`take_frame`](Endpoint::take_frame) and [`take_frames`](Endpoint::take_frames) note it once an
+    /// event was asked for, and also before where this is chosen.
     ///
-    /// A limit that rose since the peer met it is passed over. What is noted is told once, and again only where the peer says
-    /// it in a later packet. Where there is no memory to note it `receive` answers `NoMemory`, and the same payload may come
-    /// again.
+    /// A limit that rose since the peer met it is passed over, also one that the same packet moved. What is noted is told once,
+    /// and again only where the peer says it in a later packet. Room for the notes is asked for before the payload takes effect:
+    /// where there is none `receive` answers `NoMemory`, nothing changed, and the same payload may come again.
     ///
     /// ```
     /// use gotsavena::{Dir, Endpoint, Event, Role, Settings};

@@ -5,6 +5,22 @@ use crate::ids::{Dir, StreamId};
 use crate::proved::qs_wire as wire;
 
 impl<'a> Frame<'a> {
+    /// Whether it is of streams or of flow control, which an end takes in without its packet.
+    pub(crate) fn is_of_end(&self) -> bool {
+        matches!(
+            self,
+            Frame::ResetStream { .. }
+                | Frame::StopSending { .. }
+                | Frame::Stream { .. }
+                | Frame::MaxData { .. }
+                | Frame::MaxStreamData { .. }
+                | Frame::MaxStreams { .. }
+                | Frame::DataBlocked { .. }
+                | Frame::StreamDataBlocked { .. }
+                | Frame::StreamsBlocked { .. }
+        )
+    }
+
     #[inline]
     pub(super) fn of(frame: wire::Frame<'a>) -> Frame<'a> {
         match frame {
