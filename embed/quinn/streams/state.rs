@@ -230,12 +230,14 @@ impl StreamsState {
     pub fn write_control_frames(
         &mut self,
         buf: &mut Vec<u8>,
-        _pending: &mut Retransmits,
+        pending: &mut Retransmits,
         _retransmits: &mut ThinRetransmits,
         stats: &mut FrameStats,
         max_size: usize,
     ) {
         let begin = buf.len();
+        // (what is due is told by `is_sendable`)
+        pending.max_data = false;
         self.fill(buf, max_size, &Fill::control());
         // (most packets have none)
         if buf.len() > begin {
