@@ -5,8 +5,8 @@ use std::{iter, mem};
 
 use bytes::Bytes;
 use gotsavena::{
-    Closing, Endpoint, Event, Fill, Frame, PeerLimits, Role, Settings, Share, TakeFault, Token,
-    Tuning, MIN_FILL,
+    Closing, Endpoint, Event, Fill, Frame, MakeFault, PeerLimits, Role, Settings, Share, TakeFault,
+    Token, TokenFault, Tuning, MIN_FILL,
 };
 use rustc_hash::FxHashMap;
 use tinyvec::TinyVec;
@@ -42,6 +42,8 @@ pub struct StreamsState {
     space: Vec<u8>,
     // How many sending halves aren't over: no call counts them.
     pub(super) send_streams: usize,
+    // The first fault of which quinn didn't ask yet.
+    fault: Option<TransportError>,
 }
 
 /// What a packet carries, kept beside its number: the tokens of its fills, and the stream of each STREAM frame.
@@ -96,7 +98,18 @@ impl StreamsState {
             carried: Carried::default(),
             space: Vec::new(),
             send_streams: 0,
+            fault: None,
         }
+    }
+
+    // Faults that quinn doesn't ask for where they come about: the next packet that comes tells them, and quinn closes.
+
+    fn keep(&mut self, answer: Result<(), TransportError>) {
+        self.fault = self.fault.take().or(answer.err());
+    }
+
+    pub(super) fn lacks_memory(&mut self) {
+        self.keep(Err(no_memory()));
     }
 
     // The peer's limits
@@ -116,16 +129,15 @@ impl StreamsState {
     // This end's
 
     pub fn set_max_concurrent(&mut self, dir: Dir, count: VarInt) {
-        let set = self.end.set_grant(theirs(dir), count.0.min(MOST_STREAMS));
-        debug_assert!(set.is_ok(), "in range, of an end that is open");
+        // (it is in range; a closed end grants nothing more)
+        let _ = self.end.set_grant(theirs(dir), count.0.min(MOST_STREAMS));
     }
 
     /// Whether the window grew.
     pub fn set_receive_window(&mut self, receive_window: VarInt) -> bool {
         let before = self.window;
         self.window = receive_window.0.clamp(1, MOST_DATA);
-        let set = self.end.set_conn_window(self.window);
-        debug_assert!(set.is_ok(), "in range, of an end that is open");
+        let _ = self.end.set_conn_window(self.window);
         self.window > before
     }
 
@@ -141,7 +153,8 @@ impl StreamsState {
     pub fn retransmit_all_for_0rtt(&mut self) {
         let mut from = 0;
         while let Some(number) = self.end.next_outstanding(from) {
-            let _ = self.end.lost(self.end.token_of(number));
+            let lost = self.end.lost(self.end.token_of(number));
+            self.told(lost);
             from = number + 1;
         }
     }
@@ -170,12 +183,13 @@ impl StreamsState {
     }
 
     pub fn received_stop_sending(&mut self, id: StreamId, error_code: VarInt) {
-        // (quinn asked before whether the frame breaks a rule)
-        let _ = self.take(Frame::StopSending { stream: ours(id), code: error_code.into() });
+        let taken = self.take(Frame::StopSending { stream: ours(id), code: error_code.into() });
+        self.keep(taken);
     }
 
     pub fn received_max_data(&mut self, n: VarInt) {
-        let _ = self.take(Frame::MaxData { maximum: n.into() });
+        let taken = self.take(Frame::MaxData { maximum: n.into() });
+        self.keep(taken);
     }
 
     pub fn received_max_stream_data(
@@ -218,7 +232,7 @@ impl StreamsState {
         match self.end.take_frame(&frame) {
             Ok(_taken) => Ok(()),
             Err(TakeFault::Closing(closing)) => Err(error_of(closing)),
-            Err(_) => Err(TransportError::INTERNAL_ERROR("no memory")),
+            Err(_) => Err(no_memory()),
         }
     }
 
@@ -281,23 +295,37 @@ impl StreamsState {
         if self.space.len() < room {
             self.space.resize(room, 0);
         }
-        if let Ok(Some(filled)) = self.end.fill(&mut self.space[..room], want) {
-            let frames = &self.space[..filled.len];
-            buf.extend_from_slice(frames);
-            self.carried.add(filled.token, frames);
-            self.turn = filled.last_stream.map_or(self.turn, |id| ours(StreamId(id.value() + 1)));
+        match self.end.fill(&mut self.space[..room], want) {
+            Ok(Some(filled)) => {
+                let (frames, next) =
+                    (&self.space[..filled.len], |last: u64| ours(StreamId(last + 1)));
+                buf.extend_from_slice(frames);
+                self.carried.add(filled.token, frames);
+                self.turn = filled.last_stream.map_or(self.turn, |id| next(id.value()));
+            }
+            Err(MakeFault::NoMemory) => self.lacks_memory(),
+            _ => {}
         }
     }
 
     pub fn received_ack_of(&mut self, packet: Carried) {
         for number in packet.tokens {
-            let _ = self.end.acked(self.end.token_of(number));
+            let acked = self.end.acked(self.end.token_of(number));
+            self.told(acked);
         }
     }
 
     pub fn retransmit(&mut self, packet: Carried) {
         for number in packet.tokens {
-            let _ = self.end.lost(self.end.token_of(number));
+            let lost = self.end.lost(self.end.token_of(number));
+            self.told(lost);
+        }
+    }
+
+    // (of a closed end, or in another epoch, nothing is to be told)
+    fn told(&mut self, told: Result<(), TokenFault>) {
+        if told == Err(TokenFault::NoMemory) {
+            self.lacks_memory();
         }
     }
 
@@ -359,9 +387,14 @@ impl StreamsState {
         false
     }
 
-    pub fn take_max_streams_dirty(&mut self, _dir: Dir) -> bool {
-        false
+    /// (quinn asks for it as it took in all of a packet)
+    pub fn take_max_streams_dirty(&mut self, _dir: Dir) -> Result<bool, TransportError> {
+        self.fault.take().map_or(Ok(false), Err)
     }
+}
+
+fn no_memory() -> TransportError {
+    TransportError::INTERNAL_ERROR("no memory")
 }
 
 fn error_of(closing: Closing) -> TransportError {
