@@ -71,6 +71,21 @@ fn a_stop_past_the_count_closes() {
 }
 
 #[test]
+fn many_pieces_of_a_stopped_stream_close() {
+    let mut server = make(Side::Server);
+    let id = StreamId::new(Side::Client, Dir::Uni, 0);
+    assert_eq!(take(&mut server, id, 0), Ok(()));
+    RecvStream { id, state: &mut server, pending: &mut Retransmits::default() }
+        .stop(VarInt(7))
+        .unwrap();
+    for piece in 1..16_384 {
+        assert_eq!(take(&mut server, id, piece * 2), Ok(()));
+    }
+    let fault = take(&mut server, id, 16_384 * 2).unwrap_err();
+    assert_eq!(fault.code, TransportErrorCode::PROTOCOL_VIOLATION);
+}
+
+#[test]
 fn memory_that_is_refused_closes() {
     let no_memory = Some(TransportErrorCode::INTERNAL_ERROR);
     let mut client = make(Side::Client);

@@ -24,6 +24,8 @@ pub const MOST_DATA: u64 = 1 << 40;
 pub const MOST_STREAM_DATA: u64 = 1 << 30;
 pub const MOST_STREAMS: u64 = 1 << 17;
 const MOST_IN_ALL: u64 = 1 << 21;
+// The most pieces with gaps between them that a peer may send: of a stream that was stopped no window bounds them.
+const MOST_PIECES: u64 = 1 << 14;
 
 /// The streams of a connection.
 pub struct StreamsState {
@@ -230,7 +232,10 @@ impl StreamsState {
 
     fn take(&mut self, frame: Frame<'_>) -> Result<(), TransportError> {
         match self.end.take_frame(&frame) {
-            Ok(_taken) => Ok(()),
+            Ok(_) if self.end.noted() > MOST_PIECES => {
+                Err(TransportError::PROTOCOL_VIOLATION("too many pieces with gaps between them"))
+            }
+            Ok(_) => Ok(()),
             Err(TakeFault::Closing(closing)) => Err(error_of(closing)),
             Err(_) => Err(no_memory()),
         }
