@@ -85,6 +85,33 @@ fn many_pieces_of_a_stopped_stream_close() {
     assert_eq!(fault.code, TransportErrorCode::PROTOCOL_VIOLATION);
 }
 
+// (a client's 0-RTT is refused; the play of calls has the count at a whole connection)
+#[test]
+fn a_fresh_end_has_what_was_set_and_takes_no_old_token() {
+    let mut client = make(Side::Client);
+    client.set_max_concurrent(Dir::Uni, VarInt(200));
+    client.set_receive_window(VarInt(1 << 21));
+    let send = |client: &mut StreamsState| {
+        let id = open(client).unwrap();
+        assert_eq!(client.write(id, b"hello"), Ok(5));
+        packet(client)
+    };
+    let old = send(&mut client);
+    client.zero_rtt_rejected();
+    assert_eq!(
+        (client.end.granted_streams(theirs(Dir::Uni)), client.end.granted()),
+        (200, 1 << 21)
+    );
+    let limits = client.settings.limits();
+    client.end.raise_limits(limits).unwrap();
+    let _new = send(&mut client);
+    client.received_ack_of(old);
+    assert!(
+        client.end.next_outstanding(0).is_some(),
+        "the old packet tells nothing of the new one"
+    );
+}
+
 #[test]
 fn memory_that_is_refused_closes() {
     let no_memory = Some(TransportErrorCode::INTERNAL_ERROR);

@@ -1,6 +1,5 @@
 //! What quinn's connection calls: frames in, packets out, acknowledged and lost.
 use std::collections::VecDeque;
-use std::ops::Range;
 use std::{iter, mem};
 
 use bytes::Bytes;
@@ -32,7 +31,9 @@ pub struct StreamsState {
     pub(super) end: Endpoint,
     pub(super) side: Side,
     pub(super) settings: Settings,
+    // What the application set since: the connection's window, and how many streams at a time.
     pub(super) window: u64,
+    grants: [u64; 2],
     send_window: u64,
     pub(super) events: VecDeque<StreamEvent>,
     opened: [bool; 2],
@@ -48,10 +49,10 @@ pub struct StreamsState {
     fault: Option<TransportError>,
 }
 
-/// What a packet carries, kept beside its number: the tokens of its fills, and the stream of each STREAM frame.
+/// What a packet carries, kept beside its number: the token of its fills, and the stream of each STREAM frame.
 #[derive(Clone, Debug, Default)]
 pub struct Carried {
-    tokens: Range<u64>,
+    token: Option<Token>,
     pub(super) streams: TinyVec<[StreamMeta; 1]>,
 }
 
@@ -60,9 +61,10 @@ pub fn told(setting: VarInt, most: u64) -> VarInt {
     VarInt(setting.0.min(most))
 }
 
-fn new_end(side: Side, settings: Settings, send_window: u64) -> Endpoint {
+fn new_end(side: Side, settings: Settings, send_window: u64, epoch: u64) -> Endpoint {
     let role = if side.is_client() { Role::Client } else { Role::Server };
     let tuning = Tuning::default()
+        .epoch(epoch)
         .within_credit(true)
         .send_window(Some(send_window))
         .answers_stops(true)
@@ -88,10 +90,11 @@ impl StreamsState {
             .bidi_streams(max_remote_bi.0.min(MOST_STREAMS), MOST_IN_ALL)
             .uni_streams(max_remote_uni.0.min(MOST_STREAMS), MOST_IN_ALL);
         Self {
-            end: new_end(side, settings, send_window),
+            end: new_end(side, settings, send_window, 0),
             side,
             settings,
             window: settings.limits().max_data,
+            grants: [settings.limits().streams_bidi, settings.limits().streams_uni],
             send_window,
             events: VecDeque::new(),
             opened: [false; 2],
@@ -132,7 +135,9 @@ impl StreamsState {
 
     pub fn set_max_concurrent(&mut self, dir: Dir, count: VarInt) {
         // (it is in range; a closed end grants nothing more)
-        let _ = self.end.set_grant(theirs(dir), count.0.min(MOST_STREAMS));
+        let grant = count.0.min(MOST_STREAMS);
+        self.grants[dir as usize] = grant;
+        let _ = self.end.set_grant(theirs(dir), grant);
     }
 
     /// Whether the window grew.
@@ -143,10 +148,14 @@ impl StreamsState {
         self.window > before
     }
 
-    /// Nothing that was sent before the handshake counts: a fresh end.
+    /// Nothing that was sent before the handshake counts: a fresh end, of another epoch, with what the application set.
     pub fn zero_rtt_rejected(&mut self) {
-        self.end = new_end(self.side, self.settings, self.send_window);
-        self.window = self.settings.limits().max_data;
+        let epoch = self.end.token_of(0).epoch + 1;
+        self.end = new_end(self.side, self.settings, self.send_window, epoch);
+        self.set_receive_window(VarInt(self.window));
+        for dir in Dir::iter() {
+            self.set_max_concurrent(dir, VarInt(self.grants[dir as usize]));
+        }
         self.priorities.clear();
         self.send_streams = 0;
     }
@@ -314,17 +323,13 @@ impl StreamsState {
     }
 
     pub fn received_ack_of(&mut self, packet: Carried) {
-        for number in packet.tokens {
-            let acked = self.end.acked(self.end.token_of(number));
-            self.told(acked);
-        }
+        let acked = packet.token.map_or(Ok(()), |token| self.end.acked(token));
+        self.told(acked);
     }
 
     pub fn retransmit(&mut self, packet: Carried) {
-        for number in packet.tokens {
-            let lost = self.end.lost(self.end.token_of(number));
-            self.told(lost);
-        }
+        let lost = packet.token.map_or(Ok(()), |token| self.end.lost(token));
+        self.told(lost);
     }
 
     // (of a closed end, or in another epoch, nothing is to be told)
@@ -411,9 +416,8 @@ fn error_of(closing: Closing) -> TransportError {
 // It stands in the place of quinn's list of STREAM frames, and is acknowledged or lost as one.
 impl Carried {
     fn add(&mut self, token: Token, frames: &[u8]) {
-        // Tokens are consecutive numbers.
-        let first = if self.is_empty() { token.number } else { self.tokens.start };
-        self.tokens = first..token.number + 1;
+        let joined = |first: Token| first.and(token).expect("nothing else was filled between");
+        self.token = Some(self.token.map_or(token, joined));
         for placed in gotsavena::frames(frames).flatten() {
             if let Frame::Stream { stream, .. } = placed.frame {
                 self.streams.push(StreamMeta { id: quinns(stream), ..StreamMeta::default() });
@@ -427,7 +431,7 @@ impl Carried {
     }
 
     pub fn is_empty(&self) -> bool {
-        self.tokens.is_empty()
+        self.token.is_none()
     }
 }
 
