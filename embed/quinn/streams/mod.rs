@@ -30,9 +30,16 @@ impl Streams<'_> {
         if self.conn_state.is_closed() || end.open_left(theirs(dir)) == 0 {
             return None;
         }
-        let stream = end.open(theirs(dir)).ok()?;
-        self.state.send_streams += 1;
-        Some(quinns(stream))
+        match end.open(theirs(dir)) {
+            Ok(stream) => {
+                self.state.send_streams += 1;
+                Some(quinns(stream))
+            }
+            Err(_) => {
+                self.state.lacks_memory();
+                None
+            }
+        }
     }
 
     /// Gives out a stream of the peer.

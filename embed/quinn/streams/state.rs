@@ -1,12 +1,11 @@
 //! What quinn's connection calls: frames in, packets out, acknowledged and lost.
 use std::collections::VecDeque;
-use std::ops::Range;
 use std::{iter, mem};
 
 use bytes::Bytes;
 use gotsavena::{
-    Closing, Endpoint, Event, Fill, Frame, PeerLimits, Role, Settings, Share, TakeFault, Token,
-    Tuning, MIN_FILL,
+    Closing, Endpoint, Event, Fill, Frame, MakeFault, PeerLimits, Role, Settings, Share, TakeFault,
+    Token, TokenFault, Tuning, MIN_FILL,
 };
 use rustc_hash::FxHashMap;
 use tinyvec::TinyVec;
@@ -24,13 +23,17 @@ pub const MOST_DATA: u64 = 1 << 40;
 pub const MOST_STREAM_DATA: u64 = 1 << 30;
 pub const MOST_STREAMS: u64 = 1 << 17;
 const MOST_IN_ALL: u64 = 1 << 21;
+// The most pieces with gaps between them that a peer may send: of a stream that was stopped no window bounds them.
+const MOST_PIECES: u64 = 1 << 14;
 
 /// The streams of a connection.
 pub struct StreamsState {
     pub(super) end: Endpoint,
     pub(super) side: Side,
     pub(super) settings: Settings,
+    // What the application set since: the connection's window, and how many streams at a time.
     pub(super) window: u64,
+    grants: [u64; 2],
     send_window: u64,
     pub(super) events: VecDeque<StreamEvent>,
     opened: [bool; 2],
@@ -42,12 +45,14 @@ pub struct StreamsState {
     space: Vec<u8>,
     // How many sending halves aren't over: no call counts them.
     pub(super) send_streams: usize,
+    // The first fault of which quinn didn't ask yet.
+    fault: Option<TransportError>,
 }
 
-/// What a packet carries, kept beside its number: the tokens of its fills, and the stream of each STREAM frame.
+/// What a packet carries, kept beside its number: the token of its fills, and the stream of each STREAM frame.
 #[derive(Clone, Debug, Default)]
 pub struct Carried {
-    tokens: Range<u64>,
+    token: Option<Token>,
     pub(super) streams: TinyVec<[StreamMeta; 1]>,
 }
 
@@ -56,9 +61,10 @@ pub fn told(setting: VarInt, most: u64) -> VarInt {
     VarInt(setting.0.min(most))
 }
 
-fn new_end(side: Side, settings: Settings, send_window: u64) -> Endpoint {
+fn new_end(side: Side, settings: Settings, send_window: u64, epoch: u64) -> Endpoint {
     let role = if side.is_client() { Role::Client } else { Role::Server };
     let tuning = Tuning::default()
+        .epoch(epoch)
         .within_credit(true)
         .send_window(Some(send_window))
         .answers_stops(true)
@@ -84,10 +90,11 @@ impl StreamsState {
             .bidi_streams(max_remote_bi.0.min(MOST_STREAMS), MOST_IN_ALL)
             .uni_streams(max_remote_uni.0.min(MOST_STREAMS), MOST_IN_ALL);
         Self {
-            end: new_end(side, settings, send_window),
+            end: new_end(side, settings, send_window, 0),
             side,
             settings,
             window: settings.limits().max_data,
+            grants: [settings.limits().streams_bidi, settings.limits().streams_uni],
             send_window,
             events: VecDeque::new(),
             opened: [false; 2],
@@ -96,7 +103,18 @@ impl StreamsState {
             carried: Carried::default(),
             space: Vec::new(),
             send_streams: 0,
+            fault: None,
         }
+    }
+
+    // Faults that quinn doesn't ask for where they come about: the next packet that comes tells them, and quinn closes.
+
+    fn keep(&mut self, answer: Result<(), TransportError>) {
+        self.fault = self.fault.take().or(answer.err());
+    }
+
+    pub(super) fn lacks_memory(&mut self) {
+        self.keep(Err(no_memory()));
     }
 
     // The peer's limits
@@ -116,23 +134,28 @@ impl StreamsState {
     // This end's
 
     pub fn set_max_concurrent(&mut self, dir: Dir, count: VarInt) {
-        let set = self.end.set_grant(theirs(dir), count.0.min(MOST_STREAMS));
-        debug_assert!(set.is_ok(), "in range, of an end that is open");
+        // (it is in range; a closed end grants nothing more)
+        let grant = count.0.min(MOST_STREAMS);
+        self.grants[dir as usize] = grant;
+        let _ = self.end.set_grant(theirs(dir), grant);
     }
 
     /// Whether the window grew.
     pub fn set_receive_window(&mut self, receive_window: VarInt) -> bool {
         let before = self.window;
         self.window = receive_window.0.clamp(1, MOST_DATA);
-        let set = self.end.set_conn_window(self.window);
-        debug_assert!(set.is_ok(), "in range, of an end that is open");
+        let _ = self.end.set_conn_window(self.window);
         self.window > before
     }
 
-    /// Nothing that was sent before the handshake counts: a fresh end.
+    /// Nothing that was sent before the handshake counts: a fresh end, of another epoch, with what the application set.
     pub fn zero_rtt_rejected(&mut self) {
-        self.end = new_end(self.side, self.settings, self.send_window);
-        self.window = self.settings.limits().max_data;
+        let epoch = self.end.token_of(0).epoch + 1;
+        self.end = new_end(self.side, self.settings, self.send_window, epoch);
+        self.set_receive_window(VarInt(self.window));
+        for dir in Dir::iter() {
+            self.set_max_concurrent(dir, VarInt(self.grants[dir as usize]));
+        }
         self.priorities.clear();
         self.send_streams = 0;
     }
@@ -141,7 +164,8 @@ impl StreamsState {
     pub fn retransmit_all_for_0rtt(&mut self) {
         let mut from = 0;
         while let Some(number) = self.end.next_outstanding(from) {
-            let _ = self.end.lost(self.end.token_of(number));
+            let lost = self.end.lost(self.end.token_of(number));
+            self.told(lost);
             from = number + 1;
         }
     }
@@ -170,12 +194,13 @@ impl StreamsState {
     }
 
     pub fn received_stop_sending(&mut self, id: StreamId, error_code: VarInt) {
-        // (quinn asked before whether the frame breaks a rule)
-        let _ = self.take(Frame::StopSending { stream: ours(id), code: error_code.into() });
+        let taken = self.take(Frame::StopSending { stream: ours(id), code: error_code.into() });
+        self.keep(taken);
     }
 
     pub fn received_max_data(&mut self, n: VarInt) {
-        let _ = self.take(Frame::MaxData { maximum: n.into() });
+        let taken = self.take(Frame::MaxData { maximum: n.into() });
+        self.keep(taken);
     }
 
     pub fn received_max_stream_data(
@@ -216,9 +241,12 @@ impl StreamsState {
 
     fn take(&mut self, frame: Frame<'_>) -> Result<(), TransportError> {
         match self.end.take_frame(&frame) {
-            Ok(_taken) => Ok(()),
+            Ok(_) if self.end.noted() > MOST_PIECES => {
+                Err(TransportError::PROTOCOL_VIOLATION("too many pieces with gaps between them"))
+            }
+            Ok(_) => Ok(()),
             Err(TakeFault::Closing(closing)) => Err(error_of(closing)),
-            Err(_) => Err(TransportError::INTERNAL_ERROR("no memory")),
+            Err(_) => Err(no_memory()),
         }
     }
 
@@ -230,12 +258,14 @@ impl StreamsState {
     pub fn write_control_frames(
         &mut self,
         buf: &mut Vec<u8>,
-        _pending: &mut Retransmits,
+        pending: &mut Retransmits,
         _retransmits: &mut ThinRetransmits,
         stats: &mut FrameStats,
         max_size: usize,
     ) {
         let begin = buf.len();
+        // (what is due is told by `is_sendable`)
+        pending.max_data = false;
         self.fill(buf, max_size, &Fill::control());
         // (most packets have none)
         if buf.len() > begin {
@@ -279,23 +309,33 @@ impl StreamsState {
         if self.space.len() < room {
             self.space.resize(room, 0);
         }
-        if let Ok(Some(filled)) = self.end.fill(&mut self.space[..room], want) {
-            let frames = &self.space[..filled.len];
-            buf.extend_from_slice(frames);
-            self.carried.add(filled.token, frames);
-            self.turn = filled.last_stream.map_or(self.turn, |id| ours(StreamId(id.value() + 1)));
+        match self.end.fill(&mut self.space[..room], want) {
+            Ok(Some(filled)) => {
+                let (frames, next) =
+                    (&self.space[..filled.len], |last: u64| ours(StreamId(last + 1)));
+                buf.extend_from_slice(frames);
+                self.carried.add(filled.token, frames);
+                self.turn = filled.last_stream.map_or(self.turn, |id| next(id.value()));
+            }
+            Err(MakeFault::NoMemory) => self.lacks_memory(),
+            _ => {}
         }
     }
 
     pub fn received_ack_of(&mut self, packet: Carried) {
-        for number in packet.tokens {
-            let _ = self.end.acked(self.end.token_of(number));
-        }
+        let acked = packet.token.map_or(Ok(()), |token| self.end.acked(token));
+        self.told(acked);
     }
 
     pub fn retransmit(&mut self, packet: Carried) {
-        for number in packet.tokens {
-            let _ = self.end.lost(self.end.token_of(number));
+        let lost = packet.token.map_or(Ok(()), |token| self.end.lost(token));
+        self.told(lost);
+    }
+
+    // (of a closed end, or in another epoch, nothing is to be told)
+    fn told(&mut self, told: Result<(), TokenFault>) {
+        if told == Err(TokenFault::NoMemory) {
+            self.lacks_memory();
         }
     }
 
@@ -357,9 +397,14 @@ impl StreamsState {
         false
     }
 
-    pub fn take_max_streams_dirty(&mut self, _dir: Dir) -> bool {
-        false
+    /// (quinn asks for it as it took in all of a packet)
+    pub fn take_max_streams_dirty(&mut self, _dir: Dir) -> Result<bool, TransportError> {
+        self.fault.take().map_or(Ok(false), Err)
     }
+}
+
+fn no_memory() -> TransportError {
+    TransportError::INTERNAL_ERROR("no memory")
 }
 
 fn error_of(closing: Closing) -> TransportError {
@@ -371,9 +416,8 @@ fn error_of(closing: Closing) -> TransportError {
 // It stands in the place of quinn's list of STREAM frames, and is acknowledged or lost as one.
 impl Carried {
     fn add(&mut self, token: Token, frames: &[u8]) {
-        // Tokens are consecutive numbers.
-        let first = if self.is_empty() { token.number } else { self.tokens.start };
-        self.tokens = first..token.number + 1;
+        let joined = |first: Token| first.and(token).expect("nothing else was filled between");
+        self.token = Some(self.token.map_or(token, joined));
         for placed in gotsavena::frames(frames).flatten() {
             if let Frame::Stream { stream, .. } = placed.frame {
                 self.streams.push(StreamMeta { id: quinns(stream), ..StreamMeta::default() });
@@ -387,7 +431,7 @@ impl Carried {
     }
 
     pub fn is_empty(&self) -> bool {
-        self.tokens.is_empty()
+        self.token.is_none()
     }
 }
 

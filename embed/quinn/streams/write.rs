@@ -18,7 +18,10 @@ impl StreamsState {
         match self.end.write(ours(id), bytes) {
             Ok(0) if !bytes.is_empty() => Err(WriteError::Blocked),
             Ok(count) => Ok(count),
-            Err(UseFault::NoMemory) => panic!("no memory for what is written"),
+            Err(UseFault::NoMemory) => {
+                self.lacks_memory();
+                Err(WriteError::Blocked)
+            }
             Err(_) => Err(WriteError::UnknownStream),
         }
     }

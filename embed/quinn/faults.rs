@@ -1,0 +1,131 @@
+//! What the adapter answers where a peer breaks a rule or memory is refused, at one end alone: no call of quinn's makes that so.
+use bytes::Bytes;
+
+use super::refusing::{ASKED, IS_CALLED, REFUSED};
+use super::*;
+use crate::transport_parameters::TransportParameters;
+use crate::{frame, Side, TransportError, TransportErrorCode};
+
+fn make(side: Side) -> StreamsState {
+    let count = VarInt::from_u32(128);
+    let window = VarInt::from_u32(1 << 20);
+    let mut made = StreamsState::new(side, count, count, 1 << 20, window, window);
+    let params = TransportParameters {
+        initial_max_data: window,
+        initial_max_stream_data_uni: window,
+        initial_max_stream_data_bidi_remote: window,
+        initial_max_streams_uni: count,
+        initial_max_streams_bidi: count,
+        ..TransportParameters::default()
+    };
+    made.set_params(&params);
+    made
+}
+
+fn open(end: &mut StreamsState) -> Option<StreamId> {
+    Streams { state: end, conn_state: &crate::connection::State::Established }.open(Dir::Uni)
+}
+
+// What the packet's end answers.
+fn code(end: &mut StreamsState) -> Option<TransportErrorCode> {
+    end.take_max_streams_dirty(Dir::Bi).err().map(|error| error.code)
+}
+
+fn packet(end: &mut StreamsState) -> Carried {
+    end.write_stream_frames(&mut Vec::new(), 1_200)
+}
+
+fn take(end: &mut StreamsState, id: StreamId, offset: u64) -> Result<(), TransportError> {
+    let data = Bytes::from_static(b"x");
+    end.received(frame::Stream { id, offset, fin: false, data }, 1).map(drop)
+}
+
+// The first allocation of the call is refused.
+fn refused<T>(call: impl FnOnce() -> T) -> T {
+    IS_CALLED.with(|is_called| is_called.set(true));
+    ASKED.with(|asked| asked.set(0));
+    REFUSED.with(|refused| refused.set(0));
+    let answer = call();
+    IS_CALLED.with(|is_called| is_called.set(false));
+    answer
+}
+
+// Every second of many packets is told so, and one of them asks for memory, which is refused.
+fn one_is_refused(tell: fn(&mut StreamsState, Carried)) {
+    let mut client = make(Side::Client);
+    let id = open(&mut client).unwrap();
+    assert_eq!(client.write(id, &[0; 100_000]), Ok(100_000));
+    let packets: Vec<_> = (0..80).map(|_| packet(&mut client)).collect();
+    let fault = packets.into_iter().step_by(2).find_map(|packet| {
+        refused(|| tell(&mut client, packet));
+        code(&mut client)
+    });
+    assert_eq!(fault, Some(TransportErrorCode::INTERNAL_ERROR));
+}
+
+#[test]
+fn a_stop_past_the_count_closes() {
+    let mut server = make(Side::Server);
+    server.received_stop_sending(StreamId::new(Side::Client, Dir::Bi, 5_000), VarInt(7));
+    assert_eq!(code(&mut server), Some(TransportErrorCode::STREAM_LIMIT_ERROR));
+}
+
+#[test]
+fn many_pieces_of_a_stopped_stream_close() {
+    let mut server = make(Side::Server);
+    let id = StreamId::new(Side::Client, Dir::Uni, 0);
+    assert_eq!(take(&mut server, id, 0), Ok(()));
+    RecvStream { id, state: &mut server, pending: &mut Retransmits::default() }
+        .stop(VarInt(7))
+        .unwrap();
+    for piece in 1..16_384 {
+        assert_eq!(take(&mut server, id, piece * 2), Ok(()));
+    }
+    let fault = take(&mut server, id, 16_384 * 2).unwrap_err();
+    assert_eq!(fault.code, TransportErrorCode::PROTOCOL_VIOLATION);
+}
+
+// (a client's 0-RTT is refused; the play of calls has the count at a whole connection)
+#[test]
+fn a_fresh_end_has_what_was_set_and_takes_no_old_token() {
+    let mut client = make(Side::Client);
+    client.set_max_concurrent(Dir::Uni, VarInt(200));
+    client.set_receive_window(VarInt(1 << 21));
+    let send = |client: &mut StreamsState| {
+        let id = open(client).unwrap();
+        assert_eq!(client.write(id, b"hello"), Ok(5));
+        packet(client)
+    };
+    let old = send(&mut client);
+    client.zero_rtt_rejected();
+    assert_eq!(
+        (client.end.granted_streams(theirs(Dir::Uni)), client.end.granted()),
+        (200, 1 << 21)
+    );
+    let limits = client.settings.limits();
+    client.end.raise_limits(limits).unwrap();
+    let _new = send(&mut client);
+    client.received_ack_of(old);
+    assert!(
+        client.end.next_outstanding(0).is_some(),
+        "the old packet tells nothing of the new one"
+    );
+}
+
+#[test]
+fn memory_that_is_refused_closes() {
+    let no_memory = Some(TransportErrorCode::INTERNAL_ERROR);
+    let mut client = make(Side::Client);
+    assert_eq!(refused(|| open(&mut client)), None);
+    assert_eq!(code(&mut client), no_memory);
+    let id = open(&mut client).unwrap();
+    assert_eq!(refused(|| client.write(id, b"hello")), Err(WriteError::Blocked));
+    assert_eq!(code(&mut client), no_memory);
+    assert_eq!((client.write(id, b"hello"), code(&mut client)), (Ok(5), None));
+    one_is_refused(StreamsState::retransmit);
+    one_is_refused(StreamsState::received_ack_of);
+    let mut server = make(Side::Server);
+    let stopped = StreamId::new(Side::Client, Dir::Bi, 0);
+    refused(|| server.received_stop_sending(stopped, VarInt(7)));
+    assert_eq!(code(&mut server), no_memory);
+}
