@@ -9,6 +9,24 @@ use crate::streams::{Application, Body};
 use gotsavena::{Dir, Endpoint, Role, SendState, StreamId};
 use std::collections::{BTreeMap, HashMap};
 use std::net::SocketAddr;
+use std::time::{Duration, Instant};
+
+/// How much is read of the body of a request that is refused, and for how long. Chromium doesn't look at an answer whose request is
+/// stopped meanwhile.
+#[derive(Clone, Copy, Debug)]
+pub struct Patience {
+    pub bytes: u64,
+    pub time: Duration,
+}
+
+impl Default for Patience {
+    fn default() -> Patience {
+        Patience {
+            bytes: 64 << 20,
+            time: Duration::from_secs(30),
+        }
+    }
+}
 
 pub struct FileServer {
     folder: Folder,
@@ -17,6 +35,9 @@ pub struct FileServer {
     requests: HashMap<StreamId, Request>,
     /// Requests that were answered, until all of the answer is acknowledged or it was broken off.
     answered: BTreeMap<StreamId, Entry>,
+    patience: Patience,
+    /// Requests that were refused and whose bodies come: how much more is read of them, and until when.
+    refused: BTreeMap<StreamId, (u64, Instant)>,
     /// How many streams the client may open in all.
     in_all: u64,
     /// Once it may open no more than so many, it is told to take a new connection; `None` once it was told.
@@ -92,9 +113,17 @@ impl FileServer {
             session: None,
             requests: HashMap::new(),
             answered: BTreeMap::new(),
+            patience: Patience::default(),
+            refused: BTreeMap::new(),
             in_all: 0,
             away_at: None,
         }
+    }
+
+    /// With another patience for bodies that aren't wanted.
+    pub fn with_patience(mut self, patience: Patience) -> FileServer {
+        self.patience = patience;
+        self
     }
 
     fn begin(&mut self, end: &mut Endpoint) -> Result<Session, Close> {
@@ -118,43 +147,65 @@ impl FileServer {
         }
     }
 
-    fn take(
-        &mut self,
-        event: Event,
-        session: &mut Session,
-        end: &mut Endpoint,
-    ) -> Result<(), Close> {
+    fn take(&mut self, event: Event, session: &mut Session) -> Result<(), Close> {
         match event {
             Event::Field(stream, field) => self.requests.entry(stream).or_default().take(field),
-            // What can't be answered is refused at once, and the rest of it isn't wanted.
+            // What can't be answered is refused at once. The rest of it is thrown away.
             Event::TooManyFields(stream) => {
                 self.requests.entry(stream).or_default();
-                self.respond(session, stream, |_| Answer::of("431", &[]))?;
-                session.refuse_rest(end, stream)?;
+                self.refuse(session, stream, Answer::of("431", &[]))?;
             }
-            Event::FieldsEnd(stream)
-                if self
-                    .requests
-                    .get(&stream)
-                    .is_some_and(|of| !of.is_of_files()) =>
-            {
-                let allow = [("allow", "GET, HEAD")];
-                self.respond(session, stream, |_| Answer::of("405", &allow))?;
-                session.refuse_rest(end, stream)?;
+            Event::FieldsEnd(stream) => {
+                let request = self.requests.get(&stream);
+                if request.is_some_and(|request| !request.is_of_files()) {
+                    let allow = [("allow", "GET, HEAD")];
+                    self.refuse(session, stream, Answer::of("405", &allow))?;
+                }
             }
             Event::End(stream) => {
+                self.refused.remove(&stream);
                 let folder = self.folder.clone();
                 self.respond(session, stream, |request| request.answer(&folder))?;
             }
             Event::Broken(stream, code) => self.break_off(stream, code),
             // What a request brings beside its fields isn't used.
-            Event::FieldsEnd(_) | Event::Data(..) | Event::GoAway(_) => {}
+            Event::Data(stream, bytes) => {
+                if let Some((left, _)) = self.refused.get_mut(&stream) {
+                    *left = left.saturating_sub(bytes.len() as u64);
+                }
+            }
+            Event::GoAway(_) => {}
+        }
+        Ok(())
+    }
+
+    fn refuse(
+        &mut self,
+        session: &mut Session,
+        stream: StreamId,
+        answer: Answer,
+    ) -> Result<(), Close> {
+        let until = Instant::now() + self.patience.time;
+        self.refused.insert(stream, (self.patience.bytes, until));
+        self.respond(session, stream, |_| answer)
+    }
+
+    // Where too much comes of what was refused, or for too long, no more is read of it.
+    fn lose_patience(&mut self, session: &mut Session, end: &mut Endpoint) -> Result<(), Close> {
+        let now = Instant::now();
+        let is_over = |(left, until): &(u64, Instant)| *left == 0 || *until <= now;
+        let over = self.refused.iter().filter(|(_, limits)| is_over(limits));
+        let over: Vec<StreamId> = over.map(|(stream, _)| *stream).collect();
+        for stream in over {
+            self.refused.remove(&stream);
+            session.refuse_rest(end, stream)?;
         }
         Ok(())
     }
 
     // Of a request that was answered the stream layer tells.
     fn break_off(&mut self, stream: StreamId, code: u64) {
+        self.refused.remove(&stream);
         let request = self.requests.remove(&stream).unwrap_or_default();
         if !self.answered.contains_key(&stream) {
             self.entry(&request, "-", 0).broken(code, 0);
@@ -212,8 +263,9 @@ impl Application for FileServer {
         };
         session.progress(end)?;
         while let Some(event) = session.next_event() {
-            self.take(event, &mut session, end)?;
+            self.take(event, &mut session)?;
         }
+        self.lose_patience(&mut session, end)?;
         self.tell(end);
         self.look_ahead(end, &mut session)?;
         session.write(end)?;

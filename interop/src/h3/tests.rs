@@ -1,6 +1,6 @@
 //! A client's session and a server of files, with payloads that go from one to the other as they are made.
 
-use super::server::FileServer;
+use super::server::{FileServer, Patience};
 use super::session::{Event, Field, Session};
 use super::{CLOSED_CRITICAL_STREAM, NO_ERROR};
 use crate::fault::Close;
@@ -8,6 +8,7 @@ use crate::files::Folder;
 use crate::streams::{Application, Body};
 use gotsavena::{Dir, Endpoint, Role, Settings, StreamId};
 use std::collections::{BTreeMap, HashMap};
+use std::time::Duration;
 
 const FILE: &str = "/Cargo.toml";
 
@@ -39,6 +40,14 @@ struct Came {
 impl Pair {
     fn new() -> Pair {
         Pair::with_lifetime(1000)
+    }
+
+    fn with_patience(patience: Patience) -> Pair {
+        let mut pair = Pair::new();
+        let folder = Folder::open(env!("CARGO_MANIFEST_DIR")).unwrap();
+        let server = FileServer::new(folder, "127.0.0.1:1".parse().unwrap());
+        pair.application = server.with_patience(patience);
+        pair
     }
 
     fn with_lifetime(lifetime: u64) -> Pair {
@@ -155,24 +164,45 @@ fn a_file_comes_with_its_type_and_length() {
 }
 
 #[test]
-fn a_method_that_files_have_not_is_refused_before_its_body() {
+fn a_method_that_files_have_not_is_refused_and_its_body_thrown_away() {
     let mut pair = Pair::new();
-    let begun = Body::of_bytes(vec![0; 10_000]);
-    let got = pair.load("POST", "/Cargo.toml", Some(begun));
+    let fields = [
+        (":method", "POST"),
+        (":scheme", "https"),
+        (":authority", "localhost"),
+        (":path", FILE),
+    ];
+    // More than the window of a stream: all of it is read.
+    let stream = pair.ask(&fields, Some(Body::of_bytes(vec![0; 1_000_000])));
+    pair.run().unwrap();
+    let got = pair.came.remove(&stream).unwrap();
     assert_eq!(got.field(":status"), Some("405"));
     assert_eq!(got.field("allow"), Some("GET, HEAD"));
-    // All of the answer comes, and the request's half is stopped without a fault (RFC 9114, section 4.1).
-    assert!(got.is_whole && got.broken.is_none_or(|code| code == NO_ERROR));
-    let stream = StreamId::new(0).unwrap();
-    assert_eq!(pair.client.stopped_with(stream), Some(NO_ERROR));
-    // Its stream comes to its end, so that it gives its place to another.
-    assert_eq!(pair.server.next_ended(stream), Some(stream));
-    for _ in 0..30 {
-        let begun = Body::of_bytes(vec![0; 10_000]);
-        let got = pair.load("PUT", "/", Some(begun));
-        assert_eq!(got.field(":status"), Some("405"));
-    }
+    assert!(got.is_whole && got.broken.is_none());
+    assert_eq!(pair.client.stopped_with(stream), None);
+    let sent = pair.client.report(stream).unwrap().send.unwrap();
+    assert!(sent.written >= 1_000_000);
     assert_eq!(pair.load("GET", FILE, None).field(":status"), Some("200"));
+}
+
+#[test]
+fn a_body_that_is_too_long_or_takes_too_long_is_stopped() {
+    let second = Duration::from_secs(1);
+    for (bytes, time) in [(5_000, 30 * second), (1 << 20, Duration::ZERO)] {
+        let mut pair = Pair::with_patience(Patience { bytes, time });
+        for place in 0..50 {
+            let begun = Body::of_bytes(vec![0; 10_000]);
+            let got = pair.load("PUT", "/", Some(begun));
+            // All of the answer comes, and the request's half is stopped without a fault (RFC 9114, section 4.1).
+            assert_eq!(got.field(":status"), Some("405"));
+            assert!(got.is_whole && got.broken.is_none_or(|code| code == NO_ERROR));
+            let stream = StreamId::new(4 * place).unwrap();
+            assert_eq!(pair.client.stopped_with(stream), Some(NO_ERROR));
+            // Its stream comes to its end, so that it gives its place to another.
+            assert_eq!(pair.server.next_ended(stream), Some(stream));
+        }
+        assert_eq!(pair.load("GET", FILE, None).field(":status"), Some("200"));
+    }
 }
 
 #[test]
