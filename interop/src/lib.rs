@@ -33,6 +33,7 @@ pub mod raw;
 pub mod recovery;
 pub mod server;
 pub mod streams;
+pub mod timers;
 pub mod tls;
 pub mod windows;
 pub mod zone;
