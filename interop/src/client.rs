@@ -173,7 +173,7 @@ mod tests {
     use crate::raw::{PROTOCOL, RawClient, RawServer};
     use crate::server::Server;
     use crate::tls::server_config;
-    use gotsavena::Settings;
+    use gotsavena::{Settings, Tuning};
     use std::thread;
 
     const FILE: &str = "src/client.rs";
@@ -185,6 +185,7 @@ mod tests {
         let idle = Duration::from_secs(30);
         Config {
             settings,
+            tuning: Tuning::default(),
             most_window: 0,
             idle,
         }

@@ -7,6 +7,7 @@
 //! the loops over sockets.
 #![deny(unsafe_op_in_unsafe_fn)]
 
+pub mod budget;
 pub mod bytes;
 pub mod certificate;
 pub mod client;

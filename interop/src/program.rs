@@ -1,12 +1,13 @@
 //! What the programs have in common: words of the command line, messages and statuses.
 
+use crate::budget;
 use crate::certificate::Identity;
 use crate::connection::{ClientSetup, Config, Connection};
 use crate::fault::Outcome;
 use crate::log::say;
 use crate::packet::VERSION_1;
 use crate::tls::client_config;
-use gotsavena::Settings;
+use gotsavena::{Settings, Tuning};
 use std::collections::BTreeMap;
 use std::fmt::Display;
 use std::io::ErrorKind;
@@ -250,14 +251,31 @@ pub fn config(words: &mut Words) -> Result<Config, Refusal> {
         .conn_window(window)
         .stream_windows(stream_window)
         .bidi_remote_window(stream_window.min(1 << 16))
-        .send_buffer(1 << 18)
+        .send_buffer(budget::OF_STREAM)
         .bidi_streams(streams, lifetime)
         .uni_streams(streams, MOST_STREAMS);
     Ok(Config {
         settings,
+        tuning: Tuning::default(),
         most_window,
         idle: Duration::from_secs(idle),
     })
+}
+
+/// What a server of files makes its connections with. A write takes what the client grants alone, so that an answer which no one reads
+/// keeps little, and one that is read isn't held up by those.
+pub fn serving(config: Config) -> Config {
+    let tuning = Tuning::default()
+        .within_credit(true)
+        .send_window(Some(budget::OF_CONNECTION));
+    Config { tuning, ..config }
+}
+
+/// Lets the program open as many files as the system lets it.
+pub fn raise_file_limit() {
+    if let Err(error) = rlimit::increase_nofile_limit(u64::MAX) {
+        tell(&format!("the limit of open files stays: {error}"));
+    }
 }
 
 /// How many streams the peer may open at once, `--streams N`, and in all, `--lifetime N`.

@@ -294,7 +294,7 @@ mod tests {
     use crate::program::client;
     use crate::raw::{PROTOCOL, RawClient, RawServer};
     use crate::tls::server_config;
-    use gotsavena::{Endpoint, Settings};
+    use gotsavena::{Endpoint, Settings, Tuning};
 
     const IDLE: usize = 30;
     const FILES: usize = 50;
@@ -327,6 +327,7 @@ mod tests {
             let settings = Settings::small().bidi_streams(1, 1000);
             let config = Config {
                 settings,
+                tuning: Tuning::default(),
                 most_window: 0,
                 idle: Duration::from_secs(30),
             };

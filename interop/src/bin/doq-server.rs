@@ -1,6 +1,6 @@
 //! A name server over QUIC (RFC 9250): answers from a zone's file.
 
-use gotsavena::Settings;
+use gotsavena::{Settings, Tuning};
 use gotsavena_interop::connection::Config;
 use gotsavena_interop::doq::{NameServer, PROTOCOL};
 use gotsavena_interop::program::{self, Refusal, Words, listen, streams};
@@ -36,6 +36,7 @@ fn serve(mut words: Words) -> Result<(), Refusal> {
         .uni_streams(0, 0);
     let config = Config {
         settings,
+        tuning: Tuning::default(),
         most_window: 0,
         idle: Duration::from_secs(30),
     };

@@ -2,9 +2,11 @@
 
 use super::NO_ERROR;
 use super::session::{Event, Field, Session};
+use crate::budget::{Budget, Share, most};
 use crate::fault::{Close, Outcome};
-use crate::files::{Folder, Named};
+use crate::files::{Folder, Named, is_exhausted};
 use crate::log::Entry;
+use crate::program::tell;
 use crate::streams::{Application, Body};
 use gotsavena::{Dir, Endpoint, Role, SendState, StreamId};
 use std::collections::{BTreeMap, HashMap};
@@ -30,6 +32,8 @@ impl Default for Patience {
 
 pub struct FileServer {
     folder: Folder,
+    /// What its answers may keep.
+    share: Share,
     peer: SocketAddr,
     session: Option<Session>,
     requests: HashMap<StreamId, Request>,
@@ -75,21 +79,36 @@ impl Request {
         matches!(self.method.as_slice(), b"GET" | b"HEAD")
     }
 
+    // What is there can't be given out for now (RFC 9110, section 15.6.4).
+    fn unavailable(&self, reason: &str) -> Answer {
+        tell(&format!(
+            "{} is answered 503: {reason}",
+            self.path.escape_ascii()
+        ));
+        Answer::of("503", &[("retry-after", "10")])
+    }
+
     fn answer(&self, folder: &Folder) -> Answer {
         match folder.named(&self.path) {
-            Some(Named::File(found)) => {
+            Ok(Named::File(found)) => {
                 let mut answer = Answer::of("200", &[("content-type", found.kind)]);
                 answer.len = found.len;
                 answer.body = (self.method == b"GET").then(|| found.body());
                 answer
             }
-            Some(Named::Folder(to)) => Answer::of("301", &[("location", &to)]),
-            None => Answer::of("404", &[]),
+            Ok(Named::Folder(to)) => Answer::of("301", &[("location", &to)]),
+            Err(error) if is_exhausted(&error) => self.unavailable(&error.to_string()),
+            Err(_) => Answer::of("404", &[]),
         }
     }
 }
 
 impl Answer {
+    /// How many bytes of the body go: none of HEAD.
+    fn sent_len(&self) -> u64 {
+        self.body.as_ref().map_or(0, |_| self.len)
+    }
+
     fn of(status: &'static str, fields: &[(&str, &str)]) -> Answer {
         let fields = fields.iter().map(|(name, value)| field(name, value));
         Answer {
@@ -106,9 +125,10 @@ fn field(name: &str, value: &str) -> Field {
 }
 
 impl FileServer {
-    pub fn new(folder: Folder, peer: SocketAddr) -> FileServer {
+    pub fn new(folder: Folder, budget: &Budget, peer: SocketAddr) -> FileServer {
         FileServer {
             folder,
+            share: budget.share(),
             peer,
             session: None,
             requests: HashMap::new(),
@@ -222,15 +242,18 @@ impl FileServer {
         let Some(request) = self.requests.remove(&stream) else {
             return Ok(());
         };
-        let answer = answer(&request);
+        let mut answer = answer(&request);
+        let lens = self.answered.values().map(Entry::body_len);
+        if !self.share.set(most(lens.chain([answer.sent_len()]))) {
+            answer = request.unavailable("too much is kept of answers");
+        }
         let mut fields = vec![
             field(":status", answer.status),
             field("server", "gotsavena-interop"),
             field("content-length", &answer.len.to_string()),
         ];
+        let entry = self.entry(&request, answer.status, answer.sent_len());
         fields.extend(answer.fields);
-        let len = answer.body.as_ref().map_or(0, |_| answer.len);
-        let entry = self.entry(&request, answer.status, len);
         self.answered.insert(stream, entry);
         session.respond(stream, &fields, answer.body)
     }
@@ -241,6 +264,7 @@ impl FileServer {
 
     // Tells of the answers that are over.
     fn tell(&mut self, end: &Endpoint) {
+        let before = self.answered.len();
         self.answered.retain(|stream, entry| {
             let Some(send) = end.report(*stream).and_then(|report| report.send) else {
                 return true;
@@ -252,6 +276,9 @@ impl FileServer {
             }
             false
         });
+        if self.answered.len() < before {
+            self.share.set(most(self.answered.values().map(Entry::body_len)));
+        }
     }
 }
 

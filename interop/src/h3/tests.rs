@@ -3,6 +3,7 @@
 use super::server::{FileServer, Patience};
 use super::session::{Event, Field, Session};
 use super::{CLOSED_CRITICAL_STREAM, NO_ERROR};
+use crate::budget::{Budget, OF_ALL};
 use crate::fault::Close;
 use crate::files::Folder;
 use crate::streams::{Application, Body};
@@ -37,6 +38,12 @@ struct Came {
     broken: Option<u64>,
 }
 
+// A server of the package's folder.
+fn file_server(budget: &Budget) -> FileServer {
+    let folder = Folder::open(env!("CARGO_MANIFEST_DIR")).unwrap();
+    FileServer::new(folder, budget, "127.0.0.1:1".parse().unwrap())
+}
+
 impl Pair {
     fn new() -> Pair {
         Pair::with_lifetime(1000)
@@ -44,9 +51,7 @@ impl Pair {
 
     fn with_patience(patience: Patience) -> Pair {
         let mut pair = Pair::new();
-        let folder = Folder::open(env!("CARGO_MANIFEST_DIR")).unwrap();
-        let server = FileServer::new(folder, "127.0.0.1:1".parse().unwrap());
-        pair.application = server.with_patience(patience);
+        pair.application = file_server(&Budget::new(OF_ALL)).with_patience(patience);
         pair
     }
 
@@ -58,12 +63,11 @@ impl Pair {
             .bidi_streams(20, lifetime);
         let [mut client, server] = [Role::Client, Role::Server]
             .map(|role| Endpoint::new(role, settings, settings.limits()).unwrap());
-        let folder = Folder::open(env!("CARGO_MANIFEST_DIR")).unwrap();
         Pair {
             session: Session::new(Role::Client, &mut client).unwrap(),
             client,
             server,
-            application: FileServer::new(folder, "127.0.0.1:1".parse().unwrap()),
+            application: file_server(&Budget::new(OF_ALL)),
             came: HashMap::new(),
             away: None,
         }
@@ -202,6 +206,29 @@ fn a_body_that_is_too_long_or_takes_too_long_is_stopped() {
             assert_eq!(pair.server.next_ended(stream), Some(stream));
         }
         assert_eq!(pair.load("GET", FILE, None).field(":status"), Some("200"));
+    }
+}
+
+#[test]
+fn what_all_connections_keep_is_bounded() {
+    let budget = Budget::new(100_000);
+    let mut other = budget.share();
+    let mut pair = Pair::new();
+    pair.application = file_server(&budget);
+    let mut status = |path| {
+        pair.load("GET", path, None)
+            .field(":status")
+            .unwrap()
+            .to_owned()
+    };
+    assert_eq!(status(FILE), "200");
+    assert!(other.set(90_000));
+    assert_eq!(status(FILE), "503");
+    assert_eq!(status("/none"), "503");
+    assert!(other.set(0));
+    // What was answered is known to the client, and takes nothing any more.
+    for _ in 0..20 {
+        assert_eq!(status(FILE), "200");
     }
 }
 
