@@ -172,6 +172,7 @@ mod tests {
     use crate::program::client;
     use crate::raw::{PROTOCOL, RawClient, RawServer};
     use crate::server::Server;
+    use crate::stop::Stop;
     use crate::tls::server_config;
     use gotsavena::{Settings, Tuning};
     use std::thread;
@@ -199,7 +200,7 @@ mod tests {
         let tls = server_config(Identity::new().unwrap(), &[PROTOCOL]).unwrap();
         thread::spawn(move || {
             let make = move |_| RawServer::new(folder.clone());
-            Server::new(socket, tls, config(), make).run()
+            Server::new(socket, tls, config(), make).run(&Stop::default())
         });
         address
     }

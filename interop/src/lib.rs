@@ -33,6 +33,7 @@ pub mod ranges;
 pub mod raw;
 pub mod recovery;
 pub mod server;
+pub mod stop;
 pub mod streams;
 pub mod timers;
 pub mod tls;

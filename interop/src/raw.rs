@@ -81,6 +81,12 @@ impl Answer {
 }
 
 impl Application for RawServer {
+    const NO_ERROR: u64 = NO_ERROR;
+
+    fn stop(&mut self) -> Result<bool, Close> {
+        Ok(self.streams.is_empty())
+    }
+
     fn progress(&mut self, end: &mut Endpoint) -> Result<(), Close> {
         while let Some(stream) = end.accept() {
             self.streams.insert(stream, Answer::PathComes(Vec::new()));
@@ -135,6 +141,8 @@ impl RawClient {
 }
 
 impl Application for RawClient {
+    const NO_ERROR: u64 = NO_ERROR;
+
     fn progress(&mut self, end: &mut Endpoint) -> Result<(), Close> {
         for (stream, (path, mut bytes)) in std::mem::take(&mut self.running) {
             match read_more(end, stream, &mut bytes, usize::MAX).map_err(internal)? {

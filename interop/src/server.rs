@@ -1,10 +1,12 @@
 //! A server: many connections on one socket.
 
 use crate::connection::{Config, Connection, DATAGRAM};
+use crate::fault::Close;
 use crate::packet::{
     ConnectionId, Kind, Level, Packet, VERSION_1, read_packet, version_negotiation,
 };
 use crate::program;
+use crate::stop::Stop;
 use crate::streams::Application;
 use crate::timers::Timers;
 use rustls::ServerConfig;
@@ -29,6 +31,9 @@ const LONG: Duration = Duration::from_secs(3600);
 const COARSE: Duration = Duration::from_millis(9);
 const FINE: Duration = Duration::from_micros(100);
 
+/// How long what is under way may go on where the server stops; and then, how long closes are sent again.
+const GRACE: Duration = Duration::from_millis(300);
+
 pub struct Server<A> {
     socket: Arc<UdpSocket>,
     tls: Arc<ServerConfig>,
@@ -40,6 +45,16 @@ pub struct Server<A> {
     next: u64,
     /// Connections that have more to send.
     busy: BTreeSet<u64>,
+    phase: Phase,
+}
+
+#[derive(Clone, Copy, PartialEq, Eq)]
+enum Phase {
+    Serves,
+    /// Clients are told, and what is under way goes on.
+    Stops,
+    /// Whatever is under way ends.
+    Closes,
 }
 
 /// The connections, each by its number: there is no walk over all of them.
@@ -124,6 +139,24 @@ pub fn turn<A: Application>(
     Ok(true)
 }
 
+// A server that stops closes a connection once nothing is under way on it that the client doesn't know.
+fn part<A: Application>(phase: Phase, connection: &mut Connection, application: &mut A) {
+    let close = Close::new(A::NO_ERROR, "the server stops");
+    let is_over = match (phase, connection.end()) {
+        (Phase::Serves, _) => return,
+        (Phase::Stops, Some(end)) => {
+            let is_known = end.kept_sum() == 0;
+            application.stop().map(|is_over| is_over && is_known)
+        }
+        _ => Ok(true),
+    };
+    match is_over {
+        Ok(false) => {}
+        Ok(true) => connection.close(close, Instant::now()),
+        Err(close) => connection.close(close, Instant::now()),
+    }
+}
+
 impl<A> Table<A> {
     fn get(&mut self, key: u64) -> Option<&mut Served<A>> {
         self.looks += 1;
@@ -152,6 +185,7 @@ impl<A: Application> Server<A> {
             ids: HashMap::new(),
             next: 0,
             busy: BTreeSet::new(),
+            phase: Phase::Serves,
         }
     }
 
@@ -160,15 +194,33 @@ impl<A: Application> Server<A> {
         self.served.looks
     }
 
-    /// Serves without an end.
-    pub fn run(&mut self) -> io::Result<()> {
+    /// Serves until it is asked to stop.
+    pub fn run(&mut self, stop: &Stop) -> io::Result<()> {
         let mut out = Vec::new();
-        loop {
-            let until = match self.busy.is_empty() {
-                true => self.timers.next(),
-                false => Some(Instant::now()),
-            };
-            self.turn(until, &mut out)?;
+        while !stop.is_asked() {
+            self.turn(self.waits_until(), &mut out)?;
+        }
+        self.stop(&mut out)
+    }
+
+    // Tells all clients. A connection ends once nothing is under way on it, and all within a second.
+    fn stop(&mut self, out: &mut Vec<u8>) -> io::Result<()> {
+        let begin = Instant::now();
+        for (phase, time) in [(Phase::Stops, GRACE), (Phase::Closes, 2 * GRACE)] {
+            self.phase = phase;
+            self.busy = self.served.places.keys().copied().collect();
+            while !self.served.places.is_empty() && begin.elapsed() < time {
+                let until = self.waits_until().into_iter().chain([begin + time]);
+                self.turn(until.min(), out)?;
+            }
+        }
+        Ok(())
+    }
+
+    fn waits_until(&self) -> Option<Instant> {
+        match self.busy.is_empty() {
+            true => self.timers.next(),
+            false => Some(Instant::now()),
         }
     }
 
@@ -222,6 +274,9 @@ impl<A: Application> Server<A> {
     // An Initial that authenticates begins a connection; of others no state is kept.
     fn begin(&mut self, packet: &Packet, datagram: &mut [u8], from: SocketAddr) -> Option<u64> {
         let is_initial = packet.kind == Kind::Protected(Level::Initial);
+        if self.phase != Phase::Serves {
+            return None;
+        }
         if !is_initial || datagram.len() < DATAGRAM || packet.destination.len() < LEAST_FIRST_ID {
             return None;
         }
@@ -262,6 +317,7 @@ impl<A: Application> Server<A> {
             application,
             was_told,
         } = served;
+        part(self.phase, connection, application);
         let more = turn(connection, application, out, |bytes| {
             self.socket.send_to(bytes, *peer)
         })?;
@@ -288,7 +344,7 @@ mod tests {
     use super::*;
     use crate::certificate::Identity;
     use crate::client::connect;
-    use crate::fault::Close;
+    use crate::fault::Outcome;
     use crate::files::Folder;
     use crate::packet::VERSION_1;
     use crate::program::client;
@@ -303,6 +359,8 @@ mod tests {
     struct Nothing;
 
     impl Application for Nothing {
+        const NO_ERROR: u64 = 0;
+
         fn progress(&mut self, _end: &mut Endpoint) -> Result<(), Close> {
             Ok(())
         }
@@ -372,6 +430,23 @@ mod tests {
                 connection.time_is_up(now);
             }
         }
+    }
+
+    #[test]
+    fn a_stop_tells_the_clients() {
+        let mut world = World::new();
+        let mut client = world.client(Nothing);
+        // (its handshake is over at both ends)
+        (0..20).for_each(|_| world.step(&mut client));
+        world.server.stop(&mut Vec::new()).unwrap();
+        let take = |datagram: &mut [u8], _| client.connection.receive(datagram, Instant::now());
+        receive_batch(&client.socket, Some(Instant::now()), take).unwrap();
+        let told = Outcome::PeerClosed {
+            by_application: true,
+            code: 0,
+            reason: "the server stops".to_owned(),
+        };
+        assert_eq!(client.connection.outcome(), Some(&told));
     }
 
     #[test]

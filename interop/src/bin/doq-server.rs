@@ -5,6 +5,7 @@ use gotsavena_interop::connection::Config;
 use gotsavena_interop::doq::{NameServer, PROTOCOL};
 use gotsavena_interop::program::{self, Refusal, Words, listen, streams};
 use gotsavena_interop::server::Server;
+use gotsavena_interop::stop::Stop;
 use gotsavena_interop::tls::server_config;
 use gotsavena_interop::zone::Zone;
 use std::process::ExitCode;
@@ -41,6 +42,7 @@ fn serve(mut words: Words) -> Result<(), Refusal> {
         idle: Duration::from_secs(30),
     };
     let socket = listen(&address)?;
+    let stop = Stop::by_signals(std::slice::from_ref(&socket)).map_err(Refusal::failure)?;
     let mut server = Server::new(socket, tls, config, move |_| NameServer::new(zone.clone()));
-    server.run().map_err(Refusal::failure)
+    server.run(&stop).map_err(Refusal::failure)
 }

@@ -6,14 +6,13 @@ use gotsavena_interop::h3::PROTOCOL;
 use gotsavena_interop::h3::server::FileServer;
 use gotsavena_interop::log::say;
 use gotsavena_interop::program::{
-    self, Refusal, Words, config, listen_on_all, raise_file_limit, serving,
+    self, Refusal, Words, config, listen_on_all, raise_file_limit, run_all, serving,
 };
 use gotsavena_interop::server::Server;
+use gotsavena_interop::stop::Stop;
 use gotsavena_interop::tls::server_config;
 use std::net::UdpSocket;
 use std::process::ExitCode;
-use std::sync::mpsc::channel;
-use std::thread;
 
 fn main() -> ExitCode {
     program::run(
@@ -44,18 +43,18 @@ fn serve(mut words: Words) -> Result<(), Refusal> {
         tell_browsers(&hash, socket)?;
     }
     let budget = Budget::new(budget::OF_ALL);
+    let stop = Stop::by_signals(&sockets).map_err(Refusal::failure)?;
     // Each socket has a thread, and the connections that come by it.
-    let (failed, first) = channel();
-    for socket in sockets {
-        let (tls, failed) = (tls.clone(), failed.clone());
+    let servers = sockets.into_iter().map(|socket| {
+        let (tls, stop) = (tls.clone(), stop.clone());
         let (folder, budget) = (folder.clone(), budget.clone());
         let make = move |peer| FileServer::new(folder.clone(), &budget, peer);
-        thread::spawn(move || {
+        move || {
             let mut server = Server::new(socket, tls, config, make);
-            failed.send(server.run().map_err(Refusal::failure))
-        });
-    }
-    first.recv().map_err(Refusal::failure)?
+            server.run(&stop).map_err(Refusal::failure)
+        }
+    });
+    run_all(servers)
 }
 
 // A browser takes a certificate that it can't know by the hash of its key.

@@ -4,6 +4,7 @@ use gotsavena_interop::files::Folder;
 use gotsavena_interop::program::{self, Refusal, Words, config, listen, raise_file_limit, serving};
 use gotsavena_interop::raw::{PROTOCOL, RawServer};
 use gotsavena_interop::server::Server;
+use gotsavena_interop::stop::Stop;
 use gotsavena_interop::tls::server_config;
 use std::process::ExitCode;
 
@@ -23,6 +24,7 @@ fn serve(mut words: Words) -> Result<(), Refusal> {
     let tls = server_config(identity, &[PROTOCOL])?;
     raise_file_limit();
     let socket = listen(&address)?;
+    let stop = Stop::by_signals(std::slice::from_ref(&socket)).map_err(Refusal::failure)?;
     let mut server = Server::new(socket, tls, config, move |_| RawServer::new(folder.clone()));
-    server.run().map_err(Refusal::failure)
+    server.run(&stop).map_err(Refusal::failure)
 }

@@ -46,6 +46,7 @@ pub struct FileServer {
     in_all: u64,
     /// Once it may open no more than so many, it is told to take a new connection; `None` once it was told.
     away_at: Option<u64>,
+    is_stopping: bool,
 }
 
 /// What is used of a request's fields.
@@ -137,6 +138,7 @@ impl FileServer {
             refused: BTreeMap::new(),
             in_all: 0,
             away_at: None,
+            is_stopping: false,
         }
     }
 
@@ -277,12 +279,27 @@ impl FileServer {
             false
         });
         if self.answered.len() < before {
-            self.share.set(most(self.answered.values().map(Entry::body_len)));
+            self.share
+                .set(most(self.answered.values().map(Entry::body_len)));
         }
     }
 }
 
 impl Application for FileServer {
+    const NO_ERROR: u64 = NO_ERROR;
+
+    fn stop(&mut self) -> Result<bool, Close> {
+        let Some(session) = &mut self.session else {
+            return Ok(true);
+        };
+        if !self.is_stopping {
+            self.is_stopping = true;
+            session.refuse_more()?;
+            return Ok(false);
+        }
+        Ok(session.has_no_request() && self.answered.is_empty())
+    }
+
     fn progress(&mut self, end: &mut Endpoint) -> Result<(), Close> {
         let mut session = match self.session.take() {
             Some(session) => session,

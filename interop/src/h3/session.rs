@@ -480,6 +480,12 @@ impl Session {
         check(unsafe { nghttp3_conn_submit_shutdown_notice(self.conn) })
     }
 
+    /// Tells the peer which of its requests are answered still: no later ones (RFC 9114, section 5.2).
+    pub fn refuse_more(&mut self) -> Result<(), Close> {
+        // Sound: as above.
+        check(unsafe { nghttp3_conn_shutdown(self.conn) })
+    }
+
     /// Whether no request comes.
     pub fn has_no_request(&self) -> bool {
         !self.reading.iter().any(|stream| stream.dir() == Dir::Bidi)

@@ -233,6 +233,18 @@ fn what_all_connections_keep_is_bounded() {
 }
 
 #[test]
+fn a_stop_says_which_requests_are_answered() {
+    let mut pair = Pair::new();
+    pair.load("GET", FILE, None);
+    pair.load("GET", FILE, None);
+    assert!(!pair.application.stop().unwrap());
+    pair.run().unwrap();
+    // The two are; the third isn't (RFC 9114, section 5.2).
+    assert_eq!(pair.away, StreamId::new(8));
+    assert!(pair.application.stop().unwrap());
+}
+
+#[test]
 fn connect_is_answered() {
     let mut pair = Pair::new();
     let fields = [(":method", "CONNECT"), (":authority", "example.org:443")];
