@@ -4,6 +4,10 @@
 : "${interop:?}"
 
 registry=/usr/share/cargo/registry
+# What the example is built over.
+# shellcheck disable=SC2034
+example_packages=(libnghttp3-dev librust-libc-dev librust-ring-dev librust-rlimit-dev librust-rustls-dev librust-rustls-pemfile-dev
+  librust-signal-hook-dev)
 
 is_installed() {
   dpkg-query -W -f '${Status}' "$1" 2>/dev/null | grep -q 'install ok installed'

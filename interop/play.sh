@@ -119,6 +119,25 @@ end() {
   wait "$1" 2>/dev/null || true
 }
 
+# A server that is asked to stop by a signal, as a client is served, ends within a second and without a fault. The client ends, too.
+stops() {
+  local signal=$1 begin client
+  shift
+  "$@" >"$room/said" 2>&1 &
+  client=$!
+  sleep 1
+  begin=$(date +%s%N)
+  kill -"$signal" "$started"
+  while [ $(($(date +%s%N) - begin)) -lt 1000000000 ] && kill -0 "$started" 2>/dev/null; do
+    sleep 0.02
+  done
+  ! kill -0 "$started" 2>/dev/null && wait "$started" || return
+  echo "the server ended after $((($(date +%s%N) - begin) / 1000000)) ms"
+  wait "$client" || true
+  echo "the client ended after $((($(date +%s%N) - begin) / 1000000)) ms"
+  [ $(($(date +%s%N) - begin)) -lt 3000000000 ]
+}
+
 # How much memory a process has, in KiB.
 memory() {
   sed -n 's/^VmRSS:[[:space:]]*\([0-9]*\) kB$/\1/p' "/proc/$1/status"

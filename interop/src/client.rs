@@ -172,8 +172,9 @@ mod tests {
     use crate::program::client;
     use crate::raw::{PROTOCOL, RawClient, RawServer};
     use crate::server::Server;
+    use crate::stop::Stop;
     use crate::tls::server_config;
-    use gotsavena::Settings;
+    use gotsavena::{Settings, Tuning};
     use std::thread;
 
     const FILE: &str = "src/client.rs";
@@ -185,6 +186,7 @@ mod tests {
         let idle = Duration::from_secs(30);
         Config {
             settings,
+            tuning: Tuning::default(),
             most_window: 0,
             idle,
         }
@@ -198,7 +200,7 @@ mod tests {
         let tls = server_config(Identity::new().unwrap(), &[PROTOCOL]).unwrap();
         thread::spawn(move || {
             let make = move |_| RawServer::new(folder.clone());
-            Server::new(socket, tls, config(), make).run()
+            Server::new(socket, tls, config(), make).run(&Stop::default())
         });
         address
     }

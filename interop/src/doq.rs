@@ -64,6 +64,12 @@ fn message(bytes: &[u8]) -> Result<&[u8], Close> {
 }
 
 impl Application for NameServer {
+    const NO_ERROR: u64 = NO_ERROR;
+
+    fn stop(&mut self) -> Result<bool, Close> {
+        Ok(self.queries.is_empty())
+    }
+
     fn progress(&mut self, end: &mut Endpoint) -> Result<(), Close> {
         while let Some(stream) = end.accept() {
             self.queries.insert(stream, Query::Comes(Vec::new()));
@@ -178,6 +184,8 @@ impl Asker {
 }
 
 impl Application for Asker {
+    const NO_ERROR: u64 = NO_ERROR;
+
     fn progress(&mut self, end: &mut Endpoint) -> Result<(), Close> {
         for (stream, (name, mut bytes)) in std::mem::take(&mut self.running) {
             match read_more(end, stream, &mut bytes, MOST_BYTES).map_err(internal)? {

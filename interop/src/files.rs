@@ -77,16 +77,20 @@ impl Folder {
         }
     }
 
-    /// What the path of a URL names, a query behind it or not (RFC 3986, sections 2.1 and 3.3); `None` where there is nothing, or
-    /// the path leads out of the folder.
-    pub fn named(&self, path: &[u8]) -> Option<Named> {
-        let path = path.split(|byte| b"?#".contains(byte)).next()?;
+    /// What the path of a URL names, a query behind it or not (RFC 3986, sections 2.1 and 3.3).
+    ///
+    /// # Errors
+    ///
+    /// Where there is nothing, or the path leads out of the folder; [`is_exhausted`] tells those of the system.
+    pub fn named(&self, path: &[u8]) -> io::Result<Named> {
+        let path = path.split(|byte| b"?#".contains(byte)).next();
+        let path = path.unwrap_or_default();
         let mut file = self.root.clone();
         let mut last = &[][..];
         for part in path.split(|byte| *byte == b'/') {
-            let name = decoded(part)?;
+            let name = decoded(part).ok_or(ErrorKind::NotFound)?;
             if name == b".." || name.contains(&b'/') || name.contains(&0) {
-                return None;
+                return Err(ErrorKind::NotFound.into());
             }
             file.push(OsStr::from_bytes(&name));
             last = part;
@@ -97,19 +101,26 @@ impl Folder {
         }
         match last {
             [] => open(&self.within(&file.join(INDEX))?).map(Named::File),
-            name => Some(Named::Folder(format!("./{}/", name.escape_ascii()))),
+            name => Ok(Named::Folder(format!("./{}/", name.escape_ascii()))),
         }
     }
 
     /// The file of a path that is no URL's.
-    pub fn plain(&self, path: &str) -> Option<Found> {
+    ///
+    /// # Errors
+    ///
+    /// Those of [`Folder::named`].
+    pub fn plain(&self, path: &str) -> io::Result<Found> {
         open(&self.within(&self.root.join(path.trim_start_matches('/')))?)
     }
 
     // Links are followed, as far as they stay in the folder.
-    fn within(&self, path: &Path) -> Option<PathBuf> {
-        let path = path.canonicalize().ok()?;
-        path.starts_with(&self.root).then_some(path)
+    fn within(&self, path: &Path) -> io::Result<PathBuf> {
+        let path = path.canonicalize()?;
+        match path.starts_with(&self.root) {
+            true => Ok(path),
+            false => Err(ErrorKind::NotFound.into()),
+        }
     }
 }
 
@@ -121,14 +132,22 @@ impl Found {
 }
 
 // A pipe or a device isn't opened: that could wait, or not end.
-fn open(path: &Path) -> Option<Found> {
+fn open(path: &Path) -> io::Result<Found> {
     if !path.is_file() {
-        return None;
+        return Err(ErrorKind::NotFound.into());
     }
-    let file = File::open(path).ok()?;
-    let len = file.metadata().ok()?.len();
+    let file = File::open(path)?;
+    let len = file.metadata()?.len();
     let kind = kind(path);
-    Some(Found { file, len, kind })
+    Ok(Found { file, len, kind })
+}
+
+/// Whether the system has too little for now to open a file that may be there.
+pub fn is_exhausted(error: &io::Error) -> bool {
+    matches!(
+        error.raw_os_error(),
+        Some(libc::EMFILE | libc::ENFILE | libc::ENOMEM)
+    )
 }
 
 fn kind(path: &Path) -> &'static str {
@@ -194,7 +213,7 @@ mod tests {
         let room = Room::new("gotsavena-named");
         let folder = Folder::open(room.0.join("files").to_str().unwrap()).unwrap();
         let named = |path: &str| match folder.named(path.as_bytes()) {
-            Some(Named::File(found)) => Some((found.len, found.kind)),
+            Ok(Named::File(found)) => Some((found.len, found.kind)),
             _ => None,
         };
         let html = "text/html; charset=utf-8";
@@ -205,7 +224,7 @@ mod tests {
         assert_eq!(named("/sub/"), Some((3, html)));
         assert_eq!(named("/./sub/index.html"), Some((3, html)));
         let slash = folder.named(b"/sub?q");
-        assert!(matches!(slash, Some(Named::Folder(to)) if to == "./sub/"));
+        assert!(matches!(slash, Ok(Named::Folder(to)) if to == "./sub/"));
     }
 
     #[test]
@@ -226,10 +245,10 @@ mod tests {
             "/plain/",
             "/none",
         ] {
-            assert!(folder.named(path.as_bytes()).is_none(), "{path}");
-            assert!(folder.plain(path).is_none(), "{path}");
+            assert!(folder.named(path.as_bytes()).is_err(), "{path}");
+            assert!(folder.plain(path).is_err(), "{path}");
         }
-        assert!(folder.plain("/plain").is_some());
+        assert!(folder.plain("/plain").is_ok());
         assert!(Folder::open("/no/such/folder").is_err());
     }
 }

@@ -7,6 +7,7 @@
 //! the loops over sockets.
 #![deny(unsafe_op_in_unsafe_fn)]
 
+pub mod budget;
 pub mod bytes;
 pub mod certificate;
 pub mod client;
@@ -32,7 +33,9 @@ pub mod ranges;
 pub mod raw;
 pub mod recovery;
 pub mod server;
+pub mod stop;
 pub mod streams;
+pub mod timers;
 pub mod tls;
 pub mod windows;
 pub mod zone;

@@ -14,7 +14,6 @@ pub struct Entry {
     /// When it was answered, by whom it was asked, its method and its path.
     request: String,
     status: &'static str,
-    /// How long the answer's body is.
     len: u64,
 }
 
@@ -37,6 +36,11 @@ impl Entry {
             status,
             len,
         }
+    }
+
+    /// How long the answer's body is.
+    pub fn body_len(&self) -> u64 {
+        self.len
     }
 
     /// All of the answer is acknowledged.

@@ -1,19 +1,23 @@
 //! What the programs have in common: words of the command line, messages and statuses.
 
+use crate::budget;
 use crate::certificate::Identity;
 use crate::connection::{ClientSetup, Config, Connection};
 use crate::fault::Outcome;
 use crate::log::say;
 use crate::packet::VERSION_1;
 use crate::tls::client_config;
-use gotsavena::Settings;
+use gotsavena::{Settings, Tuning};
 use std::collections::BTreeMap;
 use std::fmt::Display;
 use std::io::ErrorKind;
 use std::net::{SocketAddr, ToSocketAddrs, UdpSocket};
+use std::panic::{AssertUnwindSafe, catch_unwind};
 use std::path::Path;
 use std::process::ExitCode;
 use std::sync::atomic::{AtomicBool, Ordering};
+use std::sync::mpsc::channel;
+use std::thread;
 use std::time::{Duration, Instant};
 
 /// How many streams the stream layer allows in a connection's life.
@@ -250,14 +254,49 @@ pub fn config(words: &mut Words) -> Result<Config, Refusal> {
         .conn_window(window)
         .stream_windows(stream_window)
         .bidi_remote_window(stream_window.min(1 << 16))
-        .send_buffer(1 << 18)
+        .send_buffer(budget::OF_STREAM)
         .bidi_streams(streams, lifetime)
         .uni_streams(streams, MOST_STREAMS);
     Ok(Config {
         settings,
+        tuning: Tuning::default(),
         most_window,
         idle: Duration::from_secs(idle),
     })
+}
+
+/// What a server of files makes its connections with. A write takes what the client grants alone, so that an answer which no one reads
+/// keeps little, and one that is read isn't held up by those.
+pub fn serving(config: Config) -> Config {
+    let tuning = Tuning::default()
+        .within_credit(true)
+        .send_window(Some(budget::OF_CONNECTION));
+    Config { tuning, ..config }
+}
+
+/// Runs each task on a thread of its own, until all are done, or one fails: whichever panics does.
+pub fn run_all<T>(tasks: impl Iterator<Item = T>) -> Result<(), Refusal>
+where
+    T: FnOnce() -> Result<(), Refusal> + Send + 'static,
+{
+    let (done, results) = channel();
+    for task in tasks {
+        let done = done.clone();
+        thread::spawn(move || {
+            let panicked = |_| Err(Refusal::failure("the program has a fault, and ends"));
+            let result = catch_unwind(AssertUnwindSafe(task)).unwrap_or_else(panicked);
+            _ = done.send(result);
+        });
+    }
+    drop(done);
+    results.iter().collect()
+}
+
+/// Lets the program open as many files as the system lets it.
+pub fn raise_file_limit() {
+    if let Err(error) = rlimit::increase_nofile_limit(u64::MAX) {
+        tell(&format!("the limit of open files stays: {error}"));
+    }
 }
 
 /// How many streams the peer may open at once, `--streams N`, and in all, `--lifetime N`.
@@ -314,4 +353,24 @@ pub fn tell_speed(bytes: usize, time: Duration) {
     let seconds = time.as_secs_f64().max(1e-9);
     let speed = bytes as f64 / 1e6 / seconds;
     println!("{bytes} bytes in {seconds:.3} s: {speed:.2} MB/s");
+}
+
+#[cfg(test)]
+mod tests {
+    use super::*;
+
+    #[test]
+    fn a_task_that_panics_ends_all() {
+        let wait = || {
+            thread::sleep(Duration::from_secs(60));
+            Ok(())
+        };
+        let tasks: [Box<dyn FnOnce() -> Result<(), Refusal> + Send>; 2] =
+            [Box::new(wait), Box::new(|| panic!("of the test"))];
+        let begin = Instant::now();
+        let refusal = run_all(tasks.into_iter()).unwrap_err();
+        assert!(matches!(refusal, Refusal::Failure(text) if text.contains("has a fault")));
+        assert!(begin.elapsed() < Duration::from_secs(30));
+        assert!(run_all([|| Ok(()), || Ok(())].into_iter()).is_ok());
+    }
 }

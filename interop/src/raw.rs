@@ -1,7 +1,8 @@
 //! Files without HTTP: the bytes of a stream are a path, and the answer on the same stream is the file, or a reset.
 
 use crate::fault::Close;
-use crate::files::Folder;
+use crate::files::{Folder, is_exhausted};
+use crate::program::tell;
 use crate::streams::{Application, Came, Outgoing, abandon, read_more};
 use gotsavena::{Dir, Endpoint, OpenFault, StreamId, UseFault};
 use std::collections::{BTreeMap, VecDeque};
@@ -58,10 +59,19 @@ impl Answer {
                     return abandon(end, stream, NO_FILE).map(|()| true);
                 }
             }
-            let Some(found) = folder.plain(&String::from_utf8_lossy(path)) else {
-                return abandon(end, stream, NO_FILE).map(|()| true);
-            };
-            *self = Answer::Goes(Outgoing::new(found.body()));
+            let path = String::from_utf8_lossy(path);
+            match folder.plain(&path) {
+                Ok(found) => *self = Answer::Goes(Outgoing::new(found.body())),
+                Err(error) => {
+                    let code = if is_exhausted(&error) {
+                        tell(&format!("{} can't be opened: {error}", path.escape_debug()));
+                        INTERNAL_ERROR
+                    } else {
+                        NO_FILE
+                    };
+                    return abandon(end, stream, code).map(|()| true);
+                }
+            }
         }
         match self {
             Answer::Goes(outgoing) => outgoing.write(end, stream, INTERNAL_ERROR),
@@ -71,6 +81,12 @@ impl Answer {
 }
 
 impl Application for RawServer {
+    const NO_ERROR: u64 = NO_ERROR;
+
+    fn stop(&mut self) -> Result<bool, Close> {
+        Ok(self.streams.is_empty())
+    }
+
     fn progress(&mut self, end: &mut Endpoint) -> Result<(), Close> {
         while let Some(stream) = end.accept() {
             self.streams.insert(stream, Answer::PathComes(Vec::new()));
@@ -125,6 +141,8 @@ impl RawClient {
 }
 
 impl Application for RawClient {
+    const NO_ERROR: u64 = NO_ERROR;
+
     fn progress(&mut self, end: &mut Endpoint) -> Result<(), Close> {
         for (stream, (path, mut bytes)) in std::mem::take(&mut self.running) {
             match read_more(end, stream, &mut bytes, usize::MAX).map_err(internal)? {

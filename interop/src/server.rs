@@ -1,11 +1,14 @@
 //! A server: many connections on one socket.
 
 use crate::connection::{Config, Connection, DATAGRAM};
+use crate::fault::Close;
 use crate::packet::{
     ConnectionId, Kind, Level, Packet, VERSION_1, read_packet, version_negotiation,
 };
 use crate::program;
+use crate::stop::Stop;
 use crate::streams::Application;
+use crate::timers::Timers;
 use rustls::ServerConfig;
 use std::collections::{BTreeSet, HashMap};
 use std::io::{self, ErrorKind};
@@ -28,15 +31,38 @@ const LONG: Duration = Duration::from_secs(3600);
 const COARSE: Duration = Duration::from_millis(9);
 const FINE: Duration = Duration::from_micros(100);
 
+/// How long what is under way may go on where the server stops; and then, how long closes are sent again.
+const GRACE: Duration = Duration::from_millis(300);
+
 pub struct Server<A> {
-    socket: UdpSocket,
+    socket: Arc<UdpSocket>,
     tls: Arc<ServerConfig>,
     config: Config,
     make: Box<dyn Fn(SocketAddr) -> A>,
-    // (boxed: a table that grew keeps its places)
-    served: HashMap<u64, Box<Served<A>>>,
+    served: Table<A>,
+    timers: Timers,
     ids: HashMap<ConnectionId, u64>,
     next: u64,
+    /// Connections that have more to send.
+    busy: BTreeSet<u64>,
+    phase: Phase,
+}
+
+#[derive(Clone, Copy, PartialEq, Eq)]
+enum Phase {
+    Serves,
+    /// Clients are told, and what is under way goes on.
+    Stops,
+    /// Whatever is under way ends.
+    Closes,
+}
+
+/// The connections, each by its number: there is no walk over all of them.
+struct Table<A> {
+    // (boxed: a table that grew keeps its places)
+    places: HashMap<u64, Box<Served<A>>>,
+    /// How often a connection was looked at.
+    looks: u64,
 }
 
 struct Served<A> {
@@ -113,6 +139,31 @@ pub fn turn<A: Application>(
     Ok(true)
 }
 
+// A server that stops closes a connection once nothing is under way on it that the client doesn't know.
+fn part<A: Application>(phase: Phase, connection: &mut Connection, application: &mut A) {
+    let close = Close::new(A::NO_ERROR, "the server stops");
+    let is_over = match (phase, connection.end()) {
+        (Phase::Serves, _) => return,
+        (Phase::Stops, Some(end)) => {
+            let is_known = end.kept_sum() == 0;
+            application.stop().map(|is_over| is_over && is_known)
+        }
+        _ => Ok(true),
+    };
+    match is_over {
+        Ok(false) => {}
+        Ok(true) => connection.close(close, Instant::now()),
+        Err(close) => connection.close(close, Instant::now()),
+    }
+}
+
+impl<A> Table<A> {
+    fn get(&mut self, key: u64) -> Option<&mut Served<A>> {
+        self.looks += 1;
+        self.places.get_mut(&key).map(|place| &mut **place)
+    }
+}
+
 impl<A: Application> Server<A> {
     /// `make` makes what runs over each connection, with the peer of an address.
     pub fn new(
@@ -122,54 +173,81 @@ impl<A: Application> Server<A> {
         make: impl Fn(SocketAddr) -> A + 'static,
     ) -> Server<A> {
         Server {
-            socket,
+            socket: Arc::new(socket),
             tls,
             config,
             make: Box::new(make),
-            served: HashMap::new(),
+            served: Table {
+                places: HashMap::new(),
+                looks: 0,
+            },
+            timers: Timers::default(),
             ids: HashMap::new(),
             next: 0,
+            busy: BTreeSet::new(),
+            phase: Phase::Serves,
         }
     }
 
-    /// Serves without an end.
-    pub fn run(&mut self) -> io::Result<()> {
-        let socket = self.socket.try_clone()?;
+    /// How often a connection was looked at: as a datagram came, as its time was up, and as it went on.
+    pub fn looks(&self) -> u64 {
+        self.served.looks
+    }
+
+    /// Serves until it is asked to stop.
+    pub fn run(&mut self, stop: &Stop) -> io::Result<()> {
         let mut out = Vec::new();
-        let mut busy = BTreeSet::new();
-        loop {
-            let until = match busy.is_empty() {
-                true => self.next_timer(),
-                false => Some(Instant::now()),
-            };
-            // Where a client's socket is gone its silence tells.
-            _ = receive_batch(&socket, until, |datagram, from| {
-                busy.extend(self.take(datagram, from, &mut out));
-            })?;
-            busy.extend(self.timers_are_up());
-            for key in std::mem::take(&mut busy) {
-                if self.turn(key, &mut out)? {
-                    busy.insert(key);
-                }
+        while !stop.is_asked() {
+            self.turn(self.waits_until(), &mut out)?;
+        }
+        self.stop(&mut out)
+    }
+
+    // Tells all clients. A connection ends once nothing is under way on it, and all within a second.
+    fn stop(&mut self, out: &mut Vec<u8>) -> io::Result<()> {
+        let begin = Instant::now();
+        for (phase, time) in [(Phase::Stops, GRACE), (Phase::Closes, 2 * GRACE)] {
+            self.phase = phase;
+            self.busy = self.served.places.keys().copied().collect();
+            while !self.served.places.is_empty() && begin.elapsed() < time {
+                let until = self.waits_until().into_iter().chain([begin + time]);
+                self.turn(until.min(), out)?;
             }
         }
+        Ok(())
     }
 
-    fn next_timer(&self) -> Option<Instant> {
-        let now = Instant::now();
-        let served = self.served.values();
-        served
-            .filter_map(|served| served.connection.timer(now))
-            .min()
+    fn waits_until(&self) -> Option<Instant> {
+        match self.busy.is_empty() {
+            true => self.timers.next(),
+            false => Some(Instant::now()),
+        }
+    }
+
+    // Waits until something comes, or until a time. Lets the connections go on that are concerned, or whose time is up, or that are
+    // busy.
+    fn turn(&mut self, until: Option<Instant>, out: &mut Vec<u8>) -> io::Result<()> {
+        let socket = self.socket.clone();
+        let mut concerned = std::mem::take(&mut self.busy);
+        // Where a client's socket is gone its silence tells.
+        _ = receive_batch(&socket, until, |datagram, from| {
+            concerned.extend(self.take(datagram, from, out));
+        })?;
+        concerned.extend(self.timers_are_up());
+        for key in concerned {
+            if self.go_on(key, out)? {
+                self.busy.insert(key);
+            }
+        }
+        Ok(())
     }
 
     fn timers_are_up(&mut self) -> Vec<u64> {
         let now = Instant::now();
-        let mut due = Vec::new();
-        for (key, served) in &mut self.served {
-            if served.connection.timer(now).is_some_and(|at| at <= now) {
+        let due = self.timers.take_due(now);
+        for key in &due {
+            if let Some(served) = self.served.get(*key) {
                 served.connection.time_is_up(now);
-                due.push(*key);
             }
         }
         due
@@ -179,7 +257,7 @@ impl<A: Application> Server<A> {
     fn take(&mut self, datagram: &mut [u8], from: SocketAddr, out: &mut Vec<u8>) -> Option<u64> {
         let packet = read_packet(datagram)?;
         if let Some(key) = self.ids.get(&packet.destination) {
-            let served = self.served.get_mut(key)?;
+            let served = self.served.get(*key)?;
             served.connection.receive(datagram, Instant::now());
             return Some(*key);
         }
@@ -196,6 +274,9 @@ impl<A: Application> Server<A> {
     // An Initial that authenticates begins a connection; of others no state is kept.
     fn begin(&mut self, packet: &Packet, datagram: &mut [u8], from: SocketAddr) -> Option<u64> {
         let is_initial = packet.kind == Kind::Protected(Level::Initial);
+        if self.phase != Phase::Serves {
+            return None;
+        }
         if !is_initial || datagram.len() < DATAGRAM || packet.destination.len() < LEAST_FIRST_ID {
             return None;
         }
@@ -221,12 +302,13 @@ impl<A: Application> Server<A> {
             application,
             was_told: false,
         };
-        self.served.insert(key, Box::new(served));
+        self.served.places.insert(key, Box::new(served));
         Some(key)
     }
 
-    fn turn(&mut self, key: u64, out: &mut Vec<u8>) -> io::Result<bool> {
-        let Some(served) = self.served.get_mut(&key) else {
+    // A connection goes on. Answers whether there is more to send.
+    fn go_on(&mut self, key: u64, out: &mut Vec<u8>) -> io::Result<bool> {
+        let Some(served) = self.served.get(key) else {
             return Ok(false);
         };
         let Served {
@@ -234,7 +316,8 @@ impl<A: Application> Server<A> {
             peer,
             application,
             was_told,
-        } = &mut **served;
+        } = served;
+        part(self.phase, connection, application);
         let more = turn(connection, application, out, |bytes| {
             self.socket.send_to(bytes, *peer)
         })?;
@@ -247,9 +330,145 @@ impl<A: Application> Server<A> {
             for id in connection.ids() {
                 self.ids.remove(&id);
             }
-            self.served.remove(&key);
+            self.timers.set(key, None);
+            self.served.places.remove(&key);
             return Ok(false);
         }
+        self.timers.set(key, connection.timer(Instant::now()));
         Ok(more)
+    }
+}
+
+#[cfg(test)]
+mod tests {
+    use super::*;
+    use crate::certificate::Identity;
+    use crate::client::connect;
+    use crate::fault::Outcome;
+    use crate::files::Folder;
+    use crate::packet::VERSION_1;
+    use crate::program::client;
+    use crate::raw::{PROTOCOL, RawClient, RawServer};
+    use crate::tls::server_config;
+    use gotsavena::{Endpoint, Settings, Tuning};
+
+    const IDLE: usize = 30;
+    const FILES: usize = 50;
+
+    // One that has no wish.
+    struct Nothing;
+
+    impl Application for Nothing {
+        const NO_ERROR: u64 = 0;
+
+        fn progress(&mut self, _end: &mut Endpoint) -> Result<(), Close> {
+            Ok(())
+        }
+    }
+
+    // A server and its clients, which go on by turns.
+    struct World {
+        server: Server<RawServer>,
+        config: Config,
+    }
+
+    struct Client<A> {
+        socket: UdpSocket,
+        connection: Connection,
+        application: A,
+        sent: u64,
+    }
+
+    impl World {
+        fn new() -> World {
+            // One file at a time.
+            let settings = Settings::small().bidi_streams(1, 1000);
+            let config = Config {
+                settings,
+                tuning: Tuning::default(),
+                most_window: 0,
+                idle: Duration::from_secs(30),
+            };
+            let socket = UdpSocket::bind("127.0.0.1:0").unwrap();
+            let tls = server_config(Identity::new().unwrap(), &[PROTOCOL]).unwrap();
+            let folder = Folder::open(env!("CARGO_MANIFEST_DIR")).unwrap();
+            let make = move |_| RawServer::new(folder.clone());
+            World {
+                server: Server::new(socket, tls, config, make),
+                config,
+            }
+        }
+
+        fn client<A: Application>(&mut self, application: A) -> Client<A> {
+            let server = self.server.socket.local_addr().unwrap();
+            let mut client = Client {
+                socket: connect(server).unwrap(),
+                connection: client(PROTOCOL, "localhost", VERSION_1, self.config).unwrap(),
+                application,
+                sent: 0,
+            };
+            while client.connection.end().is_none() {
+                self.step(&mut client);
+            }
+            client
+        }
+
+        fn step<A: Application>(&mut self, client: &mut Client<A>) {
+            let connection = &mut client.connection;
+            let mut out = Vec::new();
+            let transmit = |bytes: &[u8]| {
+                client.sent += 1;
+                client.socket.send(bytes)
+            };
+            turn(connection, &mut client.application, &mut out, transmit).unwrap();
+            let now = Some(Instant::now());
+            self.server.turn(now, &mut out).unwrap();
+            let take = |datagram: &mut [u8], _| connection.receive(datagram, Instant::now());
+            receive_batch(&client.socket, now, take).unwrap();
+            let now = Instant::now();
+            if connection.timer(now).is_some_and(|at| at <= now) {
+                connection.time_is_up(now);
+            }
+        }
+    }
+
+    #[test]
+    fn a_stop_tells_the_clients() {
+        let mut world = World::new();
+        let mut client = world.client(Nothing);
+        // (its handshake is over at both ends)
+        (0..20).for_each(|_| world.step(&mut client));
+        world.server.stop(&mut Vec::new()).unwrap();
+        let take = |datagram: &mut [u8], _| client.connection.receive(datagram, Instant::now());
+        receive_batch(&client.socket, Some(Instant::now()), take).unwrap();
+        let told = Outcome::PeerClosed {
+            by_application: true,
+            code: 0,
+            reason: "the server stops".to_owned(),
+        };
+        assert_eq!(client.connection.outcome(), Some(&told));
+    }
+
+    #[test]
+    fn connections_that_idle_are_not_looked_at() {
+        let mut world = World::new();
+        let idle: Vec<_> = (0..IDLE).map(|_| world.client(Nothing)).collect();
+        let wanted = vec!["Cargo.toml".to_owned(); FILES];
+        let mut loader = world.client(RawClient::new(wanted));
+        let before = world.server.looks();
+        loader.sent = 0;
+        let mut turns = 0;
+        while loader.connection.outcome().is_none() {
+            world.step(&mut loader);
+            turns += 1;
+        }
+        assert_eq!(loader.application.loaded.len(), FILES);
+        let looks = world.server.looks() - before;
+        // One as a datagram comes, and one as the connection goes on; its timers and those of each idle one are up now and then.
+        let most = 4 * loader.sent + 5 * idle.len() as u64;
+        assert!(
+            looks <= most,
+            "{looks} looks in {turns} turns, at most {most}"
+        );
     }
 }

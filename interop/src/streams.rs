@@ -6,6 +6,9 @@ use std::io;
 
 /// What runs over the streams of a connection.
 pub trait Application {
+    /// The code with which a connection is closed without a fault.
+    const NO_ERROR: u64;
+
     /// Reads and writes as far as it goes. It is called after datagrams came, and once as the handshake is done.
     ///
     /// # Errors
@@ -16,6 +19,16 @@ pub trait Application {
     /// Whether it waits for nothing but streams that it may open.
     fn waits_for_streams(&self) -> bool {
         false
+    }
+
+    /// The server stops: the peer is told, where the protocol has words for that. Answers whether nothing is under way. It is asked
+    /// again and again until then.
+    ///
+    /// # Errors
+    ///
+    /// What the connection is closed with.
+    fn stop(&mut self) -> Result<bool, Close> {
+        Ok(true)
     }
 
     /// The connection ended so. Its end, if it had one, tells how streams stood then.

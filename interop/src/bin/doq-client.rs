@@ -1,7 +1,7 @@
 //! A client of name servers over QUIC (RFC 9250): asks for the records of names, of one type, all at once, on one connection or as many
 //! as the server asks for. A line tells each name, the code of its answer, and the records.
 
-use gotsavena::Settings;
+use gotsavena::{Settings, Tuning};
 use gotsavena_interop::client::run_errand;
 use gotsavena_interop::connection::Config;
 use gotsavena_interop::dns::{Name, TYPE_A, TYPE_AAAA, TYPE_TXT};
@@ -44,6 +44,7 @@ fn ask(mut words: Words) -> Result<(), Refusal> {
         .uni_streams(0, 0);
     let config = Config {
         settings,
+        tuning: Tuning::default(),
         most_window: 0,
         idle,
     };

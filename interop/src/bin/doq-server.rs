@@ -1,10 +1,11 @@
 //! A name server over QUIC (RFC 9250): answers from a zone's file.
 
-use gotsavena::Settings;
+use gotsavena::{Settings, Tuning};
 use gotsavena_interop::connection::Config;
 use gotsavena_interop::doq::{NameServer, PROTOCOL};
 use gotsavena_interop::program::{self, Refusal, Words, listen, streams};
 use gotsavena_interop::server::Server;
+use gotsavena_interop::stop::Stop;
 use gotsavena_interop::tls::server_config;
 use gotsavena_interop::zone::Zone;
 use std::process::ExitCode;
@@ -36,10 +37,12 @@ fn serve(mut words: Words) -> Result<(), Refusal> {
         .uni_streams(0, 0);
     let config = Config {
         settings,
+        tuning: Tuning::default(),
         most_window: 0,
         idle: Duration::from_secs(30),
     };
     let socket = listen(&address)?;
+    let stop = Stop::by_signals(std::slice::from_ref(&socket)).map_err(Refusal::failure)?;
     let mut server = Server::new(socket, tls, config, move |_| NameServer::new(zone.clone()));
-    server.run().map_err(Refusal::failure)
+    server.run(&stop).map_err(Refusal::failure)
 }

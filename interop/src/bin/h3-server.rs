@@ -1,19 +1,18 @@
 //! An HTTP/3 server of the files of a folder, on one address or several. It tells how Chromium is led to it.
 
-use gotsavena_interop::connection::Config;
+use gotsavena_interop::budget::{self, Budget};
 use gotsavena_interop::files::Folder;
 use gotsavena_interop::h3::PROTOCOL;
 use gotsavena_interop::h3::server::FileServer;
 use gotsavena_interop::log::say;
-use gotsavena_interop::program::{self, Refusal, Words, config, listen_on_all};
+use gotsavena_interop::program::{
+    self, Refusal, Words, config, listen_on_all, raise_file_limit, run_all, serving,
+};
 use gotsavena_interop::server::Server;
+use gotsavena_interop::stop::Stop;
 use gotsavena_interop::tls::server_config;
-use rustls::ServerConfig;
 use std::net::UdpSocket;
 use std::process::ExitCode;
-use std::sync::Arc;
-use std::sync::mpsc::channel;
-use std::thread;
 
 fn main() -> ExitCode {
     program::run(
@@ -23,7 +22,7 @@ fn main() -> ExitCode {
 }
 
 fn serve(mut words: Words) -> Result<(), Refusal> {
-    let config = config(&mut words)?;
+    let config = serving(config(&mut words)?);
     let identity = words.identity()?;
     words.no_more_options()?;
     let [root, addresses @ ..] = words.rest.as_slice() else {
@@ -38,28 +37,24 @@ fn serve(mut words: Words) -> Result<(), Refusal> {
         .map_err(|error| Refusal::Failure(format!("{root} can't be opened: {error}")))?;
     let hash = identity.key_hash();
     let tls = server_config(identity, &[PROTOCOL])?;
+    raise_file_limit();
     let sockets = listen_on_all(addresses)?;
     if let (Some(hash), Some(socket)) = (hash, sockets.first()) {
         tell_browsers(&hash, socket)?;
     }
+    let budget = Budget::new(budget::OF_ALL);
+    let stop = Stop::by_signals(&sockets).map_err(Refusal::failure)?;
     // Each socket has a thread, and the connections that come by it.
-    let (failed, first) = channel();
-    for socket in sockets {
-        let (tls, folder, failed) = (tls.clone(), folder.clone(), failed.clone());
-        thread::spawn(move || failed.send(serve_socket(socket, tls, config, folder)));
-    }
-    first.recv().map_err(Refusal::failure)?
-}
-
-fn serve_socket(
-    socket: UdpSocket,
-    tls: Arc<ServerConfig>,
-    config: Config,
-    folder: Folder,
-) -> Result<(), Refusal> {
-    let make = move |peer| FileServer::new(folder.clone(), peer);
-    let mut server = Server::new(socket, tls, config, make);
-    server.run().map_err(Refusal::failure)
+    let servers = sockets.into_iter().map(|socket| {
+        let (tls, stop) = (tls.clone(), stop.clone());
+        let (folder, budget) = (folder.clone(), budget.clone());
+        let make = move |peer| FileServer::new(folder.clone(), &budget, peer);
+        move || {
+            let mut server = Server::new(socket, tls, config, make);
+            server.run(&stop).map_err(Refusal::failure)
+        }
+    });
+    run_all(servers)
 }
 
 // A browser takes a certificate that it can't know by the hash of its key.

@@ -1,9 +1,10 @@
 //! A server of files without HTTP: the bytes of a stream are a path, the answer is the file.
 
 use gotsavena_interop::files::Folder;
-use gotsavena_interop::program::{self, Refusal, Words, config, listen};
+use gotsavena_interop::program::{self, Refusal, Words, config, listen, raise_file_limit, serving};
 use gotsavena_interop::raw::{PROTOCOL, RawServer};
 use gotsavena_interop::server::Server;
+use gotsavena_interop::stop::Stop;
 use gotsavena_interop::tls::server_config;
 use std::process::ExitCode;
 
@@ -15,13 +16,15 @@ fn main() -> ExitCode {
 }
 
 fn serve(mut words: Words) -> Result<(), Refusal> {
-    let config = config(&mut words)?;
+    let config = serving(config(&mut words)?);
     let identity = words.identity()?;
     let [root, address] = words.exactly()?;
     let folder = Folder::open(&root)
         .map_err(|error| Refusal::Failure(format!("{root} can't be opened: {error}")))?;
     let tls = server_config(identity, &[PROTOCOL])?;
+    raise_file_limit();
     let socket = listen(&address)?;
+    let stop = Stop::by_signals(std::slice::from_ref(&socket)).map_err(Refusal::failure)?;
     let mut server = Server::new(socket, tls, config, move |_| RawServer::new(folder.clone()));
-    server.run().map_err(Refusal::failure)
+    server.run(&stop).map_err(Refusal::failure)
 }

@@ -1,6 +1,6 @@
 //! The handshake's bytes and keys, and what is known once it is done (RFC 9001, section 4; RFC 9000, section 7).
 
-use super::{Connection, Space};
+use super::{Config, Connection, Space};
 use crate::fault::{Fault, INTERNAL_ERROR, PROTOCOL_VIOLATION, TRANSPORT_PARAMETER_ERROR};
 use crate::packet::Level;
 use crate::parameters::Parameters;
@@ -65,10 +65,14 @@ impl Connection {
         };
         let peer = Parameters::read(text, self.role.peer())?;
         self.check_ids(&peer)?;
-        let end = Endpoint::new(self.role, self.config.settings, peer.limits).map_err(|fault| {
-            let code = fault.code().unwrap_or(INTERNAL_ERROR);
-            Fault::new(code, 0, &fault.to_string())
-        })?;
+        let Config {
+            settings, tuning, ..
+        } = self.config;
+        let end =
+            Endpoint::new_wide(self.role, settings, tuning, peer.limits).map_err(|fault| {
+                let code = fault.code().unwrap_or(INTERNAL_ERROR);
+                Fault::new(code, 0, &fault.to_string())
+            })?;
         self.recovery.max_ack_delay = peer.max_ack_delay;
         self.recovery.path.most = peer.max_datagram;
         if let Some(token) = peer.reset_token {

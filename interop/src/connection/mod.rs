@@ -24,7 +24,7 @@ use crate::recovery::{Control, Recovery, Standing};
 use crate::tls::Session;
 use crate::windows::Windows;
 use ending::State;
-use gotsavena::{Endpoint, Role, Settings, StreamId};
+use gotsavena::{Endpoint, Role, Settings, StreamId, Tuning};
 use ring::rand::{SecureRandom, SystemRandom};
 use rustls::quic::{Keys, Version};
 use rustls::{ClientConfig, ServerConfig};
@@ -45,6 +45,7 @@ const MOST_EARLY: usize = 32;
 pub struct Config {
     /// The stream layer's settings, of which the peer is told.
     pub settings: Settings,
+    pub tuning: Tuning,
     /// How far the window of a stream may grow by itself.
     pub most_window: u64,
     /// After how long a silence the connection ends.

@@ -6,7 +6,7 @@ use crate::crypto::push_frame;
 use crate::fault::{Close, Fault, Outcome, PROTOCOL_VIOLATION};
 use crate::packet::{VERSION_1, read_packet};
 use crate::tls::{client_config, server_config};
-use gotsavena::{Dir, Frame, Read, Settings, StreamId};
+use gotsavena::{Dir, Frame, Read, Settings, StreamId, Tuning};
 use std::collections::VecDeque;
 use std::time::{Duration, Instant};
 
@@ -33,6 +33,7 @@ impl World {
             .send_buffer(1 << 18);
         let config = Config {
             settings,
+            tuning: Tuning::default(),
             most_window: 0,
             idle,
         };
@@ -336,6 +337,7 @@ fn sends_over_a_long_way(most_window: u64) -> Duration {
     let idle = Duration::from_secs(30);
     let config = Config {
         settings,
+        tuning: Tuning::default(),
         most_window,
         idle,
     };

@@ -229,6 +229,8 @@ impl Loader {
 }
 
 impl Application for Loader {
+    const NO_ERROR: u64 = NO_ERROR;
+
     fn progress(&mut self, end: &mut Endpoint) -> Result<(), Close> {
         let mut session = match self.session.take() {
             Some(session) => session,

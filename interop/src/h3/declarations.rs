@@ -143,6 +143,7 @@ unsafe extern "C" {
     pub fn nghttp3_conn_shutdown_stream_write(conn: *mut Conn, stream: i64);
     pub fn nghttp3_conn_shutdown_stream_read(conn: *mut Conn, stream: i64) -> c_int;
     pub fn nghttp3_conn_submit_shutdown_notice(conn: *mut Conn) -> c_int;
+    pub fn nghttp3_conn_shutdown(conn: *mut Conn) -> c_int;
     pub fn nghttp3_conn_close_stream(conn: *mut Conn, stream: i64, code: u64) -> c_int;
     pub fn nghttp3_conn_submit_request(
         conn: *mut Conn,

@@ -2,25 +2,51 @@
 
 use super::NO_ERROR;
 use super::session::{Event, Field, Session};
+use crate::budget::{Budget, Share, most};
 use crate::fault::{Close, Outcome};
-use crate::files::{Folder, Named};
+use crate::files::{Folder, Named, is_exhausted};
 use crate::log::Entry;
+use crate::program::tell;
 use crate::streams::{Application, Body};
 use gotsavena::{Dir, Endpoint, Role, SendState, StreamId};
 use std::collections::{BTreeMap, HashMap};
 use std::net::SocketAddr;
+use std::time::{Duration, Instant};
+
+/// How much is read of the body of a request that is refused, and for how long. Chromium doesn't look at an answer whose request is
+/// stopped meanwhile.
+#[derive(Clone, Copy, Debug)]
+pub struct Patience {
+    pub bytes: u64,
+    pub time: Duration,
+}
+
+impl Default for Patience {
+    fn default() -> Patience {
+        Patience {
+            bytes: 64 << 20,
+            time: Duration::from_secs(30),
+        }
+    }
+}
 
 pub struct FileServer {
     folder: Folder,
+    /// What its answers may keep.
+    share: Share,
     peer: SocketAddr,
     session: Option<Session>,
     requests: HashMap<StreamId, Request>,
     /// Requests that were answered, until all of the answer is acknowledged or it was broken off.
     answered: BTreeMap<StreamId, Entry>,
+    patience: Patience,
+    /// Requests that were refused and whose bodies come: how much more is read of them, and until when.
+    refused: BTreeMap<StreamId, (u64, Instant)>,
     /// How many streams the client may open in all.
     in_all: u64,
     /// Once it may open no more than so many, it is told to take a new connection; `None` once it was told.
     away_at: Option<u64>,
+    is_stopping: bool,
 }
 
 /// What is used of a request's fields.
@@ -54,21 +80,36 @@ impl Request {
         matches!(self.method.as_slice(), b"GET" | b"HEAD")
     }
 
+    // What is there can't be given out for now (RFC 9110, section 15.6.4).
+    fn unavailable(&self, reason: &str) -> Answer {
+        tell(&format!(
+            "{} is answered 503: {reason}",
+            self.path.escape_ascii()
+        ));
+        Answer::of("503", &[("retry-after", "10")])
+    }
+
     fn answer(&self, folder: &Folder) -> Answer {
         match folder.named(&self.path) {
-            Some(Named::File(found)) => {
+            Ok(Named::File(found)) => {
                 let mut answer = Answer::of("200", &[("content-type", found.kind)]);
                 answer.len = found.len;
                 answer.body = (self.method == b"GET").then(|| found.body());
                 answer
             }
-            Some(Named::Folder(to)) => Answer::of("301", &[("location", &to)]),
-            None => Answer::of("404", &[]),
+            Ok(Named::Folder(to)) => Answer::of("301", &[("location", &to)]),
+            Err(error) if is_exhausted(&error) => self.unavailable(&error.to_string()),
+            Err(_) => Answer::of("404", &[]),
         }
     }
 }
 
 impl Answer {
+    /// How many bytes of the body go: none of HEAD.
+    fn sent_len(&self) -> u64 {
+        self.body.as_ref().map_or(0, |_| self.len)
+    }
+
     fn of(status: &'static str, fields: &[(&str, &str)]) -> Answer {
         let fields = fields.iter().map(|(name, value)| field(name, value));
         Answer {
@@ -85,16 +126,26 @@ fn field(name: &str, value: &str) -> Field {
 }
 
 impl FileServer {
-    pub fn new(folder: Folder, peer: SocketAddr) -> FileServer {
+    pub fn new(folder: Folder, budget: &Budget, peer: SocketAddr) -> FileServer {
         FileServer {
             folder,
+            share: budget.share(),
             peer,
             session: None,
             requests: HashMap::new(),
             answered: BTreeMap::new(),
+            patience: Patience::default(),
+            refused: BTreeMap::new(),
             in_all: 0,
             away_at: None,
+            is_stopping: false,
         }
+    }
+
+    /// With another patience for bodies that aren't wanted.
+    pub fn with_patience(mut self, patience: Patience) -> FileServer {
+        self.patience = patience;
+        self
     }
 
     fn begin(&mut self, end: &mut Endpoint) -> Result<Session, Close> {
@@ -118,43 +169,65 @@ impl FileServer {
         }
     }
 
-    fn take(
-        &mut self,
-        event: Event,
-        session: &mut Session,
-        end: &mut Endpoint,
-    ) -> Result<(), Close> {
+    fn take(&mut self, event: Event, session: &mut Session) -> Result<(), Close> {
         match event {
             Event::Field(stream, field) => self.requests.entry(stream).or_default().take(field),
-            // What can't be answered is refused at once, and the rest of it isn't wanted.
+            // What can't be answered is refused at once. The rest of it is thrown away.
             Event::TooManyFields(stream) => {
                 self.requests.entry(stream).or_default();
-                self.respond(session, stream, |_| Answer::of("431", &[]))?;
-                session.refuse_rest(end, stream)?;
+                self.refuse(session, stream, Answer::of("431", &[]))?;
             }
-            Event::FieldsEnd(stream)
-                if self
-                    .requests
-                    .get(&stream)
-                    .is_some_and(|of| !of.is_of_files()) =>
-            {
-                let allow = [("allow", "GET, HEAD")];
-                self.respond(session, stream, |_| Answer::of("405", &allow))?;
-                session.refuse_rest(end, stream)?;
+            Event::FieldsEnd(stream) => {
+                let request = self.requests.get(&stream);
+                if request.is_some_and(|request| !request.is_of_files()) {
+                    let allow = [("allow", "GET, HEAD")];
+                    self.refuse(session, stream, Answer::of("405", &allow))?;
+                }
             }
             Event::End(stream) => {
+                self.refused.remove(&stream);
                 let folder = self.folder.clone();
                 self.respond(session, stream, |request| request.answer(&folder))?;
             }
             Event::Broken(stream, code) => self.break_off(stream, code),
             // What a request brings beside its fields isn't used.
-            Event::FieldsEnd(_) | Event::Data(..) | Event::GoAway(_) => {}
+            Event::Data(stream, bytes) => {
+                if let Some((left, _)) = self.refused.get_mut(&stream) {
+                    *left = left.saturating_sub(bytes.len() as u64);
+                }
+            }
+            Event::GoAway(_) => {}
+        }
+        Ok(())
+    }
+
+    fn refuse(
+        &mut self,
+        session: &mut Session,
+        stream: StreamId,
+        answer: Answer,
+    ) -> Result<(), Close> {
+        let until = Instant::now() + self.patience.time;
+        self.refused.insert(stream, (self.patience.bytes, until));
+        self.respond(session, stream, |_| answer)
+    }
+
+    // Where too much comes of what was refused, or for too long, no more is read of it.
+    fn lose_patience(&mut self, session: &mut Session, end: &mut Endpoint) -> Result<(), Close> {
+        let now = Instant::now();
+        let is_over = |(left, until): &(u64, Instant)| *left == 0 || *until <= now;
+        let over = self.refused.iter().filter(|(_, limits)| is_over(limits));
+        let over: Vec<StreamId> = over.map(|(stream, _)| *stream).collect();
+        for stream in over {
+            self.refused.remove(&stream);
+            session.refuse_rest(end, stream)?;
         }
         Ok(())
     }
 
     // Of a request that was answered the stream layer tells.
     fn break_off(&mut self, stream: StreamId, code: u64) {
+        self.refused.remove(&stream);
         let request = self.requests.remove(&stream).unwrap_or_default();
         if !self.answered.contains_key(&stream) {
             self.entry(&request, "-", 0).broken(code, 0);
@@ -171,15 +244,18 @@ impl FileServer {
         let Some(request) = self.requests.remove(&stream) else {
             return Ok(());
         };
-        let answer = answer(&request);
+        let mut answer = answer(&request);
+        let lens = self.answered.values().map(Entry::body_len);
+        if !self.share.set(most(lens.chain([answer.sent_len()]))) {
+            answer = request.unavailable("too much is kept of answers");
+        }
         let mut fields = vec![
             field(":status", answer.status),
             field("server", "gotsavena-interop"),
             field("content-length", &answer.len.to_string()),
         ];
+        let entry = self.entry(&request, answer.status, answer.sent_len());
         fields.extend(answer.fields);
-        let len = answer.body.as_ref().map_or(0, |_| answer.len);
-        let entry = self.entry(&request, answer.status, len);
         self.answered.insert(stream, entry);
         session.respond(stream, &fields, answer.body)
     }
@@ -190,6 +266,7 @@ impl FileServer {
 
     // Tells of the answers that are over.
     fn tell(&mut self, end: &Endpoint) {
+        let before = self.answered.len();
         self.answered.retain(|stream, entry| {
             let Some(send) = end.report(*stream).and_then(|report| report.send) else {
                 return true;
@@ -201,10 +278,28 @@ impl FileServer {
             }
             false
         });
+        if self.answered.len() < before {
+            self.share
+                .set(most(self.answered.values().map(Entry::body_len)));
+        }
     }
 }
 
 impl Application for FileServer {
+    const NO_ERROR: u64 = NO_ERROR;
+
+    fn stop(&mut self) -> Result<bool, Close> {
+        let Some(session) = &mut self.session else {
+            return Ok(true);
+        };
+        if !self.is_stopping {
+            self.is_stopping = true;
+            session.refuse_more()?;
+            return Ok(false);
+        }
+        Ok(session.has_no_request() && self.answered.is_empty())
+    }
+
     fn progress(&mut self, end: &mut Endpoint) -> Result<(), Close> {
         let mut session = match self.session.take() {
             Some(session) => session,
@@ -212,8 +307,9 @@ impl Application for FileServer {
         };
         session.progress(end)?;
         while let Some(event) = session.next_event() {
-            self.take(event, &mut session, end)?;
+            self.take(event, &mut session)?;
         }
+        self.lose_patience(&mut session, end)?;
         self.tell(end);
         self.look_ahead(end, &mut session)?;
         session.write(end)?;

@@ -480,6 +480,12 @@ impl Session {
         check(unsafe { nghttp3_conn_submit_shutdown_notice(self.conn) })
     }
 
+    /// Tells the peer which of its requests are answered still: no later ones (RFC 9114, section 5.2).
+    pub fn refuse_more(&mut self) -> Result<(), Close> {
+        // Sound: as above.
+        check(unsafe { nghttp3_conn_shutdown(self.conn) })
+    }
+
     /// Whether no request comes.
     pub fn has_no_request(&self) -> bool {
         !self.reading.iter().any(|stream| stream.dir() == Dir::Bidi)
@@ -584,11 +590,15 @@ impl Session {
 
     /// Writes as far as there is room.
     pub fn write(&mut self, end: &mut Endpoint) -> Result<(), Close> {
+        if self.is_full(end) {
+            return Ok(());
+        }
         for stream in std::mem::take(&mut self.blocked) {
             // Sound: as above. A stream that is closed is unknown, which is no fault.
             unsafe { nghttp3_conn_unblock_stream(self.conn, stream) };
         }
-        loop {
+        // (where no more is taken, no more of the files is read)
+        while !self.is_full(end) {
             let (mut stream, mut fin) = (-1, 0);
             let mut parts = [Bytes {
                 base: ptr::null_mut(),
@@ -612,6 +622,12 @@ impl Session {
             }
             self.write_parts(end, stream, &parts[..count as usize], fin != 0)?;
         }
+        Ok(())
+    }
+
+    // Whether the connection takes nothing for now: not even its control stream does, on which next to nothing goes.
+    fn is_full(&self, end: &Endpoint) -> bool {
+        end.room(self.own[0]) == 0
     }
 
     // A file that can't be read any more breaks its stream off.

@@ -1,13 +1,15 @@
 //! A client's session and a server of files, with payloads that go from one to the other as they are made.
 
-use super::server::FileServer;
+use super::server::{FileServer, Patience};
 use super::session::{Event, Field, Session};
 use super::{CLOSED_CRITICAL_STREAM, NO_ERROR};
+use crate::budget::{Budget, OF_ALL};
 use crate::fault::Close;
 use crate::files::Folder;
 use crate::streams::{Application, Body};
 use gotsavena::{Dir, Endpoint, Role, Settings, StreamId};
 use std::collections::{BTreeMap, HashMap};
+use std::time::Duration;
 
 const FILE: &str = "/Cargo.toml";
 
@@ -36,9 +38,21 @@ struct Came {
     broken: Option<u64>,
 }
 
+// A server of the package's folder.
+fn file_server(budget: &Budget) -> FileServer {
+    let folder = Folder::open(env!("CARGO_MANIFEST_DIR")).unwrap();
+    FileServer::new(folder, budget, "127.0.0.1:1".parse().unwrap())
+}
+
 impl Pair {
     fn new() -> Pair {
         Pair::with_lifetime(1000)
+    }
+
+    fn with_patience(patience: Patience) -> Pair {
+        let mut pair = Pair::new();
+        pair.application = file_server(&Budget::new(OF_ALL)).with_patience(patience);
+        pair
     }
 
     fn with_lifetime(lifetime: u64) -> Pair {
@@ -49,12 +63,11 @@ impl Pair {
             .bidi_streams(20, lifetime);
         let [mut client, server] = [Role::Client, Role::Server]
             .map(|role| Endpoint::new(role, settings, settings.limits()).unwrap());
-        let folder = Folder::open(env!("CARGO_MANIFEST_DIR")).unwrap();
         Pair {
             session: Session::new(Role::Client, &mut client).unwrap(),
             client,
             server,
-            application: FileServer::new(folder, "127.0.0.1:1".parse().unwrap()),
+            application: file_server(&Budget::new(OF_ALL)),
             came: HashMap::new(),
             away: None,
         }
@@ -155,24 +168,80 @@ fn a_file_comes_with_its_type_and_length() {
 }
 
 #[test]
-fn a_method_that_files_have_not_is_refused_before_its_body() {
+fn a_method_that_files_have_not_is_refused_and_its_body_thrown_away() {
     let mut pair = Pair::new();
-    let begun = Body::of_bytes(vec![0; 10_000]);
-    let got = pair.load("POST", "/Cargo.toml", Some(begun));
+    let fields = [
+        (":method", "POST"),
+        (":scheme", "https"),
+        (":authority", "localhost"),
+        (":path", FILE),
+    ];
+    // More than the window of a stream: all of it is read.
+    let stream = pair.ask(&fields, Some(Body::of_bytes(vec![0; 1_000_000])));
+    pair.run().unwrap();
+    let got = pair.came.remove(&stream).unwrap();
     assert_eq!(got.field(":status"), Some("405"));
     assert_eq!(got.field("allow"), Some("GET, HEAD"));
-    // All of the answer comes, and the request's half is stopped without a fault (RFC 9114, section 4.1).
-    assert!(got.is_whole && got.broken.is_none_or(|code| code == NO_ERROR));
-    let stream = StreamId::new(0).unwrap();
-    assert_eq!(pair.client.stopped_with(stream), Some(NO_ERROR));
-    // Its stream comes to its end, so that it gives its place to another.
-    assert_eq!(pair.server.next_ended(stream), Some(stream));
-    for _ in 0..30 {
-        let begun = Body::of_bytes(vec![0; 10_000]);
-        let got = pair.load("PUT", "/", Some(begun));
-        assert_eq!(got.field(":status"), Some("405"));
-    }
+    assert!(got.is_whole && got.broken.is_none());
+    assert_eq!(pair.client.stopped_with(stream), None);
+    let sent = pair.client.report(stream).unwrap().send.unwrap();
+    assert!(sent.written >= 1_000_000);
     assert_eq!(pair.load("GET", FILE, None).field(":status"), Some("200"));
+}
+
+#[test]
+fn a_body_that_is_too_long_or_takes_too_long_is_stopped() {
+    let second = Duration::from_secs(1);
+    for (bytes, time) in [(5_000, 30 * second), (1 << 20, Duration::ZERO)] {
+        let mut pair = Pair::with_patience(Patience { bytes, time });
+        for place in 0..50 {
+            let begun = Body::of_bytes(vec![0; 10_000]);
+            let got = pair.load("PUT", "/", Some(begun));
+            // All of the answer comes, and the request's half is stopped without a fault (RFC 9114, section 4.1).
+            assert_eq!(got.field(":status"), Some("405"));
+            assert!(got.is_whole && got.broken.is_none_or(|code| code == NO_ERROR));
+            let stream = StreamId::new(4 * place).unwrap();
+            assert_eq!(pair.client.stopped_with(stream), Some(NO_ERROR));
+            // Its stream comes to its end, so that it gives its place to another.
+            assert_eq!(pair.server.next_ended(stream), Some(stream));
+        }
+        assert_eq!(pair.load("GET", FILE, None).field(":status"), Some("200"));
+    }
+}
+
+#[test]
+fn what_all_connections_keep_is_bounded() {
+    let budget = Budget::new(100_000);
+    let mut other = budget.share();
+    let mut pair = Pair::new();
+    pair.application = file_server(&budget);
+    let mut status = |path| {
+        pair.load("GET", path, None)
+            .field(":status")
+            .unwrap()
+            .to_owned()
+    };
+    assert_eq!(status(FILE), "200");
+    assert!(other.set(90_000));
+    assert_eq!(status(FILE), "503");
+    assert_eq!(status("/none"), "503");
+    assert!(other.set(0));
+    // What was answered is known to the client, and takes nothing any more.
+    for _ in 0..20 {
+        assert_eq!(status(FILE), "200");
+    }
+}
+
+#[test]
+fn a_stop_says_which_requests_are_answered() {
+    let mut pair = Pair::new();
+    pair.load("GET", FILE, None);
+    pair.load("GET", FILE, None);
+    assert!(!pair.application.stop().unwrap());
+    pair.run().unwrap();
+    // The two are; the third isn't (RFC 9114, section 5.2).
+    assert_eq!(pair.away, StreamId::new(8));
+    assert!(pair.application.stop().unwrap());
 }
 
 #[test]
