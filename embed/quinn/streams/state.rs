@@ -325,6 +325,8 @@ impl StreamsState {
     pub fn received_ack_of(&mut self, packet: Carried) {
         let acked = packet.token.map_or(Ok(()), |token| self.end.acked(token));
         self.told(acked);
+        // (halves that are over now count no more)
+        self.hear();
     }
 
     pub fn retransmit(&mut self, packet: Carried) {
@@ -408,9 +410,20 @@ fn no_memory() -> TransportError {
 }
 
 fn error_of(closing: Closing) -> TransportError {
-    // (the codes of section 20.1 are spelled in one byte)
+    // (the codes of section 20.1 and the types of these frames are spelled in one byte)
     let code = TransportErrorCode::decode(&mut &[closing.code as u8][..]);
-    code.unwrap_or(TransportErrorCode::INTERNAL_ERROR).into()
+    let frame = frame::Type::decode(&mut &[closing.frame_type as u8][..]).ok();
+    let code = code.unwrap_or(TransportErrorCode::INTERNAL_ERROR);
+    let reason = match code {
+        TransportErrorCode::FLOW_CONTROL_ERROR => "more bytes than were granted",
+        TransportErrorCode::STREAM_LIMIT_ERROR => "more streams than were granted",
+        TransportErrorCode::STREAM_STATE_ERROR => "the stream isn't open, or not in this direction",
+        TransportErrorCode::FINAL_SIZE_ERROR => {
+            "the final size isn't what it was, or bytes lie past it"
+        }
+        _ => "a number that no frame can have",
+    };
+    TransportError { code, frame, reason: reason.into() }
 }
 
 // It stands in the place of quinn's list of STREAM frames, and is acknowledged or lost as one.
