@@ -334,6 +334,12 @@ impl StreamsState {
         self.told(lost);
     }
 
+    /// What a packet carries goes into a probe, too (RFC 9002, section 6.2.4), unless nothing of it is of use any more.
+    pub fn resend(&mut self, packet: &Carried) -> bool {
+        self.retransmit(packet.clone());
+        !packet.is_empty() && self.is_sendable()
+    }
+
     // (of a closed end, or in another epoch, nothing is to be told)
     fn told(&mut self, told: Result<(), TokenFault>) {
         if told == Err(TokenFault::NoMemory) {
