@@ -469,3 +469,12 @@ fn a_reset_that_is_lost() {
     }
     println!("clock a reset that is lost: {:.3} s", (pair.time - start).as_secs_f64());
 }
+
+#[test]
+fn blocked_writers() {
+    let name = "2,000 blocked writers";
+    play(Play { name, streams: [2_000, 0], size: |_| 400, ..PLAIN }, |config| {
+        config.max_concurrent_uni_streams(2_000u32.into());
+        config.receive_window(20_000u32.into());
+    });
+}
