@@ -443,3 +443,38 @@ fn priorities() {
         println!("clock a stream of priority {}: {:.3} s", priority_of(id), end.as_secs_f64());
     }
 }
+
+#[test]
+fn a_reset_that_is_lost() {
+    let (mut pair, halves) = begin(&PLAIN, |_| {});
+    let (client, server) = (&halves[0], &halves[1]);
+    let id = client.conn(&mut pair).streams().open(Dir::Uni).unwrap();
+    client.conn(&mut pair).send_stream(id).write(b"hello").unwrap();
+    pair.drive();
+    let start = pair.time;
+    client.conn(&mut pair).send_stream(id).reset(CODE.into()).unwrap();
+    pair.drive_client();
+    pair.server.inbound.clear();
+    let is_told = |pair: &mut Pair| {
+        let mut half = server.conn(pair).recv_stream(id);
+        let mut chunks = half.read(true).unwrap();
+        let last = std::iter::from_fn(|| chunks.next(usize::MAX).transpose()).find(Result::is_err);
+        let _ = chunks.finalize();
+        last == Some(Err(ReadError::Reset(CODE.into())))
+    };
+    while !is_told(&mut pair) {
+        advance(&mut pair, None);
+        pair.drive_client();
+        pair.drive_server();
+    }
+    println!("clock a reset that is lost: {:.3} s", (pair.time - start).as_secs_f64());
+}
+
+#[test]
+fn blocked_writers() {
+    let name = "2,000 blocked writers";
+    play(Play { name, streams: [2_000, 0], size: |_| 400, ..PLAIN }, |config| {
+        config.max_concurrent_uni_streams(2_000u32.into());
+        config.receive_window(20_000u32.into());
+    });
+}

@@ -85,6 +85,18 @@ fn many_pieces_of_a_stopped_stream_close() {
     assert_eq!(fault.code, TransportErrorCode::PROTOCOL_VIOLATION);
 }
 
+#[test]
+fn an_error_names_its_frame_and_a_reason() {
+    let mut server = make(Side::Server);
+    let id = StreamId::new(Side::Client, Dir::Uni, 0);
+    let fault = take(&mut server, id, 1 << 20).unwrap_err();
+    assert_eq!(fault.code, TransportErrorCode::FLOW_CONTROL_ERROR);
+    assert!(
+        fault.frame.map(|frame| frame.to_string()) == Some("STREAM".into())
+            && !fault.reason.is_empty()
+    );
+}
+
 // (a client's 0-RTT is refused; the play of calls has the count at a whole connection)
 #[test]
 fn a_fresh_end_has_what_was_set_and_takes_no_old_token() {

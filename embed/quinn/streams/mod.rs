@@ -111,10 +111,8 @@ impl SendStream<'_> {
 
     /// The code with which the peer asked to stop, if it did.
     pub fn stopped(&mut self) -> Result<Option<VarInt>, UnknownStream> {
-        if let Some(code) = self.state.stop_code(self.id) {
-            return Ok(Some(code));
-        }
-        self.alive().map(|_| None)
+        self.alive()?;
+        Ok(self.state.end.stopped_with(ours(self.id)).map(code_of))
     }
 
     /// Ends the stream behind what was written.

@@ -325,11 +325,19 @@ impl StreamsState {
     pub fn received_ack_of(&mut self, packet: Carried) {
         let acked = packet.token.map_or(Ok(()), |token| self.end.acked(token));
         self.told(acked);
+        // (halves that are over now count no more)
+        self.hear();
     }
 
     pub fn retransmit(&mut self, packet: Carried) {
         let lost = packet.token.map_or(Ok(()), |token| self.end.lost(token));
         self.told(lost);
+    }
+
+    /// What a packet carries goes into a probe, too (RFC 9002, section 6.2.4), unless nothing of it is of use any more.
+    pub fn resend(&mut self, packet: &Carried) -> bool {
+        self.retransmit(packet.clone());
+        !packet.is_empty() && self.is_sendable()
     }
 
     // (of a closed end, or in another epoch, nothing is to be told)
@@ -408,9 +416,20 @@ fn no_memory() -> TransportError {
 }
 
 fn error_of(closing: Closing) -> TransportError {
-    // (the codes of section 20.1 are spelled in one byte)
+    // (the codes of section 20.1 and the types of these frames are spelled in one byte)
     let code = TransportErrorCode::decode(&mut &[closing.code as u8][..]);
-    code.unwrap_or(TransportErrorCode::INTERNAL_ERROR).into()
+    let frame = frame::Type::decode(&mut &[closing.frame_type as u8][..]).ok();
+    let code = code.unwrap_or(TransportErrorCode::INTERNAL_ERROR);
+    let reason = match code {
+        TransportErrorCode::FLOW_CONTROL_ERROR => "more bytes than were granted",
+        TransportErrorCode::STREAM_LIMIT_ERROR => "more streams than were granted",
+        TransportErrorCode::STREAM_STATE_ERROR => "the stream isn't open, or not in this direction",
+        TransportErrorCode::FINAL_SIZE_ERROR => {
+            "the final size isn't what it was, or bytes lie past it"
+        }
+        _ => "a number that no frame can have",
+    };
+    TransportError { code, frame, reason: reason.into() }
 }
 
 // It stands in the place of quinn's list of STREAM frames, and is acknowledged or lost as one.

@@ -33,10 +33,8 @@ impl StreamsState {
         source: &mut BytesArray<'_>,
     ) -> Result<Written, WriteError> {
         let mut left = self.end.room(ours(id)) as usize;
-        if left == 0 {
-            // A byte is offered, which isn't taken: that tells why.
-            self.write(id, &[0])?;
-        }
+        // Before a chunk is taken out it is told why none is. (a byte that is offered without room isn't taken)
+        self.write(id, &[0][usize::from(left > 0)..])?;
         let mut written = Written::default();
         loop {
             let (bytes, chunks) = source.pop_chunk(left);
