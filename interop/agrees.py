@@ -13,6 +13,11 @@ from collections import Counter
 # PADDING, ACK, and the closes ask for no ACK (RFC 9002, section 2).
 ASK_NOT = {0x00, 0x02, 0x03, 0x1c, 0x1d}
 TYPES = {0: 'initial', 2: 'handshake'}
+# Frames by their types (RFC 9000, section 19), as a trace names them.
+NAMES = {0: 'padding', 1: 'ping', 2: 'ack', 3: 'ack', 4: 'reset_stream', 5: 'stop_sending', 6: 'crypto', 7: 'new_token', 16: 'max_data',
+         17: 'max_stream_data', 18: 'max_streams', 19: 'max_streams', 20: 'data_blocked', 21: 'stream_data_blocked', 22: 'streams_blocked',
+         23: 'streams_blocked', 24: 'new_connection_id', 25: 'retire_connection_id', 26: 'path_challenge', 27: 'path_response',
+         28: 'connection_close', 29: 'connection_close', 30: 'handshake_done'} | {kind: 'stream' for kind in range(8, 16)}
 
 
 def need(holds, what):
@@ -41,7 +46,7 @@ def acked(largest, first, gaps, ranges):
 def datagrams(path, port, place):
     """The packets that this end sent and those that came, each with its type and number, whether it asks for an ACK, and what it
     acknowledges, as tshark reads them."""
-    sent, came = [], []
+    sent, came, carried = [], [], {}
     for line in open(path, encoding='ascii'):
         source, long, all_numbers, frames, *ack = line.rstrip('\n').split('|')
         types = [TYPES[kind] for kind in numbers(long)]
@@ -50,8 +55,11 @@ def datagrams(path, port, place):
         only_short = types == ['1RTT']
         asks = bool(set(numbers(frames)) - ASK_NOT)
         named = acked(*map(numbers, ack)) if only_short else set()
-        (sent if (int(source) == port) == (place == 'here') else came).extend((kind, number, asks, named) for kind, number in zip(types, found))
-    return sent, came
+        is_sent = (int(source) == port) == (place == 'here')
+        (sent if is_sent else came).extend((kind, number, asks, named) for kind, number in zip(types, found))
+        if only_short:
+            carried[is_sent, found[0]] = {NAMES[kind] for kind in numbers(frames)}
+    return sent, came, carried
 
 
 def events(path):
@@ -60,13 +68,20 @@ def events(path):
     for record in [json.loads(record) for record in records][1:]:
         header = record['data'].get('header')
         if header:
-            yield record['name'], header['packet_type'], header['packet_number']
+            yield record['name'], header['packet_type'], header['packet_number'], {frame['frame_type'] for frame in record['data'].get('frames', [])}
 
 
 def main():
     trace, fields, port, place = sys.argv[1:]
-    sent, came = datagrams(fields, int(port), place)
-    told = list(events(trace))
+    sent, came, carried = datagrams(fields, int(port), place)
+    events_told = list(events(trace))
+    told = [event[:3] for event in events_told]
+    compared = 0
+    for name, kind, number, frames in events_told:
+        if kind == '1RTT' and name in ('transport:packet_sent', 'transport:packet_received') and (key := (name.endswith('sent'), number)) in carried:
+            need(frames == carried[key], f'{name} of {number} has {sorted(frames)}, and tshark sees {sorted(carried[key])}')
+            compared += 1
+    print(f'the frames of {compared} packets are those that tshark reads')
     for name, seen in (('transport:packet_sent', sent), ('transport:packet_received', came)):
         ours = Counter((kind, number) for event, kind, number in told if event == name)
         theirs = Counter((kind, number) for kind, number, _, _ in seen)

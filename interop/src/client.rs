@@ -1,12 +1,14 @@
 //! A client: one connection on a socket of its own.
 
 use crate::connection::Connection;
-use crate::fault::Outcome;
+use crate::fault::{Close, Outcome};
 use crate::program::{Refusal, tell_more};
 use crate::server::{receive_batch, turn};
 use crate::streams::Application;
+use gotsavena::Endpoint;
 use std::io::{self, ErrorKind};
 use std::net::{SocketAddr, UdpSocket};
+use std::thread;
 use std::time::{Duration, Instant};
 
 /// How long a server may be silent where its name has another address.
@@ -50,6 +52,71 @@ pub fn visit<A: Application>(
         }
     }
     Err(Refusal::failure("a server without an address"))
+}
+
+// One that has no wish.
+struct Nothing;
+
+impl Application for Nothing {
+    const NO_ERROR: u64 = 0;
+
+    fn progress(&mut self, _end: &mut Endpoint) -> Result<(), Close> {
+        Ok(())
+    }
+}
+
+/// How many connections are opened at once: more datagrams than so many begin with don't fit into a socket's buffer.
+const AT_ONCE: usize = 50;
+
+/// How long the server has to take in the closes of so many.
+const PAUSE: Duration = Duration::from_millis(50);
+
+/// Opens so many connections, and closes them once all stand.
+pub fn connect_often(
+    server: SocketAddr,
+    make: impl Fn() -> Result<Connection, Refusal>,
+    count: usize,
+) -> Result<(), Refusal> {
+    let mut visits = Vec::new();
+    for _ in 0..count {
+        visits.push((connect(server).map_err(Refusal::failure)?, make()?));
+    }
+    for some in visits.chunks_mut(AT_ONCE) {
+        while some
+            .iter_mut()
+            .any(|(_, connection)| connection.end().is_none())
+        {
+            for (socket, connection) in &mut *some {
+                go_on(socket, connection).map_err(Refusal::failure)?;
+                if let Some(outcome) = connection.outcome() {
+                    return Err(Refusal::Failure(format!("a connection ended: {outcome}")));
+                }
+            }
+        }
+    }
+    for some in visits.chunks_mut(AT_ONCE) {
+        for (socket, connection) in some {
+            connection.close(Close::new(Nothing::NO_ERROR, "enough"), Instant::now());
+            go_on(socket, connection).map_err(Refusal::failure)?;
+        }
+        thread::sleep(PAUSE);
+    }
+    Ok(())
+}
+
+// Sends what there is, takes in what came, and doesn't wait.
+fn go_on(socket: &UdpSocket, connection: &mut Connection) -> io::Result<()> {
+    let now = Instant::now();
+    turn(connection, &mut Nothing, &mut Vec::new(), |bytes| {
+        socket.send(bytes)
+    })?;
+    receive_batch(socket, Some(now), |datagram, _| {
+        connection.receive(datagram, now)
+    })?;
+    if connection.timer(now).is_some_and(|at| at <= now) {
+        connection.time_is_up(now);
+    }
+    Ok(())
 }
 
 /// What a client does over as many connections as the server asks for.
@@ -175,7 +242,6 @@ mod tests {
     use crate::stop::Stop;
     use crate::tls::server_config;
     use gotsavena::{Settings, Tuning};
-    use std::thread;
 
     const FILE: &str = "src/client.rs";
 

@@ -22,6 +22,7 @@ pub mod files;
 pub mod h3;
 pub mod ids;
 pub mod log;
+pub mod memory;
 pub mod pacing;
 pub mod packet;
 pub mod parameters;

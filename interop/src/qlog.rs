@@ -1,8 +1,10 @@
 //! What a connection did, as qlog 0.4 in a JSON text sequence, with the events of the traces that `qstream --qlog` writes: packets sent,
-//! received, dropped and lost, bytes of streams that moved, the close. Times are milliseconds since the connection began.
+//! received, dropped and lost, bytes of streams that moved, the close; and parameters and recovery, which those have not. Times are
+//! milliseconds since the connection began, which the reference time tells.
 
 use crate::fault::Outcome;
 use crate::packet::{ConnectionId, Level};
+use crate::parameters::Parameters;
 use crate::program;
 use gotsavena::{AckRanges, Dir, Endpoint, Frame, Role, StreamId, frames};
 use std::collections::BTreeMap;
@@ -11,7 +13,7 @@ use std::fs::File;
 use std::io::Write as _;
 use std::path::{Path, PathBuf};
 use std::sync::OnceLock;
-use std::time::Instant;
+use std::time::{Duration, Instant, SystemTime, UNIX_EPOCH};
 
 static FOLDER: OnceLock<PathBuf> = OnceLock::new();
 
@@ -27,6 +29,32 @@ pub struct Trace {
     begin: Instant,
     /// How many bytes of each stream were written and read, as told.
     moved: BTreeMap<StreamId, Moved>,
+    /// The metrics that were told last.
+    metrics: Vec<(&'static str, String)>,
+}
+
+/// A packet that was sent or came.
+pub struct Packet<'a> {
+    pub level: Level,
+    pub number: u64,
+    /// How long it is, with its header and the tag of its protection.
+    pub len: usize,
+    pub payload: &'a [u8],
+}
+
+/// How recovery stands. Round trips are known once one was measured.
+pub struct Metrics {
+    pub round_trips: Option<RoundTrips>,
+    pub probes: u32,
+    pub window: usize,
+    pub in_flight: usize,
+}
+
+pub struct RoundTrips {
+    pub smoothed: Duration,
+    pub least: Duration,
+    pub latest: Duration,
+    pub variation: Duration,
 }
 
 #[derive(Clone, Copy, Default)]
@@ -58,8 +86,13 @@ impl Trace {
             file: open(&path),
             begin: now,
             moved: BTreeMap::new(),
+            metrics: Vec::new(),
         };
-        let common = r#"{"protocol_type":["QUIC"],"time_format":"relative","reference_time":0}"#;
+        let since = SystemTime::now().duration_since(UNIX_EPOCH);
+        let reference = millis(since.unwrap_or_default());
+        let common = format!(
+            r#"{{"protocol_type":["QUIC"],"time_format":"relative","reference_time":{reference}}}"#
+        );
         let vantage = format!(r#"{{"type":"{end}"}}"#);
         trace.put(&format!(
             r#"{{"qlog_version":"0.4","qlog_format":"JSON-SEQ","trace":{{"common_fields":{common},"vantage_point":{vantage}}}}}"#
@@ -79,29 +112,67 @@ impl Trace {
     }
 
     fn event(&mut self, now: Instant, name: &str, data: &str) {
-        let time = now.saturating_duration_since(self.begin).as_micros();
-        let (millis, micros) = (time / 1000, time % 1000);
+        let time = millis(now.saturating_duration_since(self.begin));
         self.put(&format!(
-            r#"{{"time":{millis}.{micros:03},"name":"{name}","data":{{{data}}}}}"#
+            r#"{{"time":{time},"name":"{name}","data":{{{data}}}}}"#
         ));
     }
 
-    pub fn sent(&mut self, level: Level, number: u64, payload: &[u8], now: Instant) {
-        let mut data = header(level, number);
-        _ = write!(
-            data,
-            r#","raw":{{"payload_length":{}}},"frames":["#,
-            payload.len()
-        );
-        put_frames(&mut data, payload);
-        data.push(']');
-        self.event(now, "transport:packet_sent", &data);
-        self.note_streams(payload, false);
+    pub fn sent(&mut self, packet: &Packet<'_>, now: Instant) {
+        self.event(now, "transport:packet_sent", &packet.members());
+        self.note_streams(packet.payload, false);
     }
 
-    pub fn received(&mut self, level: Level, number: u64, payload: &[u8], now: Instant) {
-        self.event(now, "transport:packet_received", &header(level, number));
-        self.note_streams(payload, true);
+    pub fn received(&mut self, packet: &Packet<'_>, now: Instant) {
+        self.event(now, "transport:packet_received", &packet.members());
+        self.note_streams(packet.payload, true);
+    }
+
+    /// The transport parameters of this end, `local`, or of the peer, `remote`.
+    pub fn parameters(&mut self, owner: &str, told: &Parameters, now: Instant) {
+        let mut data = format!(r#""owner":"{owner}""#);
+        for (name, id) in [
+            (
+                "original_destination_connection_id",
+                told.original_destination,
+            ),
+            ("initial_source_connection_id", told.initial_source),
+            ("retry_source_connection_id", told.retry_source),
+        ] {
+            if let Some(id) = id {
+                word(&mut data, name, &format!("{id:?}"));
+            }
+        }
+        let limits = &told.limits;
+        for (name, value) in [
+            ("max_idle_timeout", told.idle.as_millis() as u64),
+            ("max_udp_payload_size", told.max_datagram),
+            ("ack_delay_exponent", told.ack_delay_exponent),
+            ("max_ack_delay", told.max_ack_delay.as_millis() as u64),
+            ("active_connection_id_limit", told.active_ids),
+            ("initial_max_data", limits.max_data),
+            ("initial_max_stream_data_bidi_local", limits.bidi_local),
+            ("initial_max_stream_data_bidi_remote", limits.bidi_remote),
+            ("initial_max_stream_data_uni", limits.uni),
+            ("initial_max_streams_bidi", limits.streams_bidi),
+            ("initial_max_streams_uni", limits.streams_uni),
+        ] {
+            number(&mut data, name, value);
+        }
+        self.event(now, "transport:parameters_set", &data);
+    }
+
+    /// How recovery stands: what is new of it.
+    pub fn metrics(&mut self, metrics: &Metrics, now: Instant) {
+        let told = metrics.members();
+        let new = told.iter().filter(|member| !self.metrics.contains(member));
+        let new: Vec<String> = new
+            .map(|(name, value)| format!(r#""{name}":{value}"#))
+            .collect();
+        if !new.is_empty() {
+            self.event(now, "recovery:metrics_updated", &new.join(","));
+            self.metrics = told;
+        }
     }
 
     pub fn dropped(&mut self, level: Level, number: u64, why: Dropped, now: Instant) {
@@ -186,6 +257,45 @@ impl Trace {
             self.event(now, "transport:data_moved", &data);
         }
     }
+}
+
+impl Packet<'_> {
+    fn members(&self) -> String {
+        let mut data = header(self.level, self.number);
+        let (len, payload_len) = (self.len, self.payload.len());
+        _ = write!(
+            data,
+            r#","raw":{{"length":{len},"payload_length":{payload_len}}},"frames":["#
+        );
+        put_frames(&mut data, self.payload);
+        data.push(']');
+        data
+    }
+}
+
+impl Metrics {
+    fn members(&self) -> Vec<(&'static str, String)> {
+        let mut members = vec![
+            ("pto_count", self.probes.to_string()),
+            ("congestion_window", self.window.to_string()),
+            ("bytes_in_flight", self.in_flight.to_string()),
+        ];
+        if let Some(times) = &self.round_trips {
+            members.extend([
+                ("smoothed_rtt", millis(times.smoothed)),
+                ("min_rtt", millis(times.least)),
+                ("latest_rtt", millis(times.latest)),
+                ("rtt_variance", millis(times.variation)),
+            ]);
+        }
+        members
+    }
+}
+
+// A time in milliseconds, to the microsecond.
+fn millis(time: Duration) -> String {
+    let micros = time.as_micros();
+    format!("{}.{:03}", micros / 1000, micros % 1000)
 }
 
 fn open(path: &Path) -> Option<File> {
@@ -372,6 +482,43 @@ fn put_ack(out: &mut String, delay: u64, ranges: impl IntoIterator<Item = (u64, 
 #[cfg(test)]
 mod tests {
     use super::*;
+
+    #[test]
+    fn a_packet_is_told_as_the_schema_has_it() {
+        let packet = Packet {
+            level: Level::Data,
+            number: 7,
+            len: 30,
+            payload: &[0x01],
+        };
+        let wanted = concat!(
+            r#""header":{"packet_number":7,"packet_type":"1RTT"},"#,
+            r#""raw":{"length":30,"payload_length":1},"frames":[{"frame_type":"ping"}]"#
+        );
+        assert_eq!(packet.members(), wanted);
+    }
+
+    #[test]
+    fn round_trips_are_told_once_they_are_known() {
+        let mut metrics = Metrics {
+            round_trips: None,
+            probes: 1,
+            window: 12_000,
+            in_flight: 2_400,
+        };
+        assert_eq!(metrics.members().len(), 3);
+        metrics.round_trips = Some(RoundTrips {
+            smoothed: Duration::from_micros(1_234),
+            least: Duration::from_millis(1),
+            latest: Duration::from_millis(2),
+            variation: Duration::ZERO,
+        });
+        assert!(
+            metrics
+                .members()
+                .contains(&("smoothed_rtt", "1.234".to_owned()))
+        );
+    }
 
     #[test]
     fn frames_are_told_as_the_schema_has_them() {

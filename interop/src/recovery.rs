@@ -5,6 +5,7 @@ use crate::congestion::{Cubic, first_window};
 use crate::pacing::Pacer;
 use crate::packet::Level;
 use crate::path_size::PathSize;
+use crate::qlog::{Metrics, RoundTrips};
 use std::collections::{BTreeMap, BTreeSet};
 use std::ops::Range;
 use std::time::{Duration, Instant};
@@ -140,6 +141,22 @@ impl Recovery {
             _ => Duration::ZERO,
         };
         self.smoothed + (4 * self.variation).max(GRANULARITY) + delay
+    }
+
+    /// How it stands, for a trace.
+    pub fn metrics(&self) -> Metrics {
+        let round_trips = self.least.map(|least| RoundTrips {
+            smoothed: self.smoothed,
+            least,
+            latest: self.latest,
+            variation: self.variation,
+        });
+        Metrics {
+            round_trips,
+            probes: self.probes,
+            window: self.congestion.window(),
+            in_flight: self.congestion.in_flight(),
+        }
     }
 
     pub fn smoothed(&self) -> Duration {

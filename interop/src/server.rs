@@ -2,6 +2,7 @@
 
 use crate::connection::{Config, Connection, DATAGRAM};
 use crate::fault::Close;
+use crate::memory;
 use crate::packet::{
     ConnectionId, Kind, Level, Packet, VERSION_1, read_packet, version_negotiation,
 };
@@ -63,6 +64,8 @@ struct Table<A> {
     places: HashMap<u64, Box<Served<A>>>,
     /// How often a connection was looked at.
     looks: u64,
+    /// How many there were at most since memory was given back.
+    peak: usize,
 }
 
 struct Served<A> {
@@ -162,6 +165,21 @@ impl<A> Table<A> {
         self.looks += 1;
         self.places.get_mut(&key).map(|place| &mut **place)
     }
+
+    fn insert(&mut self, key: u64, served: Served<A>) {
+        self.places.insert(key, Box::new(served));
+        self.peak = self.peak.max(self.places.len());
+    }
+
+    // Once one half of the connections is gone, their memory goes back to the system.
+    fn remove(&mut self, key: u64) {
+        self.places.remove(&key);
+        if 2 * self.places.len() <= self.peak {
+            self.places.shrink_to_fit();
+            self.peak = self.places.len();
+            memory::give_back();
+        }
+    }
 }
 
 impl<A: Application> Server<A> {
@@ -180,6 +198,7 @@ impl<A: Application> Server<A> {
             served: Table {
                 places: HashMap::new(),
                 looks: 0,
+                peak: 0,
             },
             timers: Timers::default(),
             ids: HashMap::new(),
@@ -302,7 +321,7 @@ impl<A: Application> Server<A> {
             application,
             was_told: false,
         };
-        self.served.places.insert(key, Box::new(served));
+        self.served.insert(key, served);
         Some(key)
     }
 
@@ -331,7 +350,7 @@ impl<A: Application> Server<A> {
                 self.ids.remove(&id);
             }
             self.timers.set(key, None);
-            self.served.places.remove(&key);
+            self.served.remove(key);
             return Ok(false);
         }
         self.timers.set(key, connection.timer(Instant::now()));

@@ -1,6 +1,7 @@
-//! A client of files without HTTP: loads each path into a folder, under the path's last part.
+//! A client of files without HTTP: loads each path into a folder, under the path's last part. With `--connections N` it opens N connections
+//! before, and closes them once all stand.
 
-use gotsavena_interop::client::visit;
+use gotsavena_interop::client::{connect_often, visit};
 use gotsavena_interop::program::{
     self, Refusal, Words, addresses, client, config, expect_close, save,
 };
@@ -10,7 +11,7 @@ use std::time::Instant;
 
 fn main() -> ExitCode {
     program::run(
-        "raw-client [--window BYTES] [--stream-window BYTES] [--most-window BYTES] [--streams N] [--idle SECONDS] [--qlog FOLDER] [--quic-version HEX] ADDR DIR PATH..",
+        "raw-client [--connections N] [--window BYTES] [--stream-window BYTES] [--most-window BYTES] [--streams N] [--idle SECONDS] [--qlog FOLDER] [--quic-version HEX] ADDR DIR PATH..",
         load,
     )
 }
@@ -18,6 +19,7 @@ fn main() -> ExitCode {
 fn load(mut words: Words) -> Result<(), Refusal> {
     let config = config(&mut words)?;
     let version = words.quic_version()?;
+    let connections = words.number("connections", 0)? as usize;
     words.no_more_options()?;
     let [server, folder, paths @ ..] = words.rest.as_slice() else {
         return Err(Refusal::Usage(
@@ -30,7 +32,9 @@ fn load(mut words: Words) -> Result<(), Refusal> {
     let begin = Instant::now();
     let mut loader = RawClient::new(paths.to_vec());
     let make = || client(PROTOCOL, "localhost", version, config);
-    let outcome = visit(&addresses(server)?, make, &mut loader)?;
+    let server = addresses(server)?;
+    connect_often(server[0], make, connections)?;
+    let outcome = visit(&server, make, &mut loader)?;
     expect_close(&outcome, NO_ERROR)?;
     let time = begin.elapsed();
     let mut bytes = 0;

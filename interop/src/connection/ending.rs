@@ -63,6 +63,7 @@ impl Connection {
             Some(Due::Probe(_)) => self.probe_handshake(),
             None => {}
         }
+        self.tell_metrics(now);
     }
 
     // Both ends' times count, where they name one (section 10.1).

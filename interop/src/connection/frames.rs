@@ -86,6 +86,12 @@ impl Connection {
         }
     }
 
+    pub(super) fn tell_metrics(&mut self, now: Instant) {
+        if let Some(trace) = &mut self.trace {
+            trace.metrics(&self.recovery.metrics(), now);
+        }
+    }
+
     /// Packets are lost: what they carried goes again (RFC 9000, section 13.3).
     pub(super) fn lose(&mut self, level: Level, lost: Vec<(u64, Sent)>) {
         for (number, sent) in lost {

@@ -78,6 +78,9 @@ impl Connection {
         if let Some(token) = peer.reset_token {
             self.peer_ids.set_first_token(token);
         }
+        if let Some(trace) = &mut self.trace {
+            trace.parameters("remote", &peer, self.last_active);
+        }
         self.peer = peer;
         self.end = Some(end);
         Ok(())

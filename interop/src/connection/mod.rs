@@ -147,6 +147,7 @@ impl Connection {
         let session = Session::client(setup.tls.clone(), &setup.name, told.write())?;
         let mut connection =
             Connection::new(Role::Client, config, session, own_id, destination, now);
+        connection.tell_parameters(&told, now);
         connection.version = setup.version;
         connection.client = Some(setup);
         connection.known.is_validated = true;
@@ -169,6 +170,7 @@ impl Connection {
         let session = Session::server(tls, told.write())?;
         let mut connection =
             Connection::new(Role::Server, config, session, own_id, destination, now);
+        connection.tell_parameters(&told, now);
         connection.peer_ids = PeerIds::new(source);
         connection.known.has_peer_id = true;
         Ok(connection)
@@ -212,6 +214,12 @@ impl Connection {
             state: State::Open,
             outcome: None,
             trace: Trace::begin(role, destination, now),
+        }
+    }
+
+    fn tell_parameters(&mut self, told: &Parameters, now: Instant) {
+        if let Some(trace) = &mut self.trace {
+            trace.parameters("local", told, now);
         }
     }
 

@@ -4,7 +4,7 @@ use super::{Connection, MOST_EARLY, State};
 use crate::fault::{Fault, INTERNAL_ERROR, Outcome, PROTOCOL_VIOLATION};
 use crate::packet::{Kind, Level, Packet, VERSION_1, read_packet};
 use crate::protection::{self, Opened};
-use crate::qlog::Dropped;
+use crate::qlog::{self, Dropped};
 use gotsavena::{ReceiveFault, Received, Role};
 use ring::aead::{AES_128_GCM, Aad, LessSafeKey, Nonce, UnboundKey};
 use rustls::quic::{Keys, Version};
@@ -38,6 +38,7 @@ impl Connection {
                 break;
             }
         }
+        self.tell_metrics(now);
         if !opened && token.is_some_and(|token| self.peer_ids.is_reset_token(&token)) {
             self.drain(Outcome::Reset, now);
         }
@@ -73,7 +74,13 @@ impl Connection {
         self.asked_since_active = false;
         let payload = &bytes[opened.payload.clone()];
         if let Some(trace) = &mut self.trace {
-            trace.received(level, opened.number, payload, now);
+            let packet = qlog::Packet {
+                level,
+                number: opened.number,
+                len: bytes.len(),
+                payload,
+            };
+            trace.received(&packet, now);
         }
         if level == Level::Data {
             self.take_data(opened.number, payload, now)?;

@@ -5,6 +5,7 @@ use crate::crypto::push_frame;
 use crate::fault::{Fault, INTERNAL_ERROR};
 use crate::packet::{Draft, Header, Level, TAG_LEN};
 use crate::protection::seal;
+use crate::qlog;
 use crate::recovery::{Control, Sent};
 use gotsavena::{Endpoint, Frame, MIN_ROOM, Made, MakeFault, Role, frames, last_stream, put_ack};
 use std::time::Instant;
@@ -57,6 +58,7 @@ impl Connection {
             }
         };
         self.finish(planned, out);
+        self.tell_metrics(now);
         true
     }
 
@@ -93,8 +95,13 @@ impl Connection {
     fn note_sent(&mut self, plan: Planned, out: &mut [u8]) {
         let Planned { draft, mut sent } = plan;
         if let Some(trace) = &mut self.trace {
-            let payload = &out[draft.payload_at()..draft.end];
-            trace.sent(draft.level, draft.number, payload, sent.at);
+            let packet = qlog::Packet {
+                level: draft.level,
+                number: draft.number,
+                len: draft.end + TAG_LEN - draft.start,
+                payload: &out[draft.payload_at()..draft.end],
+            };
+            trace.sent(&packet, sent.at);
         }
         match (
             draft.level,

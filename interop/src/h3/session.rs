@@ -1,6 +1,6 @@
 //! One HTTP/3 connection: nghttp3's, with its callbacks as events and its streams over those of the endpoint.
 //!
-//! All unsafe code of the package stands here. Its reasons: `conn` is made once and freed once; the callbacks get the `Shared` that
+//! All unsafe code of the package stands here, but for one call of the allocator in `memory`. Its reasons: `conn` is made once and freed once; the callbacks get the `Shared` that
 //! lives as long as `conn` does, and run only within calls on it, during which no reference to it is held here.
 
 use super::declarations::*;
