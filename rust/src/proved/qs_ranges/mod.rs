@@ -16,9 +16,11 @@ mod changes;
 mod few;
 pub mod laws;
 mod maybe_number;
+mod room;
 
 pub use bits::{lowest_bit, with_bit};
 pub use maybe_number::MaybeNumber;
+pub use room::reserve;
 
 /// No memory was left.
 #[derive(Clone, Copy, Debug, PartialEq, Eq)]

@@ -3,7 +3,7 @@
 use crate::shim::Vec;
 
 use crate::proved::qs_recv::ring::{Ring, is_at, write_at};
-use crate::proved::qs_ranges::NoMemory;
+use crate::proved::qs_ranges::{NoMemory, reserve};
 use crate::shim::alloc::Global;
 use crate::shim::collections::BTreeMap;
 
@@ -125,7 +125,8 @@ impl Pages {
 
 // A page of zeros.
 fn zeros(alloc: Global) -> Result<Vec<u8>, NoMemory> {
-    let mut page = Vec::with_capacity(alloc, PAGE as usize)?;
-    page.resize(PAGE as usize, 0)?;
+    let mut page = Vec::new(alloc);
+    let size = reserve(&mut page, PAGE as usize)?;
+    page.resize(size, 0)?;
     Ok(page)
 }

@@ -2,7 +2,7 @@
 //! A ring of bytes of which only the written ones are kept, so that a new one needn't be filled.
 use crate::shim::Vec;
 
-use crate::proved::qs_ranges::NoMemory;
+use crate::proved::qs_ranges::{NoMemory, reserve};
 use crate::shim::alloc::Global;
 
 /// The byte of an offset stands at the offset modulo the ring's size. As the ring is made, the place of an offset is chosen at
@@ -97,14 +97,23 @@ impl Ring {
         debug_assert!(size <= 1 << 30);
         debug_assert!(count <= size);
         let turn = size - place_of(from, size);
-        let mut bytes = Vec::with_capacity(alloc, size)?;
+        let mut bytes = Vec::new(alloc);
+        let room = reserve(&mut bytes, size)?;
         if count == 0 {
-            return Ok(Ring { bytes, size, turn });
+            return Ok(Ring {
+                bytes,
+                size: room,
+                turn,
+            });
         }
         let place = place_of(from + self.turn as u64, self.size);
         fill(&mut self.bytes, self.size, place, count);
         copy_to(&mut bytes, &self.bytes, self.size, place, count);
-        Ok(Ring { bytes, size, turn })
+        Ok(Ring {
+            bytes,
+            size: room,
+            turn,
+        })
     }
 
     /// Brings the ring to a larger size, with the bytes of so many offsets from `from` on: in memory that grows, where they keep
@@ -129,8 +138,7 @@ impl Ring {
             *self = self.resized(alloc, from, count, size)?;
             return Ok(());
         }
-        self.bytes.reserve_exact(size - self.bytes.len())?;
-        self.size = size;
+        self.size = reserve(&mut self.bytes, size)?;
         self.turn = turn_to(place, from, size);
         Ok(())
     }

@@ -2,7 +2,7 @@
 //! Bytes that come in at the back and are let go at the front.
 use crate::shim::Vec;
 
-use crate::proved::qs_ranges::NoMemory;
+use crate::proved::qs_ranges::{NoMemory, reserve};
 use crate::shim::alloc::Global;
 
 // The most bytes of room that stay where nothing is kept, so that a few bytes now and then take no memory anew.
@@ -122,16 +122,12 @@ fn pieces(ring: &[u8], start: usize, count: usize) -> (&[u8], &[u8]) {
     }
 }
 
-// Puts bytes behind the first `count` of a ring, which goes on where it stands, to so many places. Where memory is refused these
-// stay, if not all.
+// Puts bytes behind the first `count` of a ring, which goes on where it stands, to so many places. Unchanged where memory is refused.
 fn grow(ring: &mut Vec<u8>, count: usize, bytes: &[u8], size: usize) -> Result<(), NoMemory> {
-    ring.reserve_exact(size - ring.len())?;
+    let room = reserve(ring, size)?;
     ring.truncate(count);
-    ring.extend_from_slice(bytes)?;
-    if ring.resize(size, 0).is_err() {
-        ring.truncate(count);
-        return Err(NoMemory);
-    }
+    let _written = ring.extend_from_slice(bytes);
+    let _filled = ring.resize(room, 0);
     Ok(())
 }
 
@@ -163,10 +159,10 @@ fn joined(
     size: usize,
 ) -> Result<Vec<u8>, NoMemory> {
     let mut ring = Vec::new(alloc);
-    ring.reserve_exact(size)?;
+    let room = reserve(&mut ring, size)?;
     ring.extend_from_slice(front)?;
     ring.extend_from_slice(back)?;
     ring.extend_from_slice(bytes)?;
-    ring.resize(size, 0)?;
+    ring.resize(room, 0)?;
     Ok(ring)
 }

@@ -1,0 +1,12 @@
+// Made from crates/qs_ranges/src/room.rt by rust/erase; not edited by hand.
+//! Memory for bytes, and no more than is asked for.
+use crate::shim::Vec;
+
+use crate::proved::qs_ranges::NoMemory;
+
+/// Makes room for so many bytes in all, takes memory for no more, and answers how many these are: what a caller makes of them is then
+/// as large as its memory.
+pub fn reserve(bytes: &mut Vec<u8>, size: usize) -> Result<usize, NoMemory> {
+    bytes.reserve_exact(size - bytes.len())?;
+    Ok(size)
+}
