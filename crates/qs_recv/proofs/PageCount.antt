@@ -28,18 +28,18 @@ use Rattle.qs_recv.proofs.RingApart.{none_span}
 -- how many of the n offsets from `a` on lie in a page that is in use
 used_bytes : List (ℕ × Vec ℕ) → ℕ → ℕ → ℕ
 used_bytes es a zero = 0
-used_bytes es a (suc n) = if is_some (lookup (is_at (nat_cmp ((a + n) / 16384))) es) then used_bytes es a n + 1 else used_bytes es a n
+used_bytes es a (suc n) = if is_some (lookup (is_at (nat_cmp ((a + n) / 2048))) es) then used_bytes es a n + 1 else used_bytes es a n
 
 used_none : (a n : ℕ) → used_bytes [] a n ≡ 0
 unfolding used_bytes
 used_none a zero = refl
 used_none a (suc n) = used_none a n
 
-used_more : (e : ℕ × Vec ℕ) (es : List (ℕ × Vec ℕ)) (a n : ℕ) → used_bytes (e ∷ es) a n ≤ used_bytes es a n + (min (a + n) (e.0 * 16384 + 16384) - max a (e.0 * 16384))
+used_more : (e : ℕ × Vec ℕ) (es : List (ℕ × Vec ℕ)) (a n : ℕ) → used_bytes (e ∷ es) a n ≤ used_bytes es a n + (min (a + n) (e.0 * 2048 + 2048) - max a (e.0 * 2048))
 unfolding used_bytes
 used_more e es a zero = omega arith
 used_more e es a (suc n) =
-    step (nat_eq ((a + n) / 16384) e.0) refl (is_at (nat_cmp ((a + n) / 16384)) e.0) (unsigned_tied ((a + n) / 16384) e.0) (lookup (is_at (nat_cmp ((a + n) / 16384))) es) (used_bytes (e ∷ es) a n) (used_bytes es a n) (used_more e es a n)
+    step (nat_eq ((a + n) / 2048) e.0) refl (is_at (nat_cmp ((a + n) / 2048)) e.0) (unsigned_tied ((a + n) / 2048) e.0) (lookup (is_at (nat_cmp ((a + n) / 2048))) es) (used_bytes (e ∷ es) a n) (used_bytes es a n) (used_more e es a n)
   where
     either : (o : Option (Vec ℕ)) (x y d d' : ℕ) → x ≤ y + d → d ≤ d' → (if is_some o then x + 1 else x) ≤ (if is_some o then y + 1 else y) + d'
     either None x y d d' h m = omega (arith, h, m)
@@ -49,18 +49,18 @@ used_more e es a (suc n) =
     least None y = omega arith
     least (Some v) y = omega arith
 
-    step : (t : Bool) → nat_eq ((a + n) / 16384) e.0 ≡ t → (b : Bool) → b ≡ nat_eq ((a + n) / 16384) e.0 → (o : Option (Vec ℕ)) (x y : ℕ) → x ≤ y + (min (a + n) (e.0 * 16384 + 16384) - max a (e.0 * 16384))
-        → (if is_some (cond b (Some e.1) o) then x + 1 else x) ≤ (if is_some o then y + 1 else y) + (min (a + suc n) (e.0 * 16384 + 16384) - max a (e.0 * 16384))
+    step : (t : Bool) → nat_eq ((a + n) / 2048) e.0 ≡ t → (b : Bool) → b ≡ nat_eq ((a + n) / 2048) e.0 → (o : Option (Vec ℕ)) (x y : ℕ) → x ≤ y + (min (a + n) (e.0 * 2048 + 2048) - max a (e.0 * 2048))
+        → (if is_some (cond b (Some e.1) o) then x + 1 else x) ≤ (if is_some o then y + 1 else y) + (min (a + suc n) (e.0 * 2048 + 2048) - max a (e.0 * 2048))
     step true is b b_is o x y h =
         let there : b ≡ true = b_is ∙ is in
-        let same : (a + n) / 16384 ≡ e.0 = grind (arith, nat_tests) in
+        let same : (a + n) / 2048 ≡ e.0 = grind (arith, nat_tests) in
         let low = least o y in
         rw there (omega (arith, same, h, low))
     step false is b b_is o x y h =
         let other : b ≡ false = b_is ∙ is in
-        rw other (either o x y (min (a + n) (e.0 * 16384 + 16384) - max a (e.0 * 16384)) (min (a + suc n) (e.0 * 16384 + 16384) - max a (e.0 * 16384)) h (omega arith))
+        rw other (either o x y (min (a + n) (e.0 * 2048 + 2048) - max a (e.0 * 2048)) (min (a + suc n) (e.0 * 2048 + 2048) - max a (e.0 * 2048)) h (omega arith))
 
-used_all : (es : List (ℕ × Vec ℕ)) (a n : ℕ) → used_bytes es a n ≤ length es * 16384
+used_all : (es : List (ℕ × Vec ℕ)) (a n : ℕ) → used_bytes es a n ≤ length es * 2048
 used_all [] a n = let none = used_none a n in omega (arith, none)
 used_all (e ∷ es) a n =
     let more = used_more e es a n in
@@ -71,7 +71,7 @@ came_used : (r : NumberSet) (pages : Pages) (a n : ℕ) → ((q : ℕ) → a ≤
 unfolding used_bytes missing_count
 came_used r pages a zero had = omega arith
 came_used r pages a (suc n) had =
-    one (set.contains r (a + n)) (is_some (lookup (is_at (nat_cmp ((a + n) / 16384))) pages.entries)) (λ came. had (a + n) (omega arith) came) (missing_count r a n) (used_bytes pages.entries a n) (came_used r pages a n had)
+    one (set.contains r (a + n)) (is_some (lookup (is_at (nat_cmp ((a + n) / 2048))) pages.entries)) (λ came. had (a + n) (omega arith) came) (missing_count r a n) (used_bytes pages.entries a n) (came_used r pages a n had)
   where
     one : (b u : Bool) → (b ≡ true → u ≡ true) → (m x : ℕ) → n ≤ m + x → suc n ≤ (if b then m else m + 1) + (if u then x + 1 else x)
     one true true f m x h = omega (arith, h)
@@ -80,7 +80,7 @@ came_used r pages a (suc n) had =
     one false false f m x h = omega (arith, h)
 
 -- what is stored has room
-pub room_fits : (r : NumberSet) (f : ℕ → ℕ) (ring : List ℕ) (pages : Pages) (w from near end : ℕ) → IsApart ring pages r from near end → length ring ≤ w → map.len (ring_bytes r f from w) ≤ length ring + btree_map_len pages * 16384
+pub room_fits : (r : NumberSet) (f : ℕ → ℕ) (ring : List ℕ) (pages : Pages) (w from near end : ℕ) → IsApart ring pages r from near end → length ring ≤ w → map.len (ring_bytes r f from w) ≤ length ring + btree_map_len pages * 2048
 room_fits r f ring pages w from near end a within =
     let starts = a.starts in
     let reaches = a.reaches in
@@ -144,12 +144,12 @@ none_used ring pages r from near end a over =
     let ends = a.ends in
     none_len pages.entries (λ k is. (let u = a.used k is in let low = u.0 in let high = u.1 in omega (arith, low, high, starts, ends, over)))
 
-pub pages_fit : (ring : List ℕ) (pages : Pages) (r : NumberSet) (from near end : ℕ) → IsApart ring pages r from near end → IsOrdered nat_cmp pages → btree_map_len pages * 16384 ≤ 2 * (end - near)
+pub pages_fit : (ring : List ℕ) (pages : Pages) (r : NumberSet) (from near end : ℕ) → IsApart ring pages r from near end → IsOrdered nat_cmp pages → btree_map_len pages * 2048 ≤ 2 * (end - near)
 pages_fit ring pages r from near end a ordered =
     let ends = a.ends in
-    let low = keys_used pages.entries (λ k. near / 16384 + 1 ≤ k) (λ k is. (let u = a.used k is in let past = u.0 in omega (arith, past))) in
-    let high = keys_used pages.entries (λ k. k < (end - 1) / 16384 + 1) (λ k is. (let u = a.used k is in let below = u.1 in omega (arith, below))) in
-    let count = sorted_fit (keys_of pages.entries) (near / 16384 + 1) ((end - 1) / 16384 + 1) ordered low high in
+    let low = keys_used pages.entries (λ k. near / 2048 + 1 ≤ k) (λ k is. (let u = a.used k is in let past = u.0 in omega (arith, past))) in
+    let high = keys_used pages.entries (λ k. k < (end - 1) / 2048 + 1) (λ k is. (let u = a.used k is in let below = u.1 in omega (arith, below))) in
+    let count = sorted_fit (keys_of pages.entries) (near / 2048 + 1) ((end - 1) / 2048 + 1) ordered low high in
     let len = keys_len pages.entries in
     elim (cases_lt near end) [
       | inl some ↦
@@ -160,7 +160,7 @@ pages_fit ring pages r from near end a ordered =
     ]
 
 pub held_fits : (ring : List ℕ) (pages : Pages) (r : NumberSet) (from near end window : ℕ) (off : Bool) → IsSized ring pages r from near end window off → IsOrdered nat_cmp pages
-    → length ring + btree_map_len pages * 16384 ≤ max 4096 (4 * (end_of r - from))
+    → length ring + btree_map_len pages * 2048 ≤ max 4096 (4 * (end_of r - from))
 held_fits ring pages r from near end window true s ordered =
     let none = s.none refl in
     let a = none.0 in
@@ -173,14 +173,14 @@ held_fits ring pages r from near end window false s ordered =
     let ends = a.ends in
     let starts = a.starts in
     let before = a.before in
-    elim (cases_lt (near + 16384) end) [
+    elim (cases_lt (near + 2048) end) [
       | inl more ↦ omega (arith, fit, bound, ends, starts, before, more)
       | inr few ↦
           let none = few_pages few in
           omega (arith, none, bound, ends, starts, before)
     ]
   where
-    few_pages : end ≤ near + 16384 → btree_map_len pages ≡ 0
+    few_pages : end ≤ near + 2048 → btree_map_len pages ≡ 0
     few_pages few =
         let a = s.apart refl in
         let ends = a.ends in
@@ -193,7 +193,7 @@ held_fits ring pages r from near end window false s ordered =
         omega (arith, gap, few, low, high))
 
 pub held_idle : (f : ℕ → ℕ) (ring : List ℕ) (pages : Pages) (r : NumberSet) (from near end stored window : ℕ) (off : Bool) → IsRing f r window from stored off → IsSized ring pages r from near end window off → stored ≡ 0
-    → length ring + btree_map_len pages * 16384 ≤ 4096
+    → length ring + btree_map_len pages * 2048 ≤ 4096
 held_idle f ring pages r from near end stored window true h s none =
     let zero = s.none refl in
     let a = zero.0 in
@@ -209,7 +209,7 @@ held_idle f ring pages r from near end stored window false h s none =
     omega (arith, gone, before, starts, bound, over)
 
 pub held_small : (f : ℕ → ℕ) (ring : List ℕ) (pages : Pages) (r : NumberSet) (from near end stored window : ℕ) (off : Bool) → IsRing f r window from stored off → IsSized ring pages r from near end window off → IsOrdered nat_cmp pages
-    → length ring + btree_map_len pages * 16384 ≤ 2 ^ 34
+    → length ring + btree_map_len pages * 2048 ≤ 2 ^ 34
 held_small f ring pages r from near end stored window true h s ordered =
     let zero = s.none refl in
     let a = zero.0 in
@@ -224,7 +224,7 @@ held_small f ring pages r from near end stored window false h s ordered =
     ]
 
 pub room_held : (f : ℕ → ℕ) (ring : List ℕ) (pages : Pages) (r : NumberSet) (from near end window : ℕ) (off : Bool) → IsSized ring pages r from near end window off
-    → map.len (stored_in_ring r f window from off) ≤ length ring + btree_map_len pages * 16384
+    → map.len (stored_in_ring r f window from off) ≤ length ring + btree_map_len pages * 2048
 room_held f ring pages r from near end window true s = let none = map.len-empty nat_cmp ℕ in omega (arith, none)
 room_held f ring pages r from near end window false s = room_fits r f ring pages window from near end (s.apart refl) s.within
 
@@ -238,11 +238,11 @@ unused [] n is = refl
 unused (e ∷ es) n is = absurd (omega (arith, is))
 
 pub none_apart : (ring : List ℕ) (pages : Pages) (r : NumberSet) (from near end last : ℕ) → IsApart ring pages r from near end → btree_map_len pages ≡ 0 → (q : ℕ) → near ≤ q → set.contains r q ≡ true → last ≤ near
-none_apart ring pages r from near end last a none q past came = absurd (both_ways _ (unused pages.entries (q / 16384) none) (a.had q past came))
+none_apart ring pages r from near end last a none q past came = absurd (both_ways _ (unused pages.entries (q / 2048) none) (a.had q past came))
 
 -- what lies between what was read and the end of what came has room, up to a page
 pub least_held : (f : ℕ → ℕ) (ring : List ℕ) (pages : Pages) (r : NumberSet) (from near end window : ℕ) (off : Bool) → IsSized ring pages r from near end window off → 0 < map.len (stored_in_ring r f window from off)
-    → min 16384 (end_of r - from) ≤ length ring + btree_map_len pages * 16384
+    → min 2048 (end_of r - from) ≤ length ring + btree_map_len pages * 2048
 least_held f ring pages r from near end window true s some = let none = map.len-empty nat_cmp ℕ in absurd (omega (arith, none, some))
 least_held f ring pages r from near end window false s some =
     let a = s.apart refl in

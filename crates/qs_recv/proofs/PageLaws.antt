@@ -68,47 +68,47 @@ piece_stays init m n k q page after is updates stay =
       | inr apart ↦ ap is_some (key_other m n k q (Some after) apart updates) ∙ stay
     ]
 
-pub piece_put : (init m n : Pages) (at done count q : ℕ) (bytes : List ℕ) (page after : Vec ℕ) → done < length bytes → count ≡ min (length bytes - done) (16384 - (at + done) % 16384)
-    → Some page ≡ tree.get nat_cmp m ((at + done) / 16384)
-    → tree.get nat_cmp n (q / 16384) ≡ cond (is_at (nat_cmp ((at + done) / 16384)) (q / 16384)) (Some after) (tree.get nat_cmp m (q / 16384))
-    → ((k : ℕ) → slice_index after.items k ≡ (if is_within ((at + done) % 16384) ((at + done) % 16384 + length (take (done + count - done) (drop done bytes))) k then slice_index (take (done + count - done) (drop done bytes)) (k - (at + done) % 16384) else slice_index page.items k))
+pub piece_put : (init m n : Pages) (at done count q : ℕ) (bytes : List ℕ) (page after : Vec ℕ) → done < length bytes → count ≡ min (length bytes - done) (2048 - (at + done) % 2048)
+    → Some page ≡ tree.get nat_cmp m ((at + done) / 2048)
+    → tree.get nat_cmp n (q / 2048) ≡ cond (is_at (nat_cmp ((at + done) / 2048)) (q / 2048)) (Some after) (tree.get nat_cmp m (q / 2048))
+    → ((k : ℕ) → slice_index after.items k ≡ (if is_within ((at + done) % 2048) ((at + done) % 2048 + length (take (done + count - done) (drop done bytes))) k then slice_index (take (done + count - done) (drop done bytes)) (k - (at + done) % 2048) else slice_index page.items k))
     → page_byte m q ≡ (if is_within at (at + done) q then slice_index bytes (q - at) else page_byte init q)
     → page_byte n q ≡ (if is_within at (at + (done + count)) q then slice_index bytes (q - at) else page_byte init q)
 piece_put init m n at done count q bytes page after some count_is is updates wrote before =
     let len = part_len done count bytes (omega (arith, count_is)) in
-    elim (cases_order (q / 16384) ((at + done) / 16384)) [
+    elim (cases_order (q / 2048) ((at + done) / 2048)) [
       | inl same ↦
-          let there : page_byte n q ≡ slice_index after.items (q % 16384) = ap (λ o. in_page o (q % 16384)) (key_same m n ((at + done) / 16384) (q / 16384) (Some after) (sym same) updates) in
-          let old : page_byte m q ≡ slice_index page.items (q % 16384) = ap (λ i. in_page (tree.get nat_cmp m i) (q % 16384)) same ∙ ap (λ o. in_page o (q % 16384)) (sym is) in
-          let new = wrote (q % 16384) in
+          let there : page_byte n q ≡ slice_index after.items (q % 2048) = ap (λ o. in_page o (q % 2048)) (key_same m n ((at + done) / 2048) (q / 2048) (Some after) (sym same) updates) in
+          let old : page_byte m q ≡ slice_index page.items (q % 2048) = ap (λ i. in_page (tree.get nat_cmp m i) (q % 2048)) same ∙ ap (λ o. in_page o (q % 2048)) (sym is) in
+          let new = wrote (q % 2048) in
           elim (cases_lt q (at + done)) [
             | inl below ↦
-                let a : is_within ((at + done) % 16384) ((at + done) % 16384 + count) (q % 16384) ≡ false = grind (arith, nat_tests) in
+                let a : is_within ((at + done) % 2048) ((at + done) % 2048 + count) (q % 2048) ≡ false = grind (arith, nat_tests) in
                 let b : is_within at (at + done) q ≡ is_within at (at + (done + count)) q = grind (arith, nat_tests) in
                 there ∙ rw (len, a) at new ∙ sym old ∙ rw b at before
             | inr from ↦ elim (cases_lt q (at + (done + count))) [
               | inl within ↦
-                  let a : is_within ((at + done) % 16384) ((at + done) % 16384 + count) (q % 16384) ≡ true = grind (arith, nat_tests) in
+                  let a : is_within ((at + done) % 2048) ((at + done) % 2048 + count) (q % 2048) ≡ true = grind (arith, nat_tests) in
                   let b : is_within at (at + (done + count)) q ≡ true = grind (arith, nat_tests) in
-                  let k : q % 16384 - (at + done) % 16384 ≡ q - (at + done) = omega (arith, same, from) in
+                  let k : q % 2048 - (at + done) % 2048 ≡ q - (at + done) = omega (arith, same, from) in
                   let e : done + (q - (at + done)) ≡ q - at = omega (arith, from) in
                   there ∙ rw (len, a, k) at new ∙ part_at done count (q - (at + done)) bytes (omega (arith, within, from)) ∙ ap (slice_index bytes) e ∙ rw b refl
               | inr past ↦
-                  let a : is_within ((at + done) % 16384) ((at + done) % 16384 + count) (q % 16384) ≡ false = grind (arith, nat_tests) in
+                  let a : is_within ((at + done) % 2048) ((at + done) % 2048 + count) (q % 2048) ≡ false = grind (arith, nat_tests) in
                   let b : is_within at (at + done) q ≡ is_within at (at + (done + count)) q = grind (arith, nat_tests) in
                   there ∙ rw (len, a) at new ∙ sym old ∙ rw b at before
             ]
           ]
       | inr apart ↦
-          let other : nat_eq ((at + done) / 16384) (q / 16384) ≡ false = elim apart [ inl less ↦ grind (arith, nat_tests) | inr more ↦ grind (arith, nat_tests) ] in
-          let there : page_byte n q ≡ page_byte m q = ap (λ o. in_page o (q % 16384)) (key_other m n ((at + done) / 16384) (q / 16384) (Some after) other updates) in
+          let other : nat_eq ((at + done) / 2048) (q / 2048) ≡ false = elim apart [ inl less ↦ grind (arith, nat_tests) | inr more ↦ grind (arith, nat_tests) ] in
+          let there : page_byte n q ≡ page_byte m q = ap (λ o. in_page o (q % 2048)) (key_other m n ((at + done) / 2048) (q / 2048) (Some after) other updates) in
           let b : is_within at (at + done) q ≡ is_within at (at + (done + count)) q = elim apart [ inl less ↦ grind (arith, nat_tests, less, count_is) | inr more ↦ grind (arith, nat_tests, more, count_is) ] in
           there ∙ rw b at before
     ]
 
 -- a piece that stands in one page
-pub piece_there : (m : Pages) (at done count k : ℕ) (bytes : List ℕ) (page : Vec ℕ) → count ≡ min (length bytes - done) (16384 - (at + done) % 16384) → Some page ≡ tree.get nat_cmp m ((at + done) / 16384)
-    → ((i : ℕ) → i < length (take (done + count - done) (drop done bytes)) → slice_index (take (done + count - done) (drop done bytes)) i ≡ slice_index page.items ((at + done) % 16384 + i))
+pub piece_there : (m : Pages) (at done count k : ℕ) (bytes : List ℕ) (page : Vec ℕ) → count ≡ min (length bytes - done) (2048 - (at + done) % 2048) → Some page ≡ tree.get nat_cmp m ((at + done) / 2048)
+    → ((i : ℕ) → i < length (take (done + count - done) (drop done bytes)) → slice_index (take (done + count - done) (drop done bytes)) i ≡ slice_index page.items ((at + done) % 2048 + i))
     → (k < done → slice_index bytes k ≡ page_byte m (at + k)) → k < done + count → slice_index bytes k ≡ page_byte m (at + k)
 piece_there m at done count k bytes page count_is is there before below =
     elim (cases_lt k done) [
@@ -117,74 +117,74 @@ piece_there m at done count k bytes page count_is is there before below =
           let len = part_len done count bytes (omega (arith, count_is)) in
           let i : k - done < count = omega (arith, later, below) in
           let e : done + (k - done) ≡ k = omega (arith, later) in
-          let number : (at + done) / 16384 ≡ (at + k) / 16384 = omega (arith, later, below, count_is) in
-          let place : (at + done) % 16384 + (k - done) ≡ (at + k) % 16384 = omega (arith, later, below, count_is) in
+          let number : (at + done) / 2048 ≡ (at + k) / 2048 = omega (arith, later, below, count_is) in
+          let place : (at + done) % 2048 + (k - done) ≡ (at + k) % 2048 = omega (arith, later, below, count_is) in
           sym (ap (slice_index bytes) e) ∙ sym (part_at done count (k - done) bytes i) ∙ there (k - done) (omega (arith, len, i)) ∙ ap (slice_index page.items) place
-          ∙ ap (λ o. in_page o ((at + k) % 16384)) is ∙ ap (λ n. in_page (tree.get nat_cmp m n) ((at + k) % 16384)) number
+          ∙ ap (λ o. in_page o ((at + k) % 2048)) is ∙ ap (λ n. in_page (tree.get nat_cmp m n) ((at + k) % 2048)) number
     ]
 
 -- Pages that are moved into a ring, one after the other
 
 -- one page more is gone
-pub left_next : (init m n : Pages) (from to number k : ℕ) → number * 16384 < to → from < number * 16384
-    → tree.get nat_cmp m k ≡ cond (nat_lt (from / 16384) k && (nat_lt k number && nat_lt (k * 16384) to)) None (tree.get nat_cmp init k)
+pub left_next : (init m n : Pages) (from to number k : ℕ) → number * 2048 < to → from < number * 2048
+    → tree.get nat_cmp m k ≡ cond (nat_lt (from / 2048) k && (nat_lt k number && nat_lt (k * 2048) to)) None (tree.get nat_cmp init k)
     → tree.get nat_cmp n k ≡ cond (is_at (nat_cmp number) k) None (tree.get nat_cmp m k)
-    → tree.get nat_cmp n k ≡ cond (nat_lt (from / 16384) k && (nat_lt k (number + 1) && nat_lt (k * 16384) to)) None (tree.get nat_cmp init k)
+    → tree.get nat_cmp n k ≡ cond (nat_lt (from / 2048) k && (nat_lt k (number + 1) && nat_lt (k * 2048) to)) None (tree.get nat_cmp init k)
 left_next init m n from to number k below past left updates =
     elim (cases_Bool (nat_eq number k)) [
       | inl same ↦
           let e : number ≡ k = grind (arith, nat_tests) in
-          let t : (nat_lt (from / 16384) k && (nat_lt k (number + 1) && nat_lt (k * 16384) to)) ≡ true = grind (arith, nat_tests) in
+          let t : (nat_lt (from / 2048) k && (nat_lt k (number + 1) && nat_lt (k * 2048) to)) ≡ true = grind (arith, nat_tests) in
           key_same m n number k None e updates ∙ sym (ap (λ b. cond b None (tree.get nat_cmp init k)) t)
       | inr apart ↦
-          let t : (nat_lt (from / 16384) k && (nat_lt k number && nat_lt (k * 16384) to)) ≡ (nat_lt (from / 16384) k && (nat_lt k (number + 1) && nat_lt (k * 16384) to)) = grind (arith, nat_tests) in
+          let t : (nat_lt (from / 2048) k && (nat_lt k number && nat_lt (k * 2048) to)) ≡ (nat_lt (from / 2048) k && (nat_lt k (number + 1) && nat_lt (k * 2048) to)) = grind (arith, nat_tests) in
           key_other m n number k None apart updates ∙ left ∙ ap (λ b. cond b None (tree.get nat_cmp init k)) t
     ]
 
 -- what is still to be moved is as it was
-pub left_there : (init m : Pages) (from to number : ℕ) → tree.get nat_cmp m number ≡ cond (nat_lt (from / 16384) number && (nat_lt number number && nat_lt (number * 16384) to)) None (tree.get nat_cmp init number)
+pub left_there : (init m : Pages) (from to number : ℕ) → tree.get nat_cmp m number ≡ cond (nat_lt (from / 2048) number && (nat_lt number number && nat_lt (number * 2048) to)) None (tree.get nat_cmp init number)
     → tree.get nat_cmp m number ≡ tree.get nat_cmp init number
 left_there init m from to number left =
-    let t : (nat_lt (from / 16384) number && (nat_lt number number && nat_lt (number * 16384) to)) ≡ false = grind (arith, nat_tests) in
+    let t : (nat_lt (from / 2048) number && (nat_lt number number && nat_lt (number * 2048) to)) ≡ false = grind (arith, nat_tests) in
     left ∙ ap (λ b. cond b None (tree.get nat_cmp init number)) t
 
 -- a page more was moved
-pub piece_moved : (init : Pages) (from to number base q count : ℕ) (page : Vec ℕ) (old mid new : List ℕ) → number * 16384 < to → from < number * 16384 → count ≡ min (to - number * 16384) 16384
-    → Some page ≡ tree.get nat_cmp init number → length page.items ≡ 16384 → length mid ≡ length old → IsWritten (number * 16384) (take count page.items) mid new
+pub piece_moved : (init : Pages) (from to number base q count : ℕ) (page : Vec ℕ) (old mid new : List ℕ) → number * 2048 < to → from < number * 2048 → count ≡ min (to - number * 2048) 2048
+    → Some page ≡ tree.get nat_cmp init number → length page.items ≡ 2048 → length mid ≡ length old → IsWritten (number * 2048) (take count page.items) mid new
     → base ≤ from → to ≤ base + length old → base ≤ q → q < to
-    → slice_index mid (q % length old) ≡ (if nat_lt (q / 16384) number then moved_byte init from q (slice_index old (q % length old)) else slice_index old (q % length old))
-    → slice_index new (q % length old) ≡ (if nat_lt (q / 16384) (number + 1) then moved_byte init from q (slice_index old (q % length old)) else slice_index old (q % length old))
+    → slice_index mid (q % length old) ≡ (if nat_lt (q / 2048) number then moved_byte init from q (slice_index old (q % length old)) else slice_index old (q % length old))
+    → slice_index new (q % length old) ≡ (if nat_lt (q / 2048) (number + 1) then moved_byte init from q (slice_index old (q % length old)) else slice_index old (q % length old))
 piece_moved init from to number base q count page old mid new below past count_is is whole same_len wrote base_low fits low high before =
     let len : length (take count page.items) ≡ count = simp length-take (omega (arith, count_is, whole)) in
-    let now : slice_index new (q % length old) ≡ (if is_within (number * 16384) (number * 16384 + count) q then slice_index (take count page.items) (q - number * 16384) else slice_index mid (q % length old)) =
+    let now : slice_index new (q % length old) ≡ (if is_within (number * 2048) (number * 2048 + count) q then slice_index (take count page.items) (q - number * 2048) else slice_index mid (q % length old)) =
     rw (len, same_len) at (wrote q (rw (len, same_len) (omega (arith, count_is, fits, low, base_low, past, below))) (rw same_len (omega (arith, fits, base_low, past, high)))) in
-    elim (cases_order (q / 16384) number) [
+    elim (cases_order (q / 2048) number) [
       | inl same ↦
-          let a : is_within (number * 16384) (number * 16384 + count) q ≡ true = grind (arith, nat_tests) in
-          let b : nat_lt (q / 16384) (number + 1) ≡ true = grind (arith, nat_tests) in
-          let d : nat_lt (from / 16384) (q / 16384) ≡ true = grind (arith, nat_tests) in
+          let a : is_within (number * 2048) (number * 2048 + count) q ≡ true = grind (arith, nat_tests) in
+          let b : nat_lt (q / 2048) (number + 1) ≡ true = grind (arith, nat_tests) in
+          let d : nat_lt (from / 2048) (q / 2048) ≡ true = grind (arith, nat_tests) in
           let used : has_page init q ≡ true = ap (is_used init) same ∙ ap is_some (sym is) in
-          let place : q - number * 16384 ≡ q % 16384 = omega (arith, same) in
-          let there : page_byte init q ≡ slice_index page.items (q % 16384) = ap (λ i. in_page (tree.get nat_cmp init i) (q % 16384)) same ∙ ap (λ o. in_page o (q % 16384)) (sym is) in
-          now ∙ rw (a, b, d, used) (get_or-take count page.items (q - number * 16384) 0 (omega (arith, count_is, high, same)) ∙ ap (slice_index page.items) place ∙ sym there)
+          let place : q - number * 2048 ≡ q % 2048 = omega (arith, same) in
+          let there : page_byte init q ≡ slice_index page.items (q % 2048) = ap (λ i. in_page (tree.get nat_cmp init i) (q % 2048)) same ∙ ap (λ o. in_page o (q % 2048)) (sym is) in
+          now ∙ rw (a, b, d, used) (get_or-take count page.items (q - number * 2048) 0 (omega (arith, count_is, high, same)) ∙ ap (slice_index page.items) place ∙ sym there)
       | inr apart ↦
-          let a : is_within (number * 16384) (number * 16384 + count) q ≡ false = elim apart [ inl less ↦ grind (arith, nat_tests, less) | inr more ↦ grind (arith, nat_tests, more, count_is) ] in
-          let b : nat_lt (q / 16384) number ≡ nat_lt (q / 16384) (number + 1) = elim apart [ inl less ↦ grind (arith, nat_tests, less) | inr more ↦ grind (arith, nat_tests, more) ] in
+          let a : is_within (number * 2048) (number * 2048 + count) q ≡ false = elim apart [ inl less ↦ grind (arith, nat_tests, less) | inr more ↦ grind (arith, nat_tests, more, count_is) ] in
+          let b : nat_lt (q / 2048) number ≡ nat_lt (q / 2048) (number + 1) = elim apart [ inl less ↦ grind (arith, nat_tests, less) | inr more ↦ grind (arith, nat_tests, more) ] in
           now ∙ rw a (rw b at before)
     ]
 
 -- a page that isn't in use is passed over
 pub piece_passed : (init : Pages) (from number q mid old : ℕ) → None ≡ tree.get nat_cmp init number
-    → mid ≡ (if nat_lt (q / 16384) number then moved_byte init from q old else old) → mid ≡ (if nat_lt (q / 16384) (number + 1) then moved_byte init from q old else old)
+    → mid ≡ (if nat_lt (q / 2048) number then moved_byte init from q old else old) → mid ≡ (if nat_lt (q / 2048) (number + 1) then moved_byte init from q old else old)
 piece_passed init from number q mid old none before =
-    elim (cases_order (q / 16384) number) [
+    elim (cases_order (q / 2048) number) [
       | inl same ↦
-          let a : nat_lt (q / 16384) number ≡ false = grind (arith, nat_tests) in
-          let b : nat_lt (q / 16384) (number + 1) ≡ true = grind (arith, nat_tests) in
+          let a : nat_lt (q / 2048) number ≡ false = grind (arith, nat_tests) in
+          let b : nat_lt (q / 2048) (number + 1) ≡ true = grind (arith, nat_tests) in
           let used : has_page init q ≡ false = ap (is_used init) same ∙ ap is_some (sym none) in
-          rw a at before ∙ rw (b, used) (not_moved (nat_lt (from / 16384) (q / 16384)) (page_byte init q))
+          rw a at before ∙ rw (b, used) (not_moved (nat_lt (from / 2048) (q / 2048)) (page_byte init q))
       | inr apart ↦
-          let b : nat_lt (q / 16384) number ≡ nat_lt (q / 16384) (number + 1) = elim apart [ inl less ↦ grind (arith, nat_tests, less) | inr more ↦ grind (arith, nat_tests, more) ] in
+          let b : nat_lt (q / 2048) number ≡ nat_lt (q / 2048) (number + 1) = elim apart [ inl less ↦ grind (arith, nat_tests, less) | inr more ↦ grind (arith, nat_tests, more) ] in
           rw b at before
     ]
   where
@@ -193,9 +193,9 @@ piece_passed init from number q mid old none before =
     not_moved false x = refl
 
 -- all pages past the first and below the end
-pub all_moved : (init : Pages) (from to number q now old : ℕ) → to ≤ number * 16384 → q < to → now ≡ (if nat_lt (q / 16384) number then moved_byte init from q old else old) → now ≡ moved_byte init from q old
+pub all_moved : (init : Pages) (from to number q now old : ℕ) → to ≤ number * 2048 → q < to → now ≡ (if nat_lt (q / 2048) number then moved_byte init from q old else old) → now ≡ moved_byte init from q old
 all_moved init from to number q now old over high is =
-    let b : nat_lt (q / 16384) number ≡ true = grind (arith, nat_tests) in
+    let b : nat_lt (q / 2048) number ≡ true = grind (arith, nat_tests) in
     rw b at is
 
 -- Gap after gap

@@ -226,9 +226,9 @@ pub record IsPutFar (r : NumberSet) (from near end stored offset first window : 
   pub some : first < offset + length bytes
   pub within : offset + length bytes ≤ from + window
   pub range : offset + length bytes ≤ MAX_VARINT
-  pub far : near + 65536 ≤ first
+  pub far : near + 2048 ≤ first
   pub stay : (n : ℕ) → is_used old n ≡ true → is_used new n ≡ true
-  pub only : (n : ℕ) → is_used new n ≡ true → (is_used old n ≡ true) ⊎ ((first < n * 16384 + 16384) × (n * 16384 < offset + length bytes))
+  pub only : (n : ℕ) → is_used new n ≡ true → (is_used old n ≡ true) ⊎ ((first < n * 2048 + 2048) × (n * 2048 < offset + length bytes))
 
 pub put_far : (r : NumberSet) (from near end stored offset first window : ℕ) (bytes ring : List ℕ) (old new : Pages) → IsPutFar r from near end stored offset first window bytes ring old new
     → IsFilledApart r first (offset + length bytes) offset bytes old new → IsPut r window from stored offset first bytes (byte_of ring near old) (byte_of ring near new)
@@ -279,7 +279,7 @@ apart_far r from near end stored offset first window last bytes ring old new p m
         | inr one ↦ (let low = one.0 in omega (arith, low, far))
       ];
       had = λ q past came. elim (either q came) [
-        | inl old_one ↦ p.stay (q / 16384) (a.had q past old_one)
+        | inl old_one ↦ p.stay (q / 2048) (a.had q past old_one)
         | inr one ↦ made q one.0 one.1
       ];
       used = λ n is. elim (p.only n is) [
@@ -311,17 +311,17 @@ apart_far r from near end stored offset first window last bytes ring old new p m
 
 -- where the offsets weren't noted, pages past the end are given back
 pub refused_far : (r : NumberSet) (ring : List ℕ) (old new less : Pages) (from near end last q : ℕ) → IsApart ring old r from near end
-    → ((n : ℕ) → tree.get nat_cmp less n ≡ (if nat_le end (n * 16384) && nat_lt (n * 16384) last then None else tree.get nat_cmp new n))
+    → ((n : ℕ) → tree.get nat_cmp less n ≡ (if nat_le end (n * 2048) && nat_lt (n * 2048) last then None else tree.get nat_cmp new n))
     → ((k : ℕ) → set.contains r k ≡ true → page_byte new k ≡ page_byte old k) → set.contains r q ≡ true → byte_of ring near less q ≡ byte_of ring near old q
 refused_far r ring old new less from near end last q a gone seen came =
     let below = below-end_of r q came in
     let ends = a.ends in
-    let t : (nat_le end (q / 16384 * 16384) && nat_lt (q / 16384 * 16384) last) ≡ false = grind (arith, nat_tests, below, ends) in
-    let same : page_byte less q ≡ page_byte old q = ap (λ o. in_page o (q % 16384)) (gone (q / 16384) ∙ ap (λ b. if b then None else tree.get nat_cmp new (q / 16384)) t) ∙ seen q came in
+    let t : (nat_le end (q / 2048 * 2048) && nat_lt (q / 2048 * 2048) last) ≡ false = grind (arith, nat_tests, below, ends) in
+    let same : page_byte less q ≡ page_byte old q = ap (λ o. in_page o (q % 2048)) (gone (q / 2048) ∙ ap (λ b. if b then None else tree.get nat_cmp new (q / 2048)) t) ∙ seen q came in
     ap (λ v. if nat_lt q near then slice_index ring (q % length ring) else v) same
 
 pub apart_refused : (r : NumberSet) (from near end stored offset first window : ℕ) (bytes ring : List ℕ) (old new less : Pages) → IsPutFar r from near end stored offset first window bytes ring old new
-    → ((n : ℕ) → tree.get nat_cmp less n ≡ (if nat_le end (n * 16384) && nat_lt (n * 16384) (offset + length bytes) then None else tree.get nat_cmp new n)) → IsApart ring less r from near end
+    → ((n : ℕ) → tree.get nat_cmp less n ≡ (if nat_le end (n * 2048) && nat_lt (n * 2048) (offset + length bytes) then None else tree.get nat_cmp new n)) → IsApart ring less r from near end
 apart_refused r from near end stored offset first window bytes ring old new less p gone =
     let a = p.apart in
     let ends = a.ends in
@@ -335,12 +335,12 @@ apart_refused r from near end stored offset first window bytes ring old new less
       gap = a.gap;
       had = λ q past came.
           let below = below-end_of r q came in
-          let t : (nat_le end (q / 16384 * 16384) && nat_lt (q / 16384 * 16384) (offset + length bytes)) ≡ false = grind (arith, nat_tests, below, ends) in
-          ap is_some (gone (q / 16384) ∙ ap (λ b. if b then None else tree.get nat_cmp new (q / 16384)) t) ∙ p.stay (q / 16384) (a.had q past came);
-      used = λ n is. left n (nat_le end (n * 16384) && nat_lt (n * 16384) (offset + length bytes)) refl (sym (ap is_some (gone n)) ∙ is);
+          let t : (nat_le end (q / 2048 * 2048) && nat_lt (q / 2048 * 2048) (offset + length bytes)) ≡ false = grind (arith, nat_tests, below, ends) in
+          ap is_some (gone (q / 2048) ∙ ap (λ b. if b then None else tree.get nat_cmp new (q / 2048)) t) ∙ p.stay (q / 2048) (a.had q past came);
+      used = λ n is. left n (nat_le end (n * 2048) && nat_lt (n * 2048) (offset + length bytes)) refl (sym (ap is_some (gone n)) ∙ is);
     }
   where
-    left : (n : ℕ) (b : Bool) → (nat_le end (n * 16384) && nat_lt (n * 16384) (offset + length bytes)) ≡ b → is_some (if b then None else tree.get nat_cmp new n) ≡ true → (near < n * 16384) × (n * 16384 < end)
+    left : (n : ℕ) (b : Bool) → (nat_le end (n * 2048) && nat_lt (n * 2048) (offset + length bytes)) ≡ b → is_some (if b then None else tree.get nat_cmp new n) ≡ true → (near < n * 2048) × (n * 2048 < end)
     left n true t is = absurd (both_ways false refl is)
     left n false t is =
         let far = p.far in
@@ -352,7 +352,7 @@ apart_refused r from near end stored offset first window bytes ring old new less
 pub whole_less : (new less : Pages) (b : ℕ → Bool) → AreWhole new → ((n : ℕ) → tree.get nat_cmp less n ≡ (if b n then None else tree.get nat_cmp new n)) → AreWhole less
 whole_less new less b whole gone n page is = by_test (b n) (sym (gone n) ∙ is)
   where
-    by_test : (t : Bool) → (if t then None else tree.get nat_cmp new n) ≡ Some page → length page.items ≡ 16384
+    by_test : (t : Bool) → (if t then None else tree.get nat_cmp new n) ≡ Some page → length page.items ≡ 2048
     by_test true e = absurd (both_ways false refl (ap is_some e))
     by_test false e = whole n page e
 
@@ -362,13 +362,13 @@ pub record IsDrawn (r : NumberSet) (from near end next upto : ℕ) (ring wide ne
   pub apart : IsApart ring old r from near end
   pub within : next ≤ end
   pub past : next < end → max near upto < next
-  pub whole : next < end → next % 16384 ≡ 0
+  pub whole : next < end → next % 2048 ≡ 0
   pub none : next < end → has_page old next ≡ false
   pub room : next - from ≤ length wide
   pub more : length ring ≤ length wide
   pub kept : IsMoved from (near - from) ring wide
   pub same_len : length new ≡ length wide
-  pub left : (n : ℕ) → tree.get nat_cmp less n ≡ (if nat_lt (near / 16384) n && nat_lt (n * 16384) next then None else tree.get nat_cmp old n)
+  pub left : (n : ℕ) → tree.get nat_cmp less n ≡ (if nat_lt (near / 2048) n && nat_lt (n * 2048) next then None else tree.get nat_cmp old n)
   pub moved : (base q : ℕ) → base ≤ near → next ≤ base + length wide → base ≤ q → q < next → slice_index new (q % length wide) ≡ moved_byte old near q (slice_index wide (q % length wide))
 
 pub drawn_low : (r : NumberSet) (from near end next upto : ℕ) (ring wide new : List ℕ) (old less : Pages) → IsDrawn r from near end next upto ring wide new old less → near ≤ next
@@ -382,14 +382,14 @@ drawn_low r from near end next upto ring wide new old less d =
 
 -- the page of what lies behind stays
 stays_behind : (r : NumberSet) (from near end next upto q : ℕ) (ring wide new : List ℕ) (old less : Pages) → IsDrawn r from near end next upto ring wide new old less → next ≤ q → set.contains r q ≡ true
-    → (next < end) × (tree.get nat_cmp less (q / 16384) ≡ tree.get nat_cmp old (q / 16384))
+    → (next < end) × (tree.get nat_cmp less (q / 2048) ≡ tree.get nat_cmp old (q / 2048))
 stays_behind r from near end next upto q ring wide new old less d past came =
     let below = below-end_of r q came in
     let ends = d.apart.ends in
     let short : next < end = omega (arith, below, ends, past) in
     let whole = d.whole short in
-    let t : (nat_lt (near / 16384) (q / 16384) && nat_lt (q / 16384 * 16384) next) ≡ false = and_right (nat_lt (near / 16384) (q / 16384)) (nat_lt (q / 16384 * 16384) next) (grind (arith, nat_tests, whole, past)) in
-    (short, d.left (q / 16384) ∙ ap (λ b. if b then None else tree.get nat_cmp old (q / 16384)) t)
+    let t : (nat_lt (near / 2048) (q / 2048) && nat_lt (q / 2048 * 2048) next) ≡ false = and_right (nat_lt (near / 2048) (q / 2048)) (nat_lt (q / 2048 * 2048) next) (grind (arith, nat_tests, whole, past)) in
+    (short, d.left (q / 2048) ∙ ap (λ b. if b then None else tree.get nat_cmp old (q / 2048)) t)
 
 pub drawn_same : (r : NumberSet) (from near end next upto q : ℕ) (ring wide new : List ℕ) (old less : Pages) → IsDrawn r from near end next upto ring wide new old less → from ≤ q → set.contains r q ≡ true
     → byte_of new next less q ≡ byte_of ring near old q
@@ -403,16 +403,16 @@ drawn_same r from near end next upto q ring wide new old less d low came =
           byte_near new next less q below ∙ ap (λ n. slice_index new (q % n)) d.same_len ∙ at
           ∙ elim (cases_lt q near) [
             | inl old_one ↦
-                let t : nat_lt (near / 16384) (q / 16384) ≡ false = grind (arith, nat_tests, old_one) in
+                let t : nat_lt (near / 2048) (q / 2048) ≡ false = grind (arith, nat_tests, old_one) in
                 rw t (d.kept q low (omega (arith, old_one, low)) ∙ sym (byte_near ring near old q old_one))
             | inr past ↦
                 let gap = d.apart.gap q past came in
-                let t : nat_lt (near / 16384) (q / 16384) ≡ true = grind (arith, nat_tests, gap) in
+                let t : nat_lt (near / 2048) (q / 2048) ≡ true = grind (arith, nat_tests, gap) in
                 let u = d.apart.had q past came in
                 rw (t, u) (sym (byte_far ring near old q past))
           ]
       | inr past ↦
-          byte_far new next less q past ∙ ap (λ o. in_page o (q % 16384)) (stays_behind r from near end next upto q ring wide new old less d past came).1
+          byte_far new next less q past ∙ ap (λ o. in_page o (q % 2048)) (stays_behind r from near end next upto q ring wide new old less d past came).1
           ∙ sym (byte_far ring near old q (omega (arith, past, later)))
     ]
 
@@ -436,26 +436,26 @@ apart_drawn r from near end next upto ring wide new old less d =
           let whole = d.whole behind.0 in
           let other = d.none behind.0 in
           let had = a.had q (omega (arith, past, later)) came in
-          elim (cases_lt (next / 16384) (q / 16384)) [
+          elim (cases_lt (next / 2048) (q / 2048)) [
             | inl more ↦ omega (arith, more, whole)
-            | inr same_page ↦ (let e : next / 16384 ≡ q / 16384 = omega (arith, same_page, past) in absurd (both_ways _ other (ap (is_used old) e ∙ had)))
+            | inr same_page ↦ (let e : next / 2048 ≡ q / 2048 = omega (arith, same_page, past) in absurd (both_ways _ other (ap (is_used old) e ∙ had)))
           ];
       had = λ q past came. ap is_some (stays_behind r from near end next upto q ring wide new old less d past came).1 ∙ a.had q (omega (arith, past, later)) came;
-      used = λ n is. by_test n (nat_lt (near / 16384) n && nat_lt (n * 16384) next) refl (sym (ap is_some (d.left n)) ∙ is);
+      used = λ n is. by_test n (nat_lt (near / 2048) n && nat_lt (n * 2048) next) refl (sym (ap is_some (d.left n)) ∙ is);
     }
   where
-    by_test : (n : ℕ) (b : Bool) → (nat_lt (near / 16384) n && nat_lt (n * 16384) next) ≡ b → is_some (if b then None else tree.get nat_cmp old n) ≡ true → (next < n * 16384) × (n * 16384 < end)
+    by_test : (n : ℕ) (b : Bool) → (nat_lt (near / 2048) n && nat_lt (n * 2048) next) ≡ b → is_some (if b then None else tree.get nat_cmp old n) ≡ true → (next < n * 2048) × (n * 2048 < end)
     by_test n true t is = absurd (both_ways false refl is)
     by_test n false t is =
         let u = d.apart.used n is in
         let low = u.0 in
         let high = u.1 in
         let within = d.within in
-        let over : next ≤ n * 16384 = grind (arith, nat_tests, low, t) in
+        let over : next ≤ n * 2048 = grind (arith, nat_tests, low, t) in
         let short : next < end = omega (arith, over, high) in
-        elim (cases_lt next (n * 16384)) [
+        elim (cases_lt next (n * 2048)) [
           | inl more ↦ (more, high)
-          | inr same ↦ (let e : next / 16384 ≡ n = omega (arith, same, over) in absurd (both_ways _ (d.none short) (ap (is_used old) e ∙ is)))
+          | inr same ↦ (let e : next / 2048 ≡ n = omega (arith, same, over) in absurd (both_ways _ (d.none short) (ap (is_used old) e ∙ is)))
         ]
 
 -- and none is left past bytes that end there

@@ -104,10 +104,10 @@ filled_more r first at stop next offset bytes mid new filled stay written begins
     ]
 
 -- a page was moved into the ring
-pub piece_there : (number to q count : ℕ) (page : List ℕ) (mid new : RingBytes) → number * 16384 < to → count ≡ min (to - number * 16384) 16384 → length page ≡ 16384 → StayWritten mid new
-    → AreWritten new (number * 16384) (number * 16384 + length (take count page)) → q / 16384 < number + 1 → q < to → (q / 16384 < number → IsThere mid q) → IsThere new q
+pub piece_there : (number to q count : ℕ) (page : List ℕ) (mid new : RingBytes) → number * 2048 < to → count ≡ min (to - number * 2048) 2048 → length page ≡ 2048 → StayWritten mid new
+    → AreWritten new (number * 2048) (number * 2048 + length (take count page)) → q / 2048 < number + 1 → q < to → (q / 2048 < number → IsThere mid q) → IsThere new q
 piece_there number to q count page mid new some count_is whole stay written low below before =
-    elim (cases_lt (q / 16384) number) [
+    elim (cases_lt (q / 2048) number) [
       | inl passed ↦ stay q (before passed)
       | inr here ↦ (let len : length (take count page) ≡ count = simp length-take (omega (arith, count_is, whole)) in written q (omega (arith, here)) (omega (arith, len, count_is, low, here, below)))
     ]
@@ -159,7 +159,7 @@ came_moved r from after near to ring new was past ends stay on q low high came =
 
 -- pages were moved into it
 pub came_drawn : (r : NumberSet) (from near next end to : ℕ) (ring wide new : RingBytes) (pages : Pages) → CameWritten ring r from near false → IsApart ring.0 pages r from near end → near ≤ to → StayWrittenTo from to ring wide → StayWritten wide new
-    → ((q : ℕ) → near / 16384 < q / 16384 → q < next → has_page pages q ≡ true → IsThere new q) → CameWritten new r from next false
+    → ((q : ℕ) → near / 2048 < q / 2048 → q < next → has_page pages q ≡ true → IsThere new q) → CameWritten new r from next false
 came_drawn r from near next end to ring wide new pages was apart ends reached stay moved on q low high came =
     elim (cases_lt q near) [
       | inl here ↦ stay q (reached q low (omega (arith, here, ends)) (was refl q low here came))

@@ -16,7 +16,7 @@ use Rattle.qs_ranges.specs.Numbers.{NumberSet, is_within}
 
 -- a page has the bytes of so many offsets
 abbrev pub PAGE : ℕ
-PAGE = 16384
+PAGE = 2048
 
 -- the pages that are in use
 abbrev pub Pages : Type 0

@@ -13,7 +13,7 @@ use std::alloc::Global;
 use std::collections::BTreeMap;
 
 // A page has the bytes of so many offsets.
-pub(crate) const PAGE: u64 = 16384;
+pub(crate) const PAGE: u64 = 2048;
 
 /// The pages that are in use, each by its number: an offset's page has the offset divided by a page's bytes as its number.
 #[derive(Drop)]
@@ -55,7 +55,7 @@ impl Pages {
         ensures same { (q : ℕ) → page_byte self.new.pages q ≡ page_byte self.old.pages q }
         ensures stay { (n : ℕ) → is_used self.old.pages n ≡ true → is_used self.new.pages n ≡ true }
         ensures only { (n : ℕ) → is_used self.new.pages n ≡ true
-            → (is_used self.old.pages n ≡ true) ⊎ ((from < n * 16384 + 16384) × (n * 16384 < to)) }
+            → (is_used self.old.pages n ≡ true) ⊎ ((from < n * 2048 + 2048) × (n * 2048 < to)) }
     {
         let mut number = from / PAGE;
         while number * PAGE < to {
@@ -72,7 +72,7 @@ impl Pages {
     pub(crate) fn give_back(&mut self, from: u64, to: u64)
         requires small { to ≤ MAX_VARINT }
         ensures { (n : ℕ) → tree.get nat_cmp self.new.pages n
-            ≡ (if nat_le from (n * 16384) && nat_lt (n * 16384) to then None else tree.get nat_cmp self.old.pages n) }
+            ≡ (if nat_le from (n * 2048) && nat_lt (n * 2048) to then None else tree.get nat_cmp self.old.pages n) }
     {
         let mut number = from / PAGE;
         while number * PAGE < to {
@@ -137,7 +137,7 @@ impl Pages {
         requires at { at ≤ MAX_VARINT }
         ensures within { result ≤ end }
         ensures past { result < end → at < result }
-        ensures whole { result < end → result % 16384 ≡ 0 }
+        ensures whole { result < end → result % 2048 ≡ 0 }
         ensures none { result < end → has_page self.now.pages result ≡ false }
     {
         let mut number = at / PAGE + 1;
@@ -155,9 +155,9 @@ impl Pages {
         requires fits { to ≤ from + length ring.old.0 }
         ensures same_len { length ring.new.0 ≡ length ring.old.0 }
         ensures left { (n : ℕ) → tree.get nat_cmp self.new.pages n
-            ≡ (if nat_lt (from / 16384) n && nat_lt (n * 16384) to then None else tree.get nat_cmp self.old.pages n) }
+            ≡ (if nat_lt (from / 2048) n && nat_lt (n * 2048) to then None else tree.get nat_cmp self.old.pages n) }
         ensures kept { StayWritten ring.old ring.new }
-        ensures there { (q : ℕ) → from / 16384 < q / 16384 → q < to → has_page self.old.pages q ≡ true → IsThere ring.new q }
+        ensures there { (q : ℕ) → from / 2048 < q / 2048 → q < to → has_page self.old.pages q ≡ true → IsThere ring.new q }
         ensures moved { (base q : ℕ) → base ≤ from → to ≤ base + length ring.old.0 → base ≤ q → q < to
             → slice_index ring.new.0 (q % length ring.old.0) ≡ moved_byte self.old.pages from q (slice_index ring.old.0 (q % length ring.old.0)) }
     {
@@ -178,7 +178,7 @@ impl Pages {
 
 // A page of zeros.
 fn zeros(alloc: Global) -> Result<Vec<u8>, NoMemory>
-    ensures { IfOk result (λ page. (length page.items ≡ 16384) × ((k : ℕ) → slice_index page.items k ≡ 0)) }
+    ensures { IfOk result (λ page. (length page.items ≡ 2048) × ((k : ℕ) → slice_index page.items k ≡ 0)) }
 {
     let mut page = Vec::new(alloc);
     let size = reserve(&mut page, PAGE as usize)?;

@@ -23,8 +23,8 @@ const LEAST_SIZE: u64 = 64;
 // One of no more is kept where little or nothing is stored, so that a steady flow takes no memory anew.
 const IDLE_SIZE: u64 = 4096;
 
-// Bytes stand apart that begin so far past the ring's, or further.
-const APART: u64 = 65536;
+// A ring isn't let grow where no more than one of so many of its bytes would be one that came.
+const THIN: u64 = 64;
 
 /// A ring beside the set of every offset that came. As bytes are stored that lie past it, it grows to reach from what was
 /// read to the last of them: to a power of two, less than twice as far or 64 bytes, and never past the window. What is stored
@@ -33,9 +33,9 @@ const APART: u64 = 65536;
 /// at least. It is given back where bytes are thrown away, and where nothing is stored: at once if it is larger than 4,096
 /// bytes, else once that is asked for.
 ///
-/// Bytes that begin 64 KiB or more past the ring's, and past its end, stand apart in pages of 16 KiB. As others come before them
-/// the ring reaches over the pages that follow without a gap, and these move into it: so what is next to be read stands in the
-/// ring.
+/// Bytes that begin a page of 2 KiB or more past the ring's, and would leave most of it empty, stand apart in pages: where what is
+/// stored and what comes are each less than a 64th of how far the ring would reach. As others come before them the ring reaches
+/// over the pages that follow without a gap, and these move into it: so what is next to be read stands in the ring.
 ///
 /// A put searches the set once for each gap that it fills, and once behind the last if more came there, but not for bytes past
 /// all that came; it copies the bytes of each gap, and notes the offsets by one insert. A take is one search and one copy. A
@@ -70,7 +70,7 @@ impl Model for RingAssembly {
 
     ghost coded = { coded× assembled_code (coded× coded_ℕ coded_ℕ) };
 
-    ghost view = { λ a. (record { stored = stored_in_ring a.received (byte_of a.ring.0 a.near a.apart.pages) a.window a.read_count a.discarding; received = a.received; read_count = a.read_count; window = a.window; discarding = a.discarding }, (length a.ring.0 + btree_map_len a.apart.pages * 16384, a.near)) };
+    ghost view = { λ a. (record { stored = stored_in_ring a.received (byte_of a.ring.0 a.near a.apart.pages) a.window a.read_count a.discarding; received = a.received; read_count = a.read_count; window = a.window; discarding = a.discarding }, (length a.ring.0 + btree_map_len a.apart.pages * 2048, a.near)) };
 
     ghost invariant = { λ a. IsRing (byte_of a.ring.0 a.near a.apart.pages) a.received a.window a.read_count a.stored a.discarding × IsSized a.ring.0 a.apart.pages a.received a.read_count a.near a.end a.window a.discarding × CameWritten a.ring a.received a.read_count a.near a.discarding };
 }
@@ -236,10 +236,11 @@ impl RingAssembly {
         ensures ok { OnOk result (self.new.0 ≡ put self.old.0 offset bytes.now) }
         ensures err { OnErr result (self.new.0 ≡ self.old.0) }
     {
-        if self.near + APART <= first {
+        let end = offset + bytes.len() as u64;
+        let few = (end - self.read_count) / THIN;
+        if self.near + PAGE <= first && self.stored < few && end - first < few {
             return self.put_apart(first, stop, offset, bytes);
         }
-        let end = offset + bytes.len() as u64;
         self.draw(end)?;
         let from = self.read_count;
         let kept = self.near - from;
@@ -285,7 +286,7 @@ impl RingAssembly {
         requires on { self.old.0.discarding ≡ false }
         requires gap { IsNextGap self.old.0.received (max offset self.old.0.read_count) (offset + length bytes.now) first stop }
         requires some { first < offset + length bytes.now }
-        requires far { self.old.1.1 + 65536 ≤ first }
+        requires far { self.old.1.1 + 2048 ≤ first }
         ensures ok { OnOk result (self.new.0 ≡ put self.old.0 offset bytes.now) }
         ensures err { OnErr result (self.new.0 ≡ self.old.0) }
     {
@@ -550,7 +551,7 @@ fn store_apart(
     ensures whole { AreWhole apart.new.pages }
     ensures stay { (n : ℕ) → is_used apart.old.pages n ≡ true → is_used apart.new.pages n ≡ true }
     ensures only { (n : ℕ) → is_used apart.new.pages n ≡ true
-        → (is_used apart.old.pages n ≡ true) ⊎ ((first < n * 16384 + 16384) × (n * 16384 < offset + length bytes.now)) }
+        → (is_used apart.old.pages n ≡ true) ⊎ ((first < n * 2048 + 2048) × (n * 2048 < offset + length bytes.now)) }
     ensures made { OnOk result ((q : ℕ) → first ≤ q → q < offset + length bytes.now → has_page apart.new.pages q ≡ true) }
     ensures filled { OnOk result (IsFilledApart received.old first (offset + length bytes.now) offset bytes.now apart.old.pages apart.new.pages) }
     ensures seen { (q : ℕ) → set.contains received.old q ≡ true → page_byte apart.new.pages q ≡ page_byte apart.old.pages q }

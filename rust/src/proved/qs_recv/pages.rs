@@ -8,7 +8,7 @@ use crate::shim::alloc::Global;
 use crate::shim::collections::BTreeMap;
 
 // A page has the bytes of so many offsets.
-pub(crate) const PAGE: u64 = 16384;
+pub(crate) const PAGE: u64 = 2048;
 
 /// The pages that are in use, each by its number: an offset's page has the offset divided by a page's bytes as its number.
 pub(crate) struct Pages {

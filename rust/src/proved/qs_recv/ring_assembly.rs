@@ -14,8 +14,8 @@ const LEAST_SIZE: u64 = 64;
 // One of no more is kept where little or nothing is stored, so that a steady flow takes no memory anew.
 const IDLE_SIZE: u64 = 4096;
 
-// Bytes stand apart that begin so far past the ring's, or further.
-const APART: u64 = 65536;
+// A ring isn't let grow where no more than one of so many of its bytes would be one that came.
+const THIN: u64 = 64;
 
 /// A ring beside the set of every offset that came. As bytes are stored that lie past it, it grows to reach from what was
 /// read to the last of them: to a power of two, less than twice as far or 64 bytes, and never past the window. What is stored
@@ -24,9 +24,9 @@ const APART: u64 = 65536;
 /// at least. It is given back where bytes are thrown away, and where nothing is stored: at once if it is larger than 4,096
 /// bytes, else once that is asked for.
 ///
-/// Bytes that begin 64 KiB or more past the ring's, and past its end, stand apart in pages of 16 KiB. As others come before them
-/// the ring reaches over the pages that follow without a gap, and these move into it: so what is next to be read stands in the
-/// ring.
+/// Bytes that begin a page of 2 KiB or more past the ring's, and would leave most of it empty, stand apart in pages: where what is
+/// stored and what comes are each less than a 64th of how far the ring would reach. As others come before them the ring reaches
+/// over the pages that follow without a gap, and these move into it: so what is next to be read stands in the ring.
 ///
 /// A put searches the set once for each gap that it fills, and once behind the last if more came there, but not for bytes past
 /// all that came; it copies the bytes of each gap, and notes the offsets by one insert. A take is one search and one copy. A
@@ -179,10 +179,11 @@ impl RingAssembly {
         offset: u64,
         bytes: &[u8],
     ) -> Result<(), NoMemory> {
-        if self.near + APART <= first {
+        let end = offset + bytes.len() as u64;
+        let few = (end - self.read_count) / THIN;
+        if self.near + PAGE <= first && self.stored < few && end - first < few {
             return self.put_apart(first, stop, offset, bytes);
         }
-        let end = offset + bytes.len() as u64;
         self.draw(end)?;
         let from = self.read_count;
         let kept = self.near - from;

@@ -6,9 +6,9 @@ use Rattle.qs_recv.proofs.pages.Pages.give_back.Given as goal
 abbrev pub invariant-loop-number : goal.invariant-loop-number
 invariant-loop-number l =
     record {
-      small : l.number * 16384 ≤ max l.from (l.to + 16384);
-      gone : (n : ℕ) → tree.get nat_cmp l.self.pages n ≡ (if nat_le l.from (n * 16384) && (nat_lt n l.number && nat_lt (n * 16384) l.to) then None else tree.get nat_cmp l.initial.self.pages n);
+      small : l.number * 2048 ≤ max l.from (l.to + 2048);
+      gone : (n : ℕ) → tree.get nat_cmp l.self.pages n ≡ (if nat_le l.from (n * 2048) && (nat_lt n l.number && nat_lt (n * 2048) l.to) then None else tree.get nat_cmp l.initial.self.pages n);
     }
 
 abbrev pub decreases-loop-number : goal.decreases-loop-number
-decreases-loop-number l = l.to - l.number * 16384
+decreases-loop-number l = l.to - l.number * 2048

@@ -5,14 +5,14 @@ use Rattle.qs_recv.proofs.pages.Pages.make.Given as goal
 abbrev pub invariant-loop-number : goal.invariant-loop-number
 invariant-loop-number l =
     record {
-      begins : l.from / 16384 ≤ l.number;
-      small : l.number * 16384 ≤ max l.from (l.to + 16384);
+      begins : l.from / 2048 ≤ l.number;
+      small : l.number * 2048 ≤ max l.from (l.to + 2048);
       whole : AreWhole l.self.pages;
-      made : (q : ℕ) → l.from ≤ q → q / 16384 < l.number → has_page l.self.pages q ≡ true;
+      made : (q : ℕ) → l.from ≤ q → q / 2048 < l.number → has_page l.self.pages q ≡ true;
       same : (q : ℕ) → page_byte l.self.pages q ≡ page_byte l.initial.self.pages q;
       stay : (n : ℕ) → is_used l.initial.self.pages n ≡ true → is_used l.self.pages n ≡ true;
-      only : (n : ℕ) → is_used l.self.pages n ≡ true → (is_used l.initial.self.pages n ≡ true) ⊎ ((l.from < n * 16384 + 16384) × (n * 16384 < l.to));
+      only : (n : ℕ) → is_used l.self.pages n ≡ true → (is_used l.initial.self.pages n ≡ true) ⊎ ((l.from < n * 2048 + 2048) × (n * 2048 < l.to));
     }
 
 abbrev pub decreases-loop-number : goal.decreases-loop-number
-decreases-loop-number l = l.to - l.number * 16384
+decreases-loop-number l = l.to - l.number * 2048

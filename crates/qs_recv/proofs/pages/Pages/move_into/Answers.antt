@@ -45,9 +45,9 @@ loop-number-preserved c =
             small = omega (arith, c.loop-number-test.true);
             same_len = inv.same_len;
             kept = inv.kept;
-            there = λ q far low below had. elim (cases_lt (q / 16384) number) [
+            there = λ q far low below had. elim (cases_lt (q / 2048) number) [
               | inl before ↦ inv.there q far before below had
-              | inr here ↦ absurd (let at : q / 16384 ≡ number = omega (arith, low, here) in both_ways true (sym had ∙ ap (λ k. is_some (tree.get nat_cmp init k)) at ∙ ap is_some (sym none)) refl)
+              | inr here ↦ absurd (let at : q / 2048 ≡ number = omega (arith, low, here) in both_ways true (sym had ∙ ap (λ k. is_some (tree.get nat_cmp init k)) at ∙ ap is_some (sym none)) refl)
             ];
             left = λ k. left_next init m n from to number k c.loop-number-test.true inv.begins (inv.left k) (c.remove.ensures.updates.0 k);
             moved = λ base q low fits at high. piece_passed init from number q (slice_index mid (q % length old)) (slice_index old (q % length old)) none (inv.moved base q low fits at high);

@@ -28,12 +28,12 @@ loop-done-preserved c =
           rw w.self-is (
           record {
             within = omega (arith, c.min-count.ensures);
-            whole = piece_whole m n ((at + done) / 16384) page after inv.whole is (ap length full ∙ same_len) updates;
-            stay = λ q. piece_stays init m n ((at + done) / 16384) q page after is (updates q) (inv.stay q);
-            written = λ q. piece_put init m n at done count q bytes page after c.loop-done-test.true c.min-count.ensures is (updates (q / 16384)) (λ k. ap (λ xs. slice_index xs k) full ∙ rw w.deref_mut.ensures.value at (w.write_at.ensures.written k)) (inv.written q);
+            whole = piece_whole m n ((at + done) / 2048) page after inv.whole is (ap length full ∙ same_len) updates;
+            stay = λ q. piece_stays init m n ((at + done) / 2048) q page after is (updates q) (inv.stay q);
+            written = λ q. piece_put init m n at done count q bytes page after c.loop-done-test.true c.min-count.ensures is (updates (q / 2048)) (λ k. ap (λ xs. slice_index xs k) full ∙ rw w.deref_mut.ensures.value at (w.write_at.ensures.written k)) (inv.written q);
           }
           )
       | in-None w ↦
-          let used = inv.stay ((at + done) / 16384) ∙ c.requires.had (at + done) (omega arith) (omega (arith, c.loop-done-test.true)) in
+          let used = inv.stay ((at + done) / 2048) ∙ c.requires.had (at + done) (omega arith) (omega (arith, c.loop-done-test.true)) in
           absurd (both_ways _ (ap is_some (sym (sym (ap option_copied_mut w.in-None.is) ∙ c.get_mut.ensures.value))) used)
     ]

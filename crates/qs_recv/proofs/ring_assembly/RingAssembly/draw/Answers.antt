@@ -85,7 +85,7 @@ invariant_of-self-2 c =
       record {
         within = omega (arith, same_len, within);
         bound = omega (arith, same_len, bound, was, later);
-        whole = whole_less old c.move_into.new.self.pages (λ n. nat_lt (s.near / 16384) n && nat_lt (n * 16384) next) sized.whole d.left;
+        whole = whole_less old c.move_into.new.self.pages (λ n. nat_lt (s.near / 2048) n && nat_lt (n * 2048) next) sized.whole d.left;
         none = λ off. absurd (both_ways false refl off);
         apart = λ _. apart_drawn _ _ _ _ _ _ _ _ _ _ _ d;
       },

@@ -83,7 +83,7 @@ invariant_of-self-in-Err c =
       record {
         within = sized.within;
         bound = sized.bound;
-        whole = whole_less new less (λ n. nat_le s.end (n * 16384) && nat_lt (n * 16384) (c.args.offset + length c.args.bytes.now)) c.store_apart.ensures.whole c.give_back.ensures;
+        whole = whole_less new less (λ n. nat_le s.end (n * 2048) && nat_lt (n * 2048) (c.args.offset + length c.args.bytes.now)) c.store_apart.ensures.whole c.give_back.ensures;
         none = λ off. absurd (both_ways false refl off);
         apart = λ _. apart_refused _ _ _ _ _ _ _ _ _ _ _ _ less p c.give_back.ensures;
       },
