@@ -13,7 +13,7 @@ from pathlib import Path
 import rattle_lexer
 import rust_lexer
 from align import Difference, align
-from kinds import Kind, read_kinds
+from kinds import Kind, not_told, read_kinds
 from messages import Unknown, with_messages
 from requires import with_tests
 
@@ -108,7 +108,19 @@ def audit_made(text, made, folder, listed):
     if text.split("\n", 1)[0] != header:
         raise Refused(f"{name}: its first line isn't {header!r}")
     crate = made.relative_to(folder).parts[0]
-    return audit_text(source.read_text(encoding="utf-8"), text, listed, crate, (source_name, name))
+    used, old, new = audit_text(source.read_text(encoding="utf-8"), text, listed, crate, (source_name, name))
+    _check_inlines(used, new, folder == ROOT / FOLDERS[0], name)
+    return used, old, new
+
+
+def _check_inlines(used, new, is_library, name):
+    """Each short function of the library is told to be inlined, and none elsewhere."""
+    at = not_told(new) if is_library else None
+    if at is not None:
+        raise Refused(f"{name}: line {new[at][1]}: a function of few lines that isn't told to be inlined")
+    for kind, (_old_at, new_at) in used:
+        if kind.name == "inline" and not is_library:
+            raise Refused(f"{name}: line {new[new_at][1]}: a function that is told to be inlined outside of the library")
 
 
 def _end_of_allow(words, listed, name, seen):

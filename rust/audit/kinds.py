@@ -14,6 +14,7 @@ Tokens are parted by spaces. Beside plain tokens a pattern may have
     (shared)   a parenthesis in which nothing is `mut`
     {step}     a statement that is a call of such a step: names, calls and places joined by `.` or `::`, the step's name last, and its semicolon
     **;        all up to the next semicolon that no bracket holds, and it
+    {short}    no token: here begins a function of up to 40 lines, behind its attributes
 """
 
 import re
@@ -24,6 +25,8 @@ _CLOSING = set(_PAIRS.values())
 _RESERVED = {"ghost", "requires", "ensures"}
 _STEP = re.compile(r"learn_[a-z_]+\Z")
 _CRATE = re.compile(r"qs_[a-z]+\Z")
+# How many lines a function has at most, from its visibility to its closing brace, that is told to be inlined.
+_SHORT = 40
 
 
 def is_word(token):
@@ -66,7 +69,7 @@ def read_kinds(path):
             if name == "allow":
                 listed.lints += rest.split()
                 continue
-            old, arrow, new = (rest + " ").partition(" =>> ")
+            old, arrow, new = f" {rest} ".partition(" =>> ")
             if not found or not arrow:
                 raise SystemExit(f"{path}:{number}: no kind: {text}")
             kinds.append(Kind(name, old.split(), new.split(), number))
@@ -188,7 +191,53 @@ def _end_of_step(tokens, at):
     return None
 
 
+def _end_of_body(tokens, at):
+    """The place behind the body of a function whose name stands at a place, or None where it has none."""
+    while at < len(tokens) and tokens[at][0] not in ("{", ";"):
+        at = end_of_group(tokens, at, tokens[at][0]) if tokens[at][0] in ("(", "[") else at + 1
+        if at is None:
+            return None
+    return end_of_group(tokens, at, "{")
+
+
+def begins_short(tokens, at):
+    """Whether a function of few lines begins here, behind its attributes."""
+    first = at
+    if at < len(tokens) and tokens[at][0] == "pub":
+        at += 1
+        if at < len(tokens) and tokens[at][0] == "(":
+            at = end_of_group(tokens, at, "(") or len(tokens)
+    while at < len(tokens) and tokens[at][0] in ("const", "unsafe", "default"):
+        at += 1
+    if at + 1 >= len(tokens) or tokens[at][0] != "fn" or not _WORD.match(tokens[at + 1][0]):
+        return False
+    end = _end_of_body(tokens, at + 1)
+    return end is not None and tokens[end - 1][1] - tokens[first][1] < _SHORT
+
+
+def _is_told(tokens, at):
+    """Whether the attributes right before a place say how a function is inlined, or that it is a test."""
+    while at > 0 and tokens[at - 1][0] == "]":
+        at -= 1
+        while at > 0 and tokens[at][0] != "#":
+            at -= 1
+        if tokens[at + 2][0] in ("inline", "test"):
+            return True
+    return False
+
+
+def not_told(tokens):
+    """The first place where a function of few lines begins that isn't told how it is inlined, or None."""
+    for at in range(len(tokens)):
+        is_inner = at > 0 and tokens[at - 1][0] in ("pub", "const", "unsafe", "default", ")")
+        if not is_inner and begins_short(tokens, at) and not _is_told(tokens, at):
+            return at
+    return None
+
+
 def _end_of_element(element, tokens, at):
+    if element == "{short}":
+        return at if begins_short(tokens, at) else None
     if element == "{clauses}":
         return _end_of_clauses(tokens, at)
     if element == "{ghosts}":

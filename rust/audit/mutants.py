@@ -4,6 +4,8 @@
     mutants.py [--seed S] [--count N]      the audit reads each changed text; no file is touched
     mutants.py .. --library                of the library's files alone
     mutants.py .. --tests                  of the tests of what contracts ask of numbers alone
+    mutants.py .. --inlines                of what tells short functions to be inlined alone: it goes, says something else, or stands
+                                           before another item
     mutants.py .. --run 'COMMAND'          each change is written into its file, the command is run in `rust/`, and the
                                            file is put back; told is how many changes the command failed on.
                                            For a copy of the repository.
@@ -110,6 +112,31 @@ def mutant(files, draw):
         return made, folder, text[:start] + new + text[end:], kind, told
 
 
+_INLINE = ["#", "[", "inline", "]"]
+_OTHERS = ["", "#[inline(always)]", "#[inline(never)]", "#[cold]", "#[test]", "#[inline] #[inline]"]
+_ITEMS = {"struct", "enum", "impl", "trait", "use", "mod", "const", "let", "return"}
+
+
+def mutant_of_inlines(files, draw):
+    """The same of an attribute `#[inline]`: it is changed, or one more stands before an item that is no short function."""
+    while True:
+        made, folder, text, spans, _places_of_all = draw.choice(files)
+        tokens = [text[start:end] for start, end, _line in spans]
+        if draw.choice([True, False]):
+            found = [at for at in range(len(tokens)) if tokens[at:at + 4] == _INLINE]
+            kind, new = "attribute", draw.choice(_OTHERS)
+        else:
+            found = [at for at, token in enumerate(tokens) if token in _ITEMS and tokens[at + 1] != "fn"]
+            kind, new = "item", "#[inline] "
+        if not found:
+            continue
+        at = draw.choice(found)
+        start, _end, line = spans[at]
+        end = spans[at + 3][1] if kind == "attribute" else start
+        told = f"{made.relative_to(ROOT)}:{line}: {kind}: {text[start:end]!r} -> {new!r}"
+        return made, folder, text[:start] + new + text[end:], kind, told
+
+
 def _fails(command, made, changed):
     before = made.read_bytes()
     made.write_text(changed, encoding="utf-8")
@@ -136,6 +163,7 @@ def main():
     parser.add_argument("--count", type=int, default=12)
     parser.add_argument("--library", action="store_true")
     parser.add_argument("--tests", action="store_true")
+    parser.add_argument("--inlines", action="store_true")
     parser.add_argument("--run")
     options = parser.parse_args()
     draw = random.Random(options.seed)
@@ -151,7 +179,7 @@ def main():
         files += [(made, folder, text, spans, places)] * ((len(places) + 499) // 500)
     refused, kinds = 0, Counter()
     for _ in range(options.count):
-        made, folder, changed, kind, told = mutant(files, draw)
+        made, folder, changed, kind, told = (mutant_of_inlines if options.inlines else mutant)(files, draw)
         kinds[kind] += 1
         if options.run:
             failed = _fails(options.run, made, changed)

@@ -1,6 +1,7 @@
 //! Takes the ghosts out of one file. What stays is left as it is, but for the edits that `KINDS.md` lists.
 
 use crate::display;
+use crate::inline::inline;
 use crate::lex::{Kind, Token, tokens};
 use crate::require;
 
@@ -13,6 +14,8 @@ pub struct Place<'a> {
     pub laws: bool,
     /// Whether a function `main` is the program.
     pub program: bool,
+    /// Whether short functions are told to be inlined.
+    pub inlines: bool,
 }
 
 /// What the eraser doesn't know, and the byte of the file at which it stands.
@@ -45,7 +48,8 @@ pub fn erase(place: &Place<'_>, text: &str) -> Erased<String> {
     }
     eraser.import();
     eraser.link();
-    Ok(eraser.apply())
+    let rust = eraser.apply();
+    Ok(if place.inlines { inline(&rust) } else { rust })
 }
 
 /// Names of Rattle's prelude that Rust's has not, or has with another meaning. A macro is named with its sign.

@@ -5,6 +5,7 @@
 
 mod display;
 mod erase;
+mod inline;
 mod lex;
 mod require;
 #[cfg(test)]
@@ -127,6 +128,7 @@ fn make(
             erased,
             laws: stem == Path::new("laws"),
             program: stem == Path::new("main"),
+            inlines: LIBRARY.contains(&krate),
         };
         let rust = erase(&place, &text).map_err(|unknown| {
             let line = text[..unknown.at].matches('\n').count() + 1;

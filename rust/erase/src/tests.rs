@@ -7,6 +7,7 @@ const PLACE: Place<'_> = Place {
     erased: &["qs_own", "qs_other"],
     laws: false,
     program: false,
+    inlines: false,
 };
 
 fn is_made(rattle: &str, rust: &str) {
@@ -129,6 +130,34 @@ fn a_hint_on_inlining_stays() {
         "#[inline(never)]\nfn f()\n    requires { a }\n{}\n",
         "#[inline(never)]\nfn f() {}\n",
     );
+}
+
+#[test]
+fn a_short_function_is_inlined() {
+    let place = Place {
+        inlines: true,
+        ..PLACE
+    };
+    let made = |rattle: &str| erase(&place, rattle).map_err(|unknown| unknown.what);
+    assert_eq!(
+        made(
+            "/// It.\npub(crate) fn f()\n    ensures { a }\n{}\n\ntrait T {\n    fn g(a: [u8; 2]);\n\n    #[cfg(test)]\n    pub const fn h() {\n        fn inner() {}\n    }\n}\n"
+        ),
+        Ok("/// It.\n#[inline]\npub(crate) fn f() {}\n\ntrait T {\n    fn g(a: [u8; 2]);\n\n    #[cfg(test)]\n    #[inline]\n    pub const fn h() {\n        #[inline]\n        fn inner() {}\n    }\n}\n".to_owned())
+    );
+    for same in [
+        "#[inline(never)]\n#[cfg(a)]\nfn f() {}\n",
+        "#[test]\nfn f() {}\n",
+        "type F = fn(u8) -> u8;\n",
+    ] {
+        assert_eq!(made(same), Ok(same.to_owned()));
+    }
+    let of_lines = |count: usize| format!("fn f() {{\n{}}}\n", "    a();\n".repeat(count - 2));
+    assert_eq!(
+        made(&of_lines(40)),
+        Ok(format!("#[inline]\n{}", of_lines(40)))
+    );
+    assert_eq!(made(&of_lines(41)), Ok(of_lines(41)));
 }
 
 #[test]

@@ -9,6 +9,7 @@ pub struct Global;
 pub struct AllocError;
 
 impl core::fmt::Display for AllocError {
+    #[inline]
     fn fmt(&self, f: &mut core::fmt::Formatter<'_>) -> core::fmt::Result {
         f.write_str("out of memory")
     }
@@ -23,6 +24,7 @@ pub struct AllocFailed<T> {
 }
 
 impl<T> From<AllocFailed<T>> for AllocError {
+    #[inline]
     fn from(_failed: AllocFailed<T>) -> Self {
         AllocError
     }

@@ -10,6 +10,7 @@ pub struct Box<T> {
 }
 
 impl<T> Box<T> {
+    #[inline]
     pub fn new(_alloc: Global, value: T) -> Result<Self, AllocError> {
         let mut row = HeapVec::new();
         if row.try_reserve_exact(1).is_err() {
@@ -22,6 +23,7 @@ impl<T> Box<T> {
         }
     }
 
+    #[inline]
     pub fn into_inner(this: Self) -> T {
         let [value] = *this.row;
         value
@@ -31,6 +33,7 @@ impl<T> Box<T> {
 impl<T> Deref for Box<T> {
     type Target = T;
 
+    #[inline]
     fn deref(&self) -> &T {
         let [value] = &*self.row;
         value
@@ -38,6 +41,7 @@ impl<T> Deref for Box<T> {
 }
 
 impl<T> DerefMut for Box<T> {
+    #[inline]
     fn deref_mut(&mut self) -> &mut T {
         let [value] = &mut *self.row;
         value

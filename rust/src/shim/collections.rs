@@ -13,6 +13,7 @@ pub struct VecDeque<T> {
 
 impl<T> VecDeque<T> {
     /// An empty queue. It takes no memory.
+    #[inline]
     pub const fn new(_alloc: Global) -> Self {
         VecDeque {
             items: HeapDeque::new(),
@@ -20,6 +21,7 @@ impl<T> VecDeque<T> {
     }
 
     /// Makes room for so many items more.
+    #[inline]
     pub fn reserve(&mut self, count: usize) -> Result<(), AllocError> {
         match self.items.try_reserve(count) {
             Ok(()) => Ok(()),
@@ -27,6 +29,7 @@ impl<T> VecDeque<T> {
         }
     }
 
+    #[inline]
     pub fn push_back(&mut self, value: T) -> Result<(), AllocFailed<T>> {
         match self.reserve(1) {
             Ok(()) => {
@@ -38,6 +41,7 @@ impl<T> VecDeque<T> {
     }
 
     /// Puts an item behind the last, for which there is room. Without room the item is let go; that no caller does is proved.
+    #[inline]
     pub fn push_back_reserved(&mut self, value: T) {
         debug_assert!(self.items.len() < self.items.capacity());
         if self.items.len() < self.items.capacity() {
@@ -45,14 +49,17 @@ impl<T> VecDeque<T> {
         }
     }
 
+    #[inline]
     pub fn capacity(&self) -> usize {
         self.items.capacity()
     }
 
+    #[inline]
     pub fn clear(&mut self) {
         self.items.clear();
     }
 
+    #[inline]
     pub fn insert(&mut self, place: usize, value: T) -> Result<(), AllocFailed<T>> {
         match self.reserve(1) {
             Ok(()) => {
@@ -63,50 +70,62 @@ impl<T> VecDeque<T> {
         }
     }
 
+    #[inline]
     pub fn remove(&mut self, place: usize) -> Option<T> {
         self.items.remove(place)
     }
 
+    #[inline]
     pub fn drain<R: RangeBounds<usize>>(&mut self, range: R) -> Drain<'_, T> {
         self.items.drain(range)
     }
 
+    #[inline]
     pub fn pop_front(&mut self) -> Option<T> {
         self.items.pop_front()
     }
 
+    #[inline]
     pub fn pop_back(&mut self) -> Option<T> {
         self.items.pop_back()
     }
 
+    #[inline]
     pub fn front(&self) -> Option<&T> {
         self.items.front()
     }
 
+    #[inline]
     pub fn back(&self) -> Option<&T> {
         self.items.back()
     }
 
+    #[inline]
     pub fn get(&self, place: usize) -> Option<&T> {
         self.items.get(place)
     }
 
+    #[inline]
     pub fn len(&self) -> usize {
         self.items.len()
     }
 
+    #[inline]
     pub fn is_empty(&self) -> bool {
         self.items.is_empty()
     }
 
+    #[inline]
     pub fn iter(&self) -> Iter<'_, T> {
         self.items.iter()
     }
 
+    #[inline]
     pub fn partition_point<P: FnMut(&T) -> bool>(&self, is_before: P) -> usize {
         self.items.partition_point(is_before)
     }
 
+    #[inline]
     pub fn retain<F: FnMut(&T) -> bool>(&mut self, keep: F) {
         self.items.retain(keep);
     }
@@ -115,12 +134,14 @@ impl<T> VecDeque<T> {
 impl<T> Index<usize> for VecDeque<T> {
     type Output = T;
 
+    #[inline]
     fn index(&self, place: usize) -> &T {
         &self.items[place]
     }
 }
 
 impl<T> IndexMut<usize> for VecDeque<T> {
+    #[inline]
     fn index_mut(&mut self, place: usize) -> &mut T {
         &mut self.items[place]
     }
@@ -133,40 +154,48 @@ pub struct BTreeMap<K, V> {
 
 impl<K: Ord, V> BTreeMap<K, V> {
     /// An empty map. It takes no memory.
+    #[inline]
     pub const fn new(alloc: Global) -> Self {
         BTreeMap {
             entries: Vec::new(alloc),
         }
     }
 
+    #[inline]
     pub fn get(&self, key: &K) -> Option<&V> {
         let place = self.place_of(key).ok()?;
         Some(&self.entries[place].1)
     }
 
+    #[inline]
     pub fn get_mut(&mut self, key: &K) -> Option<&mut V> {
         let place = self.place_of(key).ok()?;
         Some(&mut self.entries[place].1)
     }
 
+    #[inline]
     pub fn contains_key(&self, key: &K) -> bool {
         self.place_of(key).is_ok()
     }
 
+    #[inline]
     pub fn len(&self) -> usize {
         self.entries.len()
     }
 
+    #[inline]
     pub fn is_empty(&self) -> bool {
         self.entries.is_empty()
     }
 
+    #[inline]
     pub fn remove(&mut self, key: &K) -> Option<V> {
         let place = self.place_of(key).ok()?;
         Some(self.entries.remove(place).1)
     }
 
     /// Puts a value at a key, and answers the one that was there.
+    #[inline]
     pub fn insert(&mut self, key: K, value: V) -> Result<Option<V>, AllocFailed<(K, V)>> {
         match self.place_of(&key) {
             Ok(place) => {
@@ -180,6 +209,7 @@ impl<K: Ord, V> BTreeMap<K, V> {
         }
     }
 
+    #[inline]
     fn place_of(&self, key: &K) -> Result<usize, usize> {
         self.entries.binary_search_by(|entry| entry.0.cmp(key))
     }

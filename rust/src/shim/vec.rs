@@ -12,6 +12,7 @@ pub struct Vec<T> {
 
 impl<T> Vec<T> {
     /// An empty vector. It takes no memory.
+    #[inline]
     pub const fn new(_alloc: Global) -> Self {
         Vec {
             items: HeapVec::new(),
@@ -19,6 +20,7 @@ impl<T> Vec<T> {
     }
 
     /// An empty vector with room for so many items.
+    #[inline]
     pub fn with_capacity(alloc: Global, count: usize) -> Result<Self, AllocError> {
         let mut made = Vec::new(alloc);
         match made.items.try_reserve_exact(count) {
@@ -27,6 +29,7 @@ impl<T> Vec<T> {
         }
     }
 
+    #[inline]
     pub fn from_array<const N: usize>(alloc: Global, items: [T; N]) -> Result<Self, AllocError> {
         let mut made = Vec::with_capacity(alloc, N)?;
         made.items.extend(items);
@@ -34,6 +37,7 @@ impl<T> Vec<T> {
     }
 
     /// Makes room for so many items more.
+    #[inline]
     pub fn reserve(&mut self, count: usize) -> Result<(), AllocError> {
         match self.items.try_reserve(count) {
             Ok(()) => Ok(()),
@@ -42,6 +46,7 @@ impl<T> Vec<T> {
     }
 
     /// The same, and for no more where memory is taken.
+    #[inline]
     pub fn reserve_exact(&mut self, count: usize) -> Result<(), AllocError> {
         match self.items.try_reserve_exact(count) {
             Ok(()) => Ok(()),
@@ -49,6 +54,7 @@ impl<T> Vec<T> {
         }
     }
 
+    #[inline]
     pub fn push(&mut self, value: T) -> Result<(), AllocFailed<T>> {
         match self.reserve(1) {
             Ok(()) => {
@@ -59,10 +65,12 @@ impl<T> Vec<T> {
         }
     }
 
+    #[inline]
     pub fn push_reserved(&mut self, value: T) {
         self.items.push(value);
     }
 
+    #[inline]
     pub fn insert(&mut self, place: usize, value: T) -> Result<(), AllocFailed<T>> {
         match self.reserve(1) {
             Ok(()) => {
@@ -73,32 +81,39 @@ impl<T> Vec<T> {
         }
     }
 
+    #[inline]
     pub fn pop(&mut self) -> Option<T> {
         self.items.pop()
     }
 
+    #[inline]
     pub fn remove(&mut self, place: usize) -> T {
         self.items.remove(place)
     }
 
+    #[inline]
     pub fn swap_remove(&mut self, place: usize) -> T {
         self.items.swap_remove(place)
     }
 
+    #[inline]
     pub fn truncate(&mut self, count: usize) {
         self.items.truncate(count);
     }
 
+    #[inline]
     pub fn clear(&mut self) {
         self.items.clear();
     }
 
+    #[inline]
     pub fn drain<R: RangeBounds<usize>>(&mut self, range: R) -> Drain<'_, T> {
         self.items.drain(range)
     }
 
     /// Gives memory back that isn't used, but for room for so many items. Where the lesser memory is refused, the vector keeps what it
     /// has.
+    #[inline]
     pub fn shrink_to(&mut self, count: usize) {
         let room = self.items.len().max(count);
         let mut fitting = HeapVec::new();
@@ -109,24 +124,29 @@ impl<T> Vec<T> {
     }
 
     /// The allocator that it was made with.
+    #[inline]
     pub fn allocator(&self) -> &Global {
         &Global
     }
 
+    #[inline]
     pub fn capacity(&self) -> usize {
         self.items.capacity()
     }
 
+    #[inline]
     pub fn as_slice(&self) -> &[T] {
         &self.items
     }
 
+    #[inline]
     pub fn as_mut_slice(&mut self) -> &mut [T] {
         &mut self.items
     }
 }
 
 impl<T: Copy> Vec<T> {
+    #[inline]
     pub fn from_slice(alloc: Global, items: &[T]) -> Result<Self, AllocError> {
         let mut made = Vec::with_capacity(alloc, items.len())?;
         made.items.extend_from_slice(items);
@@ -134,18 +154,21 @@ impl<T: Copy> Vec<T> {
     }
 
     /// So many times the same item.
+    #[inline]
     pub fn from_elem(alloc: Global, item: T, count: usize) -> Result<Self, AllocError> {
         let mut made = Vec::with_capacity(alloc, count)?;
         made.items.resize(count, item);
         Ok(made)
     }
 
+    #[inline]
     pub fn extend_from_slice(&mut self, items: &[T]) -> Result<(), AllocError> {
         self.reserve(items.len())?;
         self.items.extend_from_slice(items);
         Ok(())
     }
 
+    #[inline]
     pub fn resize(&mut self, count: usize, item: T) -> Result<(), AllocError> {
         self.reserve(count.saturating_sub(self.items.len()))?;
         self.items.resize(count, item);
@@ -156,24 +179,28 @@ impl<T: Copy> Vec<T> {
 impl<T> Deref for Vec<T> {
     type Target = [T];
 
+    #[inline]
     fn deref(&self) -> &[T] {
         &self.items
     }
 }
 
 impl<T> DerefMut for Vec<T> {
+    #[inline]
     fn deref_mut(&mut self) -> &mut [T] {
         &mut self.items
     }
 }
 
 impl<T: fmt::Debug> fmt::Debug for Vec<T> {
+    #[inline]
     fn fmt(&self, f: &mut fmt::Formatter<'_>) -> fmt::Result {
         self.items.fmt(f)
     }
 }
 
 impl<T: PartialEq> PartialEq for Vec<T> {
+    #[inline]
     fn eq(&self, other: &Self) -> bool {
         self.items == other.items
     }
@@ -185,6 +212,7 @@ impl<T> IntoIterator for Vec<T> {
     type Item = T;
     type IntoIter = IntoIter<T>;
 
+    #[inline]
     fn into_iter(self) -> IntoIter<T> {
         self.items.into_iter()
     }
@@ -194,6 +222,7 @@ impl<'a, T> IntoIterator for &'a Vec<T> {
     type Item = &'a T;
     type IntoIter = core::slice::Iter<'a, T>;
 
+    #[inline]
     fn into_iter(self) -> Self::IntoIter {
         self.items.iter()
     }
@@ -206,6 +235,7 @@ pub trait SliceCalls<T> {
 }
 
 impl<T: Copy> SliceCalls<T> for [T] {
+    #[inline]
     fn copied_in(&self, alloc: Global) -> Result<Vec<T>, AllocError> {
         Vec::from_slice(alloc, self)
     }

@@ -43,6 +43,7 @@ pub struct Event {
 
 impl Event {
     /// Whether each number is one that a script may name.
+    #[inline]
     pub fn fits(&self) -> bool {
         match &self.act {
             Act::OpenStream(_) | Act::Accept | Act::Finish(_) | Act::Claim => true,

@@ -31,6 +31,7 @@ pub const NO_CAP: usize = usize::MAX;
 
 impl Fill {
     /// All that is due, from stream 0 on.
+    #[inline]
     pub fn all() -> Fill {
         Fill {
             items: true,
@@ -42,6 +43,7 @@ impl Fill {
     }
 
     /// Control items alone.
+    #[inline]
     pub fn control() -> Fill {
         Fill {
             items: true,
@@ -53,6 +55,7 @@ impl Fill {
     }
 
     /// Bytes and ends of streams alone, from stream 0 on.
+    #[inline]
     pub fn data() -> Fill {
         Fill {
             items: false,
@@ -64,6 +67,7 @@ impl Fill {
     }
 
     /// The same, with streams from this one on, and then those below it.
+    #[inline]
     pub fn from(self, stream: StreamId) -> Fill {
         Fill {
             items: self.items,
@@ -75,6 +79,7 @@ impl Fill {
     }
 
     /// The same, with this stream alone.
+    #[inline]
     pub fn only(self, stream: StreamId) -> Fill {
         Fill {
             items: self.items,
@@ -86,6 +91,7 @@ impl Fill {
     }
 
     /// The same, with so many bytes of streams at most.
+    #[inline]
     pub fn at_most(self, bytes: usize) -> Fill {
         Fill {
             items: self.items,
@@ -110,6 +116,7 @@ pub struct Filled {
 }
 
 // Stream 0.
+#[inline]
 fn first_stream() -> StreamId {
     match StreamId::new(0) {
         Some(stream) => stream,

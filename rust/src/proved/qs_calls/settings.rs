@@ -70,6 +70,7 @@ pub enum SetupFault {
 }
 
 impl core::fmt::Display for SetupFault {
+    #[inline]
     fn fmt(&self, f: &mut core::fmt::Formatter<'_>) -> core::fmt::Result {
         match self {
             Self::OutOfRange => f.write_str("a setting is out of its range"),
@@ -89,6 +90,7 @@ pub enum RaiseFault {
 }
 
 impl core::fmt::Display for RaiseFault {
+    #[inline]
     fn fmt(&self, f: &mut core::fmt::Formatter<'_>) -> core::fmt::Result {
         match self {
             Self::Closed => f.write_str("the connection is closed"),
@@ -111,6 +113,7 @@ pub enum SetFault {
 }
 
 impl core::fmt::Display for SetFault {
+    #[inline]
     fn fmt(&self, f: &mut core::fmt::Formatter<'_>) -> core::fmt::Result {
         match self {
             Self::Closed => f.write_str("the connection is closed"),
@@ -125,6 +128,7 @@ impl core::error::Error for SetFault {}
 
 impl Settings {
     /// What the other end is told of these settings.
+    #[inline]
     pub fn limits(&self) -> PeerLimits {
         PeerLimits {
             max_data: self.conn_window,
@@ -139,6 +143,7 @@ impl Settings {
 
 impl Tuning {
     /// What an end has whose owner chose nothing.
+    #[inline]
     pub fn by_default() -> Tuning {
         Tuning {
             credit_step: Share::Half,
@@ -154,6 +159,7 @@ impl Tuning {
 
 impl SetupFault {
     /// The code with which the connection is refused, where the peer is at fault.
+    #[inline]
     pub fn code(self) -> Option<u64> {
         match self {
             SetupFault::OutOfRange => None,

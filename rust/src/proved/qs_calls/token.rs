@@ -19,6 +19,7 @@ pub struct Token {
 impl Token {
     /// One token for what this one names and what was filled in next. `None` where its numbers don't follow this one's, or another end
     /// gave it.
+    #[inline]
     pub fn and(self, next: Token) -> Option<Token> {
         if next.epoch == self.epoch && self.number.checked_add(1) == Some(next.first) {
             return Some(Token {
@@ -54,6 +55,7 @@ pub enum TakeFault {
 }
 
 impl core::fmt::Display for TakeFault {
+    #[inline]
     fn fmt(&self, f: &mut core::fmt::Formatter<'_>) -> core::fmt::Result {
         match self {
             Self::Closing(..) => f.write_str("this end closed the connection"),
@@ -76,6 +78,7 @@ pub enum TokenFault {
 }
 
 impl core::fmt::Display for TokenFault {
+    #[inline]
     fn fmt(&self, f: &mut core::fmt::Formatter<'_>) -> core::fmt::Result {
         match self {
             Self::NotGiven => f.write_str("no packet has this token"),

@@ -11,6 +11,7 @@ pub enum OpenFault {
 }
 
 impl core::fmt::Display for OpenFault {
+    #[inline]
     fn fmt(&self, f: &mut core::fmt::Formatter<'_>) -> core::fmt::Result {
         match self {
             Self::Blocked(field) => write!(f, "the peer allows {0} streams", field),
@@ -35,6 +36,7 @@ pub enum UseFault {
 }
 
 impl core::fmt::Display for UseFault {
+    #[inline]
     fn fmt(&self, f: &mut core::fmt::Formatter<'_>) -> core::fmt::Result {
         match self {
             Self::NoSuchStream => f.write_str("the stream is not open"),

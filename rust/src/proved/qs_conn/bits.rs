@@ -16,6 +16,7 @@ pub(crate) struct Bits {
 
 impl Bits {
     /// No index has a flag.
+    #[inline]
     pub(crate) fn new(alloc: Global) -> Self {
         Bits {
             words: Vec::new(alloc),
@@ -24,11 +25,13 @@ impl Bits {
     }
 
     /// How many indexes there are.
+    #[inline]
     pub(crate) fn len(&self) -> usize {
         self.count
     }
 
     /// Makes room for all indexes below a count: the new ones aren't marked.
+    #[inline]
     pub(crate) fn open_to(&mut self, count: usize) -> Result<(), NoMemory> {
         if count <= self.count {
             return Ok(());
@@ -49,6 +52,7 @@ impl Bits {
     }
 
     /// Takes the indexes from a count on away.
+    #[inline]
     pub(crate) fn close_to(&mut self, count: usize) {
         if self.count <= count {
             return;
@@ -60,18 +64,21 @@ impl Bits {
     }
 
     /// Whether an index is marked.
+    #[inline]
     pub(crate) fn has(&self, index: usize) -> bool {
         let place = index / FLAGS_PER_WORD;
         has_bit(self.words[place], index % FLAGS_PER_WORD)
     }
 
     /// Marks an index, or takes its mark away.
+    #[inline]
     pub(crate) fn set(&mut self, index: usize, is_marked: bool) {
         let place = index / FLAGS_PER_WORD;
         self.words[place] = with_bit(self.words[place], index % FLAGS_PER_WORD, is_marked);
     }
 
     /// The least marked index from an index on, in the word of that index.
+    #[inline]
     pub(crate) fn next_in_word(&self, from: usize) -> Option<usize> {
         let place = from / FLAGS_PER_WORD;
         if place >= self.words.len() {
@@ -84,6 +91,7 @@ impl Bits {
     }
 
     /// The least marked index from an index on.
+    #[inline]
     pub(crate) fn next(&self, from: usize) -> Option<usize> {
         let mut bit = from % FLAGS_PER_WORD;
         for place in from / FLAGS_PER_WORD..self.words.len() {
@@ -98,6 +106,7 @@ impl Bits {
 
 impl Bits {
     /// The least index from one on that is marked here and there, in the word of that index.
+    #[inline]
     pub(crate) fn next_both_in_word(&self, others: &Bits, from: usize) -> Option<usize> {
         let place = from / FLAGS_PER_WORD;
         if place >= self.words.len().min(others.words.len()) {
@@ -111,6 +120,7 @@ impl Bits {
     }
 
     /// The least index from one on that is marked here and there.
+    #[inline]
     pub(crate) fn next_both(&self, others: &Bits, from: usize) -> Option<usize> {
         let mut bit = from % FLAGS_PER_WORD;
         for place in from / FLAGS_PER_WORD..self.words.len().min(others.words.len()) {
@@ -126,11 +136,13 @@ impl Bits {
 
 impl Bits {
     /// Whether each index of a word is marked.
+    #[inline]
     pub(crate) fn is_full(&self, place: usize) -> bool {
         self.word(place) == u64::MAX
     }
 
     /// The least index from one on that is marked here and there and wasn't told, in the word of that index.
+    #[inline]
     pub(crate) fn next_untold_in_word(
         &self,
         others: &Bits,
@@ -146,6 +158,7 @@ impl Bits {
     }
 
     /// The least index from one on that is marked here and there and wasn't told.
+    #[inline]
     pub(crate) fn next_untold(&self, others: &Bits, told: &Bits, from: usize) -> Option<usize> {
         let mut bit = from % FLAGS_PER_WORD;
         for place in from / FLAGS_PER_WORD..self.words.len().min(others.words.len()) {
@@ -159,11 +172,13 @@ impl Bits {
     }
 
     // The marks here and there of a word that weren't told.
+    #[inline]
     fn untold_word(&self, others: &Bits, told: &Bits, place: usize) -> u64 {
         self.word(place) & others.word(place) & !told.word(place)
     }
 
     // The marks of a word: past the last one there is none.
+    #[inline]
     fn word(&self, place: usize) -> u64 {
         if place >= self.words.len() {
             return 0;
@@ -173,12 +188,14 @@ impl Bits {
 }
 
 /// Whether a bit of a word is set.
+#[inline]
 fn has_bit(word: u64, bit: usize) -> bool {
     debug_assert!(bit < 64);
     (word >> bit) & 1 == 1
 }
 
 /// A word with its bits from one on cleared.
+#[inline]
 fn cut_at(word: u64, bit: usize) -> u64 {
     debug_assert!(bit < 64);
     word & ((1 << bit) - 1)

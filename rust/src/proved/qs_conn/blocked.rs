@@ -17,6 +17,7 @@ pub(crate) struct BlockedMarks {
 
 impl BlockedMarks {
     /// Nothing was said.
+    #[inline]
     pub(crate) fn new(alloc: Global) -> Self {
         BlockedMarks {
             conn: false,
@@ -26,31 +27,37 @@ impl BlockedMarks {
     }
 
     /// Whether the connection's limit was said to.
+    #[inline]
     pub(crate) fn has_conn(&self) -> bool {
         self.conn
     }
 
     /// The connection's limit was said to, or its owner is told.
+    #[inline]
     pub(crate) fn set_conn(&mut self, is_said: bool) {
         self.conn = is_said;
     }
 
     /// A direction's count was said to, or its owner is told.
+    #[inline]
     pub(crate) fn set_dir(&mut self, dir: Dir, is_said: bool) {
         self.dirs.set(dir, is_said);
     }
 
     /// A stream's limit was said to. It takes memory where the stream is the highest of its type so far.
+    #[inline]
     pub(crate) fn tell(&mut self, stream: StreamId) -> Result<(), NoMemory> {
         self.streams.tell(stream)
     }
 
     /// Its owner is told.
+    #[inline]
     pub(crate) fn forget(&mut self, stream: StreamId) {
         self.streams.forget(stream);
     }
 
     /// The first direction whose count was said to.
+    #[inline]
     pub(crate) fn next_dir(&self) -> Option<Dir> {
         if self.dirs.bidi {
             return Some(Dir::Bidi);
@@ -62,6 +69,7 @@ impl BlockedMarks {
     }
 
     /// The least stream whose limit was said to.
+    #[inline]
     pub(crate) fn next_stream(&self) -> Option<StreamId> {
         let bidi = lesser(self.next_of(0), self.next_of(1));
         let uni = lesser(self.next_of(2), self.next_of(3));
@@ -69,6 +77,7 @@ impl BlockedMarks {
     }
 
     // The least one of a type.
+    #[inline]
     fn next_of(&self, stream_type: usize) -> Option<StreamId> {
         debug_assert!(stream_type < 4);
         let told = self.streams.of_type(stream_type);

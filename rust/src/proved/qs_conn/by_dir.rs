@@ -11,6 +11,7 @@ pub(crate) struct ByDir<T> {
 }
 
 impl<T: Copy> ByDir<T> {
+    #[inline]
     pub(crate) fn new(bidi: T, uni: T) -> Self {
         ByDir { bidi, uni }
     }
@@ -25,6 +26,7 @@ impl<T: Copy> ByDir<T> {
     }
 
     /// Puts another in place of the one of a direction.
+    #[inline]
     pub(crate) fn set(&mut self, dir: Dir, value: T) {
         match dir {
             Dir::Bidi => self.bidi = value,

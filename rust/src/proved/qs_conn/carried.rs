@@ -18,6 +18,7 @@ pub(crate) struct Carried {
 }
 
 impl Carried {
+    #[inline]
     pub(crate) fn new(alloc: Global) -> Self {
         Carried {
             stops: Untold::new(alloc),
@@ -28,6 +29,7 @@ impl Carried {
     }
 
     /// Makes room for a stream and all lower ones of its type: the new ones aren't marked. A refusal may leave some room.
+    #[inline]
     pub(crate) fn open_to(&mut self, stream: StreamId) -> Result<(), NoMemory> {
         self.stops.open_to(stream)?;
         self.limits.open_to(stream)?;
@@ -36,6 +38,7 @@ impl Carried {
     }
 
     /// Whether an outstanding packet told the present item of a kind.
+    #[inline]
     pub(crate) fn has(&self, kind: Kind, stream: StreamId) -> bool {
         match kind {
             Kind::ResetStream => self.resets.has(stream),
@@ -46,6 +49,7 @@ impl Carried {
     }
 
     /// The present item of a half is outstanding now, or is so no more. Items of the connection itself aren't noted here.
+    #[inline]
     pub(crate) fn set(&mut self, item: &Item, is_carried: bool) {
         match *item {
             Item::ResetStream { stream, .. } => self.resets.set(stream, is_carried),

@@ -8,11 +8,13 @@ use crate::proved::qs_wire::StreamId;
 // How many streams of the peer came to their end, of each direction (RFC 9000, sections 3 and 4.6).
 impl ByDir<u64> {
     /// Whether the counts are the same as others.
+    #[inline]
     pub(crate) fn is_same(&self, other: ByDir<u64>) -> bool {
         self.bidi == other.bidi && self.uni == other.uni
     }
 
     /// Counts a stream anew, which was at its end or wasn't, and is now or isn't.
+    #[inline]
     pub(crate) fn recount(&mut self, stream: StreamId, was: bool, is: bool) {
         if is_uni(stream) {
             self.uni = moved(self.uni, was, is);
@@ -23,6 +25,7 @@ impl ByDir<u64> {
 }
 
 // A count with what a stream adds, and without what it added.
+#[inline]
 fn moved(count: u64, was: bool, is: bool) -> u64 {
     debug_assert!(count <= 1 << 60);
     count + u64::from(is) - u64::from(was)

@@ -60,6 +60,7 @@ pub struct Endpoint {
 impl Endpoint {
     /// A new end. Refused where a setting is out of its range, or where the peer allows more streams than have a number (RFC 9000,
     /// section 4.6).
+    #[inline]
     pub fn new(
         alloc: Global,
         role: Role,
@@ -74,6 +75,7 @@ impl Endpoint {
 
     /// The same with wider ranges: windows of streams and sending buffers of up to 2^30 bytes, a connection's window of up to 2^40,
     /// grants of up to 2^17 streams of a direction and lifetimes of up to 2^21; and tuned. What [`new`](Endpoint::new) makes this makes, too.
+    #[inline]
     pub fn new_wide(
         alloc: Global,
         role: Role,
@@ -88,6 +90,7 @@ impl Endpoint {
     }
 
     // The end that begins with such settings.
+    #[inline]
     fn begun(
         alloc: Global,
         role: Role,
@@ -130,6 +133,7 @@ impl Endpoint {
     }
 
     /// How many bytes are stored: at most what was granted and isn't taken.
+    #[inline]
     pub fn stored(&self) -> u64 {
         let _granted = self.core.limits.granted;
         self.core.recvs.tally().stored
@@ -139,6 +143,7 @@ impl Endpoint {
     /// opened: for a look now and then, and not for each packet. A peer within its credit can't make the rings take more than four
     /// times the widest window of the connection that was set, and 4,096 bytes for each receiving half that keeps bytes still. A sending half that was reset,
     /// or of which all that was written and the end were acknowledged, takes nothing.
+    #[inline]
     pub fn held(&self) -> Held {
         let _granted = self.core.limits.granted;
         Held {
@@ -148,17 +153,20 @@ impl Endpoint {
     }
 
     /// The connection limit granted to the peer (RFC 9000, section 4.1).
+    #[inline]
     pub fn granted(&self) -> u64 {
         self.core.limits.granted
     }
 
     /// How many streams of a direction the peer may open: the grant, and one more for each of its streams that came to its end, up to
     /// the lifetime's count, and no fewer than before (RFC 9000, section 4.6). It takes no memory.
+    #[inline]
     pub fn granted_streams(&self, dir: Dir) -> u64 {
         self.core.limits.granted_streams.of(dir)
     }
 
     /// The sum of the highest offsets of all streams, which the connection limit bounds.
+    #[inline]
     pub fn spent(&self) -> u64 {
         let _granted = self.core.limits.granted;
         self.core.recvs.tally().spent
@@ -166,6 +174,7 @@ impl Endpoint {
 
     /// Writes the payload that tells of this end's own closing: a CONNECTION_CLOSE with an empty reason (RFC 9000, section 10.2).
     /// Answers its length. `None` where this end didn't close, or where it doesn't fit; then nothing is written.
+    #[inline]
     pub fn close_payload(&self, out: &mut [u8]) -> Option<usize> {
         let Some(Closed::ByUs(closing)) = self.closed else {
             return None;
@@ -174,6 +183,7 @@ impl Endpoint {
     }
 
     // Each limit becomes the next one, and each granted count of streams: where nothing moved they are.
+    #[inline]
     fn settle(&mut self) {
         if self.is_settled {
             return;
@@ -210,21 +220,25 @@ impl Endpoint {
     }
 
     // Whether this end opens the stream.
+    #[inline]
     fn is_own(&self, stream: StreamId) -> bool {
         type_of(stream) % 2 == role_bit(self.core.limits.role)
     }
 
     // The window of a receiving half, which is its first limit too.
+    #[inline]
     fn window(&self, stream: StreamId) -> u64 {
         self.core.limits.window(stream)
     }
 
     // How many bytes a sending half keeps at most as it begins.
+    #[inline]
     fn send_buffer(&self) -> u32 {
         self.core.limits.settings.send_buffer as u32
     }
 
     // The limit with which a sending half begins.
+    #[inline]
     fn first_send_limit(&self, stream: StreamId) -> u64 {
         if is_uni(stream) {
             self.peer.uni
@@ -237,6 +251,7 @@ impl Endpoint {
 }
 
 // The bit that names the initiator (RFC 9000, section 2.1).
+#[inline]
 pub(crate) fn role_bit(role: Role) -> usize {
     match role {
         Role::Client => 0,
@@ -245,12 +260,14 @@ pub(crate) fn role_bit(role: Role) -> usize {
 }
 
 // Whether only the initiator sends (RFC 9000, section 2.1).
+#[inline]
 pub(crate) fn is_uni(stream: StreamId) -> bool {
     type_of(stream) >= 2
 }
 
 // How many streams may be opened, where so many came to their end: the grant and as many more of them as make whole steps, and no fewer
 // than were granted (RFC 9000, section 4.6).
+#[inline]
 fn next_count(step: Option<Share>, granted: u64, grant: u64, lifetime: u64, ended: u64) -> u64 {
     let more = match step {
         None => ended,
@@ -260,11 +277,13 @@ fn next_count(step: Option<Share>, granted: u64, grant: u64, lifetime: u64, ende
 }
 
 // As many of so many as make whole steps.
+#[inline]
 fn in_steps(step: u64, count: u64) -> u64 {
     debug_assert!(0 < step);
     count - count % step
 }
 
+#[inline]
 fn put_close(closing: Closing, out: &mut [u8]) -> Option<usize> {
     let frame = Frame::ConnectionClose {
         code: closing.code,

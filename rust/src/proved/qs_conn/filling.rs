@@ -40,6 +40,7 @@ pub(crate) struct Wish {
 
 /// Writes a frame behind the bytes that are there, and answers how many there are then. `None` where it doesn't fit; then nothing is
 /// written.
+#[inline]
 fn put_frame(frame: &Frame<'_>, out: &mut [u8], len: usize) -> Option<usize> {
     debug_assert!(len <= out.len());
     match put(frame, &mut out[len..]) {
@@ -66,6 +67,7 @@ fn put_data(
 }
 
 // The frame that tells an item.
+#[inline]
 fn frame_of(item: &Item) -> Frame<'static> {
     match *item {
         Item::MaxData { maximum } => Frame::MaxData { maximum },
@@ -88,6 +90,7 @@ fn frame_of(item: &Item) -> Frame<'static> {
 }
 
 /// An item goes into the packet, or doesn't fit.
+#[inline]
 pub(crate) fn put_item(outbox: &mut Outbox, item: &Item, out: &mut [u8], packet: Packet) -> Packet {
     match put_frame(&frame_of(item), out, packet.len) {
         Some(len) => {
@@ -105,6 +108,7 @@ pub(crate) fn put_item(outbox: &mut Outbox, item: &Item, out: &mut [u8], packet:
 }
 
 /// A packet that is full, with so many bytes of streams left of the cap.
+#[inline]
 pub(crate) fn full_at(len: usize, quota: usize) -> Course {
     Course {
         len,
@@ -114,6 +118,7 @@ pub(crate) fn full_at(len: usize, quota: usize) -> Course {
 }
 
 /// The first bytes of a chunk that has more.
+#[inline]
 pub(crate) fn cut_to(chunk: Chunk, bytes: usize) -> Chunk {
     Chunk {
         offset: chunk.offset,
@@ -134,6 +139,7 @@ pub(crate) struct Put {
 }
 
 /// Puts a chunk into the packet that is known to fit.
+#[inline]
 pub(crate) fn put_chunk(
     outbox: &mut Outbox,
     stream: StreamId,
@@ -162,6 +168,7 @@ pub(crate) fn put_chunk(
 
 /// Writes an ACK of the kept numbers at the slice's front, which tells a delay, the highest ranges first and as many as fit, and answers
 /// its length.
+#[inline]
 pub(crate) fn put_kept(done: &RangeSet, delay: u64, out: &mut [u8]) -> usize {
     debug_assert!(delay < 1 << 62);
     debug_assert!(26 <= out.len());
@@ -176,6 +183,7 @@ pub(crate) fn put_kept(done: &RangeSet, delay: u64, out: &mut [u8]) -> usize {
 }
 
 /// Begins a packet with an ACK, if one is to go.
+#[inline]
 pub(crate) fn put_ack_if(done: &RangeSet, wish: &Wish, out: &mut [u8]) -> usize {
     if wish.ack_due {
         return put_kept(done, wish.delay, out);

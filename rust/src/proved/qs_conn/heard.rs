@@ -30,6 +30,7 @@ pub struct Heard {
 
 impl Heard {
     /// Nothing was heard, and nothing is waited for.
+    #[inline]
     pub fn new(alloc: Global) -> Heard {
         Heard {
             opened: ByDir::new(0, 0),
@@ -49,6 +50,7 @@ impl Heard {
     /// `NoMemory` where there was no memory to note it; then nothing changed, and it comes again. It takes memory where no mark was made
     /// yet for its stream, or a higher one of its type, among those of its kind: never for `Opened`, `Writable`, `Available` and the kinds
     /// behind it.
+    #[inline]
     pub fn next_news(&mut self, end: &Endpoint) -> Result<Option<News>, NoMemory> {
         let answer = self.first(end);
         self.hear(&answer)?;
@@ -59,6 +61,7 @@ impl Heard {
     ///
     /// `NoMemory` where there was no memory to note it; then nothing changed. It takes memory where no write to this stream, or to a
     /// higher one of its type, was noted before.
+    #[inline]
     pub fn will_write(
         &mut self,
         end: &Endpoint,
@@ -72,11 +75,13 @@ impl Heard {
     }
 
     /// The owner waits to open a stream of a direction: once it may that is news.
+    #[inline]
     pub fn wants(&mut self, dir: Dir) {
         self.wanted.set(dir, true);
     }
 
     /// The owner read the stream, or stopped it: where nothing is left to read it is news once something is.
+    #[inline]
     pub fn was_read(&mut self, end: &Endpoint, stream: StreamId) {
         if !end.is_readable(stream) {
             self.readable.forget(stream);
@@ -89,6 +94,7 @@ impl Heard {
     ///
     /// `NoMemory` where there was no memory to note it; then nothing changed. It takes memory where it names a stream, and no limit of this
     /// stream or of a higher one of its type was noted before.
+    #[inline]
     pub fn was_told(&mut self, end: &Endpoint, frame: &Frame<'_>) -> Result<(), NoMemory> {
         match *frame {
             Frame::DataBlocked { limit } => {
@@ -114,6 +120,7 @@ impl Heard {
     }
 
     // The first piece of news.
+    #[inline]
     fn first(&self, end: &Endpoint) -> Option<News> {
         if let Some(stream) = end.next_opened(self.opened) {
             return Some(News::Opened(stream));
@@ -140,6 +147,7 @@ impl Heard {
     }
 
     // The first of what the peer said.
+    #[inline]
     fn first_blocked(&self, end: &Endpoint) -> Option<News> {
         if end.is_closed() {
             return None;
@@ -157,6 +165,7 @@ impl Heard {
     }
 
     // What is told, if anything, is noted.
+    #[inline]
     fn hear(&mut self, answer: &Option<News>) -> Result<(), NoMemory> {
         match *answer {
             None => {}
@@ -176,6 +185,7 @@ impl Heard {
     }
 
     // The next stream of its direction opened.
+    #[inline]
     fn hear_opened(&mut self, stream: StreamId) {
         let count = index_of(stream) as u64 + 1;
         match stream.dir() {
@@ -186,6 +196,7 @@ impl Heard {
 }
 
 // The news of a sending half that came to its end.
+#[inline]
 fn sent_news(end: &Endpoint, stream: StreamId) -> News {
     if end.was_reset_acked(stream) {
         News::ResetAcked(stream)

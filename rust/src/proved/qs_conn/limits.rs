@@ -33,6 +33,7 @@ pub(crate) struct Limits {
 
 impl Limits {
     /// The item of a slot that is to be told while no packet told it (RFC 9000, sections 4.1, 4.6 and 13.3).
+    #[inline]
     pub(crate) fn current(&self, outbox: &Outbox, recvs: &RecvTables, slot: Slot) -> Option<Item> {
         match slot {
             Slot::MaxData => self.max_data(),
@@ -47,6 +48,7 @@ impl Limits {
     }
 
     /// Whether a look at few numbers tells that of a slot of the connection no item is due.
+    #[inline]
     pub(crate) fn has_told(&self, outbox: &Outbox, own: &OwnCarried, slot: &Slot) -> bool {
         match *slot {
             Slot::MaxData => self.max_data().is_none(),
@@ -68,6 +70,7 @@ impl Limits {
     }
 
     /// Sets the connection's window where so much was taken. A greater one moves the limit at once (RFC 9000, section 4.1).
+    #[inline]
     pub(crate) fn set_conn_window(&mut self, window: u64, taken: u64) {
         debug_assert!(taken <= 0x3fff_ffff_ffff_ffff);
         debug_assert!(window <= 1 << 40);
@@ -79,6 +82,7 @@ impl Limits {
     }
 
     /// Sets a direction's grant where so many of its streams ended. A greater one moves the count at once (RFC 9000, section 4.6).
+    #[inline]
     pub(crate) fn set_grant(&mut self, dir: Dir, streams: u64, ended: u64) {
         match dir {
             Dir::Bidi => {
@@ -105,6 +109,7 @@ impl Limits {
     }
 
     // The connection's limit, once it was raised.
+    #[inline]
     fn max_data(&self) -> Option<Item> {
         if self.granted <= self.settings.conn_window {
             return None;
@@ -115,6 +120,7 @@ impl Limits {
     }
 
     // The count of streams granted, once it was raised.
+    #[inline]
     fn max_streams(&self, dir: Dir) -> Option<Item> {
         let (first, count) = match dir {
             Dir::Bidi => (self.settings.grant_bidi, self.granted_streams.bidi),
@@ -127,6 +133,7 @@ impl Limits {
     }
 
     // A stream's limit, once it was raised, while no final size is known.
+    #[inline]
     fn max_stream_data(&self, recvs: &RecvTables, stream: StreamId) -> Option<Item> {
         match recvs.limit_to_tell(stream) {
             Some(maximum) if self.window(stream) < maximum => {
@@ -137,6 +144,7 @@ impl Limits {
     }
 
     /// The window of a receiving half.
+    #[inline]
     pub(crate) fn window(&self, stream: StreamId) -> u64 {
         if is_uni(stream) {
             self.settings.uni
@@ -148,6 +156,7 @@ impl Limits {
     }
 
     // The connection's limit, where it holds bytes of a stream back.
+    #[inline]
     fn data_blocked(&self, outbox: &Outbox) -> Option<Item> {
         if outbox.sent_sum() == self.known_data && any_wants_more(outbox) {
             Some(Item::DataBlocked {
@@ -159,6 +168,7 @@ impl Limits {
     }
 
     // The count of streams at which `open` was blocked, while it is the peer's.
+    #[inline]
     fn streams_blocked(&self, dir: Dir) -> Option<Item> {
         let count = self.known_streams.of(dir);
         match self.wanted_streams.of(dir) {
@@ -169,6 +179,7 @@ impl Limits {
 }
 
 // The count of streams that a grant leaves where so many ended.
+#[inline]
 fn count_with(present: u64, granted: u64, lifetime: u64, ended: u64, grant: u64) -> u64 {
     if present < grant {
         granted.max(grant.saturating_add(ended).min(lifetime))
@@ -177,6 +188,7 @@ fn count_with(present: u64, granted: u64, lifetime: u64, ended: u64, grant: u64)
     }
 }
 
+#[inline]
 fn reset_stream(outbox: &Outbox, stream: StreamId) -> Option<Item> {
     let reset = outbox.reset_of(stream)?;
     Some(Item::ResetStream {
@@ -186,17 +198,20 @@ fn reset_stream(outbox: &Outbox, stream: StreamId) -> Option<Item> {
     })
 }
 
+#[inline]
 fn stop_sending(recvs: &RecvTables, stream: StreamId) -> Option<Item> {
     let code = recvs.stop_to_tell(stream)?;
     Some(Item::StopSending { stream, code })
 }
 
+#[inline]
 fn stream_data_blocked(outbox: &Outbox, stream: StreamId) -> Option<Item> {
     let limit = outbox.blocked_at(stream)?;
     Some(Item::StreamDataBlocked { stream, limit })
 }
 
 // Whether the connection's credit alone holds bytes of some stream back.
+#[inline]
 fn any_wants_more(outbox: &Outbox) -> bool {
     let mut from = 0;
     while let Some(stream) = outbox.next_marked(Task::Bytes, from) {

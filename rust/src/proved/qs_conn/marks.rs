@@ -20,6 +20,7 @@ pub(crate) struct Marks {
 
 impl Marks {
     /// No index has a mark.
+    #[inline]
     pub(crate) fn new(alloc: Global) -> Self {
         Marks {
             marks: Bits::new(alloc),
@@ -36,26 +37,31 @@ impl Marks {
     }
 
     /// Whether an index is marked.
+    #[inline]
     pub(crate) fn has(&self, index: usize) -> bool {
         self.marks.has(index)
     }
 
     /// How many indexes there are.
+    #[inline]
     pub(crate) fn len(&self) -> usize {
         self.marks.len()
     }
 
     /// Whether each index of a word is marked.
+    #[inline]
     pub(crate) fn is_full(&self, place: usize) -> bool {
         self.marks.is_full(place)
     }
 
     /// The bits of the marks.
+    #[inline]
     pub(crate) fn bits(&self) -> &Bits {
         &self.marks
     }
 
     /// Makes room for all indexes below a count: the new ones aren't marked.
+    #[inline]
     pub(crate) fn open_to(&mut self, count: usize) -> Result<(), NoMemory> {
         if count <= self.marks.len() {
             return Ok(());
@@ -66,6 +72,7 @@ impl Marks {
     }
 
     /// Makes room for all indexes below a count: the new ones are marked.
+    #[inline]
     pub(crate) fn open_marked_to(&mut self, count: usize) -> Result<(), NoMemory> {
         let before = self.len();
         let missing = count.saturating_sub(before);
@@ -77,6 +84,7 @@ impl Marks {
     }
 
     /// Takes the indexes from a count on away.
+    #[inline]
     pub(crate) fn close_to(&mut self, count: usize) {
         self.marks.close_to(count);
     }
@@ -106,6 +114,7 @@ impl Marks {
     }
 
     /// The least marked index from an index on.
+    #[inline]
     pub(crate) fn next(&self, from: usize) -> Option<usize> {
         if self.most == 0 {
             return None;
@@ -114,6 +123,7 @@ impl Marks {
     }
 
     // The same, by a look at each index from that one on.
+    #[inline]
     fn search(&self, from: usize) -> Option<usize> {
         if let Some(index) = self.marks.next_in_word(from) {
             return Some(index);
@@ -131,6 +141,7 @@ impl Marks {
 
 impl Marks {
     /// The least index from one on that is marked here and there.
+    #[inline]
     pub(crate) fn next_both(&self, others: &Marks, from: usize) -> Option<usize> {
         if let Some(index) = self.marks.next_both_in_word(&others.marks, from) {
             return Some(index);
@@ -149,6 +160,7 @@ impl Marks {
 
 impl Marks {
     /// The least index from one on that is marked here and there and wasn't told. Where only these marks count, they are both.
+    #[inline]
     pub(crate) fn next_untold(&self, others: &Marks, told: &ToldMarks, from: usize) -> Option<usize> {
         if self.most == 0 {
             return None;
@@ -158,6 +170,7 @@ impl Marks {
     }
 
     // The same, by a look at each index from that one on.
+    #[inline]
     fn search_untold(&self, others: &Marks, told: &ToldMarks, from: usize) -> Option<usize> {
         let marks = told.bits();
         if let Some(index) = self.marks.next_untold_in_word(&others.marks, marks, from) {
@@ -177,6 +190,7 @@ impl Marks {
 }
 
 // Below which index there is no mark, once one index is marked or its mark is taken away.
+#[inline]
 fn least_after(least: usize, index: usize, is_marked: bool) -> usize {
     if is_marked {
         least.min(index)
@@ -188,6 +202,7 @@ fn least_after(least: usize, index: usize, is_marked: bool) -> usize {
 }
 
 // Whether a word of marks may have one: it has where one was set.
+#[inline]
 fn has_mark(marks: &Bits, word: usize, was_set: bool) -> bool {
     if was_set {
         return true;
@@ -196,6 +211,7 @@ fn has_mark(marks: &Bits, word: usize, was_set: bool) -> bool {
 }
 
 /// The lesser of two numbers, where there are some.
+#[inline]
 pub(crate) fn least(a: Option<u64>, b: Option<u64>) -> Option<u64> {
     match (a, b) {
         (Some(a), Some(b)) => Some(a.min(b)),

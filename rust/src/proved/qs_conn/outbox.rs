@@ -40,6 +40,7 @@ pub(crate) struct Outbox {
 }
 
 impl Outbox {
+    #[inline]
     pub(crate) fn new(alloc: Global) -> Self {
         Outbox {
             types: [
@@ -60,6 +61,7 @@ impl Outbox {
     }
 
     /// Whether the stream has a sending half.
+    #[inline]
     pub(crate) fn is_open(&self, stream: StreamId) -> bool {
         is_open(&self.types, stream)
     }
@@ -75,11 +77,13 @@ impl Outbox {
     }
 
     /// How many streams of the type of this one are open.
+    #[inline]
     pub(crate) fn count(&self, stream: StreamId) -> usize {
         self.count_of(type_of(stream))
     }
 
     /// How many streams of a type are open.
+    #[inline]
     pub(crate) fn count_of(&self, stream_type: usize) -> usize {
         debug_assert!(stream_type < 4);
         let lanes = &self.types[stream_type];
@@ -87,6 +91,7 @@ impl Outbox {
     }
 
     /// Whether a stream's sending half is in Data Recvd or Reset Recvd (RFC 9000, section 3.1).
+    #[inline]
     pub(crate) fn has_ended(&self, stream: StreamId) -> bool {
         let Some(half) = self.half(stream) else {
             return false;
@@ -95,6 +100,7 @@ impl Outbox {
     }
 
     /// How a stream's sending half stands, where it is open.
+    #[inline]
     pub(crate) fn report(&self, stream: StreamId) -> Option<SendReport> {
         let half = self.half(stream)?;
         Some(SendReport {
@@ -107,21 +113,25 @@ impl Outbox {
     }
 
     /// The number of the next packet.
+    #[inline]
     pub(crate) fn next(&self) -> u64 {
         self.next
     }
 
     /// For how many pieces more the packet in the making has room.
+    #[inline]
     pub(crate) fn spare(&self) -> usize {
         self.spare
     }
 
     /// The sum of all sent ends.
+    #[inline]
     pub(crate) fn sent_sum(&self) -> u64 {
         self.sent
     }
 
     /// How many bytes of all streams were written that are still to be sent for the first time. A sum that is no u64 is the greatest one.
+    #[inline]
     pub(crate) fn unsent_sum(&self) -> u64 {
         let bidi = self.types[0].promised() + self.types[1].promised();
         let uni = self.types[2].promised() + self.types[3].promised();
@@ -133,6 +143,7 @@ impl Outbox {
     }
 
     /// How many bytes of all streams are kept until they are acknowledged. A sum that is no u64 is the greatest one.
+    #[inline]
     pub(crate) fn kept_sum(&self) -> u64 {
         let bidi = self.types[0].kept() + self.types[1].kept();
         let uni = self.types[2].kept() + self.types[3].kept();
@@ -144,6 +155,7 @@ impl Outbox {
     }
 
     /// What the buffers of all streams take, in bytes, by a walk over them. A sum that is no u64 is the greatest one.
+    #[inline]
     pub(crate) fn held(&self) -> u64 {
         let bidi = self.types[0].held().saturating_add(self.types[1].held());
         let uni = self.types[2].held().saturating_add(self.types[3].held());
@@ -151,6 +163,7 @@ impl Outbox {
     }
 
     /// Opens a stream and all lower ones of its type.
+    #[inline]
     pub(crate) fn open_to(
         &mut self,
         limit: u64,
@@ -163,30 +176,35 @@ impl Outbox {
     }
 
     /// Takes the memory for the sending halves of a stream and of all lower ones of its type, and opens none.
+    #[inline]
     pub(crate) fn reserve(&mut self, stream: StreamId) -> Result<(), NoMemory> {
         let lanes = &mut self.types[type_of(stream)];
         lanes.reserve_to(index_of(stream) + 1)
     }
 
     /// Takes the streams of the type of this one from a count on away. Nothing of them was sent or is to be sent, and they keep nothing.
+    #[inline]
     pub(crate) fn close_to(&mut self, stream: StreamId, count: usize) {
         let lanes = &mut self.types[type_of(stream)];
         lanes.close_to(count);
     }
 
     /// Accepts bytes at an open stream, as many as there is room for; or changes nothing.
+    #[inline]
     pub(crate) fn write(&mut self, stream: StreamId, bytes: &[u8]) -> Result<usize, SendFault> {
         let lanes = &mut self.types[type_of(stream)];
         lanes.write(index_of(stream), bytes)
     }
 
     /// Asks for the end of an open stream.
+    #[inline]
     pub(crate) fn finish(&mut self, stream: StreamId) -> Result<(), SendFault> {
         let lanes = &mut self.types[type_of(stream)];
         lanes.finish(index_of(stream))
     }
 
     /// Breaks an open stream off.
+    #[inline]
     pub(crate) fn reset(&mut self, stream: StreamId, code: u64) -> Result<(), SendFault> {
         debug_assert!(code <= 0x3fff_ffff_ffff_ffff);
         let lanes = &mut self.types[type_of(stream)];
@@ -194,6 +212,7 @@ impl Outbox {
     }
 
     /// Takes in a STOP_SENDING of an open stream, which the owner answers or not.
+    #[inline]
     pub(crate) fn stopped(&mut self, stream: StreamId, code: u64, owner_answers: bool) {
         debug_assert!(code <= 0x3fff_ffff_ffff_ffff);
         let lanes = &mut self.types[type_of(stream)];
@@ -201,18 +220,21 @@ impl Outbox {
     }
 
     /// The code of the first STOP_SENDING that came of a stream.
+    #[inline]
     pub(crate) fn stop_code(&self, stream: StreamId) -> Option<u64> {
         let half = self.half(stream)?;
         half.stop_code()
     }
 
     /// Sets how many bytes an open stream keeps at most.
+    #[inline]
     pub(crate) fn set_buffer(&mut self, stream: StreamId, size: u32) {
         let lanes = &mut self.types[type_of(stream)];
         lanes.set_buffer(index_of(stream), size);
     }
 
     /// Takes in that the peer allows the offsets of an open stream below a limit.
+    #[inline]
     pub(crate) fn allow(&mut self, stream: StreamId, limit: u64) {
         debug_assert!(limit <= 0x3fff_ffff_ffff_ffff);
         let lanes = &mut self.types[type_of(stream)];

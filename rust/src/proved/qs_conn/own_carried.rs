@@ -16,6 +16,7 @@ pub(crate) struct OwnCarried {
 
 impl OwnCarried {
     /// Nothing is outstanding.
+    #[inline]
     pub(crate) fn new() -> Self {
         OwnCarried {
             values: [None, None, None, None, None, None],
@@ -23,6 +24,7 @@ impl OwnCarried {
     }
 
     /// Whether an item's value is kept. An item of a stream isn't.
+    #[inline]
     pub(crate) fn has(&self, item: &Item) -> bool {
         let place = place_of(item);
         if place >= OWN_ITEMS {
@@ -32,6 +34,7 @@ impl OwnCarried {
     }
 
     /// Whether an acknowledged packet told an item with this value, or one that is outstanding as far as it is kept here.
+    #[inline]
     pub(crate) fn is_told(&self, outbox: &Outbox, item: &Item) -> bool {
         if self.has(item) {
             return true;
@@ -40,6 +43,7 @@ impl OwnCarried {
     }
 
     /// An item went into a packet.
+    #[inline]
     pub(crate) fn insert(&mut self, item: &Item) {
         let place = place_of(item);
         if place < OWN_ITEMS {
@@ -48,6 +52,7 @@ impl OwnCarried {
     }
 
     /// An item left its packet.
+    #[inline]
     pub(crate) fn remove(&mut self, item: &Item) {
         if self.has(item) {
             self.values[place_of(item)] = None;
@@ -56,6 +61,7 @@ impl OwnCarried {
 }
 
 // Where an item's value is kept; an item of a stream has no place.
+#[inline]
 fn place_of(item: &Item) -> usize {
     match *item {
         Item::MaxData { .. } => 0,
@@ -66,6 +72,7 @@ fn place_of(item: &Item) -> usize {
     }
 }
 
+#[inline]
 fn value_of(item: &Item) -> u64 {
     match *item {
         Item::MaxData { maximum } => maximum,
@@ -76,6 +83,7 @@ fn value_of(item: &Item) -> u64 {
     }
 }
 
+#[inline]
 fn number_of(dir: Dir) -> usize {
     match dir {
         Dir::Bidi => 0,

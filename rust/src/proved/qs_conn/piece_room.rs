@@ -18,6 +18,7 @@ pub(crate) struct PieceRoom {
 
 impl PieceRoom {
     /// It takes no memory.
+    #[inline]
     pub(crate) fn new(alloc: Global) -> Self {
         PieceRoom {
             empty: Vec::new(alloc),
@@ -26,6 +27,7 @@ impl PieceRoom {
     }
 
     /// Takes the memory, with some to spare, if it isn't there.
+    #[inline]
     pub(crate) fn prepare(&mut self) -> Result<(), NoMemory> {
         self.empty
             .reserve(self.expected.saturating_add(self.expected / 4))?;
@@ -34,6 +36,7 @@ impl PieceRoom {
 
     /// The pieces of a buffer, in which none is left: in the memory that was taken, so that the buffer serves the next packet, too. Where
     /// there are more of them than that has room for, the buffer itself goes. It takes no memory.
+    #[inline]
     pub(crate) fn hand_over(&mut self, buffer: &mut Vec<Piece>) -> Vec<Piece> {
         let count = buffer.len();
         let alloc = *buffer.allocator();

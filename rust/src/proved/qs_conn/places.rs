@@ -13,6 +13,7 @@ pub(crate) struct Place {
 }
 
 impl Place {
+    #[inline]
     pub(crate) fn of(stream: StreamId) -> Place {
         let number = stream.value();
         Place {
@@ -24,16 +25,19 @@ impl Place {
 }
 
 /// The type of a stream, 0 to 3: its two lowest bits (RFC 9000, section 2.1).
+#[inline]
 pub(crate) fn type_of(stream: StreamId) -> usize {
     (stream.value() % 4) as usize
 }
 
 /// How many streams of its type have a lower number.
+#[inline]
 pub(crate) fn index_of(stream: StreamId) -> usize {
     (stream.value() / 4) as usize
 }
 
 /// The index of the least stream of a type from a number on.
+#[inline]
 pub(crate) fn index_from(stream_type: usize, from: u64) -> usize {
     debug_assert!(stream_type < 4);
     debug_assert!(from <= 1 << 62);
@@ -41,6 +45,7 @@ pub(crate) fn index_from(stream_type: usize, from: u64) -> usize {
 }
 
 /// The lesser of two streams, where there are some.
+#[inline]
 pub(crate) fn lesser(a: Option<StreamId>, b: Option<StreamId>) -> Option<StreamId> {
     match (a, b) {
         (Some(first), Some(second)) if second.value() < first.value() => b,

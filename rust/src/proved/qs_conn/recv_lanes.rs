@@ -27,6 +27,7 @@ pub(crate) struct RecvLanes {
 }
 
 impl RecvLanes {
+    #[inline]
     pub(crate) fn new(alloc: Global) -> Self {
         RecvLanes {
             alloc,
@@ -43,6 +44,7 @@ impl RecvLanes {
     }
 
     /// How many lanes are open.
+    #[inline]
     pub(crate) fn len(&self) -> usize {
         self.halves.len()
     }
@@ -60,12 +62,14 @@ impl RecvLanes {
     }
 
     /// What the rings of all lanes take, in bytes, by a walk over them.
+    #[inline]
     pub(crate) fn held(&self) -> u64 {
         let _stored = self.tally.stored;
         held_of(&self.halves)
     }
 
     /// Whether a reset may be taken at an index, whose lane may have yet to be opened.
+    #[inline]
     pub(crate) fn check_reset(
         &self,
         window: u64,
@@ -82,6 +86,7 @@ impl RecvLanes {
     }
 
     /// Opens the lanes of all indexes below a count.
+    #[inline]
     pub(crate) fn open_to(
         &mut self,
         window: u64,
@@ -112,6 +117,7 @@ impl RecvLanes {
     }
 
     /// Takes the memory for the lanes of all indexes below a count, and opens none.
+    #[inline]
     pub(crate) fn reserve_to(&mut self, count: usize) -> Result<(), NoMemory> {
         let missing = count.saturating_sub(self.halves.len());
         self.halves.reserve(missing)?;
@@ -119,6 +125,7 @@ impl RecvLanes {
     }
 
     /// Takes the lanes from a count on away, which nothing came for.
+    #[inline]
     pub(crate) fn close_to(&mut self, count: usize) {
         self.halves.truncate(count);
         self.touched.close_to(count);
@@ -126,6 +133,7 @@ impl RecvLanes {
     }
 
     /// Takes a frame that passed both checks, at an open lane; or changes nothing.
+    #[inline]
     pub(crate) fn take_stream(
         &mut self,
         index: usize,
@@ -149,6 +157,7 @@ impl RecvLanes {
     }
 
     /// Takes a reset that passed the check, at an open lane.
+    #[inline]
     pub(crate) fn take_reset(&mut self, index: usize, code: u64, size: u64) {
         debug_assert!(size <= 0x3fff_ffff_ffff_ffff);
         let half = &mut self.halves[index];
@@ -160,11 +169,13 @@ impl RecvLanes {
     }
 
     /// Whether a reader of an open lane may be told something. It looks at marks alone.
+    #[inline]
     pub(crate) fn may_tell(&self, index: usize) -> bool {
         self.news.may_tell(index)
     }
 
     /// Reads at an open lane.
+    #[inline]
     pub(crate) fn read(&mut self, index: usize, into: &mut [u8]) -> Read {
         let half = &mut self.halves[index];
         let was = measure(half);
@@ -177,6 +188,7 @@ impl RecvLanes {
     }
 
     /// Takes the bytes that are next at an open lane, as a read of so many does, and copies none.
+    #[inline]
     pub(crate) fn skip(&mut self, index: usize, most: usize) -> Read {
         let half = &mut self.halves[index];
         let was = measure(half);
@@ -189,6 +201,7 @@ impl RecvLanes {
     }
 
     /// Stops an open lane.
+    #[inline]
     pub(crate) fn stop(&mut self, index: usize, code: u64) {
         debug_assert!(code <= 0x3fff_ffff_ffff_ffff);
         let half = &mut self.halves[index];
@@ -201,6 +214,7 @@ impl RecvLanes {
     }
 
     /// Stops an open lane, and tells nothing more of it.
+    #[inline]
     pub(crate) fn stop_and_forget(&mut self, index: usize, code: u64) {
         debug_assert!(code <= 0x3fff_ffff_ffff_ffff);
         let half = &mut self.halves[index];
@@ -213,6 +227,7 @@ impl RecvLanes {
     }
 
     /// Sets the window of an open lane.
+    #[inline]
     pub(crate) fn set_window(&mut self, index: usize, window: u64) {
         debug_assert!(1 <= window);
         debug_assert!(window <= 1 << 30);
@@ -248,11 +263,13 @@ impl RecvLanes {
     }
 
     /// The marks of the lanes that may have come to their end. One without a mark hasn't.
+    #[inline]
     pub(crate) fn ended_marks(&self) -> &Marks {
         self.news.ended()
     }
 
     /// The least index from one on whose lane has an answer for its owner.
+    #[inline]
     pub(crate) fn next_with(&self, task: RecvTask, from: usize) -> Option<usize> {
         self.news.next(task, from)
     }
@@ -273,6 +290,7 @@ impl RecvLanes {
 }
 
 // One lane more.
+#[inline]
 fn open_one(
     halves: &mut Vec<Half>,
     alloc: Global,
@@ -287,6 +305,7 @@ fn open_one(
 }
 
 // What a half adds to the sums.
+#[inline]
 fn measure(half: &Half) -> Tally {
     let sizes = half.sizes();
     Tally {
@@ -298,6 +317,7 @@ fn measure(half: &Half) -> Tally {
 }
 
 // What the rings of some halves take. A sum that is no u64 is the greatest one.
+#[inline]
 fn held_of(halves: &[Half]) -> u64 {
     let mut held: u64 = 0;
     for index in 0..halves.len() {
@@ -308,6 +328,7 @@ fn held_of(halves: &[Half]) -> u64 {
 }
 
 // The sums once a lane's part became another.
+#[inline]
 fn moved(total: Tally, was: Tally, is: Tally) -> Tally {
     Tally {
         spent: total.spent - was.spent + is.spent,
@@ -335,6 +356,7 @@ fn raise_touched(
     }
 }
 
+#[inline]
 fn raise_at(
     halves: &mut Vec<Half>,
     index: usize,

@@ -23,6 +23,7 @@ pub(crate) struct RecvMarks {
 }
 
 impl RecvMarks {
+    #[inline]
     pub(crate) fn new(alloc: Global) -> Self {
         RecvMarks {
             readable: Marks::new(alloc),
@@ -31,6 +32,7 @@ impl RecvMarks {
     }
 
     /// Makes room for all indexes below a count: the new ones have no mark.
+    #[inline]
     pub(crate) fn open_to(&mut self, count: usize) -> Result<(), NoMemory> {
         let readable = self.readable.len();
         self.readable.open_to(count)?;
@@ -42,12 +44,14 @@ impl RecvMarks {
     }
 
     /// Takes the indexes from a count on away.
+    #[inline]
     pub(crate) fn close_to(&mut self, count: usize) {
         self.readable.close_to(count);
         self.ended.close_to(count);
     }
 
     /// Looks again at a half that changed.
+    #[inline]
     pub(crate) fn look(&mut self, index: usize, half: &RecvHalf<RingAssembly>) {
         let standing = half.standing();
         self.readable.set(index, standing.is_readable);
@@ -55,11 +59,13 @@ impl RecvMarks {
     }
 
     /// Whether a half may have an answer of any kind.
+    #[inline]
     pub(crate) fn may_tell(&self, index: usize) -> bool {
         self.readable.has(index) || self.ended.has(index)
     }
 
     /// The marks of those that came to their end.
+    #[inline]
     pub(crate) fn ended(&self) -> &Marks {
         &self.ended
     }
@@ -74,6 +80,7 @@ impl RecvMarks {
     }
 
     /// The least marked index from one on.
+    #[inline]
     pub(crate) fn next(&self, task: RecvTask, from: usize) -> Option<usize> {
         match task {
             RecvTask::Readable => self.readable.next(from),
@@ -82,6 +89,7 @@ impl RecvMarks {
     }
 
     /// The least marked index from one on that wasn't told.
+    #[inline]
     pub(crate) fn next_untold(&self, task: RecvTask, told: &ToldMarks, from: usize) -> Option<usize> {
         match task {
             RecvTask::Readable => self.readable.next_untold(&self.readable, told, from),

@@ -21,6 +21,7 @@ pub(crate) struct RecvTables {
 }
 
 impl RecvTables {
+    #[inline]
     pub(crate) fn new(alloc: Global) -> Self {
         RecvTables {
             types: [
@@ -33,18 +34,21 @@ impl RecvTables {
     }
 
     /// Whether the stream has a receiving half.
+    #[inline]
     pub(crate) fn is_open(&self, stream: StreamId) -> bool {
         let lanes = &self.types[type_of(stream)];
         index_of(stream) < lanes.len()
     }
 
     /// The receiving half of a stream, where it is open.
+    #[inline]
     pub(crate) fn half(&self, stream: Place) -> Option<&Half> {
         let lanes = &self.types[stream.stream_type];
         lanes.half(stream.index)
     }
 
     /// Whether a reset may be taken, at a stream that may have yet to be opened with that window.
+    #[inline]
     pub(crate) fn check_reset(
         &self,
         window: u64,
@@ -59,6 +63,7 @@ impl RecvTables {
     }
 
     /// Whether a frame that passed both checks would change an open stream.
+    #[inline]
     pub(crate) fn stream_changes(&self, stream: StreamId, offset: u64, len: u64, fin: bool) -> bool {
         let Some(half) = self.half(Place::of(stream)) else {
             return false;
@@ -67,6 +72,7 @@ impl RecvTables {
     }
 
     /// Whether a reset that passed the check would change an open stream.
+    #[inline]
     pub(crate) fn reset_changes(&self, stream: StreamId) -> bool {
         let Some(half) = self.half(Place::of(stream)) else {
             return false;
@@ -75,11 +81,13 @@ impl RecvTables {
     }
 
     /// How many streams of the type of this one are open.
+    #[inline]
     pub(crate) fn count(&self, stream: StreamId) -> usize {
         self.count_of(type_of(stream))
     }
 
     /// How many streams of a type are open.
+    #[inline]
     pub(crate) fn count_of(&self, stream_type: usize) -> usize {
         debug_assert!(stream_type < 4);
         let lanes = &self.types[stream_type];
@@ -87,18 +95,21 @@ impl RecvTables {
     }
 
     /// Takes the memory for a stream and all lower ones of its type, and opens none.
+    #[inline]
     pub(crate) fn reserve(&mut self, stream: StreamId) -> Result<(), NoMemory> {
         let lanes = &mut self.types[type_of(stream)];
         lanes.reserve_to(index_of(stream) + 1)
     }
 
     /// Takes the streams of the type of this one from a count on away, which nothing came for.
+    #[inline]
     pub(crate) fn close_to(&mut self, stream: StreamId, count: usize) {
         let lanes = &mut self.types[type_of(stream)];
         lanes.close_to(count);
     }
 
     /// Opens a stream and all lower ones of its type.
+    #[inline]
     pub(crate) fn open_to(
         &mut self,
         window: u64,
@@ -112,6 +123,7 @@ impl RecvTables {
     }
 
     /// Takes a frame that passed both checks, at an open stream; or changes nothing.
+    #[inline]
     pub(crate) fn take_stream(
         &mut self,
         stream: Place,
@@ -124,6 +136,7 @@ impl RecvTables {
     }
 
     /// Takes a reset that passed the check, at an open stream.
+    #[inline]
     pub(crate) fn take_reset(&mut self, stream: StreamId, code: u64, size: u64) {
         debug_assert!(size <= 0x3fff_ffff_ffff_ffff);
         let lanes = &mut self.types[type_of(stream)];
@@ -131,12 +144,14 @@ impl RecvTables {
     }
 
     /// Whether a reader of an open stream may be told something. It looks at marks alone.
+    #[inline]
     pub(crate) fn may_tell(&self, stream: StreamId) -> bool {
         let lanes = &self.types[type_of(stream)];
         lanes.may_tell(index_of(stream))
     }
 
     /// Whether a read of one byte of a stream tells something new.
+    #[inline]
     pub(crate) fn is_readable(&self, stream: StreamId) -> bool {
         match self.half(Place::of(stream)) {
             Some(half) => half.is_readable(),
@@ -145,24 +160,28 @@ impl RecvTables {
     }
 
     /// Reads at an open stream.
+    #[inline]
     pub(crate) fn read(&mut self, stream: StreamId, into: &mut [u8]) -> Read {
         let lanes = &mut self.types[type_of(stream)];
         lanes.read(index_of(stream), into)
     }
 
     /// Takes the bytes that are next at an open stream, as a read of so many does, and copies none.
+    #[inline]
     pub(crate) fn skip(&mut self, stream: StreamId, most: usize) -> Read {
         let lanes = &mut self.types[type_of(stream)];
         lanes.skip(index_of(stream), most)
     }
 
     /// Tells what a read at an open stream would, and changes nothing.
+    #[inline]
     pub(crate) fn peek(&self, stream: StreamId) -> Peek<'_> {
         let half = self.half(Place::of(stream)).unwrap();
         half.peek()
     }
 
     /// Stops an open stream.
+    #[inline]
     pub(crate) fn stop(&mut self, stream: StreamId, code: u64) {
         debug_assert!(code <= 0x3fff_ffff_ffff_ffff);
         let lanes = &mut self.types[type_of(stream)];
@@ -170,6 +189,7 @@ impl RecvTables {
     }
 
     /// Stops an open stream, and tells nothing more of it.
+    #[inline]
     pub(crate) fn stop_and_forget(&mut self, stream: StreamId, code: u64) {
         debug_assert!(code <= 0x3fff_ffff_ffff_ffff);
         let lanes = &mut self.types[type_of(stream)];
@@ -177,6 +197,7 @@ impl RecvTables {
     }
 
     /// Sets the window of an open stream.
+    #[inline]
     pub(crate) fn set_window(&mut self, stream: StreamId, window: u64) {
         debug_assert!(1 <= window);
         debug_assert!(window <= 1 << 30);
@@ -185,6 +206,7 @@ impl RecvTables {
     }
 
     /// Whether a stream's receiving half is in Data Read or Reset Read (RFC 9000, section 3.2).
+    #[inline]
     pub(crate) fn has_ended(&self, stream: StreamId) -> bool {
         match self.half(Place::of(stream)) {
             Some(half) => half.has_ended(),
@@ -193,6 +215,7 @@ impl RecvTables {
     }
 
     /// How a stream stands, where it is open.
+    #[inline]
     pub(crate) fn report(&self, stream: StreamId) -> Option<RecvReport> {
         let half = self.half(Place::of(stream))?;
         Some(RecvReport {
@@ -207,18 +230,21 @@ impl RecvTables {
     }
 
     /// How many bytes of a stream count as taken, where it is open.
+    #[inline]
     pub(crate) fn taken(&self, stream: StreamId) -> Option<u64> {
         let half = self.half(Place::of(stream))?;
         Some(half.sizes().taken)
     }
 
     /// The limit of an open stream.
+    #[inline]
     pub(crate) fn limit_of(&self, stream: StreamId) -> Option<u64> {
         let half = self.half(Place::of(stream))?;
         Some(half.limit())
     }
 
     /// The limit of an open stream of which no final size is known.
+    #[inline]
     pub(crate) fn limit_to_tell(&self, stream: StreamId) -> Option<u64> {
         let half = self.half(Place::of(stream))?;
         match half.final_size() {
@@ -228,6 +254,7 @@ impl RecvTables {
     }
 
     /// The code of a stop that the peer is to be told of.
+    #[inline]
     pub(crate) fn stop_to_tell(&self, stream: StreamId) -> Option<u64> {
         let half = self.half(Place::of(stream))?;
         match half.state() {
@@ -237,6 +264,7 @@ impl RecvTables {
     }
 
     /// The least number from one on of a stream whose receiving half has an answer for its owner.
+    #[inline]
     pub(crate) fn next_with(&self, task: RecvTask, from: u64) -> Option<StreamId> {
         debug_assert!(from <= 1 << 62);
         least_stream(
@@ -248,6 +276,7 @@ impl RecvTables {
     }
 
     // The least such number among the streams of a type.
+    #[inline]
     fn next_with_of(&self, task: RecvTask, stream_type: usize, from: u64) -> Option<u64> {
         debug_assert!(stream_type < 4);
         debug_assert!(from <= 1 << 62);
@@ -284,6 +313,7 @@ impl RecvTables {
     }
 
     /// The marks of the streams of a type, by index, whose receiving half may have come to its end. One without a mark hasn't.
+    #[inline]
     pub(crate) fn ended_marks(&self, stream_type: usize) -> &Marks {
         debug_assert!(stream_type < 4);
         let lanes = &self.types[stream_type];
@@ -291,6 +321,7 @@ impl RecvTables {
     }
 
     /// The sums over all streams.
+    #[inline]
     pub(crate) fn tally(&self) -> Tally {
         sum(
             self.types[0].tally(),
@@ -301,6 +332,7 @@ impl RecvTables {
     }
 
     /// What the rings of all streams take, in bytes, by a walk over them.
+    #[inline]
     pub(crate) fn held(&self) -> u64 {
         let _tally = self.tally();
         let bidi = self.types[0].held().saturating_add(self.types[1].held());
@@ -310,6 +342,7 @@ impl RecvTables {
 
     /// Each limit becomes the next one, and a stream whose limit rises is marked: the new one is untold, and none that is outstanding is
     /// the present one.
+    #[inline]
     pub(crate) fn raise_all(&mut self, untold: &mut Untold, carried: &mut Untold) {
         self.types[0].raise_all(0, untold, carried);
         self.types[1].raise_all(1, untold, carried);
@@ -318,6 +351,7 @@ impl RecvTables {
     }
 }
 
+#[inline]
 fn sum(a: Tally, b: Tally, c: Tally, d: Tally) -> Tally {
     Tally {
         spent: a.spent + b.spent + c.spent + d.spent,

@@ -86,6 +86,7 @@ pub(crate) fn seen<'a>(frame: &Frame<'a>) -> SeenFrame<'a> {
 }
 
 // Whether a frame asks for an ACK (RFC 9000, section 13.2).
+#[inline]
 pub(crate) fn asks_ack(seen: &SeenFrame<'_>) -> bool {
     match *seen {
         Ack { .. } | Close(_) => false,
@@ -95,6 +96,7 @@ pub(crate) fn asks_ack(seen: &SeenFrame<'_>) -> bool {
 }
 
 /// Whether a frame is of streams or of flow control, which an end takes in without its packet.
+#[inline]
 pub(crate) fn is_ours(frame: &Frame<'_>) -> bool {
     matches!(
         *frame,
@@ -111,6 +113,7 @@ pub(crate) fn is_ours(frame: &Frame<'_>) -> bool {
 }
 
 /// Whether a frame of those kinds has a text: whether its numbers have a spelling (RFC 9000, sections 16, 19.8, 19.11 and 19.14).
+#[inline]
 pub(crate) fn has_text(frame: &Frame<'_>) -> bool {
     match *frame {
         Frame::ResetStream {
@@ -145,6 +148,7 @@ pub(crate) fn has_text(frame: &Frame<'_>) -> bool {
 
 /// The number of the type that the canonical text of a frame of those kinds has: a STREAM frame with its length, and with an offset
 /// above 0 (RFC 9000, section 12.4).
+#[inline]
 pub(crate) fn type_number(frame: &Frame<'_>) -> u64 {
     match *frame {
         Frame::ResetStream { .. } => 0x04,

@@ -34,6 +34,7 @@ pub(crate) struct SendLanes {
 
 impl SendLanes {
     /// None yet, of a type of streams.
+    #[inline]
     pub(crate) fn new(alloc: Global, stream_type: u64) -> Self {
         debug_assert!(stream_type < 4);
         SendLanes {
@@ -52,6 +53,7 @@ impl SendLanes {
     }
 
     /// What the buffers of all halves take, in bytes, by a walk over them. A sum that is no u64 is the greatest one.
+    #[inline]
     pub(crate) fn held(&self) -> u64 {
         let mut held: u64 = 0;
         for index in 0..self.halves.len() {
@@ -62,11 +64,13 @@ impl SendLanes {
     }
 
     /// How many bytes of all halves were sent or are still to be sent for the first time.
+    #[inline]
     pub(crate) fn promised(&self) -> u128 {
         self.promised
     }
 
     /// How many bytes of all halves are kept until they are acknowledged.
+    #[inline]
     pub(crate) fn kept(&self) -> u128 {
         self.kept
     }
@@ -78,6 +82,7 @@ impl SendLanes {
     }
 
     /// Opens the halves of all indexes below a count, in streams of that type.
+    #[inline]
     pub(crate) fn open_to(
         &mut self,
         stream_type: u64,
@@ -107,18 +112,21 @@ impl SendLanes {
     }
 
     /// Takes the memory for the lanes of all indexes below a count, and opens none.
+    #[inline]
     pub(crate) fn reserve_to(&mut self, count: usize) -> Result<(), NoMemory> {
         let missing = count.saturating_sub(self.halves.len());
         self.halves.reserve(missing)
     }
 
     /// Takes the halves from a count on away. Nothing of them was sent or is to be sent, and they keep nothing.
+    #[inline]
     pub(crate) fn close_to(&mut self, count: usize) {
         self.halves.truncate(count);
         self.marks.close_to(count);
     }
 
     /// Accepts bytes at an open half, as many as there is room for; or changes nothing.
+    #[inline]
     pub(crate) fn write(&mut self, index: usize, bytes: &[u8]) -> Result<usize, SendFault> {
         // Of a half without room no more than the refusal is looked at.
         if !self.marks.may_write(index) {
@@ -136,6 +144,7 @@ impl SendLanes {
     }
 
     /// Asks for the end of an open half.
+    #[inline]
     pub(crate) fn finish(&mut self, index: usize) -> Result<(), SendFault> {
         let Some(half) = self.halves.full_mut(index) else {
             return Err(SendFault::Finished);
@@ -146,6 +155,7 @@ impl SendLanes {
     }
 
     /// Breaks an open half off.
+    #[inline]
     pub(crate) fn reset(&mut self, index: usize, code: u64) -> Result<(), SendFault> {
         debug_assert!(code <= 0x3fff_ffff_ffff_ffff);
         let Some(half) = self.halves.full_mut(index) else {
@@ -161,6 +171,7 @@ impl SendLanes {
     }
 
     /// Takes in a STOP_SENDING of an open half, which the owner answers or not.
+    #[inline]
     pub(crate) fn stopped(&mut self, index: usize, code: u64, owner_answers: bool) {
         debug_assert!(code <= 0x3fff_ffff_ffff_ffff);
         let Some(half) = self.halves.full_mut(index) else {
@@ -175,6 +186,7 @@ impl SendLanes {
     }
 
     /// Takes in that the peer allows the offsets of an open half below a limit.
+    #[inline]
     pub(crate) fn allow(&mut self, index: usize, limit: u64) {
         debug_assert!(limit <= 0x3fff_ffff_ffff_ffff);
         self.halves.allow(index, limit);
@@ -185,6 +197,7 @@ impl SendLanes {
     }
 
     /// Sets how many bytes an open half keeps at most.
+    #[inline]
     pub(crate) fn set_buffer(&mut self, index: usize, size: u32) {
         self.halves.set_buffer(index, size);
         let Some(half) = self.halves.full(index) else {
@@ -194,6 +207,7 @@ impl SendLanes {
     }
 
     /// Takes in that a STREAM_DATA_BLOCKED was sent.
+    #[inline]
     pub(crate) fn note_blocked(&mut self, index: usize) {
         self.halves.note_blocked(index);
         let Some(half) = self.halves.full(index) else {
@@ -203,6 +217,7 @@ impl SendLanes {
     }
 
     /// Takes in that the RESET_STREAM is acknowledged.
+    #[inline]
     pub(crate) fn reset_acked(&mut self, index: usize) {
         let Some(half) = self.halves.full_mut(index) else {
             return;
@@ -212,6 +227,7 @@ impl SendLanes {
     }
 
     /// Takes in that a chunk was sent.
+    #[inline]
     pub(crate) fn sent(&mut self, index: usize, chunk: Chunk) -> Sent {
         let Some(half) = self.halves.full_mut(index) else {
             return Sent {
@@ -232,6 +248,7 @@ impl SendLanes {
     }
 
     /// Takes in that a chunk is acknowledged, or changes nothing.
+    #[inline]
     pub(crate) fn acked(&mut self, index: usize, chunk: Chunk) -> Result<(), NoMemory> {
         let Some(half) = self.halves.full_mut(index) else {
             return Ok(());
@@ -250,6 +267,7 @@ impl SendLanes {
     }
 
     /// Takes in that a chunk is lost, or changes nothing.
+    #[inline]
     pub(crate) fn lost(&mut self, index: usize, chunk: Chunk) -> Result<(), NoMemory> {
         let Some(half) = self.halves.full_mut(index) else {
             return Ok(());
@@ -266,6 +284,7 @@ impl SendLanes {
     }
 
     /// The least index from one on whose half may have a task. The halves between are quiet of it.
+    #[inline]
     pub(crate) fn next_marked(&self, task: Task, from: usize) -> Option<usize> {
         if from >= self.halves.len() {
             return None;
@@ -274,11 +293,13 @@ impl SendLanes {
     }
 
     /// The marks of the halves that may have come to their end. One without a mark hasn't.
+    #[inline]
     pub(crate) fn ended_marks(&self) -> &Marks {
         self.marks.ended()
     }
 
     /// The least index from one on whose half has something of a task.
+    #[inline]
     pub(crate) fn next_with(&self, task: Task, from: usize) -> Option<usize> {
         let mut next = from;
         while let Some(index) = self.marks.next(task, next) {
@@ -305,6 +326,7 @@ impl SendLanes {
 }
 
 // How many bytes of a half were sent or are still to be sent for the first time.
+#[inline]
 fn promised(half: &SendHalf) -> u128 {
     if let Some(_code) = half.reset_code() {
         return half.sent_end() as u128;
@@ -313,11 +335,13 @@ fn promised(half: &SendHalf) -> u128 {
 }
 
 // How many bytes of a half are kept until they are acknowledged.
+#[inline]
 fn kept(half: &SendHalf) -> u128 {
     half.kept_len() as u128
 }
 
 // A STOP_SENDING breaks a half off, or its owner answers it.
+#[inline]
 fn take_stop(half: &mut SendHalf, code: u64, owner_answers: bool) {
     debug_assert!(code <= 0x3fff_ffff_ffff_ffff);
     if owner_answers {
@@ -328,6 +352,7 @@ fn take_stop(half: &mut SendHalf, code: u64, owner_answers: bool) {
 }
 
 // A write to a half that has no room: no byte is accepted.
+#[inline]
 fn write_none(half: &SendView<'_>) -> Result<usize, SendFault> {
     match half.refusal() {
         Some(fault) => Err(fault),

@@ -39,6 +39,7 @@ pub(crate) struct SendMarks {
 }
 
 impl SendMarks {
+    #[inline]
     pub(crate) fn new(alloc: Global) -> Self {
         SendMarks {
             bytes: Marks::new(alloc),
@@ -50,6 +51,7 @@ impl SendMarks {
     }
 
     /// Makes room for all indexes below a count: the new ones have no mark but that they may be written to.
+    #[inline]
     pub(crate) fn open_to(&mut self, count: usize) -> Result<(), NoMemory> {
         let (bytes, again) = (self.bytes.len(), self.again.len());
         let (writable, ended) = (self.writable.len(), self.ended.len());
@@ -80,6 +82,7 @@ impl SendMarks {
     }
 
     /// Takes the indexes from a count on away.
+    #[inline]
     pub(crate) fn close_to(&mut self, count: usize) {
         self.bytes.close_to(count);
         self.again.close_to(count);
@@ -89,6 +92,7 @@ impl SendMarks {
     }
 
     /// Looks again at a half that changed, but by no STOP_SENDING.
+    #[inline]
     pub(crate) fn look(&mut self, index: usize, half: &SendHalf) {
         self.bytes.set(index, may_send(half));
         self.again.set(index, may_send_again(half));
@@ -97,12 +101,14 @@ impl SendMarks {
     }
 
     /// Looks again at a half of which a STOP_SENDING came.
+    #[inline]
     pub(crate) fn look_stopped(&mut self, index: usize, half: &SendHalf) {
         self.stopped.set(index, half.stop_code().is_some());
         self.look(index, half);
     }
 
     /// Looks again at a half that was given bytes: that moves neither what was sent before nor its end.
+    #[inline]
     pub(crate) fn look_written(&mut self, index: usize, half: &SendHalf) {
         self.bytes.set(index, may_send(half));
         self.writable.set(index, half.is_writable());
@@ -110,6 +116,7 @@ impl SendMarks {
 
     /// Looks again at a half of which a chunk was sent, and answers whether nothing more may go: that moves neither its room nor its end, and
     /// leaves no more to send again.
+    #[inline]
     pub(crate) fn look_sent(&mut self, index: usize, half: &SendHalf) -> bool {
         let goes_on = may_send(half);
         self.bytes.set(index, goes_on);
@@ -118,6 +125,7 @@ impl SendMarks {
     }
 
     /// Looks again at a half of which a chunk was acknowledged: that leaves no more to send again.
+    #[inline]
     pub(crate) fn look_acked(&mut self, index: usize, half: &SendHalf) {
         self.bytes.set(index, may_send(half));
         look_again(&mut self.again, index, half);
@@ -126,6 +134,7 @@ impl SendMarks {
     }
 
     /// Whether a half may have room for its owner to write.
+    #[inline]
     pub(crate) fn may_write(&self, index: usize) -> bool {
         self.writable.has(index)
     }
@@ -137,6 +146,7 @@ impl SendMarks {
     }
 
     /// The marks of those that came to their end.
+    #[inline]
     pub(crate) fn ended(&self) -> &Marks {
         &self.ended
     }
@@ -148,6 +158,7 @@ impl SendMarks {
     }
 
     /// The least marked index from one on that is sought.
+    #[inline]
     pub(crate) fn next_sought(&self, search: Search, told: &ToldMarks, from: usize) -> Option<usize> {
         let marks = self.of(search.task);
         if !search.is_told {
@@ -185,6 +196,7 @@ fn look_again(again: &mut Marks, index: usize, half: &SendHalf) {
 }
 
 /// Whether a half has something of a task. One that is over has its end alone.
+#[inline]
 pub(crate) fn has(task: Task, half: &SendView<'_>) -> bool {
     match half.not_over() {
         Some(half) => full_has(task, half),
@@ -193,6 +205,7 @@ pub(crate) fn has(task: Task, half: &SendView<'_>) -> bool {
 }
 
 // Whether a half that isn't over has something of a task.
+#[inline]
 fn full_has(task: Task, half: &SendHalf) -> bool {
     match task {
         Task::Bytes => may_send(half),
@@ -204,6 +217,7 @@ fn full_has(task: Task, half: &SendHalf) -> bool {
 }
 
 // Whether bytes or the end may go: a byte below the limit is due, or the end is and every byte was sent.
+#[inline]
 fn may_send(half: &SendHalf) -> bool {
     // Bytes that were never sent come first: they need no search of what was sent and what of it is acknowledged.
     if half.reset_code().is_none() && half.sent_end() < half.written().min(half.limit()) {
@@ -216,6 +230,7 @@ fn may_send(half: &SendHalf) -> bool {
 }
 
 // Whether bytes that were sent before may go, or the end.
+#[inline]
 fn may_send_again(half: &SendHalf) -> bool {
     if half.end_due() && half.sent_end() == half.written() {
         return true;
@@ -224,6 +239,7 @@ fn may_send_again(half: &SendHalf) -> bool {
 }
 
 // Whether all that was sent is acknowledged, the end too, or the reset is (RFC 9000, section 3.1).
+#[inline]
 fn has_ended(half: &SendHalf) -> bool {
     matches!(half.state(), SendState::DataRecvd | SendState::ResetRecvd)
 }

@@ -27,6 +27,7 @@ pub(crate) enum Kind {
 
 impl Kind {
     /// The slot of a stream.
+    #[inline]
     pub(crate) fn at(self, stream: StreamId) -> Slot {
         match self {
             Kind::ResetStream => Slot::ResetStream(stream),

@@ -12,6 +12,7 @@ pub(crate) struct StreamValues {
 }
 
 impl StreamValues {
+    #[inline]
     pub(crate) fn new(alloc: Global) -> Self {
         StreamValues {
             values: BTreeMap::new(alloc),
@@ -19,6 +20,7 @@ impl StreamValues {
     }
 
     /// Keeps the value, where it is greater than the one known.
+    #[inline]
     pub(crate) fn raise(&mut self, stream: StreamId, value: u64) -> Result<(), NoMemory> {
         let number = stream.value();
         let known = self.values.get(&number).copied().unwrap_or(0);
@@ -27,6 +29,7 @@ impl StreamValues {
     }
 
     /// Whether this is the greatest value of the stream.
+    #[inline]
     pub(crate) fn is_greatest(&self, stream: StreamId, value: u64) -> bool {
         self.values.get(&stream.value()).copied() == Some(value)
     }

@@ -21,6 +21,7 @@ pub(crate) struct ToldItems {
 
 impl ToldItems {
     /// Nothing was acknowledged. It takes no memory.
+    #[inline]
     pub(crate) fn new(alloc: Global) -> Self {
         ToldItems {
             max_data: None,
@@ -34,6 +35,7 @@ impl ToldItems {
     }
 
     /// A packet that told the item was acknowledged.
+    #[inline]
     pub(crate) fn note(&mut self, item: Item) -> Result<(), NoMemory> {
         match item {
             Item::MaxData { maximum } => {
@@ -64,6 +66,7 @@ impl ToldItems {
     }
 
     /// Whether a packet that told the item with this value was acknowledged, of any item but a reset.
+    #[inline]
     pub(crate) fn is_acked(&self, item: Item) -> bool {
         match item {
             Item::MaxData { maximum } => self.max_data == Some(maximum),
@@ -83,6 +86,7 @@ impl ToldItems {
 }
 
 // The value, or the one known where that is greater.
+#[inline]
 fn greatest(known: Option<u64>, value: u64) -> Option<u64> {
     match known {
         Some(before) => Some(before.max(value)),
@@ -91,6 +95,7 @@ fn greatest(known: Option<u64>, value: u64) -> Option<u64> {
 }
 
 // Adds the stream's number.
+#[inline]
 fn add(streams: &mut RangeSet, stream: StreamId) -> Result<(), NoMemory> {
     let number = stream.value();
     streams.insert(number, number + 1)

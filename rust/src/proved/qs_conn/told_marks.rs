@@ -18,6 +18,7 @@ pub(crate) struct ToldMarks {
 
 impl ToldMarks {
     /// Nothing was told.
+    #[inline]
     pub(crate) fn new(alloc: Global) -> Self {
         ToldMarks {
             marks: Marks::new(alloc),
@@ -27,11 +28,13 @@ impl ToldMarks {
     }
 
     /// How many indexes there are.
+    #[inline]
     pub(crate) fn len(&self) -> usize {
         self.marks.len()
     }
 
     /// Whether an index was told: one past the last wasn't.
+    #[inline]
     pub(crate) fn has(&self, index: usize) -> bool {
         if index >= self.marks.len() {
             return false;
@@ -40,6 +43,7 @@ impl ToldMarks {
     }
 
     /// Makes room for all indexes below a count: the new ones weren't told. It takes memory where one is new.
+    #[inline]
     pub(crate) fn open_to(&mut self, count: usize) -> Result<(), NoMemory> {
         if count <= self.marks.len() {
             return Ok(());
@@ -50,6 +54,7 @@ impl ToldMarks {
     }
 
     /// An index was told, or may be told again.
+    #[inline]
     pub(crate) fn set(&mut self, index: usize, is_marked: bool) {
         // Most stay as they are.
         if self.marks.has(index) == is_marked {
@@ -69,6 +74,7 @@ impl ToldMarks {
     }
 
     /// An index was told: all up to it get room. It takes memory where it is past the last.
+    #[inline]
     pub(crate) fn tell(&mut self, index: usize) -> Result<(), NoMemory> {
         debug_assert!(index < 1 << 60);
         self.open_to(index + 1)?;
@@ -77,6 +83,7 @@ impl ToldMarks {
     }
 
     /// An index may be told again.
+    #[inline]
     pub(crate) fn forget(&mut self, index: usize) {
         if index < self.len() {
             self.set(index, false);
@@ -84,27 +91,32 @@ impl ToldMarks {
     }
 
     /// The marks.
+    #[inline]
     pub(crate) fn marks(&self) -> &Marks {
         &self.marks
     }
 
     /// Their bits.
+    #[inline]
     pub(crate) fn bits(&self) -> &Bits {
         self.marks.bits()
     }
 
     /// The words that were told whole.
+    #[inline]
     pub(crate) fn full(&self) -> &Bits {
         &self.full
     }
 
     /// Each index below it was told.
+    #[inline]
     pub(crate) fn first(&self) -> usize {
         self.first
     }
 }
 
 // Below which index all were told, once an index was told or may be told again. Words become full in their order, mostly.
+#[inline]
 fn first_after(first: usize, index: usize, is_full: bool) -> usize {
     if !is_full {
         return first.min(index);

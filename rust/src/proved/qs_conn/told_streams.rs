@@ -15,6 +15,7 @@ pub(crate) struct ToldStreams {
 
 impl ToldStreams {
     /// No stream was told.
+    #[inline]
     pub(crate) fn new(alloc: Global) -> Self {
         ToldStreams {
             types: [
@@ -27,18 +28,21 @@ impl ToldStreams {
     }
 
     /// Whether a stream was told.
+    #[inline]
     pub(crate) fn has(&self, stream: StreamId) -> bool {
         let marks = &self.types[type_of(stream)];
         marks.has(index_of(stream))
     }
 
     /// A stream was told. It takes memory where it is the highest of its type so far.
+    #[inline]
     pub(crate) fn tell(&mut self, stream: StreamId) -> Result<(), NoMemory> {
         let marks = &mut self.types[type_of(stream)];
         marks.tell(index_of(stream))
     }
 
     /// A stream may be told again.
+    #[inline]
     pub(crate) fn forget(&mut self, stream: StreamId) {
         let marks = &mut self.types[type_of(stream)];
         marks.forget(index_of(stream));
@@ -60,6 +64,7 @@ impl ToldStreams {
     }
 
     /// The marks of the streams of a type, by index.
+    #[inline]
     pub(crate) fn of_type(&self, stream_type: usize) -> &ToldMarks {
         debug_assert!(stream_type < 4);
         &self.types[stream_type]

@@ -22,6 +22,7 @@ pub(crate) struct Touches {
 
 impl Touches {
     /// No lane was touched.
+    #[inline]
     pub(crate) fn new(alloc: Global) -> Self {
         Touches {
             lanes: Touched::Nothing,
@@ -30,16 +31,19 @@ impl Touches {
     }
 
     /// Makes room for all indexes below a count: the new ones weren't touched.
+    #[inline]
     pub(crate) fn open_to(&mut self, count: usize) -> Result<(), NoMemory> {
         self.marks.open_to(count)
     }
 
     /// Takes the indexes from a count on away.
+    #[inline]
     pub(crate) fn close_to(&mut self, count: usize) {
         self.marks.close_to(count);
     }
 
     /// Whether no lane was touched.
+    #[inline]
     pub(crate) fn is_none(&self) -> bool {
         matches!(self.lanes, Touched::Nothing)
     }
@@ -75,6 +79,7 @@ impl Touches {
     }
 
     // The least of several.
+    #[inline]
     fn pop_marked(&mut self) -> Option<usize> {
         match self.marks.next(0) {
             Some(index) => {

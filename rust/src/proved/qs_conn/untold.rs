@@ -15,17 +15,20 @@ struct UntoldLanes {
 }
 
 impl UntoldLanes {
+    #[inline]
     fn new(alloc: Global) -> Self {
         UntoldLanes {
             marks: Marks::new(alloc),
         }
     }
 
+    #[inline]
     fn open_to(&mut self, count: usize) -> Result<(), NoMemory> {
         debug_assert!(count <= 1 << 60);
         self.marks.open_to(count)
     }
 
+    #[inline]
     fn set(&mut self, index: usize, is_marked: bool) {
         if index >= self.marks.len() {
             return;
@@ -33,6 +36,7 @@ impl UntoldLanes {
         self.marks.set(index, is_marked);
     }
 
+    #[inline]
     fn has(&self, index: usize) -> bool {
         if index >= self.marks.len() {
             return false;
@@ -45,6 +49,7 @@ impl UntoldLanes {
         self.marks.may_have()
     }
 
+    #[inline]
     fn next(&self, from: usize) -> Option<usize> {
         self.marks.next(from)
     }
@@ -57,6 +62,7 @@ pub(crate) struct Untold {
 }
 
 impl Untold {
+    #[inline]
     pub(crate) fn new(alloc: Global) -> Self {
         Untold {
             types: [
@@ -69,18 +75,21 @@ impl Untold {
     }
 
     /// Makes room for a stream and all lower ones of its type: the new ones aren't marked.
+    #[inline]
     pub(crate) fn open_to(&mut self, stream: StreamId) -> Result<(), NoMemory> {
         let lanes = &mut self.types[type_of(stream)];
         lanes.open_to(index_of(stream) + 1)
     }
 
     /// Marks a stream that has a place, or takes its mark away.
+    #[inline]
     pub(crate) fn set(&mut self, stream: StreamId, is_marked: bool) {
         let lanes = &mut self.types[type_of(stream)];
         lanes.set(index_of(stream), is_marked);
     }
 
     /// Whether a stream is marked.
+    #[inline]
     pub(crate) fn has(&self, stream: StreamId) -> bool {
         let lanes = &self.types[type_of(stream)];
         lanes.has(index_of(stream))
@@ -96,6 +105,7 @@ impl Untold {
     }
 
     /// The least number from one on of a marked stream.
+    #[inline]
     pub(crate) fn next(&self, from: u64) -> Option<StreamId> {
         debug_assert!(from <= 1 << 62);
         if !self.may_have() {
@@ -132,6 +142,7 @@ impl Untold {
     }
 
     // The least such number among the streams of a type.
+    #[inline]
     fn next_of(&self, stream_type: usize, from: u64) -> Option<u64> {
         debug_assert!(stream_type < 4);
         debug_assert!(from <= 1 << 62);
@@ -142,6 +153,7 @@ impl Untold {
 }
 
 /// A piece leaves its packet: the half of which it told an item is marked.
+#[inline]
 pub(crate) fn look_again(recvs: &mut Untold, sends: &mut Untold, piece: &Piece) {
     match *piece {
         Piece::Told(Item::ResetStream { stream, .. }) => sends.set(stream, true),

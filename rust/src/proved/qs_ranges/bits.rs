@@ -2,6 +2,7 @@
 //! Bits of a word.
 
 /// A word with one of its bits set or cleared.
+#[inline]
 pub fn with_bit(word: u64, bit: usize, is_set: bool) -> u64 {
     debug_assert!(bit < 64);
     if is_set {
@@ -12,6 +13,7 @@ pub fn with_bit(word: u64, bit: usize, is_set: bool) -> u64 {
 }
 
 /// The least bit that is set, from one on.
+#[inline]
 pub fn lowest_bit(word: u64, from: usize) -> Option<usize> {
     debug_assert!(from < 64);
     let rest = word >> from;

@@ -14,29 +14,35 @@ pub(crate) struct Block {
 }
 
 impl Block {
+    #[inline]
     pub(crate) fn of(alloc: Global, run: (u64, u64)) -> Result<Self, NoMemory> {
         let mut runs = Vec::new(alloc);
         runs.push(run)?;
         Ok(Block { runs })
     }
 
+    #[inline]
     pub(crate) fn len(&self) -> usize {
         self.runs.len()
     }
 
+    #[inline]
     pub(crate) fn run(&self, at: usize) -> (u64, u64) {
         self.runs[at]
     }
 
+    #[inline]
     pub(crate) fn first(&self) -> (u64, u64) {
         self.runs[0]
     }
 
+    #[inline]
     pub(crate) fn last(&self) -> (u64, u64) {
         self.runs[self.runs.len() - 1]
     }
 
     /// The first run that ends at `low` or later.
+    #[inline]
     pub(crate) fn end_from(&self, low: u64) -> usize {
         let mut from = 0;
         let mut to = self.runs.len();
@@ -52,6 +58,7 @@ impl Block {
     }
 
     /// The first run behind one that starts below `high` that doesn't.
+    #[inline]
     pub(crate) fn start_behind(&self, at: usize, high: u64) -> usize {
         let mut to = self.runs.len();
         let mut from = at + 1;
@@ -67,6 +74,7 @@ impl Block {
     }
 
     /// Puts `run` in the place of the runs from `from` on and before `to`.
+    #[inline]
     pub(crate) fn replace(&mut self, from: usize, to: usize, run: (u64, u64)) {
         debug_assert!(from < to);
         self.runs[from] = run;
@@ -74,6 +82,7 @@ impl Block {
     }
 
     /// Puts `left` and `right` in the place of two runs or more.
+    #[inline]
     pub(crate) fn replace_by_two(
         &mut self,
         from: usize,
@@ -86,6 +95,7 @@ impl Block {
     }
 
     /// Puts `left` and `right` in the place of one run.
+    #[inline]
     pub(crate) fn split(
         &mut self,
         at: usize,
@@ -98,17 +108,20 @@ impl Block {
     }
 
     /// Takes out the runs from `from` on and before `to`, which aren't all.
+    #[inline]
     pub(crate) fn take_out(&mut self, from: usize, to: usize) {
         debug_assert!(from <= to);
         take_out(&mut self.runs, from, to);
     }
 
+    #[inline]
     pub(crate) fn insert(&mut self, at: usize, run: (u64, u64)) -> Result<(), NoMemory> {
         self.runs.insert(at, run)?;
         Ok(())
     }
 
     /// A block of the runs from a place on.
+    #[inline]
     pub(crate) fn copy_from(&self, alloc: Global, from: usize) -> Result<Self, NoMemory> {
         let mut runs = Vec::with_capacity(alloc, MOST_RUNS)?;
         runs.extend_from_slice(&self.runs[from..])?;
@@ -116,12 +129,14 @@ impl Block {
     }
 
     /// Copies the runs out.
+    #[inline]
     pub(crate) fn copy_to(&self, into: &mut [(u64, u64)]) {
         into.copy_from_slice(&self.runs);
     }
 }
 
 // Takes out the runs from `from` on and before `to`, by one move of those behind.
+#[inline]
 fn take_out(runs: &mut Vec<(u64, u64)>, from: usize, to: usize) {
     debug_assert!(from <= to);
     if from < to {

@@ -14,6 +14,7 @@ pub(crate) enum Few {
 }
 
 /// Adds a range. A third run takes a block.
+#[inline]
 pub(crate) fn insert_few(
     few: &mut Few,
     blocks: &mut Vec<Block>,
@@ -33,6 +34,7 @@ pub(crate) fn insert_few(
 }
 
 // Adds a range to two runs.
+#[inline]
 fn add_to_two(
     few: &mut Few,
     blocks: &mut Vec<Block>,
@@ -65,6 +67,7 @@ fn add_to_two(
 }
 
 /// Takes a range out. A third run takes a block.
+#[inline]
 pub(crate) fn remove_few(
     few: &mut Few,
     blocks: &mut Vec<Block>,
@@ -82,6 +85,7 @@ pub(crate) fn remove_few(
 }
 
 // What is left of a run.
+#[inline]
 fn without_range_of(run: (u64, u64), lo: u64, hi: u64) -> Few {
     debug_assert!(lo < hi);
     let (start, end) = run;
@@ -123,6 +127,7 @@ fn take_from_two(
 }
 
 // Takes a range out that doesn't meet the higher of two runs.
+#[inline]
 fn take_from_low(
     few: &mut Few,
     blocks: &mut Vec<Block>,
@@ -145,6 +150,7 @@ fn take_from_low(
 }
 
 // Takes a range out that doesn't meet the lower of two runs.
+#[inline]
 fn take_from_high(
     few: &mut Few,
     blocks: &mut Vec<Block>,
@@ -167,6 +173,7 @@ fn take_from_high(
 }
 
 // Puts three runs into a block.
+#[inline]
 fn put_three(
     few: &mut Few,
     blocks: &mut Vec<Block>,
@@ -183,6 +190,7 @@ fn put_three(
 }
 
 /// The runs of a block, where they are few.
+#[inline]
 pub(crate) fn few_of(block: &Block) -> Option<Few> {
     match block.len() {
         1 => Some(Few::One(block.run(0))),
@@ -192,6 +200,7 @@ pub(crate) fn few_of(block: &Block) -> Option<Few> {
 }
 
 /// The first run that ends above `n`.
+#[inline]
 pub(crate) fn few_above(few: Few, n: u64) -> Option<(u64, u64)> {
     let run = match few {
         Few::InBlocks(_) => return None,
@@ -202,11 +211,13 @@ pub(crate) fn few_above(few: Few, n: u64) -> Option<(u64, u64)> {
 }
 
 // The run, where it ends above `n`.
+#[inline]
 fn one_above(run: (u64, u64), n: u64) -> Option<(u64, u64)> {
     if n < run.1 { Some(run) } else { None }
 }
 
 /// The first run that ends above `n`, and the one behind it.
+#[inline]
 pub(crate) fn few_above_two(few: Few, n: u64) -> (Option<(u64, u64)>, Option<(u64, u64)>) {
     match few {
         Few::InBlocks(_) => (None, None),
@@ -221,6 +232,7 @@ pub(crate) fn few_above_two(few: Few, n: u64) -> (Option<(u64, u64)>, Option<(u6
 }
 
 /// Copies the runs to the slice's front.
+#[inline]
 pub(crate) fn copy_few(few: Few, into: &mut [(u64, u64)]) -> usize {
     match few {
         Few::InBlocks(_) => 0,
@@ -237,6 +249,7 @@ pub(crate) fn copy_few(few: Few, into: &mut [(u64, u64)]) -> usize {
 }
 
 /// How many runs there are.
+#[inline]
 pub(crate) fn count_few(few: Few) -> usize {
     match few {
         Few::InBlocks(count) => count,

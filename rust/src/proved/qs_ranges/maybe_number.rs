@@ -11,15 +11,18 @@ pub struct MaybeNumber {
 }
 
 impl MaybeNumber {
+    #[inline]
     pub fn none() -> Self {
         MaybeNumber { word: NO_NUMBER }
     }
 
+    #[inline]
     pub fn some(n: u64) -> Self {
         debug_assert!(n <= 0x3fff_ffff_ffff_ffff);
         MaybeNumber { word: n }
     }
 
+    #[inline]
     pub fn get(self) -> Option<u64> {
         if self.word == NO_NUMBER {
             None

@@ -27,12 +27,14 @@ pub use room::reserve;
 pub struct NoMemory;
 
 impl From<AllocError> for NoMemory {
+    #[inline]
     fn from(_error: AllocError) -> Self {
         NoMemory
     }
 }
 
 impl<T> From<AllocFailed<T>> for NoMemory {
+    #[inline]
     fn from(_error: AllocFailed<T>) -> Self {
         NoMemory
     }
@@ -46,6 +48,7 @@ pub struct RangeSet {
 
 impl RangeSet {
     /// The empty set. It takes no memory.
+    #[inline]
     pub fn new(alloc: Global) -> Self {
         Self {
             few: Few::InBlocks(0),
@@ -54,6 +57,7 @@ impl RangeSet {
     }
 
     /// The set of all numbers below `n`. It takes no memory.
+    #[inline]
     pub fn below(alloc: Global, n: u64) -> Self {
         debug_assert!(n <= 1 << 62);
         let few = if n > 0 {
@@ -70,6 +74,7 @@ impl RangeSet {
     /// Adds the numbers from `lo` on and below `hi`; an empty range changes nothing. `NoMemory` leaves the set as it was.
     ///
     /// It takes constant time at or past the end of the set, and elsewhere two searches and moves within blocks.
+    #[inline]
     pub fn insert(&mut self, lo: u64, hi: u64) -> Result<(), NoMemory> {
         debug_assert!(lo <= hi);
         debug_assert!(hi <= 1 << 62);
@@ -83,6 +88,7 @@ impl RangeSet {
     }
 
     /// Takes out the numbers from `lo` on and below `hi`; an empty range changes nothing. `NoMemory` leaves the set as it was.
+    #[inline]
     pub fn remove(&mut self, lo: u64, hi: u64) -> Result<(), NoMemory> {
         debug_assert!(lo <= hi);
         debug_assert!(hi <= 1 << 62);
@@ -96,12 +102,14 @@ impl RangeSet {
     }
 
     /// Takes out the numbers below `n`. It takes constant time up to the end of the first run.
+    #[inline]
     pub fn drop_below(&mut self, n: u64) {
         let _never = self.remove(0, n.min(1 << 62));
     }
 
     /// Copies the longest runs of members to the slice's front, each a first number and the number after the last, and answers how many
     /// there are.
+    #[inline]
     pub fn copy_pairs(&self, into: &mut [(u64, u64)]) -> usize {
         if self.blocks.is_empty() {
             return copy_few(self.few, into);
@@ -110,6 +118,7 @@ impl RangeSet {
     }
 
     /// Whether `n` is a member.
+    #[inline]
     pub fn has(&self, n: u64) -> bool {
         if !self.blocks.is_empty() {
             return self.has_in_blocks(n);
@@ -123,6 +132,7 @@ impl RangeSet {
     }
 
     /// Whether each number from `lo` on and below `hi` is a member, as it is of an empty range.
+    #[inline]
     pub fn covers(&self, lo: u64, hi: u64) -> bool {
         if lo >= hi {
             return true;
@@ -131,18 +141,21 @@ impl RangeSet {
     }
 
     /// The least member.
+    #[inline]
     pub fn first(&self) -> Option<u64> {
         let (start, _) = self.run_from(0)?;
         Some(start)
     }
 
     /// The lowest run of members at or above `n`: its first number, and the number after its last.
+    #[inline]
     pub fn run_from(&self, n: u64) -> Option<(u64, u64)> {
         let (start, end) = self.run_above(n)?;
         Some((start.max(n), end))
     }
 
     /// The least number at or above `n` that is not a member.
+    #[inline]
     pub fn first_missing(&self, n: u64) -> u64 {
         match self.run_above(n) {
             Some((start, end)) if start <= n => end,
@@ -151,6 +164,7 @@ impl RangeSet {
     }
 
     /// The first gap from `lo` on and below `hi`: its first missing number, and the next member or `hi`. `None` where no number is missing.
+    #[inline]
     pub fn first_gap(&self, lo: u64, hi: u64) -> Option<(u64, u64)> {
         if lo >= hi {
             return None;
@@ -172,6 +186,7 @@ impl RangeSet {
     }
 
     /// How many runs there are: the members whose predecessor is not a member. It takes constant time.
+    #[inline]
     pub fn count(&self) -> usize {
         match self.few {
             Few::InBlocks(count) => count,
@@ -180,11 +195,13 @@ impl RangeSet {
         }
     }
 
+    #[inline]
     fn has_in_blocks(&self, n: u64) -> bool {
         matches!(self.run_above(n), Some((start, _)) if start <= n)
     }
 
     // The first run that ends above `n`.
+    #[inline]
     fn run_above(&self, n: u64) -> Option<(u64, u64)> {
         if self.blocks.is_empty() {
             return few_above(self.few, n);
@@ -197,6 +214,7 @@ impl RangeSet {
     }
 
     // The first run that ends above `n`, and the one behind it.
+    #[inline]
     fn runs_above(&self, n: u64) -> (Option<(u64, u64)>, Option<(u64, u64)>) {
         if self.blocks.is_empty() {
             return few_above_two(self.few, n);

@@ -15,6 +15,7 @@ pub enum Share {
 
 /// The limit that follows one where so much was taken of a window: it moves once that is such a share of it, or more (RFC 9000,
 /// section 4.2).
+#[inline]
 pub fn next_limit(limit: u64, taken: u64, window: u64, share: Share) -> u64 {
     debug_assert!(limit <= 0x3fff_ffff_ffff_ffff);
     debug_assert!(taken <= 0x3fff_ffff_ffff_ffff);
@@ -29,6 +30,7 @@ pub fn next_limit(limit: u64, taken: u64, window: u64, share: Share) -> u64 {
 }
 
 /// The limit under another window: a greater one moves it at once, and under a smaller one it stands (RFC 9000, section 4.2).
+#[inline]
 pub(crate) fn limit_with(present: u64, granted: u64, taken: u64, window: u64) -> u64 {
     debug_assert!(granted <= 0x3fff_ffff_ffff_ffff);
     debug_assert!(taken <= 0x3fff_ffff_ffff_ffff);
@@ -41,6 +43,7 @@ pub(crate) fn limit_with(present: u64, granted: u64, taken: u64, window: u64) ->
 }
 
 /// Such a share of a window or of a grant, and 1 at least: by so much a limit or a count moves.
+#[inline]
 pub fn step_of(share: Share, whole: u64) -> u64 {
     let part = match share {
         Share::Half => whole / 2,

@@ -111,6 +111,7 @@ enum Kept {
 impl<A: Assembly> RecvHalf<A> {
     /// A half that grants `window` bytes beyond what was taken, and moves its limit by such a share of these. Its box is taken at once, so
     /// that a reset can be taken without memory.
+    #[inline]
     pub fn new(alloc: Global, window: u64, share: Share) -> Result<Self, NoMemory> {
         debug_assert!(1 <= window);
         debug_assert!(window <= 1 << 30);
@@ -124,6 +125,7 @@ impl<A: Assembly> RecvHalf<A> {
     }
 
     /// What is said of a STREAM frame by a half for which nothing came. It takes no memory.
+    #[inline]
     pub fn judge_first(alloc: Global, window: u64, offset: u64, bytes: &[u8], fin: bool) -> Judged {
         debug_assert!(1 <= window);
         debug_assert!(window <= 1 << 30);
@@ -133,6 +135,7 @@ impl<A: Assembly> RecvHalf<A> {
     }
 
     /// Whether a RESET_STREAM frame may be taken by a half for which nothing came. It takes no memory.
+    #[inline]
     pub fn check_first_reset(alloc: Global, window: u64, size: u64) -> Result<Highest, RecvFault> {
         debug_assert!(1 <= window);
         debug_assert!(window <= 1 << 30);
@@ -144,6 +147,7 @@ impl<A: Assembly> RecvHalf<A> {
 
     /// Whether a STREAM frame may be taken, and what it does to the highest offset. The final size is tested before the
     /// credit.
+    #[inline]
     pub fn check_stream(&self, offset: u64, len: u64, fin: bool) -> Result<Highest, RecvFault> {
         match &self.parts {
             Parts::Kept(Kept::Over(over)) => self
@@ -156,6 +160,7 @@ impl<A: Assembly> RecvHalf<A> {
 
     /// Whether a STREAM frame's bytes are those that are stored at their offsets, where some are still stored. It takes no
     /// memory.
+    #[inline]
     pub fn check_bytes(&self, offset: u64, bytes: &[u8]) -> Result<(), RecvFault> {
         match &self.parts {
             Parts::Kept(Kept::Over(over)) => {
@@ -172,6 +177,7 @@ impl<A: Assembly> RecvHalf<A> {
 
     /// What is said of a STREAM frame: whether it may be taken, where the final size is tested before the credit, and whether its bytes
     /// are those that are stored. A caller with credit of its own asks for that in between. It takes no memory.
+    #[inline]
     pub fn judge(&self, offset: u64, bytes: &[u8], fin: bool) -> Judged {
         match &self.parts {
             Parts::Kept(_) => Judged {
@@ -184,6 +190,7 @@ impl<A: Assembly> RecvHalf<A> {
 
     /// Whether a STREAM frame that passed both checks would change the half: it tells the final size, or one of its offsets didn't
     /// come before, and no reset did.
+    #[inline]
     pub fn stream_changes(&self, offset: u64, len: u64, fin: bool) -> bool {
         match &self.parts {
             Parts::Kept(Kept::Over(over)) => self
@@ -196,6 +203,7 @@ impl<A: Assembly> RecvHalf<A> {
 
     /// Takes a STREAM frame that passed both checks. The only error is NoMemory, where a growth was refused. After a reset
     /// or a stop its bytes are counted and thrown away.
+    #[inline]
     pub fn take_stream(&mut self, offset: u64, bytes: &[u8], fin: bool) -> Result<(), RecvFault> {
         match &mut self.parts {
             Parts::Kept(Kept::Over(over)) => {
@@ -223,6 +231,7 @@ impl<A: Assembly> RecvHalf<A> {
     }
 
     /// Whether a RESET_STREAM frame that names this final size may be taken.
+    #[inline]
     pub fn check_reset(&self, size: u64) -> Result<Highest, RecvFault> {
         debug_assert!(size <= 0x3fff_ffff_ffff_ffff);
         match &self.parts {
@@ -234,6 +243,7 @@ impl<A: Assembly> RecvHalf<A> {
 
     /// Takes a RESET_STREAM frame that passed the check: what is stored is thrown away, and so is what was noted of the offsets
     /// that came. Once all data came, or after another reset, nothing changes.
+    #[inline]
     pub fn take_reset(&mut self, code: u64, size: u64) {
         debug_assert!(size <= 0x3fff_ffff_ffff_ffff);
         match &mut self.parts {
@@ -252,6 +262,7 @@ impl<A: Assembly> RecvHalf<A> {
     }
 
     /// Reads the bytes that are next into the slice's front, or tells how the stream stands. The rest of the slice stays.
+    #[inline]
     pub fn read(&mut self, into: &mut [u8]) -> Read {
         let answer = match &mut self.parts {
             Parts::Kept(Kept::Over(over)) => {
@@ -269,6 +280,7 @@ impl<A: Assembly> RecvHalf<A> {
 
     /// Throws the stored bytes away, and those that come from now on (section 3.5). The first code stays;
     /// a code is at most 2^62 - 1, so that a frame can tell it. Once the end was told, or a reset, it changes nothing.
+    #[inline]
     pub fn stop(&mut self, code: u64) {
         debug_assert!(code <= 0x3fff_ffff_ffff_ffff);
         match &mut self.parts {
@@ -280,6 +292,7 @@ impl<A: Assembly> RecvHalf<A> {
 
     /// Stops it, and tells nothing more of it: it counts as read to its end as soon as that comes, or as a reset does
     /// (sections 3.2 and 3.5).
+    #[inline]
     pub fn stop_and_forget(&mut self, code: u64) {
         debug_assert!(code <= 0x3fff_ffff_ffff_ffff);
         match &mut self.parts {
@@ -291,6 +304,7 @@ impl<A: Assembly> RecvHalf<A> {
 
     /// Raises the limit by what was taken, once that is the half's share of its window or more, and answers the new one where it rose
     /// (section 4.2). Once the final size is known it stays.
+    #[inline]
     pub fn raise(&mut self) -> Option<u64> {
         match &mut self.parts {
             Parts::Kept(Kept::Over(over)) => {
@@ -304,6 +318,7 @@ impl<A: Assembly> RecvHalf<A> {
 
     /// Sets another window (section 4.2): a greater one moves the limit at once, be it by less than the half's share of it, and
     /// under a smaller one the limit stands until so much was taken that it moves again. Once the final size is known it stays.
+    #[inline]
     pub fn set_window(&mut self, window: u64) {
         debug_assert!(1 <= window);
         debug_assert!(window <= 1 << 30);
@@ -315,6 +330,7 @@ impl<A: Assembly> RecvHalf<A> {
     }
 
     /// What it adds to the sums over all halves.
+    #[inline]
     pub fn sizes(&self) -> Sizes {
         match &self.parts {
             Parts::Kept(Kept::Over(over)) => over.rest().sizes(),
@@ -325,6 +341,7 @@ impl<A: Assembly> RecvHalf<A> {
 
     /// Whether a read of one byte would tell something new: bytes, or an end or a reset that wasn't told yet; and whether either was.
     /// Of a stopped half only the end and a reset are told (sections 2.2, 3.2 and 3.5).
+    #[inline]
     pub fn standing(&self) -> Standing {
         match &self.parts {
             Parts::Kept(Kept::Over(over)) => over.rest().standing(),
@@ -334,6 +351,7 @@ impl<A: Assembly> RecvHalf<A> {
     }
 
     /// Whether the end or a reset was told: Data Read and Reset Read (section 3.2).
+    #[inline]
     pub fn has_ended(&self) -> bool {
         match &self.parts {
             Parts::Kept(Kept::Over(over)) => over.rest().is_over(),
@@ -343,6 +361,7 @@ impl<A: Assembly> RecvHalf<A> {
     }
 
     /// The limit on the highest offset that was granted (section 4.1).
+    #[inline]
     pub fn limit(&self) -> u64 {
         match &self.parts {
             Parts::Kept(Kept::Over(over)) => over.rest().limit(),
@@ -352,6 +371,7 @@ impl<A: Assembly> RecvHalf<A> {
     }
 
     /// How long the stream is, where that is known (section 4.5).
+    #[inline]
     pub fn final_size(&self) -> Option<u64> {
         match &self.parts {
             Parts::Kept(Kept::Over(over)) => over.rest().final_size(),
@@ -361,6 +381,7 @@ impl<A: Assembly> RecvHalf<A> {
     }
 
     /// Whether all is told that is to be: the end or a reset was, or it was stopped and forgotten.
+    #[inline]
     pub fn is_told(&self) -> bool {
         match &self.parts {
             Parts::Kept(Kept::Over(over)) => over.rest().is_told(),
@@ -370,6 +391,7 @@ impl<A: Assembly> RecvHalf<A> {
     }
 
     /// The state by what came and what a reader was told (section 3.2).
+    #[inline]
     pub fn state(&self) -> RecvState {
         match &self.parts {
             Parts::Kept(Kept::Over(over)) => over.rest().state(),
@@ -380,6 +402,7 @@ impl<A: Assembly> RecvHalf<A> {
 
     /// Whether a read of one byte would tell something new: bytes, or an end or a reset that wasn't told yet. Of a stopped half only the
     /// end and a reset are told (sections 2.2, 3.2 and 3.5).
+    #[inline]
     pub fn is_readable(&self) -> bool {
         match &self.parts {
             Parts::Kept(Kept::Over(over)) => over.rest().standing().is_readable,
@@ -390,6 +413,7 @@ impl<A: Assembly> RecvHalf<A> {
 
     /// How many bytes of memory are taken to store some, as the assembly counts them: at most 4,096, or while some are stored
     /// four times the highest offset less what was taken; none once the end was told, or where bytes are thrown away.
+    #[inline]
     pub fn held(&self) -> u64 {
         match &self.parts {
             Parts::Kept(Kept::Over(over)) => over.rest().stored(),
@@ -399,6 +423,7 @@ impl<A: Assembly> RecvHalf<A> {
     }
 
     /// How many bytes were read.
+    #[inline]
     pub fn read_count(&self) -> u64 {
         match &self.parts {
             Parts::Kept(Kept::Over(over)) => over.rest().read_count(),
@@ -408,6 +433,7 @@ impl<A: Assembly> RecvHalf<A> {
     }
 
     /// The code of the first stop, if there was one: at most 2^62 - 1.
+    #[inline]
     pub fn stop_code(&self) -> Option<u64> {
         match &self.parts {
             Parts::Kept(Kept::Over(over)) => over.rest().stop_code(),
@@ -417,6 +443,7 @@ impl<A: Assembly> RecvHalf<A> {
     }
 
     /// The code of the reset that was taken, if there was one.
+    #[inline]
     pub fn reset_code(&self) -> Option<u64> {
         match &self.parts {
             Parts::Kept(Kept::Over(over)) => over.rest().reset_code(),
@@ -439,6 +466,7 @@ impl<A: Assembly> RecvHalf<A> {
     }
 
     // A half that stores nothing any more is kept by its numbers alone, where no offset is missing and memory for them isn't refused.
+    #[inline]
     fn settle(&mut self) {
         let Parts::Live(live) = &self.parts else {
             return;
@@ -463,6 +491,7 @@ impl<A: Assembly> RecvHalf<A> {
     }
 
     // A half at rest, with an assembly that stores nothing.
+    #[inline]
     fn revived(&self, rest: &Rest) -> LiveHalf<A> {
         LiveHalf::revived(self.alloc, rest)
     }
@@ -471,6 +500,7 @@ impl<A: Assembly> RecvHalf<A> {
 impl<A: Peeking> RecvHalf<A> {
     /// Tells what a read with room enough would, and changes nothing: the bytes that are next stay where they are, and all of them are
     /// shown, up to the first that didn't come.
+    #[inline]
     pub fn peek(&self) -> Peek<'_> {
         match &self.parts {
             Parts::Kept(Kept::Over(over)) => {
@@ -485,6 +515,7 @@ impl<A: Peeking> RecvHalf<A> {
 
 impl<A: Skipping> RecvHalf<A> {
     /// Takes the bytes that are next, as a read into a slice of so many bytes does, and copies none; or tells how the stream stands.
+    #[inline]
     pub fn skip(&mut self, most: usize) -> Read {
         let answer = match &mut self.parts {
             Parts::Kept(Kept::Over(over)) => {

@@ -27,6 +27,7 @@ pub(crate) struct LiveHalf<A: Assembly> {
 
 impl<A: Assembly> LiveHalf<A> {
     /// The same half as one at rest. It takes no memory.
+    #[inline]
     pub(crate) fn revived(alloc: Global, rest: &Rest) -> Self {
         let widest = rest.windows.widest as u64;
         let discarding = rest.discards();
@@ -53,16 +54,19 @@ impl<A: Assembly> LiveHalf<A> {
     }
 
     /// Lets the assembly go: it becomes the same half as one at rest.
+    #[inline]
     pub(crate) fn let_go(&mut self, alloc: Global, rest: &Rest) {
         *self = LiveHalf::revived(alloc, rest);
     }
 
     /// Whether the end was told, or nothing is stored any more since it was stopped.
+    #[inline]
     pub(crate) fn is_done(&self) -> bool {
         self.told || self.is_stopped
     }
 
     /// The same half at rest, where it is done and every offset below the largest that came came.
+    #[inline]
     pub(crate) fn rested(&self) -> Option<Rest> {
         if !self.is_done() || !self.assembly.received().covers(0, self.received_end) {
             return None;
@@ -83,6 +87,7 @@ impl<A: Assembly> LiveHalf<A> {
     }
 
     /// The same half in few bytes, where it was read to its end.
+    #[inline]
     pub(crate) fn over(&self) -> Option<Over> {
         match self.rested() {
             Some(rest) => rest.over(),
@@ -90,6 +95,7 @@ impl<A: Assembly> LiveHalf<A> {
         }
     }
 
+    #[inline]
     pub(crate) fn check_stream(
         &self,
         offset: u64,
@@ -118,6 +124,7 @@ impl<A: Assembly> LiveHalf<A> {
         Ok(Highest { before, after })
     }
 
+    #[inline]
     pub(crate) fn check_bytes(&self, offset: u64, bytes: &[u8]) -> Result<(), RecvFault> {
         if self.assembly.same(offset, bytes) {
             Ok(())
@@ -134,6 +141,7 @@ impl<A: Assembly> LiveHalf<A> {
         }
     }
 
+    #[inline]
     pub(crate) fn take_stream(
         &mut self,
         offset: u64,
@@ -154,6 +162,7 @@ impl<A: Assembly> LiveHalf<A> {
         Ok(())
     }
 
+    #[inline]
     pub(crate) fn stream_changes(&self, offset: u64, len: u64, fin: bool) -> bool {
         if fin && !self.is_sized {
             return true;
@@ -164,6 +173,7 @@ impl<A: Assembly> LiveHalf<A> {
         !self.assembly.received().covers(offset, offset + len)
     }
 
+    #[inline]
     pub(crate) fn check_reset(&self, size: u64) -> Result<Highest, RecvFault> {
         debug_assert!(size <= 0x3fff_ffff_ffff_ffff);
         if self.breaks_final_size(size, 0, true) {
@@ -179,6 +189,7 @@ impl<A: Assembly> LiveHalf<A> {
     }
 
     /// What a reset that passed its check makes of it: a half at rest, which takes its place. None where nothing changes.
+    #[inline]
     pub(crate) fn reset(&mut self, code: u64, size: u64) -> Option<Rest> {
         debug_assert!(size <= 0x3fff_ffff_ffff_ffff);
         if self.is_reset || self.is_whole() {
@@ -199,6 +210,7 @@ impl<A: Assembly> LiveHalf<A> {
         })
     }
 
+    #[inline]
     pub(crate) fn read(&mut self, into: &mut [u8]) -> Read {
         if self.is_reset {
             self.told = true;
@@ -224,6 +236,7 @@ impl<A: Assembly> LiveHalf<A> {
         Read::Bytes(count)
     }
 
+    #[inline]
     pub(crate) fn stop(&mut self, code: u64) {
         debug_assert!(code <= 0x3fff_ffff_ffff_ffff);
         if self.is_over() {
@@ -236,12 +249,14 @@ impl<A: Assembly> LiveHalf<A> {
         }
     }
 
+    #[inline]
     pub(crate) fn stop_and_forget(&mut self, code: u64) {
         debug_assert!(code <= 0x3fff_ffff_ffff_ffff);
         self.stop(code);
         self.told = true;
     }
 
+    #[inline]
     pub(crate) fn raise(&mut self) -> Option<u64> {
         if self.is_sized {
             return None;
@@ -255,6 +270,7 @@ impl<A: Assembly> LiveHalf<A> {
         Some(next)
     }
 
+    #[inline]
     pub(crate) fn set_window(&mut self, window: u64) {
         debug_assert!(1 <= window);
         debug_assert!(window <= 1 << 30);
@@ -266,6 +282,7 @@ impl<A: Assembly> LiveHalf<A> {
         self.windows = self.windows.with(window);
     }
 
+    #[inline]
     pub(crate) fn sizes(&self) -> Sizes {
         let spent = if self.is_sized {
             self.size
@@ -291,6 +308,7 @@ impl<A: Assembly> LiveHalf<A> {
         }
     }
 
+    #[inline]
     pub(crate) fn standing(&self) -> Standing {
         if self.told {
             return Standing {
@@ -311,10 +329,12 @@ impl<A: Assembly> LiveHalf<A> {
         }
     }
 
+    #[inline]
     pub(crate) fn limit(&self) -> u64 {
         self.limit
     }
 
+    #[inline]
     pub(crate) fn taken(&self) -> u64 {
         if self.is_reset || self.is_stopped {
             self.highest()
@@ -323,6 +343,7 @@ impl<A: Assembly> LiveHalf<A> {
         }
     }
 
+    #[inline]
     pub(crate) fn highest(&self) -> u64 {
         if self.is_sized {
             self.size
@@ -331,14 +352,17 @@ impl<A: Assembly> LiveHalf<A> {
         }
     }
 
+    #[inline]
     pub(crate) fn final_size(&self) -> Option<u64> {
         given(self.is_sized, self.size)
     }
 
+    #[inline]
     pub(crate) fn is_told(&self) -> bool {
         self.told
     }
 
+    #[inline]
     pub(crate) fn state(&self) -> RecvState {
         if self.is_reset {
             if self.told {
@@ -359,28 +383,34 @@ impl<A: Assembly> LiveHalf<A> {
         }
     }
 
+    #[inline]
     pub(crate) fn held(&self) -> u64 {
         self.assembly.held()
     }
 
+    #[inline]
     pub(crate) fn read_count(&self) -> u64 {
         self.read_count
     }
 
+    #[inline]
     pub(crate) fn stop_code(&self) -> Option<u64> {
         given(self.is_stopped, self.stop)
     }
 
+    #[inline]
     pub(crate) fn reset_code(&self) -> Option<u64> {
         given(self.is_reset, self.reset)
     }
 
     /// Whether the end was told, or a reset.
+    #[inline]
     pub(crate) fn is_over(&self) -> bool {
         self.told && (self.is_reset || self.is_whole())
     }
 
     // Whether all of the stream was read.
+    #[inline]
     fn is_at_end(&self) -> bool {
         self.is_sized && self.read_count == self.size
     }
@@ -392,6 +422,7 @@ impl<A: Assembly> LiveHalf<A> {
     }
 
     // Whether a frame with len bytes at offset names another final size, or lies outside the known one.
+    #[inline]
     fn breaks_final_size(&self, offset: u64, len: u64, fin: bool) -> bool {
         let end = offset + len;
         if self.is_sized {
@@ -402,6 +433,7 @@ impl<A: Assembly> LiveHalf<A> {
 }
 
 impl<A: Peeking> LiveHalf<A> {
+    #[inline]
     pub(crate) fn peek(&self) -> Peek<'_> {
         if self.is_reset {
             return Peek::Reset(self.reset);
@@ -424,6 +456,7 @@ impl<A: Peeking> LiveHalf<A> {
 }
 
 impl<A: Skipping> LiveHalf<A> {
+    #[inline]
     pub(crate) fn skip(&mut self, most: usize) -> Read {
         if self.is_reset {
             self.told = true;
@@ -451,6 +484,7 @@ impl<A: Skipping> LiveHalf<A> {
 }
 
 // One more than the largest offset, once the len offsets from another one on came too.
+#[inline]
 fn end_with(before: u64, offset: u64, len: u64) -> u64 {
     if len == 0 {
         before

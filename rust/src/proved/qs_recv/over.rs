@@ -13,6 +13,7 @@ pub(crate) struct Over {
 
 impl Over {
     /// The same half at rest.
+    #[inline]
     pub(crate) fn rest(&self) -> Rest {
         Rest {
             read_count: self.end,
@@ -30,6 +31,7 @@ impl Over {
     }
 
     /// Sets another window.
+    #[inline]
     pub(crate) fn set_window(&mut self, window: u64) {
         debug_assert!(1 <= window);
         debug_assert!(window <= 1 << 30);
@@ -37,6 +39,7 @@ impl Over {
     }
 
     /// What holds of the half at all times.
+    #[inline]
     pub(crate) fn is_over(&self) {
         let _ = &self.end;
     }

@@ -16,6 +16,7 @@ pub(crate) struct Pages {
 }
 
 impl Pages {
+    #[inline]
     pub(crate) fn none(alloc: Global) -> Self {
         Pages {
             pages: BTreeMap::new(alloc),
@@ -28,11 +29,13 @@ impl Pages {
     }
 
     /// How many pages are in use.
+    #[inline]
     pub(crate) fn count(&self) -> u64 {
         self.pages.len() as u64
     }
 
     /// Takes each page that the offsets from `from` on and below `to` lie in.
+    #[inline]
     pub(crate) fn make(&mut self, alloc: Global, from: u64, to: u64) -> Result<(), NoMemory> {
         debug_assert!(to <= 0x3fff_ffff_ffff_ffff);
         let mut number = from / PAGE;
@@ -47,6 +50,7 @@ impl Pages {
     }
 
     /// Gives back the pages that begin at `from` or past it and below `to`.
+    #[inline]
     pub(crate) fn give_back(&mut self, from: u64, to: u64) {
         debug_assert!(to <= 0x3fff_ffff_ffff_ffff);
         let mut number = from / PAGE;
@@ -59,6 +63,7 @@ impl Pages {
     }
 
     /// Writes bytes to the offsets from `at` on.
+    #[inline]
     pub(crate) fn write(&mut self, at: u64, bytes: &[u8]) {
         let mut done = 0;
         while done < bytes.len() {
@@ -74,6 +79,7 @@ impl Pages {
     }
 
     /// Whether bytes are those of the offsets from `at` on.
+    #[inline]
     pub(crate) fn are_at(&self, at: u64, bytes: &[u8]) -> bool {
         let mut done = 0;
         while done < bytes.len() {
@@ -94,6 +100,7 @@ impl Pages {
     }
 
     /// Where the first page past an offset begins that isn't in use, or the end where that comes first.
+    #[inline]
     pub(crate) fn gap_past(&self, at: u64, end: u64) -> u64 {
         debug_assert!(end <= 0x3fff_ffff_ffff_ffff);
         debug_assert!(at <= 0x3fff_ffff_ffff_ffff);
@@ -105,6 +112,7 @@ impl Pages {
     }
 
     /// Moves the pages past that of `from` that begin below `to` into a ring, as far as their offsets lie below that.
+    #[inline]
     pub(crate) fn move_into(&mut self, ring: &mut Ring, from: u64, to: u64) {
         debug_assert!(to <= 0x3fff_ffff_ffff_ffff);
         debug_assert!(from <= to);
@@ -124,6 +132,7 @@ impl Pages {
 }
 
 // A page of zeros.
+#[inline]
 fn zeros(alloc: Global) -> Result<Vec<u8>, NoMemory> {
     let mut page = Vec::new(alloc);
     let size = reserve(&mut page, PAGE as usize)?;

@@ -24,6 +24,7 @@ pub(crate) struct Rest {
 
 impl Rest {
     /// A half for which nothing came.
+    #[inline]
     pub(crate) fn new(window: u64, share: Share) -> Self {
         debug_assert!(1 <= window);
         debug_assert!(window <= 1 << 30);
@@ -48,6 +49,7 @@ impl Rest {
 
     /// Takes a frame that passed its check, where that stores no byte and the offsets that came stay those below a number.
     /// Else it answers false, and changes nothing.
+    #[inline]
     pub(crate) fn takes(&mut self, offset: u64, bytes: &[u8], fin: bool) -> bool {
         let Some(received_end) = self.end_with(offset, bytes) else {
             return false;
@@ -61,6 +63,7 @@ impl Rest {
     }
 
     /// Takes a reset that passed its check.
+    #[inline]
     pub(crate) fn take_reset(&mut self, code: u64, size: u64) {
         debug_assert!(size <= 0x3fff_ffff_ffff_ffff);
         if self.is_reset || self.is_whole() {
@@ -73,6 +76,7 @@ impl Rest {
     }
 
     /// What a reader is told: bytes never are.
+    #[inline]
     pub(crate) fn read(&mut self) -> Read {
         if self.is_reset {
             self.told = true;
@@ -86,6 +90,7 @@ impl Rest {
     }
 
     /// What a look tells: bytes never are.
+    #[inline]
     pub(crate) fn peek(&self) -> Peek<'_> {
         if self.is_reset {
             return Peek::Reset(self.reset);
@@ -93,11 +98,13 @@ impl Rest {
         if self.ends() { Peek::End } else { Peek::Wait }
     }
 
+    #[inline]
     pub(crate) fn is_told(&self) -> bool {
         self.told
     }
 
     /// Notes a stop: the first code stays, and what is over isn't stopped.
+    #[inline]
     pub(crate) fn stop(&mut self, code: u64) {
         debug_assert!(code <= 0x3fff_ffff_ffff_ffff);
         if self.is_over() {
@@ -110,6 +117,7 @@ impl Rest {
     }
 
     /// Notes a stop, and tells nothing more.
+    #[inline]
     pub(crate) fn stop_and_forget(&mut self, code: u64) {
         debug_assert!(code <= 0x3fff_ffff_ffff_ffff);
         self.stop(code);
@@ -117,6 +125,7 @@ impl Rest {
     }
 
     /// Raises the limit, and answers the new one where it rose.
+    #[inline]
     pub(crate) fn raise(&mut self) -> Option<u64> {
         if self.is_sized {
             return None;
@@ -131,6 +140,7 @@ impl Rest {
     }
 
     /// Sets another window.
+    #[inline]
     pub(crate) fn set_window(&mut self, window: u64) {
         debug_assert!(1 <= window);
         debug_assert!(window <= 1 << 30);
@@ -141,6 +151,7 @@ impl Rest {
         self.windows = self.windows.with(window);
     }
 
+    #[inline]
     pub(crate) fn sizes(&self) -> Sizes {
         Sizes {
             spent: self.highest(),
@@ -151,6 +162,7 @@ impl Rest {
         }
     }
 
+    #[inline]
     pub(crate) fn standing(&self) -> Standing {
         if self.told {
             return Standing {
@@ -165,11 +177,13 @@ impl Rest {
     }
 
     /// The limit on the highest offset that was granted.
+    #[inline]
     pub(crate) fn limit(&self) -> u64 {
         self.limit
     }
 
     /// What credit is paid back for.
+    #[inline]
     pub(crate) fn taken(&self) -> u64 {
         if self.is_reset || self.is_stopped {
             self.highest()
@@ -179,6 +193,7 @@ impl Rest {
     }
 
     /// The final size if known, else one more than the largest offset that came, or 0.
+    #[inline]
     pub(crate) fn highest(&self) -> u64 {
         if self.is_sized {
             self.size
@@ -188,6 +203,7 @@ impl Rest {
     }
 
     /// How many runs the offsets make that came: one at most.
+    #[inline]
     pub(crate) fn noted(&self) -> u64 {
         if self.keeps_none() {
             return 0;
@@ -196,32 +212,38 @@ impl Rest {
     }
 
     /// How long the stream is, where that is known.
+    #[inline]
     pub(crate) fn final_size(&self) -> Option<u64> {
         given(self.is_sized, self.size)
     }
 
     /// How many bytes are stored: none.
+    #[inline]
     pub(crate) fn stored(&self) -> u64 {
         let _ = &self.limit;
         0
     }
 
     /// How many bytes were read.
+    #[inline]
     pub(crate) fn read_count(&self) -> u64 {
         self.read_count
     }
 
     /// The code of the first stop, if there was one.
+    #[inline]
     pub(crate) fn stop_code(&self) -> Option<u64> {
         given(self.is_stopped, self.stop)
     }
 
     /// The code of the reset that was taken, if there was one.
+    #[inline]
     pub(crate) fn reset_code(&self) -> Option<u64> {
         given(self.is_reset, self.reset)
     }
 
     /// The state by what came and what a reader was told.
+    #[inline]
     pub(crate) fn state(&self) -> RecvState {
         if self.is_reset {
             if self.told {
@@ -243,6 +265,7 @@ impl Rest {
     }
 
     /// The same in few bytes, where it was read to its end.
+    #[inline]
     pub(crate) fn over(&self) -> Option<Over> {
         if !self.told || self.is_reset || self.is_stopped || !self.is_sized {
             return None;
@@ -256,6 +279,7 @@ impl Rest {
 
     // The number below which the offsets are that came, once a frame's did. None where one of its bytes would be stored, or
     // offsets lie apart.
+    #[inline]
     fn end_with(&self, offset: u64, bytes: &[u8]) -> Option<u64> {
         let end = offset + bytes.len() as u64;
         if self.is_reset || end <= offset || end <= self.received_end {
@@ -268,6 +292,7 @@ impl Rest {
     }
 
     // Whether a reader is told of the end, where it isn't of a reset.
+    #[inline]
     fn ends(&self) -> bool {
         if self.is_stopped {
             self.is_whole()
@@ -277,27 +302,32 @@ impl Rest {
     }
 
     /// Whether bytes that come are thrown away.
+    #[inline]
     pub(crate) fn discards(&self) -> bool {
         self.is_reset || self.is_stopped
     }
 
     // Whether nothing is noted of the offsets that came.
+    #[inline]
     fn keeps_none(&self) -> bool {
         (self.told && self.is_whole()) || self.is_reset
     }
 
     /// Whether the end was told, or a reset.
+    #[inline]
     pub(crate) fn is_over(&self) -> bool {
         self.told && (self.is_reset || self.is_whole())
     }
 
     // Whether the final size is known and every offset below it came.
+    #[inline]
     fn is_whole(&self) -> bool {
         self.is_sized && self.size <= self.received_end
     }
 }
 
 /// The number, where there is one.
+#[inline]
 pub(crate) fn given(is_there: bool, number: u64) -> Option<u64> {
     if is_there { Some(number) } else { None }
 }

@@ -16,6 +16,7 @@ pub(crate) struct Ring {
 }
 
 impl Ring {
+    #[inline]
     pub(crate) fn none(alloc: Global) -> Self {
         Self {
             bytes: Vec::new(alloc),
@@ -24,11 +25,13 @@ impl Ring {
         }
     }
 
+    #[inline]
     pub(crate) fn len(&self) -> usize {
         self.size
     }
 
     /// Writes bytes to the places of the offsets from `at` on, in two pieces where these wrap.
+    #[inline]
     pub(crate) fn write(&mut self, at: u64, bytes: &[u8]) {
         debug_assert!(at <= 1 << 62);
         let place = place_of(at + self.turn as u64, self.size);
@@ -43,6 +46,7 @@ impl Ring {
     }
 
     /// Copies the bytes of the offsets from `at` on out, in two pieces where their places wrap.
+    #[inline]
     pub(crate) fn copy_out(&mut self, at: u64, into: &mut [u8]) {
         debug_assert!(at <= 1 << 62);
         let count = into.len();
@@ -61,6 +65,7 @@ impl Ring {
     }
 
     /// So many bytes, from that of the offset `at` on, in two pieces where their places wrap. All of them were written.
+    #[inline]
     pub(crate) fn front(&self, at: u64, count: usize) -> (&[u8], &[u8]) {
         debug_assert!(at <= 1 << 62);
         debug_assert!(0 < count);
@@ -69,6 +74,7 @@ impl Ring {
     }
 
     /// Whether bytes are the ones at the places of the offsets from `at` on, in two pieces where these wrap.
+    #[inline]
     pub(crate) fn are_at(&self, at: u64, bytes: &[u8]) -> bool {
         debug_assert!(at <= 1 << 62);
         let count = bytes.len();
@@ -85,6 +91,7 @@ impl Ring {
     }
 
     /// A ring of another size, with the bytes of so many offsets from `from` on. What is written behind these is appended.
+    #[inline]
     pub(crate) fn resized(
         &mut self,
         alloc: Global,
@@ -144,6 +151,7 @@ impl Ring {
     }
 
     /// Brings the ring to a smaller size in place, with the bytes of so many offsets from `from` on.
+    #[inline]
     pub(crate) fn narrow(&mut self, from: u64, count: usize, size: usize) {
         debug_assert!(from <= 1 << 62);
         debug_assert!(0 < count);
@@ -158,6 +166,7 @@ impl Ring {
 }
 
 // The place of an offset in a ring of that size. Most are powers of two, at which no division is made.
+#[inline]
 fn place_of(at: u64, size: usize) -> usize {
     debug_assert!(0 < size);
     if size.is_power_of_two() {
@@ -168,6 +177,7 @@ fn place_of(at: u64, size: usize) -> usize {
 }
 
 // How far the places of a ring of that size lie further on, that an offset has the given one.
+#[inline]
 fn turn_to(place: usize, from: u64, size: usize) -> usize {
     debug_assert!(size <= 1 << 30);
     debug_assert!(place < size);
@@ -176,6 +186,7 @@ fn turn_to(place: usize, from: u64, size: usize) -> usize {
 }
 
 // Makes that so many bytes from a place on are kept. Those that never were written are zero.
+#[inline]
 fn fill(bytes: &mut Vec<u8>, size: usize, place: usize, count: usize) {
     debug_assert!(size <= 1 << 30);
     debug_assert!(place < size);
@@ -187,6 +198,7 @@ fn fill(bytes: &mut Vec<u8>, size: usize, place: usize, count: usize) {
 }
 
 // So many bytes from a place on, in two pieces where they go around the ring's end.
+#[inline]
 fn pieces(bytes: &[u8], size: usize, place: usize, count: usize) -> (&[u8], &[u8]) {
     debug_assert!(bytes.len() <= size);
     debug_assert!(place < size);
@@ -200,6 +212,7 @@ fn pieces(bytes: &[u8], size: usize, place: usize, count: usize) -> (&[u8], &[u8
 }
 
 // Keeps the same bytes alone. Where they go around the ring's end the others move, too.
+#[inline]
 fn bring_to_front(bytes: &mut Vec<u8>, place: usize, count: usize) {
     if count <= bytes.len() - place {
         bytes.copy_within(place..place + count, 0);
@@ -211,6 +224,7 @@ fn bring_to_front(bytes: &mut Vec<u8>, place: usize, count: usize) {
 }
 
 // The same in one piece, in memory that has room for it.
+#[inline]
 fn copy_to(made: &mut Vec<u8>, bytes: &[u8], size: usize, place: usize, count: usize) {
     debug_assert!(bytes.len() <= size);
     debug_assert!(place < size);
@@ -234,11 +248,13 @@ fn write_over(into: &mut Vec<u8>, place: usize, bytes: &[u8]) {
 }
 
 // Writes bytes from a place on.
+#[inline]
 pub(crate) fn write_at(into: &mut [u8], place: usize, bytes: &[u8]) {
     into[place..place + bytes.len()].copy_from_slice(bytes);
 }
 
 // Whether those bytes stand from a place on, where what was never written is zero.
+#[inline]
 pub(crate) fn is_at(kept: &[u8], place: usize, bytes: &[u8]) -> bool {
     let end = place + bytes.len();
     if end <= kept.len() {

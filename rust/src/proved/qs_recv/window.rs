@@ -13,6 +13,7 @@ pub(crate) struct Windows {
 
 impl Windows {
     /// The same, once another window is set.
+    #[inline]
     pub(crate) fn with(self, window: u64) -> Self {
         debug_assert!(window <= 1 << 30);
         let size = window as u32;

@@ -18,6 +18,7 @@ pub struct AckPass<'a> {
 
 impl<'a> AckPass<'a> {
     /// A pass over the ranges that are left of an ACK.
+    #[inline]
     pub fn new(ranges: AckRanges<'a>) -> AckPass<'a> {
         AckPass {
             low: u64::MAX,
@@ -30,6 +31,7 @@ impl<'a> AckPass<'a> {
     /// The greatest outstanding number that the ranges name below the one given last, `None` where there is none. A turn is a range that
     /// it reads, or a look below the last one: at a word of bits, together with the word of words and the slot that it leads to, or at a
     /// slot without a bit.
+    #[inline]
     pub fn next(&mut self, records: &Records) -> Option<u64> {
         let _turns = self.turns;
         loop {
@@ -43,16 +45,19 @@ impl<'a> AckPass<'a> {
     }
 
     /// It gives no number from this one on any more.
+    #[inline]
     pub fn below(&self) -> u64 {
         self.below
     }
 
     /// How many turns it took.
+    #[inline]
     pub fn turns(&self) -> u64 {
         self.turns
     }
 
     // The next range, `false` after the last.
+    #[inline]
     fn read_range(&mut self) -> bool {
         let Some((low, high)) = self.ranges.next() else {
             return false;
@@ -64,6 +69,7 @@ impl<'a> AckPass<'a> {
     }
 
     // The greatest outstanding number of the range that was read last, below the one given last.
+    #[inline]
     fn in_range(&mut self, records: &Records) -> Option<u64> {
         match records.within(self.low, self.below, &mut self.turns) {
             Some(number) => {
@@ -79,6 +85,7 @@ impl<'a> AckPass<'a> {
 }
 
 /// One turn more. The count stays at its greatest value.
+#[inline]
 pub(crate) fn one_more(turns: u64) -> u64 {
     turns.saturating_add(1)
 }

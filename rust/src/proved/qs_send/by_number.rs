@@ -17,6 +17,7 @@ pub(crate) struct ByNumber {
 
 impl ByNumber {
     /// No records. It takes no memory.
+    #[inline]
     pub(crate) fn new(alloc: Global) -> Self {
         ByNumber {
             alloc,
@@ -26,6 +27,7 @@ impl ByNumber {
     }
 
     /// Makes room for one piece more of a number.
+    #[inline]
     pub(crate) fn reserve(&mut self, number: u64) -> Result<(), NoMemory> {
         match self.place_of(number) {
             Ok(place) => self.records[place].reserve(),
@@ -34,6 +36,7 @@ impl ByNumber {
     }
 
     /// One piece more of a number, behind those that it has. It takes no memory.
+    #[inline]
     pub(crate) fn add(&mut self, number: u64, piece: Piece) {
         match self.place_of(number) {
             Ok(place) => self.records[place].push(piece),
@@ -42,6 +45,7 @@ impl ByNumber {
     }
 
     /// The first piece of a number.
+    #[inline]
     pub(crate) fn first(&self, number: u64) -> Option<Piece> {
         match self.place_of(number) {
             Ok(place) => self.records[place].first(),
@@ -50,6 +54,7 @@ impl ByNumber {
     }
 
     /// Lets the first piece of a number go, and the record with the last.
+    #[inline]
     pub(crate) fn drop_first(&mut self, number: u64) {
         if let Ok(place) = self.place_of(number) {
             if self.records[place].is_last() {
@@ -61,6 +66,7 @@ impl ByNumber {
     }
 
     /// Lets the record of a number go, if there is one. Its memory, if it is little, stays for the next one's pieces.
+    #[inline]
     pub(crate) fn remove(&mut self, number: u64) {
         if let Ok(place) = self.place_of(number) {
             self.spare = self.records.remove(place).emptied();
@@ -68,12 +74,14 @@ impl ByNumber {
     }
 
     /// Whether a number has a record.
+    #[inline]
     pub(crate) fn is_held(&self, number: u64) -> bool {
         self.place_of(number).is_ok()
     }
 
     /// The greatest number below `number` that has a record. It is looked for at the place `near` first, and the next one below it
     /// may stand at the place that `near` is then.
+    #[inline]
     pub(crate) fn below(&self, number: u64, near: &mut usize) -> Option<u64> {
         let records = &self.records;
         let count = self.count_near(number, *near);
@@ -85,6 +93,7 @@ impl ByNumber {
     }
 
     // How many records are those of numbers below `number`: without a search where these are `near`.
+    #[inline]
     fn count_near(&self, number: u64, near: usize) -> usize {
         if self.parts_at(number, near) {
             return near;
@@ -93,6 +102,7 @@ impl ByNumber {
     }
 
     // Whether the first `count` records are those of numbers below `number`.
+    #[inline]
     fn parts_at(&self, number: u64, count: usize) -> bool {
         let records = &self.records;
         if count > records.len() {
@@ -108,6 +118,7 @@ impl ByNumber {
     }
 
     // How many records are those of numbers below `number`.
+    #[inline]
     fn count_below(&self, number: u64) -> usize {
         match self.place_of(number) {
             Ok(place) => place,
@@ -117,6 +128,7 @@ impl ByNumber {
 
     // Where the record of a number is, or where it would go: with no search past the last record and at the first, where a packet that
     // is lost goes in mostly, and the oldest one out.
+    #[inline]
     fn place_of(&self, number: u64) -> Result<usize, usize> {
         let records = &self.records;
         let count = records.len();
@@ -137,6 +149,7 @@ impl ByNumber {
     }
 
     // Makes room for a record more with one piece.
+    #[inline]
     fn reserve_record(&mut self) -> Result<(), NoMemory> {
         self.records.reserve(1)?;
         self.spare.reserve(1)?;
@@ -144,6 +157,7 @@ impl ByNumber {
     }
 
     // A record of one piece.
+    #[inline]
     fn insert(&mut self, place: usize, number: u64, piece: Piece) {
         hold(&mut self.spare, piece);
         let pieces = mem::replace(&mut self.spare, Vec::new(self.alloc));

@@ -19,6 +19,7 @@ enum Pieces {
 
 impl Carried {
     /// Of a number without a record.
+    #[inline]
     pub(crate) fn empty() -> Self {
         Carried {
             pieces: Pieces::Empty,
@@ -26,6 +27,7 @@ impl Carried {
     }
 
     /// One piece.
+    #[inline]
     pub(crate) fn one(piece: Piece) -> Self {
         Carried {
             pieces: Pieces::One(piece),
@@ -33,12 +35,14 @@ impl Carried {
     }
 
     /// Pieces that come with their memory.
+    #[inline]
     pub(crate) fn several(pieces: Vec<Piece>) -> Self {
         Carried {
             pieces: Pieces::Several(Remaining::new(pieces)),
         }
     }
 
+    #[inline]
     pub(crate) fn len(&self) -> usize {
         match &self.pieces {
             Pieces::Empty => 0,
@@ -47,6 +51,7 @@ impl Carried {
         }
     }
 
+    #[inline]
     pub(crate) fn first(&self) -> Option<Piece> {
         match &self.pieces {
             Pieces::Empty => None,
@@ -56,6 +61,7 @@ impl Carried {
     }
 
     /// Lets the first piece go, and the memory with the last.
+    #[inline]
     pub(crate) fn drop_first(&mut self) {
         if self.len() <= 1 {
             self.pieces = Pieces::Empty;
@@ -66,6 +72,7 @@ impl Carried {
         }
     }
 
+    #[inline]
     pub(crate) fn has(&self, piece: Piece) -> bool {
         match &self.pieces {
             Pieces::Empty => false,

@@ -5,6 +5,7 @@ use crate::proved::qs_ranges::{NoMemory, RangeSet};
 
 /// Adds the offsets from `lo` on and below `hi`. Memory is taken only where there are some, and the set has
 /// none of them and none beside them.
+#[inline]
 pub fn add(offsets: &mut RangeSet, lo: u64, hi: u64) -> Result<(), NoMemory> {
     debug_assert!(lo <= hi);
     debug_assert!(hi <= 1 << 62);
@@ -16,6 +17,7 @@ pub fn add(offsets: &mut RangeSet, lo: u64, hi: u64) -> Result<(), NoMemory> {
 
 /// Takes out the offsets from `lo` on and below `hi`. Where a run would have to be split and memory for that is
 /// refused, they stay.
+#[inline]
 pub fn forget(offsets: &mut RangeSet, lo: u64, hi: u64) {
     debug_assert!(lo <= hi);
     debug_assert!(hi <= 1 << 62);

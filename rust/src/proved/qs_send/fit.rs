@@ -3,6 +3,7 @@
 
 /// The greatest count of bytes, at most `most`, that fits into the room together with the count's own
 /// shortest spelling. 0 where none does.
+#[inline]
 pub fn longest_fit(room: usize, most: u64) -> u64 {
     debug_assert!(most < 1 << 62);
     let room = room as u64;

@@ -21,6 +21,7 @@ pub(crate) struct Gone {
 
 impl Gone {
     /// No bits. It takes no memory.
+    #[inline]
     pub(crate) fn new(alloc: Global) -> Self {
         Gone {
             words: VecDeque::new(alloc),
@@ -28,12 +29,14 @@ impl Gone {
         }
     }
 
+    #[inline]
     pub(crate) fn clear(&mut self) {
         self.words.clear();
         self.full.clear();
     }
 
     /// Makes room for the bits up to that of an index. Where memory is refused, it is not noted which of them are empty.
+    #[inline]
     pub(crate) fn make_room(&mut self, index: usize) {
         if index / PER_WORD >= self.words.len() {
             make_room(&mut self.words, index);
@@ -42,12 +45,14 @@ impl Gone {
     }
 
     /// The slot of an index holds something, and there is a bit for it, if there are bits for all lower ones and room for one word more.
+    #[inline]
     pub(crate) fn begin(&mut self, index: usize) {
         begin(&mut self.full, index / PER_WORD);
         begin(&mut self.words, index);
     }
 
     /// The slot of an index is empty.
+    #[inline]
     pub(crate) fn note(&mut self, index: usize) {
         note(&mut self.words, index);
         let place = index / PER_WORD;
@@ -57,6 +62,7 @@ impl Gone {
     }
 
     /// The bits of the first slots go, so many as a word of words has.
+    #[inline]
     pub(crate) fn drop_group(&mut self) {
         drop_words(&mut self.words);
         let _ = self.full.pop_front();
@@ -65,6 +71,7 @@ impl Gone {
     /// An end as low as can be, down to `low`, behind which all indexes below `end` are noted as empty. Each look is one more of `looks`:
     /// at a word, together with the word of words below it and the slot before the end that these lead to, or at that slot where it has no
     /// bit.
+    #[inline]
     pub(crate) fn end_of_left(&self, low: usize, end: usize, looks: &mut u64) -> usize {
         let mut left = end;
         while left > low {
@@ -80,6 +87,7 @@ impl Gone {
 }
 
 // Makes room for the bits up to that of an index, if there is memory.
+#[inline]
 fn make_room(words: &mut VecDeque<u64>, index: usize) {
     let place = index / PER_WORD;
     if place >= words.len() {
@@ -88,6 +96,7 @@ fn make_room(words: &mut VecDeque<u64>, index: usize) {
 }
 
 // The bit of an index is cleared, or begins so.
+#[inline]
 fn begin(words: &mut VecDeque<u64>, index: usize) {
     let place = index / PER_WORD;
     if place < words.len() {
@@ -98,6 +107,7 @@ fn begin(words: &mut VecDeque<u64>, index: usize) {
 }
 
 // The bit of an index is set.
+#[inline]
 fn note(words: &mut VecDeque<u64>, index: usize) {
     let place = index / PER_WORD;
     if place < words.len() {
@@ -106,6 +116,7 @@ fn note(words: &mut VecDeque<u64>, index: usize) {
 }
 
 // The first words go, so many as a word has bits.
+#[inline]
 fn drop_words(words: &mut VecDeque<u64>) {
     let mut left = PER_WORD;
     while left > 0 {
@@ -115,11 +126,13 @@ fn drop_words(words: &mut VecDeque<u64>) {
 }
 
 // Whether a word has all of its bits set.
+#[inline]
 fn is_full(words: &VecDeque<u64>, place: usize) -> bool {
     place < words.len() && words[place] == u64::MAX
 }
 
 // An end as low as one word tells, behind which all indexes below `end` are noted as empty.
+#[inline]
 fn end_in_word(words: &VecDeque<u64>, end: usize) -> usize {
     if end == 0 {
         return 0;
@@ -136,6 +149,7 @@ fn end_in_word(words: &VecDeque<u64>, end: usize) -> usize {
 }
 
 // The bit of an index in its word. The lower one's lies above, so that a search for the greatest index is one for the lowest bit.
+#[inline]
 fn bit_of(index: usize) -> usize {
     PER_WORD - 1 - index % PER_WORD
 }

@@ -40,6 +40,7 @@ pub struct SendHalf {
 impl SendHalf {
     /// A half in the state Ready, which may send the offsets below `limit` and keeps at most `buffer`
     /// bytes. It takes no memory yet.
+    #[inline]
     pub fn new(alloc: Global, id: StreamId, limit: u64, buffer: u32) -> Self {
         debug_assert!(limit <= 0x3fff_ffff_ffff_ffff);
         let _number = id.value();
@@ -64,6 +65,7 @@ impl SendHalf {
     ///
     /// Refused, and then unchanged: `WasReset` after a reset, else `Finished` after `finish`, else
     /// `NoMemory` where memory was refused.
+    #[inline]
     pub fn write(&mut self, bytes: &[u8]) -> Result<usize, SendFault> {
         if let Some(fault) = self.refusal() {
             return Err(fault);
@@ -83,6 +85,7 @@ impl SendHalf {
     /// Asks for the end of the stream after the bytes written so far. The end is due.
     ///
     /// Refused, and then unchanged: `WasReset` after a reset, else `Finished` after another `finish`.
+    #[inline]
     pub fn finish(&mut self) -> Result<(), SendFault> {
         if let Some(fault) = self.refusal() {
             return Err(fault);
@@ -97,6 +100,7 @@ impl SendHalf {
     /// buffer is given back. The code is at most 2^62 - 1, so that the frame can tell it.
     ///
     /// Refused, and then unchanged: `WasReset` after another reset, else `Finished` in Data Recvd.
+    #[inline]
     pub fn reset(&mut self, code: u64) -> Result<(), SendFault> {
         debug_assert!(code <= 0x3fff_ffff_ffff_ffff);
         if self.was_reset() {
@@ -113,6 +117,7 @@ impl SendHalf {
 
     /// Takes in a STOP_SENDING: a reset with its code, where one can still be made, and the code of the first one is kept. Else nothing
     /// changes (RFC 9000, section 3.5).
+    #[inline]
     pub fn stopped(&mut self, code: u64) {
         debug_assert!(code <= 0x3fff_ffff_ffff_ffff);
         if self.reset(code).is_err() {
@@ -123,6 +128,7 @@ impl SendHalf {
 
     /// Takes in a STOP_SENDING that the owner answers: the code of the first one is kept where a reset can still be made, and the half
     /// goes on (RFC 9000, section 3.5).
+    #[inline]
     pub fn told_stop(&mut self, code: u64) {
         debug_assert!(code <= 0x3fff_ffff_ffff_ffff);
         if self.was_reset() || self.is_whole() {
@@ -131,6 +137,7 @@ impl SendHalf {
         self.keep_stop(code);
     }
 
+    #[inline]
     fn keep_stop(&mut self, code: u64) {
         debug_assert!(code <= 0x3fff_ffff_ffff_ffff);
         if self.stop_code.get().is_none() {
@@ -139,11 +146,13 @@ impl SendHalf {
     }
 
     /// The code of the first STOP_SENDING that came (RFC 9000, section 3.5).
+    #[inline]
     pub fn stop_code(&self) -> Option<u64> {
         self.stop_code.get()
     }
 
     /// Whether a STOP_SENDING would change the half: it can be reset still (RFC 9000, section 3.5).
+    #[inline]
     pub fn stop_changes(&self) -> bool {
         if self.was_reset() {
             return false;
@@ -152,6 +161,7 @@ impl SendHalf {
     }
 
     /// Whether one would change it that the owner answers: none came before either (RFC 9000, section 3.5).
+    #[inline]
     pub fn told_changes(&self) -> bool {
         if self.stop_code.get().is_some() {
             return false;
@@ -161,6 +171,7 @@ impl SendHalf {
 
     /// Takes in that the peer allows the offsets below `limit`. A limit that is no higher changes nothing
     /// (RFC 9000, section 4.1).
+    #[inline]
     pub fn allow(&mut self, limit: u64) {
         debug_assert!(limit <= 0x3fff_ffff_ffff_ffff);
         self.limit = self.limit.max(limit);
@@ -168,22 +179,26 @@ impl SendHalf {
 
     /// Keeps at most so many bytes from now on. What is kept stays: where it is more, no byte is accepted until enough of it is
     /// acknowledged.
+    #[inline]
     pub fn set_buffer(&mut self, size: u32) {
         self.buffer = size;
         self.widest = self.widest.max(size);
     }
 
     /// Takes in that a STREAM_DATA_BLOCKED was sent.
+    #[inline]
     pub fn note_blocked(&mut self) {
         self.blocked_sent = true;
     }
 
     /// Takes in that the RESET_STREAM is acknowledged.
+    #[inline]
     pub fn reset_acked(&mut self) {
         self.reset_acked = true;
     }
 
     /// Takes in that the chunk was sent: it is in flight.
+    #[inline]
     pub fn sent(&mut self, chunk: Chunk) {
         self.offsets.sent(chunk.offset + chunk.len as u64);
         self.fin_sent |= chunk.fin;
@@ -192,6 +207,7 @@ impl SendHalf {
 
     /// Takes in that a chunk which was sent is acknowledged, also where it was lost before. The bytes
     /// below the lowest offset not acknowledged are let go. Unchanged where memory was refused.
+    #[inline]
     pub fn acked(&mut self, chunk: Chunk) -> Result<(), NoMemory> {
         let fin_acked = self.fin_acked | chunk.fin;
         let end = chunk.offset + chunk.len as u64;
@@ -202,6 +218,7 @@ impl SendHalf {
 
     /// Takes in that a chunk which was sent is lost: what of it isn't acknowledged is due again, but
     /// after a reset nothing is (RFC 9000, section 13.3). Unchanged where memory was refused.
+    #[inline]
     pub fn lost(&mut self, chunk: Chunk) -> Result<(), NoMemory> {
         if self.was_reset() {
             return Ok(());
@@ -213,6 +230,7 @@ impl SendHalf {
     }
 
     /// The state (RFC 9000, section 3.1).
+    #[inline]
     pub fn state(&self) -> SendState {
         if self.reset_acked {
             SendState::ResetRecvd
@@ -230,6 +248,7 @@ impl SendHalf {
     }
 
     /// The final size that was declared, by a reset or by the end that was sent (RFC 9000, section 4.5).
+    #[inline]
     pub fn final_size(&self) -> Option<u64> {
         match self.reset_code.get() {
             Some(_) => Some(self.offsets.sent_end()),
@@ -245,6 +264,7 @@ impl SendHalf {
     }
 
     /// How many bytes are kept until they are acknowledged.
+    #[inline]
     pub fn kept_len(&self) -> usize {
         self.offsets.kept_len()
     }
@@ -262,6 +282,7 @@ impl SendHalf {
     }
 
     /// The lowest offset that isn't acknowledged (RFC 9000, section 13.3).
+    #[inline]
     pub fn unacked_from(&self) -> u64 {
         self.offsets.unacked_from()
     }
@@ -273,18 +294,21 @@ impl SendHalf {
     }
 
     /// How many bytes the buffer can take: none while more are kept than it is set to.
+    #[inline]
     pub fn room(&self) -> usize {
         (self.buffer as usize).saturating_sub(self.offsets.kept_len())
     }
 
     /// How many bytes of memory the buffer takes: at least those that are kept. While some are it takes up to twice the most that it
     /// was set to, since it grows by doubling; else no more than 4,096, and nothing after a reset and in Data Recvd.
+    #[inline]
     pub fn held(&self) -> u64 {
         self.offsets.held() as u64
     }
 
     /// Why a write and a finish are refused, `None` where they aren't: `WasReset` after a reset, else `Finished` after `finish` (RFC 9000,
     /// sections 2.4 and 3.1).
+    #[inline]
     pub fn refusal(&self) -> Option<SendFault> {
         if self.was_reset() {
             Some(SendFault::WasReset)
@@ -297,6 +321,7 @@ impl SendHalf {
 
     /// Whether a write of one byte would be accepted, if there is memory for it: neither the end was asked for nor a reset made, and there
     /// is room (RFC 9000, sections 2.2, 2.4 and 3.1).
+    #[inline]
     pub fn is_writable(&self) -> bool {
         if self.refusal().is_some() {
             return false;
@@ -304,11 +329,13 @@ impl SendHalf {
         self.offsets.kept_len() < self.buffer as usize && self.offsets.written() < MAX_VARINT
     }
 
+    #[inline]
     fn was_reset(&self) -> bool {
         self.reset_code.get().is_some()
     }
 
     // Whether every written offset and the end were acknowledged, where no reset let bytes go before.
+    #[inline]
     fn is_whole(&self) -> bool {
         self.fin_acked && self.offsets.kept_len() == 0
     }

@@ -21,6 +21,7 @@ pub struct SendHalves {
 
 impl SendHalves {
     /// None yet, of a type of streams.
+    #[inline]
     pub fn new(alloc: Global, stream_type: u64) -> Self {
         debug_assert!(stream_type < 4);
         SendHalves {
@@ -68,6 +69,7 @@ impl SendHalves {
     }
 
     /// Takes the memory for so many more.
+    #[inline]
     pub fn reserve(&mut self, more: usize) -> Result<(), NoMemory> {
         if let Err(_refused) = self.slots.reserve(more) {
             return Err(NoMemory);
@@ -79,6 +81,7 @@ impl SendHalves {
     }
 
     /// Puts a half behind the others.
+    #[inline]
     pub fn push(&mut self, half: SendHalf) -> Result<(), NoMemory> {
         let slot = SendSlot::full(self.full.len());
         if let Err(_refused) = self.full.push(half) {
@@ -92,6 +95,7 @@ impl SendHalves {
     }
 
     /// Takes the halves from a count on away.
+    #[inline]
     pub fn truncate(&mut self, count: usize) {
         while self.slots.len() > count {
             let last = self.slots.len() - 1;
@@ -101,6 +105,7 @@ impl SendHalves {
     }
 
     /// Keeps a half in its slot where it is over. That takes no memory, and gives some back.
+    #[inline]
     pub fn settle(&mut self, index: usize) {
         let slot = self.slots[index];
         if slot.is_over() {
@@ -114,6 +119,7 @@ impl SendHalves {
     }
 
     /// Takes in that the peer allows the offsets of a half below a limit.
+    #[inline]
     pub fn allow(&mut self, index: usize, limit: u64) {
         debug_assert!(limit <= 0x3fff_ffff_ffff_ffff);
         let slot = &mut self.slots[index];
@@ -126,6 +132,7 @@ impl SendHalves {
     }
 
     /// Sets how many bytes a half keeps at most.
+    #[inline]
     pub fn set_buffer(&mut self, index: usize, size: u32) {
         let slot = &mut self.slots[index];
         if !slot.is_over() {
@@ -137,6 +144,7 @@ impl SendHalves {
     }
 
     /// Takes in that a STREAM_DATA_BLOCKED was sent.
+    #[inline]
     pub fn note_blocked(&mut self, index: usize) {
         let slot = &mut self.slots[index];
         if !slot.is_over() {
@@ -149,6 +157,7 @@ impl SendHalves {
 
 // Puts a slot of a half that is over where another stands, and lets its half go. The last half moves to the place that is left. Its slot has
 // to name that, so nothing changes where the half's number doesn't tell the slot.
+#[inline]
 fn put_over(slots: &mut Vec<SendSlot>, full: &mut Vec<SendHalf>, index: usize, over: SendSlot) {
     let slot = slots[index];
     if slot.is_over() {

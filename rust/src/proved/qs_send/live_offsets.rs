@@ -19,6 +19,7 @@ pub(crate) struct LiveOffsets {
 
 impl LiveOffsets {
     /// So many that are all acknowledged. They take no memory.
+    #[inline]
     pub(crate) fn at_rest(alloc: Global, written: u64) -> Self {
         debug_assert!(written <= 0x3fff_ffff_ffff_ffff);
         Self {
@@ -36,6 +37,7 @@ impl LiveOffsets {
     }
 
     /// The lowest offset that isn't acknowledged.
+    #[inline]
     pub(crate) fn unacked_from(&self) -> u64 {
         self.acked.first_missing(0)
     }
@@ -46,6 +48,7 @@ impl LiveOffsets {
     }
 
     /// How many bytes of memory those take that are kept.
+    #[inline]
     pub(crate) fn held(&self) -> usize {
         self.kept.held()
     }
@@ -57,6 +60,7 @@ impl LiveOffsets {
     }
 
     /// Takes bytes in behind those that were written. Where `most` are ever kept, they take no more memory than for twice as many.
+    #[inline]
     pub(crate) fn write(&mut self, bytes: &[u8], most: usize) -> Result<(), NoMemory> {
         let before = self.kept.len();
         let end = self.written + bytes.len() as u64;
@@ -70,6 +74,7 @@ impl LiveOffsets {
     }
 
     /// Takes in that the offsets below `end` were sent.
+    #[inline]
     pub(crate) fn sent(&mut self, end: u64) {
         let before = self.sent_end;
         self.noted.drop_below(end);
@@ -78,6 +83,7 @@ impl LiveOffsets {
 
     /// Takes in that the offsets from `lo` on and below `hi` are acknowledged. Where nothing is left, and nothing more comes, the
     /// buffer's memory goes. Unchanged where memory was refused.
+    #[inline]
     pub(crate) fn acked(&mut self, lo: u64, hi: u64, is_over: bool) -> Result<(), NoMemory> {
         debug_assert!(lo <= hi);
         let from = self.written - self.kept.len() as u64;
@@ -92,6 +98,7 @@ impl LiveOffsets {
 
     /// Takes in that the offsets from `lo` on and below `hi` are lost: what isn't acknowledged is due again. Unchanged where memory
     /// was refused.
+    #[inline]
     pub(crate) fn lost(&mut self, lo: u64, hi: u64) -> Result<(), NoMemory> {
         debug_assert!(lo <= hi);
         let _written = self.written;
@@ -100,6 +107,7 @@ impl LiveOffsets {
     }
 
     /// Nothing is to be sent any more, so nothing is kept, and the buffer's memory goes.
+    #[inline]
     pub(crate) fn let_all_go(&mut self) {
         let count = self.kept.len();
         self.kept.let_go(count, true);
@@ -107,11 +115,13 @@ impl LiveOffsets {
     }
 
     /// Whether each offset is acknowledged: then nothing is kept or due.
+    #[inline]
     pub(crate) fn rests(&self) -> bool {
         self.acked.first_missing(0) == self.written
     }
 
     /// The lowest due offsets that stand in a row.
+    #[inline]
     pub(crate) fn due_run(&self) -> Option<(u64, u64)> {
         let mut from = 0;
         while let Some((start, end)) = self.noted.run_from(from) {

@@ -12,6 +12,7 @@ pub struct LostPass<'a> {
 
 impl<'a> LostPass<'a> {
     /// A pass over the ranges that are left of an ACK.
+    #[inline]
     pub fn new(ranges: AckRanges<'a>) -> LostPass<'a> {
         LostPass {
             pass: AckPass::new(ranges),
@@ -19,11 +20,13 @@ impl<'a> LostPass<'a> {
     }
 
     /// The greatest lost number that the ranges name below the one given last, `None` where there is none.
+    #[inline]
     pub fn next(&mut self, records: &LostRecords) -> Option<u64> {
         self.pass.next_lost(records)
     }
 
     /// How many turns it took: one for each record that it looked at, and one for each range that it read.
+    #[inline]
     pub fn turns(&self) -> u64 {
         self.pass.turns()
     }

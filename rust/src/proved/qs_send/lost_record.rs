@@ -16,6 +16,7 @@ pub(crate) struct LostRecord {
 }
 
 impl LostRecord {
+    #[inline]
     pub(crate) fn new(number: u64, pieces: Vec<Piece>) -> Self {
         LostRecord {
             number,
@@ -24,10 +25,12 @@ impl LostRecord {
         }
     }
 
+    #[inline]
     pub(crate) fn number(&self) -> u64 {
         self.number
     }
 
+    #[inline]
     pub(crate) fn first(&self) -> Option<Piece> {
         match self.pieces.get(self.start) {
             Some(piece) => Some(*piece),
@@ -36,22 +39,26 @@ impl LostRecord {
     }
 
     /// Whether no other piece follows the first one.
+    #[inline]
     pub(crate) fn is_last(&self) -> bool {
         self.pieces.len() - self.start <= 1
     }
 
     /// Makes room for one piece more.
+    #[inline]
     pub(crate) fn reserve(&mut self) -> Result<(), NoMemory> {
         self.pieces.reserve(1)?;
         Ok(())
     }
 
     /// One piece more. It takes no memory.
+    #[inline]
     pub(crate) fn push(&mut self, piece: Piece) {
         hold(&mut self.pieces, piece);
     }
 
     /// The memory of the pieces, of which none is kept; none where it is for many, so that it doesn't stay for ever.
+    #[inline]
     pub(crate) fn emptied(self) -> Vec<Piece> {
         let mut pieces = self.pieces;
         if pieces.capacity() > FEW {
@@ -62,12 +69,14 @@ impl LostRecord {
     }
 
     /// Lets the first piece go, of several.
+    #[inline]
     pub(crate) fn drop_first(&mut self) {
         self.start += 1;
     }
 }
 
 // One piece more, for which there is memory.
+#[inline]
 pub(crate) fn hold(pieces: &mut Vec<Piece>, piece: Piece) {
     let _ = match piece {
         Piece::Data { stream, chunk } => pieces.push(Piece::Data { stream, chunk }),

@@ -22,6 +22,7 @@ pub struct LostRecords {
 
 impl LostRecords {
     /// No records. It takes no memory.
+    #[inline]
     pub fn new(alloc: Global) -> Self {
         LostRecords {
             list: ByNumber::new(alloc),
@@ -31,6 +32,7 @@ impl LostRecords {
     }
 
     /// Makes room for one piece more of a packet, in the place of the room that was made before. Unchanged where memory was refused.
+    #[inline]
     pub fn make_room(&mut self, number: u64) -> Result<(), NoMemory> {
         self.order.reserve(1)?;
         self.list.reserve(number)?;
@@ -39,6 +41,7 @@ impl LostRecords {
     }
 
     /// Holds one piece more of a packet. Where that makes one packet too many, the oldest goes. It takes no memory.
+    #[inline]
     pub fn add(&mut self, number: u64, piece: Piece) {
         self.ready = None;
         let held = self.list.is_held(number);
@@ -48,11 +51,13 @@ impl LostRecords {
     }
 
     /// The first piece of a packet, `None` where the number isn't held.
+    #[inline]
     pub fn first(&self, number: u64) -> Option<Piece> {
         self.list.first(number)
     }
 
     /// Lets the first piece of a packet go, and the record with the last. Room that was made goes too.
+    #[inline]
     pub fn drop_first(&mut self, number: u64) {
         self.ready = None;
         self.list.drop_first(number);
@@ -62,11 +67,13 @@ impl LostRecords {
     }
 
     /// Whether the packet has a piece here.
+    #[inline]
     pub fn is_held(&self, number: u64) -> bool {
         self.list.is_held(number)
     }
 
     /// The greatest number below `number` that is held.
+    #[inline]
     pub fn below(&self, number: u64) -> Option<u64> {
         let mut near = 0;
         self.below_near(number, &mut near)
@@ -74,11 +81,13 @@ impl LostRecords {
 
     /// The same for a pass from high numbers to low ones, which hands `near` on from each call to the next: it is where the search
     /// begins.
+    #[inline]
     pub(crate) fn below_near(&self, number: u64, near: &mut usize) -> Option<u64> {
         self.list.below(number, near)
     }
 
     /// How many packets are held.
+    #[inline]
     pub fn len(&self) -> usize {
         self.order.len()
     }
@@ -86,6 +95,7 @@ impl LostRecords {
 }
 
 // The order with a number behind it, if it isn't held.
+#[inline]
 fn note(order: &mut VecDeque<u64>, number: u64, held: bool) {
     if !held {
         order.push_back_reserved(number);
@@ -93,6 +103,7 @@ fn note(order: &mut VecDeque<u64>, number: u64, held: bool) {
 }
 
 // Where there is one record too many, the oldest goes.
+#[inline]
 fn drop_oldest(order: &mut VecDeque<u64>, list: &mut ByNumber) {
     if order.len() > MOST {
         if let Some(oldest) = order.pop_front() {
@@ -102,6 +113,7 @@ fn drop_oldest(order: &mut VecDeque<u64>, list: &mut ByNumber) {
 }
 
 // The order without a number.
+#[inline]
 fn forget(order: &mut VecDeque<u64>, number: u64) {
     order.retain(|k| *k != number);
 }

@@ -16,6 +16,7 @@ pub(crate) struct Offsets {
 
 impl Offsets {
     /// None was written. They take no memory.
+    #[inline]
     pub(crate) fn new(alloc: Global) -> Self {
         Self {
             alloc,
@@ -39,6 +40,7 @@ impl Offsets {
     }
 
     /// The lowest offset that isn't acknowledged.
+    #[inline]
     pub(crate) fn unacked_from(&self) -> u64 {
         match &self.live {
             None => self.written,
@@ -55,6 +57,7 @@ impl Offsets {
     }
 
     /// How many bytes of memory those take that are kept.
+    #[inline]
     pub(crate) fn held(&self) -> usize {
         match &self.live {
             None => 0,
@@ -72,6 +75,7 @@ impl Offsets {
     }
 
     /// Takes bytes in behind those that were written. Where `most` are ever kept, they take no more memory than for twice as many.
+    #[inline]
     pub(crate) fn write(&mut self, bytes: &[u8], most: usize) -> Result<(), NoMemory> {
         let Some(live) = &mut self.live else {
             return self.begin(bytes, most);
@@ -82,6 +86,7 @@ impl Offsets {
     }
 
     // The first bytes behind those that are at rest: they take a box.
+    #[inline]
     fn begin(&mut self, bytes: &[u8], most: usize) -> Result<(), NoMemory> {
         let mut live = Box::new(self.alloc, LiveOffsets::at_rest(self.alloc, self.written))?;
         live.write(bytes, most)?;
@@ -101,6 +106,7 @@ impl Offsets {
 
     /// Takes in that the offsets from `lo` on and below `hi` are acknowledged, and whether with this nothing more comes. Where each
     /// offset is then acknowledged, they are at rest. Unchanged where memory was refused.
+    #[inline]
     pub(crate) fn acked(&mut self, lo: u64, hi: u64, is_over: bool) -> Result<(), NoMemory> {
         debug_assert!(lo <= hi);
         let Some(live) = &mut self.live else {
@@ -115,6 +121,7 @@ impl Offsets {
 
     /// Takes in that the offsets from `lo` on and below `hi` are lost: what isn't acknowledged is due again. Unchanged where memory
     /// was refused.
+    #[inline]
     pub(crate) fn lost(&mut self, lo: u64, hi: u64) -> Result<(), NoMemory> {
         debug_assert!(lo <= hi);
         let Some(live) = &mut self.live else {
@@ -125,6 +132,7 @@ impl Offsets {
     }
 
     /// Nothing is to be sent any more, so nothing is kept, and the buffer's memory goes.
+    #[inline]
     pub(crate) fn let_all_go(&mut self) {
         let Some(live) = &mut self.live else {
             return;
@@ -133,6 +141,7 @@ impl Offsets {
     }
 
     /// The lowest due offsets that stand in a row.
+    #[inline]
     pub(crate) fn due_run(&self) -> Option<(u64, u64)> {
         match &self.live {
             None => None,

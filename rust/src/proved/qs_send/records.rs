@@ -24,6 +24,7 @@ pub struct Records {
 
 impl Records {
     /// No records. It takes no memory.
+    #[inline]
     pub fn new(alloc: Global) -> Self {
         Records {
             base: 0,
@@ -34,6 +35,7 @@ impl Records {
     }
 
     /// Makes room for the record of a number, which stays until a `put`.
+    #[inline]
     pub fn make_room(&mut self, number: u64) -> Result<(), NoMemory> {
         if self.slots.is_empty() {
             self.slots.reserve(1)?;
@@ -54,6 +56,7 @@ impl Records {
     }
 
     /// Holds the pieces of a packet, which come with their memory. It takes none.
+    #[inline]
     pub fn put(&mut self, number: u64, pieces: Vec<Piece>) {
         self.drop_from(number);
         self.start_at(number);
@@ -62,6 +65,7 @@ impl Records {
     }
 
     /// Holds the one piece of a packet, in its slot: so a steady flow takes no memory for it.
+    #[inline]
     pub fn put_one(&mut self, number: u64, piece: Piece) {
         self.drop_from(number);
         self.start_at(number);
@@ -70,6 +74,7 @@ impl Records {
     }
 
     /// The first piece of a packet, `None` where the number isn't held.
+    #[inline]
     pub fn first(&self, number: u64) -> Option<Piece> {
         match self.slot_of(number) {
             Some(place) => self.slots[place].first(),
@@ -78,6 +83,7 @@ impl Records {
     }
 
     /// Lets the first piece of a packet go, and the record with the last. Where the number isn't held, nothing changes.
+    #[inline]
     pub fn drop_first(&mut self, number: u64) {
         if let Some(place) = self.slot_of(number) {
             self.slots[place].drop_first();
@@ -86,6 +92,7 @@ impl Records {
     }
 
     /// Lets the empty slots before the first record go, so that the first slot has a record where one is left.
+    #[inline]
     pub fn trim(&mut self) {
         while self.starts_empty() {
             self.drop_front();
@@ -94,11 +101,13 @@ impl Records {
     }
 
     /// Whether some packet has the piece.
+    #[inline]
     pub fn holds(&self, piece: Piece) -> bool {
         some_has(&self.slots, piece)
     }
 
     /// Whether the packet has a piece here.
+    #[inline]
     pub fn is_held(&self, number: u64) -> bool {
         match self.slot_of(number) {
             Some(place) => self.is_filled(place),
@@ -107,23 +116,27 @@ impl Records {
     }
 
     /// The greatest number that is held.
+    #[inline]
     pub fn greatest(&self) -> Option<u64> {
         self.last_of(self.slots.len())
     }
 
     /// The greatest number below `number` that is held.
+    #[inline]
     pub fn below(&self, number: u64) -> Option<u64> {
         let count = number.saturating_sub(self.base) as usize;
         self.last_of(count.min(self.slots.len()))
     }
 
     /// The number of the first slot. No lower one is held.
+    #[inline]
     pub fn base(&self) -> u64 {
         self.base
     }
 
     /// The greatest number from `low` on and below `below` that is held. Each look is one more of `looks`: at a word of bits, together
     /// with the word of words and the slot that it leads to, or at a slot without a bit.
+    #[inline]
     pub(crate) fn within(&self, low: u64, below: u64, looks: &mut u64) -> Option<u64> {
         let from = low.saturating_sub(self.base) as usize;
         let below = below.saturating_sub(self.base) as usize;
@@ -135,6 +148,7 @@ impl Records {
     }
 
     // The place of a number's slot. A number without one isn't held.
+    #[inline]
     fn slot_of(&self, number: u64) -> Option<usize> {
         if number < self.base {
             return None;
@@ -148,6 +162,7 @@ impl Records {
     }
 
     // The greatest number that is held in the first slots.
+    #[inline]
     fn last_of(&self, count: usize) -> Option<u64> {
         let _slots = &self.slots;
         self.last_from(0, count, &mut 0)
@@ -171,6 +186,7 @@ impl Records {
     }
 
     // The same by a look at each slot.
+    #[inline]
     fn last_looked_at(&self, from: usize, count: usize, looks: &mut u64) -> Option<u64> {
         let mut place = count;
         while place > from {
@@ -185,6 +201,7 @@ impl Records {
 
     // An end of the first slots behind which none that is below `count` has a record, as low as the bits tell, down to `from`. Each look
     // is counted, also that at the slot before the end.
+    #[inline]
     fn end_of_left(&self, from: usize, count: usize, looks: &mut u64) -> usize {
         debug_assert!(from < count);
         let skew = (self.base - self.first) as usize;
@@ -201,6 +218,7 @@ impl Records {
     }
 
     // It is noted that a slot is empty, where it is. No clause sees it. Of few slots each is looked at itself.
+    #[inline]
     fn note(&mut self, place: usize) {
         if self.slots.len() >= gone::PER_WORD && !self.is_filled(place) {
             let skew = (self.base - self.first) as usize;
@@ -209,11 +227,13 @@ impl Records {
     }
 
     // Whether a slot has a record.
+    #[inline]
     fn is_filled(&self, place: usize) -> bool {
         self.slots[place].len() > 0
     }
 
     // The bits of slots that went go, once there are so many of these. No clause sees it.
+    #[inline]
     fn drop_group(&mut self) {
         if self.base - self.first >= gone::PER_GROUP as u64 {
             self.gone.drop_group();
@@ -222,6 +242,7 @@ impl Records {
     }
 
     // Whether the first slot is an empty one.
+    #[inline]
     fn starts_empty(&self) -> bool {
         match self.slots.front() {
             Some(slot) => slot.len() == 0,
@@ -230,6 +251,7 @@ impl Records {
     }
 
     // The first slot, which is empty, goes.
+    #[inline]
     fn drop_front(&mut self) {
         drop(self.slots.pop_front());
         if !self.slots.is_empty() {
@@ -238,6 +260,7 @@ impl Records {
     }
 
     // The slots of a number and of those above it go, which are empty. Mostly there are none.
+    #[inline]
     fn drop_from(&mut self, number: u64) {
         while self.ends_past(number) {
             self.drop_back();
@@ -245,16 +268,19 @@ impl Records {
     }
 
     // Whether the last slot is that of a number or of one above it.
+    #[inline]
     fn ends_past(&self, number: u64) -> bool {
         number.saturating_sub(self.base) < self.slots.len() as u64
     }
 
     // The last slot, which is empty, goes.
+    #[inline]
     fn drop_back(&mut self) {
         drop(self.slots.pop_back());
     }
 
     // Without slots the first one is to be that of the number.
+    #[inline]
     fn start_at(&mut self, number: u64) {
         if self.slots.is_empty() {
             self.base = number;
@@ -264,6 +290,7 @@ impl Records {
     }
 
     // Empty slots for the numbers below `number`, so that the next slot is that number's.
+    #[inline]
     fn fill_to(&mut self, number: u64) {
         while self.ends_before(number) {
             let place = self.slots.len();
@@ -273,11 +300,13 @@ impl Records {
     }
 
     // Whether a number below `number` has no slot yet.
+    #[inline]
     fn ends_before(&self, number: u64) -> bool {
         self.slots.len() < (number - self.base) as usize
     }
 
     // One slot more.
+    #[inline]
     fn push_slot(&mut self, slot: Carried) {
         let index = (self.base - self.first) as usize + self.slots.len();
         self.gone.begin(index);
@@ -286,6 +315,7 @@ impl Records {
 }
 
 // Whether one of the slots has the piece.
+#[inline]
 fn some_has(slots: &VecDeque<Carried>, piece: Piece) -> bool {
     slots.iter().any(|slot| slot.has(piece))
 }

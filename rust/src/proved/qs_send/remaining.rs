@@ -11,14 +11,17 @@ pub(crate) struct Remaining {
 }
 
 impl Remaining {
+    #[inline]
     pub(crate) fn new(pieces: Vec<Piece>) -> Self {
         Remaining { start: 0, pieces }
     }
 
+    #[inline]
     pub(crate) fn len(&self) -> usize {
         self.pieces.len() - self.start
     }
 
+    #[inline]
     pub(crate) fn first(&self) -> Option<Piece> {
         match self.pieces.get(self.start) {
             Some(piece) => Some(*piece),
@@ -27,10 +30,12 @@ impl Remaining {
     }
 
     /// Lets the first piece go, of one or more.
+    #[inline]
     pub(crate) fn drop_first(&mut self) {
         self.start += 1;
     }
 
+    #[inline]
     pub(crate) fn has(&self, piece: Piece) -> bool {
         self.pieces[self.start..].contains(&piece)
     }

@@ -14,6 +14,7 @@ pub struct AckRanges<'a> {
 
 impl<'a> AckRanges<'a> {
     /// The ranges below a frame's largest number.
+    #[inline]
     pub fn new(largest: u64, ranges: &'a [u8]) -> AckRanges<'a> {
         debug_assert!(largest < 1 << 62);
         AckRanges {
@@ -24,6 +25,7 @@ impl<'a> AckRanges<'a> {
 
     /// The smallest and the largest number of the next range, `None` after the last. A range that fell
     /// below zero, which no frame has that was read, begins at 0.
+    #[inline]
     pub fn next(&mut self) -> Option<(u64, u64)> {
         let largest = self.largest;
         let (len, rest) = match number_at(self.rest) {
@@ -41,6 +43,7 @@ impl<'a> AckRanges<'a> {
 }
 
 /// The two numbers that spell a range below the range that begins at a number.
+#[inline]
 fn gap_and_length(above: u64, pair: (u64, u64)) -> (u64, u64) {
     debug_assert!(above <= 1 << 62);
     let (start, end) = pair;
@@ -59,6 +62,7 @@ fn two_fit(a: u64, b: u64, room: usize) -> bool {
 }
 
 /// Writes as many of the ranges below a number as fit, at a place, and answers how many these are and the place after them.
+#[inline]
 fn put_ranges(smallest: u64, pairs: &[(u64, u64)], at: usize, out: &mut [u8]) -> (usize, usize) {
     debug_assert!(smallest <= 1 << 62);
     debug_assert!(at <= out.len());
@@ -83,11 +87,13 @@ const ACK: u64 = 0x02;
 /// Writes an ACK frame without delay and ECN counts, of as many ranges as fit, at the slice's front, and answers
 /// how many and the frame's length in bytes. The ranges are half-open, the highest first. Where not even one
 /// fits, nothing is written.
+#[inline]
 pub fn put_ack(pairs: &[(u64, u64)], out: &mut [u8]) -> Result<(usize, usize), Full> {
     put_delayed_ack(pairs, 0, out)
 }
 
 /// The same of an ACK frame that tells a delay.
+#[inline]
 pub fn put_delayed_ack(
     pairs: &[(u64, u64)],
     delay: u64,

@@ -24,6 +24,7 @@ pub enum FaultKind {
 
 impl FaultKind {
     /// The number that QUIC closes a connection with (RFC 9000, section 20.1).
+    #[inline]
     pub fn code(self) -> u64 {
         match self {
             FaultKind::Empty | FaultKind::LongType => PROTOCOL_VIOLATION,
@@ -32,6 +33,7 @@ impl FaultKind {
     }
 
     /// The kinds counted from 1, as messages name them.
+    #[inline]
     pub fn number(self) -> u64 {
         match self {
             FaultKind::Empty => 1,
@@ -63,6 +65,7 @@ pub struct WireFault {
 }
 
 impl core::fmt::Display for WireFault {
+    #[inline]
     fn fmt(&self, f: &mut core::fmt::Formatter<'_>) -> core::fmt::Result {
         match self {
             Self { frame_type, place, code, .. } => write!(f, "a frame of type {frame_type:#x} at {place} breaks code {code:#x}"),
@@ -77,6 +80,7 @@ impl core::error::Error for WireFault {}
 pub struct Full;
 
 impl core::fmt::Display for Full {
+    #[inline]
     fn fmt(&self, f: &mut core::fmt::Formatter<'_>) -> core::fmt::Result {
         match self {
             Self => f.write_str("the frame does not fit"),

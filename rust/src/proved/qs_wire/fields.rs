@@ -6,6 +6,7 @@ use crate::proved::qs_wire::frame::EcnCounts;
 use crate::proved::qs_wire::varint::number_at;
 
 /// So many bytes.
+#[inline]
 pub(crate) fn plain_at(len: u64, bytes: &[u8]) -> Result<(&[u8], &[u8]), FaultKind> {
     if (bytes.len() as u64) < len {
         return Err(FaultKind::Truncated);
@@ -14,12 +15,14 @@ pub(crate) fn plain_at(len: u64, bytes: &[u8]) -> Result<(&[u8], &[u8]), FaultKi
 }
 
 /// The bytes that a number counts.
+#[inline]
 pub(crate) fn counted_at(bytes: &[u8]) -> Result<(&[u8], &[u8]), FaultKind> {
     let (len, rest) = number_at(bytes)?;
     plain_at(len, rest)
 }
 
 /// The bytes that one byte counts, which has to be the length of a connection identifier.
+#[inline]
 pub(crate) fn identifier_at(bytes: &[u8]) -> Result<(&[u8], &[u8]), FaultKind> {
     let Some((&len, rest)) = bytes.split_first() else {
         return Err(FaultKind::Truncated);
@@ -31,6 +34,7 @@ pub(crate) fn identifier_at(bytes: &[u8]) -> Result<(&[u8], &[u8]), FaultKind> {
 }
 
 /// A number, or 0 where there is none.
+#[inline]
 pub(crate) fn number_if(there: bool, bytes: &[u8]) -> Result<(u64, &[u8]), FaultKind> {
     if there {
         number_at(bytes)
@@ -40,6 +44,7 @@ pub(crate) fn number_if(there: bool, bytes: &[u8]) -> Result<(u64, &[u8]), Fault
 }
 
 /// The bytes that a number counts, or all where none does.
+#[inline]
 pub(crate) fn counted_if(there: bool, bytes: &[u8]) -> Result<(&[u8], &[u8]), FaultKind> {
     if there {
         counted_at(bytes)
@@ -48,6 +53,7 @@ pub(crate) fn counted_if(there: bool, bytes: &[u8]) -> Result<(&[u8], &[u8]), Fa
     }
 }
 
+#[inline]
 fn counts_at(bytes: &[u8]) -> Result<(Option<EcnCounts>, &[u8]), FaultKind> {
     let (ect0, rest) = number_at(bytes)?;
     let (ect1, rest) = number_at(rest)?;
@@ -56,6 +62,7 @@ fn counts_at(bytes: &[u8]) -> Result<(Option<EcnCounts>, &[u8]), FaultKind> {
 }
 
 /// The counts, or none where there are none.
+#[inline]
 pub(crate) fn ecn_if(there: bool, bytes: &[u8]) -> Result<(Option<EcnCounts>, &[u8]), FaultKind> {
     if there {
         counts_at(bytes)
@@ -65,6 +72,7 @@ pub(crate) fn ecn_if(there: bool, bytes: &[u8]) -> Result<(Option<EcnCounts>, &[
 }
 
 /// What follows so many numbers, and what is left of a limit from which each takes one more than itself.
+#[inline]
 fn skip_numbers(count: u64, limit: u64, bytes: &[u8]) -> Result<(u64, &[u8]), FaultKind> {
     let mut left = limit;
     let mut rest = bytes;
@@ -77,6 +85,7 @@ fn skip_numbers(count: u64, limit: u64, bytes: &[u8]) -> Result<(u64, &[u8]), Fa
 }
 
 /// The numbers of an ACK's ranges, and whether the ranges fall below zero from the largest number.
+#[inline]
 pub(crate) fn ranges_at(largest: u64, bytes: &[u8]) -> Result<(&[u8], bool, &[u8]), FaultKind> {
     debug_assert!(largest < 1 << 62);
     let (pairs, numbers) = number_at(bytes)?;

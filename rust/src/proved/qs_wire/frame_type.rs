@@ -37,6 +37,7 @@ const OFF: u64 = 0x04;
 
 impl FrameType {
     /// The type of that number.
+    #[inline]
     pub(crate) fn of(number: u64) -> Option<FrameType> {
         match number {
             0x00 => Some(FrameType::Padding),
@@ -71,6 +72,7 @@ impl FrameType {
         }
     }
 
+    #[inline]
     pub(crate) fn number(self) -> u64 {
         match self {
             FrameType::Padding => 0x00,

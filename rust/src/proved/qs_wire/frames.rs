@@ -12,6 +12,7 @@ pub struct Frames<'a> {
     rest: &'a [u8],
 }
 
+#[inline]
 fn fault_at(place: usize, broken: Broken) -> WireFault {
     WireFault {
         kind: broken.kind,
@@ -23,6 +24,7 @@ fn fault_at(place: usize, broken: Broken) -> WireFault {
 
 impl<'a> Frames<'a> {
     /// The frames of the payload.
+    #[inline]
     pub fn new(payload: &'a [u8]) -> Frames<'a> {
         Frames {
             place: 0,
@@ -32,6 +34,7 @@ impl<'a> Frames<'a> {
 
     /// The next frame, `None` after the last, or the fault that stands in place of a frame. After a
     /// fault it gives that fault again, and after the end `None`.
+    #[inline]
     pub fn next(&mut self) -> Result<Option<Placed<'a>>, WireFault> {
         let place = self.place;
         if self.rest.is_empty() {

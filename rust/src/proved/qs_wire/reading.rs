@@ -14,6 +14,7 @@ pub(crate) struct Broken {
     pub(crate) frame_type: u64,
 }
 
+#[inline]
 fn type_at(bytes: &[u8]) -> Result<(u64, &[u8]), Broken> {
     match bytes.split_first() {
         // One byte has no shorter spelling.
@@ -23,6 +24,7 @@ fn type_at(bytes: &[u8]) -> Result<(u64, &[u8]), Broken> {
 }
 
 /// The number of a type, however long.
+#[inline]
 fn long_type_at(bytes: &[u8]) -> Result<(u64, &[u8]), Broken> {
     let Some((frame_type, len)) = read_varint(bytes) else {
         return Err(Broken {
@@ -40,6 +42,7 @@ fn long_type_at(bytes: &[u8]) -> Result<(u64, &[u8]), Broken> {
 }
 
 /// The frame that begins the bytes behind the number of its type, and the bytes after it.
+#[inline]
 pub(crate) fn frame_at(bytes: &[u8]) -> Result<(u64, Frame<'_>, &[u8]), Broken> {
     let (frame_type, rest) = type_at(bytes)?;
     let Some(known) = FrameType::of(frame_type) else {

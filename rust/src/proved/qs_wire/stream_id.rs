@@ -23,6 +23,7 @@ pub struct StreamId {
 
 impl StreamId {
     /// The stream of that number, or `None` above 2^62-1.
+    #[inline]
     pub fn new(value: u64) -> Option<StreamId> {
         if value < 1 << 62 {
             Some(StreamId { value })
@@ -32,12 +33,14 @@ impl StreamId {
     }
 
     /// The stream of a number that a payload spells.
+    #[inline]
     pub(crate) fn of_varint(value: u64) -> StreamId {
         debug_assert!(value < 1 << 62);
         StreamId { value }
     }
 
     /// The stream of an initiator and a direction that has that index.
+    #[inline]
     pub fn from_parts(initiator: Role, dir: Dir, index: u64) -> Option<StreamId> {
         if index >= 1 << 60 {
             return None;
@@ -56,6 +59,7 @@ impl StreamId {
     }
 
     /// The end that opens the stream.
+    #[inline]
     pub fn initiator(self) -> Role {
         match self.value % 2 {
             0 => Role::Client,
@@ -63,6 +67,7 @@ impl StreamId {
         }
     }
 
+    #[inline]
     pub fn dir(self) -> Dir {
         match self.value / 2 % 2 {
             0 => Dir::Bidi,
@@ -71,10 +76,12 @@ impl StreamId {
     }
 
     /// How many streams of its type have a lower number.
+    #[inline]
     pub fn index(self) -> u64 {
         self.value / 4
     }
 
+    #[inline]
     pub fn value(self) -> u64 {
         self.value
     }

@@ -7,6 +7,7 @@ use crate::proved::qs_wire::stream_id::StreamId;
 
 /// The stream of the last STREAM frame that is read in a payload, up to its end or to the first fault; `None` where there is none. An
 /// owner whose streams send by turns goes on behind it.
+#[inline]
 pub fn last_stream(payload: &[u8]) -> Option<StreamId> {
     let mut frames = Frames::new(payload);
     let mut last = None;
@@ -18,6 +19,7 @@ pub fn last_stream(payload: &[u8]) -> Option<StreamId> {
     }
 }
 
+#[inline]
 fn stream_or(last: Option<StreamId>, frame: &Frame<'_>) -> Option<StreamId> {
     match frame {
         Frame::Stream { stream, .. } => Some(*stream),

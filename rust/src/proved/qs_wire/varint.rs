@@ -6,10 +6,12 @@ use crate::shim::byteorder::{BigEndian, ByteOrder};
 
 /// The number at the front of the bytes and how many bytes it takes, or `None` where the bytes end
 /// before it does.
+#[inline]
 pub fn read_varint(bytes: &[u8]) -> Option<(u64, usize)> {
     parse(bytes)
 }
 
+#[inline]
 fn parse(bytes: &[u8]) -> Option<(u64, usize)> {
     match number_at(bytes) {
         Ok((value, after)) => Some((value, bytes.len() - after.len())),
@@ -18,6 +20,7 @@ fn parse(bytes: &[u8]) -> Option<(u64, usize)> {
 }
 
 /// The number at the front of the bytes, and the bytes after it.
+#[inline]
 pub(crate) fn number_at(bytes: &[u8]) -> Result<(u64, &[u8]), FaultKind> {
     let Some((&first, after)) = bytes.split_first() else {
         return Err(FaultKind::Truncated);
@@ -48,6 +51,7 @@ pub(crate) fn number_at(bytes: &[u8]) -> Result<(u64, &[u8]), FaultKind> {
 }
 
 /// How many bytes the shortest spelling takes.
+#[inline]
 pub fn varint_len(value: u64) -> usize {
     debug_assert!(value < 1 << 62);
     match value {
@@ -60,6 +64,7 @@ pub fn varint_len(value: u64) -> usize {
 
 /// Writes the shortest spelling at the front and answers its length. `None` where the value is 2^62
 /// or more or where the spelling doesn't fit; then nothing is written.
+#[inline]
 pub fn write_varint(value: u64, out: &mut [u8]) -> Option<usize> {
     if value >= 1 << 62 {
         return None;

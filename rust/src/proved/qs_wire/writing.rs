@@ -24,6 +24,7 @@ pub(crate) enum Part<'a> {
 }
 
 impl<'a> Part<'a> {
+    #[inline]
     fn len(self) -> usize {
         match self {
             Part::Nothing | Part::Counts(None) => 0,
@@ -40,6 +41,7 @@ impl<'a> Part<'a> {
     }
 
     /// Writes the part at a place, and answers the place after it.
+    #[inline]
     fn put(self, at: usize, out: &mut [u8]) -> usize {
         match self {
             Part::Nothing | Part::Counts(None) => at,
@@ -65,6 +67,7 @@ pub(crate) fn put_number(value: u64, at: usize, out: &mut [u8]) -> usize {
 }
 
 /// Writes numbers at the front, and answers the place after them.
+#[inline]
 pub(crate) fn put_numbers(numbers: &[u64], out: &mut [u8]) -> usize {
     let mut at = 0;
     for number in numbers {
@@ -74,6 +77,7 @@ pub(crate) fn put_numbers(numbers: &[u64], out: &mut [u8]) -> usize {
 }
 
 /// Writes numbers at the front, where they fit, and answers the place after them.
+#[inline]
 fn put_fitting(numbers: &[u64], out: &mut [u8]) -> Result<usize, Full> {
     let mut len = 0;
     for number in numbers {
@@ -87,6 +91,7 @@ fn put_fitting(numbers: &[u64], out: &mut [u8]) -> Result<usize, Full> {
 }
 
 /// Writes bytes at a place, and answers the place after them.
+#[inline]
 fn put_bytes(bytes: &[u8], at: usize, out: &mut [u8]) -> usize {
     let end = at + bytes.len();
     out[at..end].copy_from_slice(bytes);
@@ -94,6 +99,7 @@ fn put_bytes(bytes: &[u8], at: usize, out: &mut [u8]) -> usize {
 }
 
 /// Writes bytes behind their count at a place, and answers the place after them.
+#[inline]
 fn put_counted(bytes: &[u8], at: usize, out: &mut [u8]) -> usize {
     debug_assert!(bytes.len() < 1 << 62);
     let next = put_number(bytes.len() as u64, at, out);
@@ -101,6 +107,7 @@ fn put_counted(bytes: &[u8], at: usize, out: &mut [u8]) -> usize {
 }
 
 /// Writes the bytes of two pieces behind their count at a place, and answers the place after them.
+#[inline]
 fn put_pieces(front: &[u8], back: &[u8], at: usize, out: &mut [u8]) -> usize {
     let count = front.len() + back.len();
     let next = put_number(count as u64, at, out);
@@ -108,11 +115,13 @@ fn put_pieces(front: &[u8], back: &[u8], at: usize, out: &mut [u8]) -> usize {
     put_bytes(back, next, out)
 }
 
+#[inline]
 fn counts_len(counts: EcnCounts) -> usize {
     varint_len(counts.ect0) + varint_len(counts.ect1) + varint_len(counts.ce)
 }
 
 /// Writes the three counts at a place, and answers the place after them.
+#[inline]
 fn put_counts(counts: EcnCounts, at: usize, out: &mut [u8]) -> usize {
     let next = put_number(counts.ect0, at, out);
     let next = put_number(counts.ect1, next, out);
@@ -120,6 +129,7 @@ fn put_counts(counts: EcnCounts, at: usize, out: &mut [u8]) -> usize {
 }
 
 /// How many numbers the bytes spell, and how long their shortest spellings are together.
+#[inline]
 fn shortest(numbers: &[u8]) -> (u64, usize) {
     let mut count = 0;
     let mut shortest_len = 0;
@@ -134,6 +144,7 @@ fn shortest(numbers: &[u8]) -> (u64, usize) {
 }
 
 /// Writes the shortest spelling of each number that the bytes spell, and answers the place after them.
+#[inline]
 fn put_shortest(numbers: &[u8], at: usize, out: &mut [u8]) -> usize {
     let mut next = at;
     let mut rest = numbers;
@@ -146,6 +157,7 @@ fn put_shortest(numbers: &[u8], at: usize, out: &mut [u8]) -> usize {
 }
 
 /// A type and up to four fields.
+#[inline]
 fn parts<'a>(
     frame_type: FrameType,
     a: Part<'a>,
@@ -284,6 +296,7 @@ fn parts_of<'a>(frame: &Frame<'a>) -> [Part<'a>; 5] {
     }
 }
 
+#[inline]
 fn number_if<'a>(there: bool, value: u64) -> Part<'a> {
     debug_assert!(value < 1 << 62);
     if there {
@@ -294,6 +307,7 @@ fn number_if<'a>(there: bool, value: u64) -> Part<'a> {
 }
 
 /// How many bytes the parts take, if the room is enough.
+#[inline]
 pub(crate) fn len_within(parts: &[Part], room: usize) -> Option<usize> {
     let mut len = 0;
     for part in parts {
@@ -307,6 +321,7 @@ pub(crate) fn len_within(parts: &[Part], room: usize) -> Option<usize> {
 }
 
 /// Writes the parts at the front.
+#[inline]
 pub(crate) fn put_parts(parts: &[Part], out: &mut [u8]) {
     let mut at = 0;
     for part in parts {
@@ -315,12 +330,14 @@ pub(crate) fn put_parts(parts: &[Part], out: &mut [u8]) {
 }
 
 /// How many bytes a number takes, if it is there.
+#[inline]
 fn len_if(there: bool, value: u64) -> usize {
     debug_assert!(value < 1 << 62);
     if there { varint_len(value) } else { 0 }
 }
 
 /// Writes a number at a place, if it is there, and answers the place after it.
+#[inline]
 fn put_number_if(there: bool, value: u64, at: usize, out: &mut [u8]) -> usize {
     debug_assert!(value < 1 << 62);
     if there {
@@ -332,6 +349,7 @@ fn put_number_if(there: bool, value: u64, at: usize, out: &mut [u8]) -> usize {
 
 /// Writes the canonical text of a STREAM frame at the slice's front, as `put` does, with the bytes of a front and a back: a ring has
 /// them in two pieces (RFC 9000, section 19.8). Most bytes go in such a frame, so it is written without a list of parts.
+#[inline]
 pub fn put_stream(
     id: StreamId,
     offset: u64,
@@ -359,6 +377,7 @@ pub fn put_stream(
 }
 
 /// Writes a frame part by part, as `put` does.
+#[inline]
 fn put_any(frame: &Frame, out: &mut [u8]) -> Result<usize, Full> {
     let parts = parts_of(frame);
     let len = len_within(&parts, out.len()).ok_or(Full)?;
@@ -369,6 +388,7 @@ fn put_any(frame: &Frame, out: &mut [u8]) -> Result<usize, Full> {
 /// Writes the canonical text of a frame at the slice's front and answers its length in bytes: each number
 /// in its shortest spelling; of a STREAM frame the length always, and the offset where it is not 0. Where
 /// the text does not fit, nothing is written.
+#[inline]
 pub fn put(frame: &Frame, out: &mut [u8]) -> Result<usize, Full> {
     match *frame {
         Frame::Stream {

@@ -12,6 +12,7 @@ impl Endpoint {
     /// and 7); what else is due stays due. It takes no memory.
     ///
     /// Refused, and then unchanged: `Closed`; `Exhausted` where the last packet number was used.
+    #[inline]
     pub fn make_ack(&mut self, delay: u64, out: &mut [u8]) -> Result<Option<Made>, MakeFault> {
         debug_assert!(delay < 1 << 62);
         debug_assert!(128 <= out.len());
@@ -38,6 +39,7 @@ impl Endpoint {
     }
 
     /// Whether an ACK is due (RFC 9000, section 13.2).
+    #[inline]
     pub fn ack_is_due(&self) -> bool {
         self.ack_due
     }

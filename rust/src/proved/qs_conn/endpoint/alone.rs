@@ -28,6 +28,7 @@ impl Endpoint {
     /// ```text
     /// match end.take_frame(&frame)? { Taken::Took => {} Taken::Unchanged => idle += 1, Taken::NotOurs => stack.take(&frame)? }
     /// ```
+    #[inline]
     pub fn take_frame(&mut self, frame: &Frame<'_>) -> Result<Taken, TakeFault> {
         if let Some(fault) = self.closed_fault() {
             return Err(fault);
@@ -45,6 +46,7 @@ impl Endpoint {
     /// ```text
     /// end.take_stream_frame(stream, offset, bytes, fin)?;
     /// ```
+    #[inline]
     pub fn take_stream_frame(
         &mut self,
         stream: StreamId,
@@ -76,6 +78,7 @@ impl Endpoint {
     /// ```text
     /// end.take_frames(&frames)?;
     /// ```
+    #[inline]
     pub fn take_frames(&mut self, frames: &[Frame<'_>]) -> Result<Taken, TakeFault> {
         if let Some(fault) = self.closed_fault() {
             return Err(fault);
@@ -86,6 +89,7 @@ impl Endpoint {
     }
 
     // The frames take effect, one after the other, as far as they may.
+    #[inline]
     fn take_each(&mut self, frames: &[Frame<'_>]) -> Result<Taken, TakeFault> {
         let mut taken = Taken::NotOurs;
         for frame in frames {
@@ -145,6 +149,7 @@ impl Endpoint {
         }
     }
 
+    #[inline]
     fn item_changes(&self, item: Item) -> bool {
         match item {
             Item::MaxData { maximum } => self.core.limits.known_data < maximum,
@@ -168,6 +173,7 @@ impl Endpoint {
     }
 
     // Whether a stream is the peer's, and a half of it isn't open.
+    #[inline]
     fn is_yet_to_open(&self, stream: StreamId) -> bool {
         if self.is_own(stream) {
             return false;
@@ -179,6 +185,7 @@ impl Endpoint {
     }
 
     // This end closes for a frame that came alone.
+    #[inline]
     fn close_alone(&mut self, frame: &Frame<'_>, code: u64) -> Closing {
         debug_assert!(code < 1 << 62);
         let closing = Closing {
@@ -191,6 +198,7 @@ impl Endpoint {
     }
 
     // What an end that is closed answers to a frame.
+    #[inline]
     fn closed_fault(&self) -> Option<TakeFault> {
         match self.closed {
             Some(Closed::ByUs(closing)) => Some(TakeFault::Closing(closing)),
@@ -202,6 +210,7 @@ impl Endpoint {
 }
 
 // What an end that was told of a close says again.
+#[inline]
 fn told_fault(close: ToldClose) -> TakeFault {
     match close.by {
         Closer::Us => TakeFault::Closing(told_of_us(close.code)),
@@ -210,6 +219,7 @@ fn told_fault(close: ToldClose) -> TakeFault {
 }
 
 // What came of two frames.
+#[inline]
 fn of_both(one: Taken, later: Taken) -> Taken {
     match (one, later) {
         (Taken::Took, _) => Taken::Took,

@@ -10,6 +10,7 @@ impl Endpoint {
     /// since the payload of its closing goes in a packet. It takes no memory.
     ///
     /// Refused, and then unchanged: `Exhausted` where the last packet number was used.
+    #[inline]
     pub fn claim_number(&mut self) -> Result<u64, MakeFault> {
         let number = self.next_number();
         if number > MAX_VARINT {
@@ -20,6 +21,7 @@ impl Endpoint {
     }
 
     /// The packet number that the next packet has, or the next claim: 2^62 where the last one was used (RFC 9000, section 12.3).
+    #[inline]
     pub fn next_number(&self) -> u64 {
         self.core.outbox.next()
     }

@@ -12,6 +12,7 @@ impl Endpoint {
     /// that was sent is acknowledged, or the reset (RFC 9000, section 3). `None` where there is none.
     ///
     /// It takes no memory, and looks at one word of marks of each half for 64 streams of a type.
+    #[inline]
     pub fn next_ended(&self, from: StreamId) -> Option<StreamId> {
         let none = ToldStreams::new(self.alloc);
         self.next_ended_untold(&none, from.value())
@@ -83,6 +84,7 @@ impl Endpoint {
     }
 
     // Whether every half of a stream here came to its end.
+    #[inline]
     fn has_ended(&self, stream: StreamId) -> bool {
         if !is_uni(stream) {
             self.core.recvs.has_ended(stream) && self.core.outbox.has_ended(stream)

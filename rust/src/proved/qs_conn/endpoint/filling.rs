@@ -14,6 +14,7 @@ impl Endpoint {
     ///
     /// Refused, and then unchanged: `Closed`; `Exhausted` where the last number was used; `NoMemory` where something that is asked for
     /// may go and memory was refused.
+    #[inline]
     pub fn fill(&mut self, out: &mut [u8], want: &Fill) -> Result<Option<Filled>, MakeFault> {
         if self.closed.is_some() {
             return Err(MakeFault::Closed);
@@ -51,6 +52,7 @@ impl Endpoint {
     }
 
     // What a call answers that found no memory: where nothing that is asked for may go, it needs none.
+    #[inline]
     fn unfilled(&self, want: &Fill) -> Result<Option<Filled>, MakeFault> {
         // (the cap of bytes holds nothing back that memory does)
         if self.has_more(want, 1, None) {
@@ -61,6 +63,7 @@ impl Endpoint {
 
     // Whether something that is asked for is due that no limit holds back, where so many bytes are left of the cap. The stream that sent
     // last is asked first.
+    #[inline]
     fn has_more(&self, want: &Fill, left: usize, last: Option<StreamId>) -> bool {
         self.core.has_wanted(want, left, last)
     }

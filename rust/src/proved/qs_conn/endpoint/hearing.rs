@@ -11,12 +11,14 @@ use crate::proved::qs_wire::{Dir, StreamId};
 
 impl Endpoint {
     /// The least stream of the peer's that is open and wasn't heard of, where so many of each direction were.
+    #[inline]
     pub(crate) fn next_opened(&self, heard: ByDir<u64>) -> Option<StreamId> {
         let bidi = self.next_opened_of(Dir::Bidi, heard.bidi);
         lesser(bidi, self.next_opened_of(Dir::Uni, heard.uni))
     }
 
     // The next one of a direction.
+    #[inline]
     fn next_opened_of(&self, dir: Dir, heard: u64) -> Option<StreamId> {
         let stream_type = self.peer_type(dir);
         if heard >= self.opened_count(stream_type) as u64 {
@@ -26,6 +28,7 @@ impl Endpoint {
     }
 
     /// The least stream at which a read of one byte tells something new, of those without a mark.
+    #[inline]
     pub(crate) fn next_readable_untold(&self, told: &ToldStreams) -> Option<StreamId> {
         if self.is_read_no_more() {
             return None;
@@ -54,6 +57,7 @@ impl Endpoint {
     }
 
     // Whether all streams together keep so much that none of them takes a byte.
+    #[inline]
     fn is_window_full(&self) -> bool {
         match self.window_left() {
             Some(left) => left == 0,
@@ -62,16 +66,19 @@ impl Endpoint {
     }
 
     /// The least stream that the peer stopped, of those without a mark.
+    #[inline]
     pub(crate) fn next_stopped_untold(&self, told: &ToldStreams) -> Option<StreamId> {
         self.core.outbox.next_stopped_untold(told)
     }
 
     /// The least stream whose sending half came to its end, of those without a mark.
+    #[inline]
     pub(crate) fn next_sent_untold(&self, told: &ToldStreams) -> Option<StreamId> {
         self.core.outbox.next_ended_untold(told)
     }
 
     /// A direction of which a stream may be opened, of those that are wanted: bidirectional streams first.
+    #[inline]
     pub(crate) fn next_available(&self, wanted: ByDir<bool>) -> Option<Dir> {
         if self.closed.is_some() {
             return None;
@@ -86,11 +93,13 @@ impl Endpoint {
     }
 
     /// Whether this end closed, or saw its peer close.
+    #[inline]
     pub(crate) fn is_closed(&self) -> bool {
         self.closed.is_some()
     }
 
     /// Whether a stream may still get bytes, and its limit is at most that one.
+    #[inline]
     pub(crate) fn is_met(&self, stream: StreamId, named: u64) -> bool {
         match self.core.recvs.limit_to_tell(stream) {
             Some(limit) => limit <= named,
@@ -99,6 +108,7 @@ impl Endpoint {
     }
 
     /// Whether a read of one byte tells something new.
+    #[inline]
     pub(crate) fn is_readable(&self, stream: StreamId) -> bool {
         if self.is_read_no_more() {
             return false;
@@ -107,11 +117,13 @@ impl Endpoint {
     }
 
     /// Whether the reset of a stream was acknowledged.
+    #[inline]
     pub(crate) fn was_reset_acked(&self, stream: StreamId) -> bool {
         self.core.outbox.is_reset_acked(stream)
     }
 
     /// Whether a write of so many bytes to a stream takes fewer.
+    #[inline]
     pub(crate) fn is_cut_short(&self, stream: StreamId, len: usize) -> bool {
         // No stream has room for more bytes than it has offsets: of such a write the half isn't looked at.
         self.core.outbox.is_open(stream)

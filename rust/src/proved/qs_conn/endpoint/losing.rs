@@ -10,6 +10,7 @@ impl Endpoint {
     ///
     /// Refused: `Closed`; `NotOutstanding` where no such packet is outstanding; and `NoMemory` where memory was refused. Then the
     /// first pieces of the packet may be lost already; the others are outstanding still, and the call may be made again.
+    #[inline]
     pub fn declare_lost(&mut self, number: u64) -> Result<(), LostFault> {
         if let Some(fault) = self.lose_refusal(number) {
             return Err(fault);
@@ -21,6 +22,7 @@ impl Endpoint {
     }
 
     // Why the packet can't be lost.
+    #[inline]
     fn lose_refusal(&self, number: u64) -> Option<LostFault> {
         if self.closed.is_some() {
             return Some(LostFault::Closed);

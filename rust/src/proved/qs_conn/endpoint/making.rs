@@ -16,6 +16,7 @@ impl Endpoint {
     ///
     /// Refused, and then unchanged: `Closed`; `Exhausted` where the last packet number was used; `NoMemory` where something
     /// may go and memory was refused.
+    #[inline]
     pub fn make_packet(&mut self, out: &mut [u8]) -> Result<Option<Made>, MakeFault> {
         debug_assert!(128 <= out.len());
         debug_assert!(out.len() <= 16383);
@@ -25,6 +26,7 @@ impl Endpoint {
     /// Makes the next packet, as `make_packet` does, but for two things: bytes go in from stream `first` on, lower streams first, and
     /// then those of the streams below it; and an ACK tells this delay, in the unit that the peer was told (RFC 9000, sections 2.3, 18.2
     /// and 19.3).
+    #[inline]
     pub fn make_packet_from(
         &mut self,
         first: StreamId,
@@ -86,6 +88,7 @@ impl Endpoint {
     }
 
     // What a call answers that found no memory for a packet: where nothing may go, it needs none.
+    #[inline]
     fn without_memory(&self) -> Result<Option<Made>, MakeFault> {
         if self.may_make() {
             return Err(MakeFault::NoMemory);
@@ -94,6 +97,7 @@ impl Endpoint {
     }
 
     // Whether something is due that no limit holds back.
+    #[inline]
     fn may_make(&self) -> bool {
         if self.ack_due {
             return true;

@@ -14,6 +14,7 @@ impl Endpoint {
     ///
     /// It takes no memory. Each answer reads the payload once, its frames and the ranges of its ACKs; and once more for each gap between
     /// the ranges that it passes over.
+    #[inline]
     pub fn next_newly_acked(&self, payload: &[u8], from: u64) -> Option<u64> {
         let mut next = from;
         loop {

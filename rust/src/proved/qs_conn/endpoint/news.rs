@@ -11,6 +11,7 @@ impl Endpoint {
     /// `None` where there is none, and of a closed end whose tuning hasn't `reads_when_closed`.
     ///
     /// It takes no memory, and looks at one word of marks for 64 streams of a type.
+    #[inline]
     pub fn next_readable(&self, from: StreamId) -> Option<StreamId> {
         if self.is_read_no_more() {
             return None;
@@ -22,6 +23,7 @@ impl Endpoint {
     /// connection's credit does isn't asked (RFC 9000, sections 4.1 and 13.3). `None` where there is none, and of a closed end.
     ///
     /// It takes no memory, and looks at one word of marks for 64 streams of a type.
+    #[inline]
     pub fn next_sendable(&self, from: StreamId) -> Option<StreamId> {
         if self.closed.is_some() {
             return None;
@@ -34,6 +36,7 @@ impl Endpoint {
     /// It doesn't ask for credit: where writes keep within it, [`room`](Endpoint::room) tells whether such a stream has some.
     ///
     /// It takes no memory, and looks at one word of marks for 64 streams of a type.
+    #[inline]
     pub fn next_writable(&self, from: StreamId) -> Option<StreamId> {
         if self.closed.is_some() {
             return None;

@@ -13,6 +13,7 @@ impl Endpoint {
     ///
     /// Refused: `Closed`; `Blocked` with the peer's count where as many are open; and `NoMemory` where memory was refused, and then
     /// nothing changed.
+    #[inline]
     pub fn open(&mut self, dir: Dir) -> Result<StreamId, OpenFault> {
         if self.closed.is_some() {
             return Err(OpenFault::Closed);
@@ -34,6 +35,7 @@ impl Endpoint {
     }
 
     /// Gives out each stream that the peer opened, once: bidirectional ones first, lower numbers first.
+    #[inline]
     pub fn accept(&mut self) -> Option<StreamId> {
         match self.accept_of(Dir::Bidi) {
             Some(stream) => Some(stream),
@@ -43,6 +45,7 @@ impl Endpoint {
 
     /// Gives out each stream of one direction that the peer opened, once: lower numbers first (RFC 9000, section 2.1). What this
     /// call gave out `accept` doesn't, and the other way round.
+    #[inline]
     pub fn accept_of(&mut self, dir: Dir) -> Option<StreamId> {
         if self.closed.is_some() {
             return None;
@@ -53,6 +56,7 @@ impl Endpoint {
         }
     }
 
+    #[inline]
     fn accept_bidi(&mut self) -> Option<StreamId> {
         let bidi = self.peer_type(Dir::Bidi);
         if self.accepted.bidi < self.opened_count(bidi) as u64 {
@@ -64,6 +68,7 @@ impl Endpoint {
         None
     }
 
+    #[inline]
     fn accept_uni(&mut self) -> Option<StreamId> {
         let uni = self.peer_type(Dir::Uni);
         if self.accepted.uni < self.opened_count(uni) as u64 {
@@ -76,6 +81,7 @@ impl Endpoint {
     }
 
     // A frame that names a stream of the peer opens it (RFC 9000, section 3.2). Memory is asked for only where it isn't open yet.
+    #[inline]
     pub(super) fn open_by_peer(&mut self, stream: StreamId) -> Result<(), NoMemory> {
         if self.is_open_here(stream) {
             return Ok(());
@@ -84,6 +90,7 @@ impl Endpoint {
     }
 
     // Whether no frame opens the stream: it is this end's own, or open with the halves that it has here.
+    #[inline]
     fn is_open_here(&self, stream: StreamId) -> bool {
         if self.is_own(stream) {
             return true;
@@ -96,12 +103,14 @@ impl Endpoint {
 
     // Opens a stream and all lower ones of its type, or changes nothing. The memory of halves is taken first: their marks are a few bits
     // more.
+    #[inline]
     fn open_stream(&mut self, stream: StreamId) -> Result<(), NoMemory> {
         self.reserve(stream)?;
         self.open_reserved(stream)
     }
 
     // The same, where memory was taken. No clause tells that, so a refusal is undone.
+    #[inline]
     fn open_reserved(&mut self, stream: StreamId) -> Result<(), NoMemory> {
         let (uni, own) = (is_uni(stream), self.is_own(stream));
         let limit = self.first_send_limit(stream);
@@ -135,6 +144,7 @@ impl Endpoint {
     }
 
     // Takes the memory that the halves want, so that a refusal of theirs comes before anything changes.
+    #[inline]
     fn reserve(&mut self, stream: StreamId) -> Result<(), NoMemory> {
         let (uni, own) = (is_uni(stream), self.is_own(stream));
         let (sends, receives) = (!both(uni, !own), !both(uni, own));
@@ -148,16 +158,19 @@ impl Endpoint {
     }
 
     // That another stream was wanted is noted.
+    #[inline]
     fn want(&mut self, dir: Dir, count: u64) {
         self.core.limits.wanted_streams.set(dir, Some(count));
     }
 
     // How many streams of a direction the peer allows.
+    #[inline]
     pub(super) fn known_count(&self, dir: Dir) -> u64 {
         self.core.limits.known_streams.of(dir)
     }
 
     // How many streams of a type are open.
+    #[inline]
     pub(super) fn opened_count(&self, stream_type: usize) -> usize {
         debug_assert!(stream_type < 4);
         self.core
@@ -167,6 +180,7 @@ impl Endpoint {
     }
 
     // The type of the streams that this end opens.
+    #[inline]
     pub(super) fn own_type(&self, dir: Dir) -> usize {
         match dir {
             Dir::Bidi => role_bit(self.core.limits.role),
@@ -175,6 +189,7 @@ impl Endpoint {
     }
 
     // The type of the streams that the peer opens.
+    #[inline]
     pub(super) fn peer_type(&self, dir: Dir) -> usize {
         match dir {
             Dir::Bidi => 1 - role_bit(self.core.limits.role),
@@ -183,6 +198,7 @@ impl Endpoint {
     }
 }
 
+#[inline]
 fn open_sends(
     outbox: &mut Outbox,
     absent: bool,
@@ -197,6 +213,7 @@ fn open_sends(
     outbox.open_to(limit, buffer, stream)
 }
 
+#[inline]
 fn open_recvs(
     recvs: &mut RecvTables,
     absent: bool,
@@ -213,6 +230,7 @@ fn open_recvs(
 }
 
 // Takes the memory for those halves of a stream that it has, and opens none.
+#[inline]
 fn reserve_halves(
     outbox: &mut Outbox,
     recvs: &mut RecvTables,
@@ -229,6 +247,7 @@ fn reserve_halves(
     Ok(())
 }
 
+#[inline]
 fn both(a: bool, b: bool) -> bool {
     a && b
 }

@@ -17,6 +17,7 @@ impl Endpoint {
     ///
     /// Refused, and then unchanged: `Closed`; `NoSuchStream` or `WrongDirection` where the stream has no sending half; `WasReset`;
     /// `Finished`; and `NoMemory` where memory was refused.
+    #[inline]
     pub fn write(&mut self, stream: StreamId, bytes: &[u8]) -> Result<usize, UseFault> {
         if let Some(fault) = self.no_sender(stream) {
             return Err(fault);
@@ -38,6 +39,7 @@ impl Endpoint {
     }
 
     // As many of the bytes as credit lets go, and as the window over all streams leaves.
+    #[inline]
     fn offered<'a>(&self, stream: StreamId, bytes: &'a [u8]) -> &'a [u8] {
         let bytes = self.let_go(stream, bytes);
         match self.window_left() {
@@ -47,6 +49,7 @@ impl Endpoint {
     }
 
     // As many of the bytes as credit lets go, where writes keep within it.
+    #[inline]
     fn let_go<'a>(&self, stream: StreamId, bytes: &'a [u8]) -> &'a [u8] {
         if !self.core.limits.tuning.within_credit {
             return bytes;
@@ -57,6 +60,7 @@ impl Endpoint {
     /// Asks for the end of the stream after the bytes written so far.
     ///
     /// Refused as `write` is, but never for want of memory.
+    #[inline]
     pub fn finish(&mut self, stream: StreamId) -> Result<(), UseFault> {
         if let Some(fault) = self.no_sender(stream) {
             return Err(fault);
@@ -73,6 +77,7 @@ impl Endpoint {
     /// Breaks the stream's sending half off with the application's code, below 2^62 (RFC 9000, sections 3.1 and 20.2).
     ///
     /// Refused, and then unchanged: as `write` is; `Finished` only once all was acknowledged.
+    #[inline]
     pub fn reset(&mut self, stream: StreamId, code: u64) -> Result<(), UseFault> {
         debug_assert!(code < 1 << 62);
         if let Some(fault) = self.no_sender(stream) {
@@ -91,6 +96,7 @@ impl Endpoint {
     /// Reads the bytes that are next, or tells how the stream stands (RFC 9000, section 2.2).
     ///
     /// Refused, and then unchanged: `Closed`, but where the end's tuning has `reads_when_closed`: then what came before is read on; `NoSuchStream` or `WrongDirection` where the stream has no receiving half.
+    #[inline]
     pub fn read(&mut self, stream: StreamId, into: &mut [u8]) -> Result<Read, UseFault> {
         if let Some(fault) = self.no_reader(stream) {
             return Err(fault);
@@ -119,6 +125,7 @@ impl Endpoint {
     /// ```text
     /// let consumed = end.consume(stream, 100)?;
     /// ```
+    #[inline]
     pub fn consume(&mut self, stream: StreamId, most: usize) -> Result<Consumed, UseFault> {
         if let Some(fault) = self.no_reader(stream) {
             return Err(fault);
@@ -133,6 +140,7 @@ impl Endpoint {
     }
 
     // Takes the bytes that are next at an open stream, and moves no limit yet.
+    #[inline]
     fn skip(&mut self, stream: StreamId, most: usize) -> Read {
         let was = self.core.is_over(stream);
         let answer = self.core.recvs.skip(stream, most);
@@ -146,6 +154,7 @@ impl Endpoint {
     /// stays; the application's codes lie below 2^62.
     ///
     /// Refused, and then unchanged: `Closed`; `NoSuchStream` or `WrongDirection` where the stream has no receiving half.
+    #[inline]
     pub fn stop(&mut self, stream: StreamId, code: u64) -> Result<(), UseFault> {
         debug_assert!(code < 1 << 62);
         if let Some(fault) = self.no_receiver(stream) {
@@ -167,6 +176,7 @@ impl Endpoint {
     /// ```text
     /// end.stop_and_forget(stream, 7)?;
     /// ```
+    #[inline]
     pub fn stop_and_forget(&mut self, stream: StreamId, code: u64) -> Result<(), UseFault> {
         debug_assert!(code < 1 << 62);
         if let Some(fault) = self.no_receiver(stream) {
@@ -183,6 +193,7 @@ impl Endpoint {
     }
 
     /// How the halves of a stream stand at this end, `None` where it isn't open.
+    #[inline]
     pub fn lane_report(&self, stream: StreamId) -> Option<LaneReport> {
         match (
             self.core.outbox.report(stream),
@@ -194,6 +205,7 @@ impl Endpoint {
     }
 
     /// Why this end closed, `None` where it is open or saw its peer close (RFC 9000, section 10.2).
+    #[inline]
     pub fn closing(&self) -> Option<Closing> {
         match self.closed {
             Some(Closed::ByUs(closing)) => Some(closing),
@@ -202,6 +214,7 @@ impl Endpoint {
     }
 
     // Why the stream can't be sent on.
+    #[inline]
     fn no_sender(&self, stream: StreamId) -> Option<UseFault> {
         if self.closed.is_some() {
             Some(UseFault::Closed)
@@ -213,16 +226,19 @@ impl Endpoint {
     }
 
     // Why the stream can't be read.
+    #[inline]
     pub(super) fn no_reader(&self, stream: StreamId) -> Option<UseFault> {
         self.no_receiver_where(self.is_read_no_more(), stream)
     }
 
     // Why the stream can't be stopped.
+    #[inline]
     fn no_receiver(&self, stream: StreamId) -> Option<UseFault> {
         self.no_receiver_where(self.closed.is_some(), stream)
     }
 
     // Why a call on a receiving half is refused, where the end is shut for it or not.
+    #[inline]
     fn no_receiver_where(&self, is_shut: bool, stream: StreamId) -> Option<UseFault> {
         if is_shut {
             Some(UseFault::Closed)
@@ -234,15 +250,18 @@ impl Endpoint {
     }
 
     // Whether nothing is read of this end any more.
+    #[inline]
     pub(super) fn is_read_no_more(&self) -> bool {
         self.closed.is_some() && !self.core.limits.tuning.reads_when_closed
     }
 }
 
+#[inline]
 fn is_end(read: Read) -> bool {
     matches!(read, Read::End)
 }
 
+#[inline]
 fn no_half(other: bool) -> UseFault {
     if other {
         UseFault::WrongDirection
@@ -251,6 +270,7 @@ fn no_half(other: bool) -> UseFault {
     }
 }
 
+#[inline]
 fn use_fault(fault: SendFault) -> UseFault {
     match fault {
         SendFault::Finished => UseFault::Finished,
@@ -260,6 +280,7 @@ fn use_fault(fault: SendFault) -> UseFault {
 }
 
 // As many of the bytes.
+#[inline]
 fn front(bytes: &[u8], most: u64) -> &[u8] {
     if most < bytes.len() as u64 {
         &bytes[..most as usize]

@@ -12,6 +12,7 @@ impl Endpoint {
     /// streams too, and streams that open later begin with it; none falls. It looks at each open sending half.
     ///
     /// Refused, and then unchanged: `Closed`; `Refused` where no end can be made of such limits, with the fault that `new` answers.
+    #[inline]
     pub fn raise_limits(&mut self, limits: &PeerLimits) -> Result<(), RaiseFault> {
         if let Some(fault) = self.raise_refusal(limits) {
             return Err(fault);
@@ -26,6 +27,7 @@ impl Endpoint {
     }
 
     // Why limits are refused.
+    #[inline]
     fn raise_refusal(&self, limits: &PeerLimits) -> Option<RaiseFault> {
         if self.closed.is_some() {
             return Some(RaiseFault::Closed);
@@ -37,6 +39,7 @@ impl Endpoint {
     }
 
     // The first limits and the counts are known, and the connection's limit; open streams aren't looked at.
+    #[inline]
     fn know_limits(&mut self, limits: &PeerLimits) {
         self.peer = greater_limits(&self.peer, limits);
         self.core.limits.known_data = self.core.limits.known_data.max(limits.max_data);
@@ -55,6 +58,7 @@ impl Endpoint {
     }
 
     // Each open half of a type may send what one may that opens now.
+    #[inline]
     fn allow_type(&mut self, stream_type: usize) {
         debug_assert!(stream_type < 4);
         let limit = self.first_send_limit(StreamId::new(stream_type as u64).unwrap());
@@ -65,6 +69,7 @@ impl Endpoint {
     }
 
     // An open half may send the offsets below a limit.
+    #[inline]
     fn allow_to(&mut self, stream: StreamId, limit: u64) {
         debug_assert!(limit <= 0x3fff_ffff_ffff_ffff);
         self.core.allow(stream, limit);
@@ -72,6 +77,7 @@ impl Endpoint {
 }
 
 // Of two limits each the greater one.
+#[inline]
 fn greater_limits(a: &PeerLimits, b: &PeerLimits) -> PeerLimits {
     PeerLimits {
         max_data: a.max_data.max(b.max_data),

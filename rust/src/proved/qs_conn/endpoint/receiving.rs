@@ -31,6 +31,7 @@ impl Endpoint {
     /// `close_payload` tells the peer so (section 10.2).
     ///
     /// An end that is closed answers as it did when it closed, and nothing changes.
+    #[inline]
     pub fn receive(&mut self, number: u64, payload: &[u8]) -> Result<Received, Closing> {
         debug_assert!(number < 1 << 62);
         self.receive_telling(number, payload, &mut Silent)
@@ -42,6 +43,7 @@ impl Endpoint {
     /// section 7).
     ///
     /// After `NoMemory` none was told that is outstanding still: the same payload may come again, and then the others are told.
+    #[inline]
     pub fn receive_telling<T: Told>(
         &mut self,
         number: u64,
@@ -67,6 +69,7 @@ impl Endpoint {
     }
 
     // The frames of a payload take effect, one after the other, as far as they may.
+    #[inline]
     fn take_payload<T: Told>(
         &mut self,
         number: u64,
@@ -89,6 +92,7 @@ impl Endpoint {
     }
 
     // One frame takes effect, or the processing ends with it.
+    #[inline]
     fn take_placed<T: Told>(&mut self, placed: &Placed<'_>, told: &mut T) -> Progress {
         let seen = seen(&placed.frame);
         if let SeenFrame::Close(code) = seen {
@@ -115,6 +119,7 @@ impl Endpoint {
     }
 
     // This end closes for a frame that has a fault.
+    #[inline]
     fn close_at(&mut self, placed: &Placed<'_>, code: u64) -> Closing {
         debug_assert!(code < 1 << 62);
         let closing = Closing {
@@ -127,6 +132,7 @@ impl Endpoint {
     }
 
     // This end closes for bytes that are no frame.
+    #[inline]
     fn close_by(&mut self, fault: WireFault) -> Closing {
         let closing = Closing {
             code: fault.code,
@@ -139,6 +145,7 @@ impl Endpoint {
 }
 
 // What an end that was told of a close says again.
+#[inline]
 fn told_receive(close: ToldClose) -> Result<Received, Closing> {
     match close.by {
         Closer::Us => Err(told_of_us(close.code)),
@@ -147,6 +154,7 @@ fn told_receive(close: ToldClose) -> Result<Received, Closing> {
 }
 
 // An end's own close that it was told of is no frame's fault.
+#[inline]
 pub(super) fn told_of_us(code: u64) -> Closing {
     Closing {
         code,

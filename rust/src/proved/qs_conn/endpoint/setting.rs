@@ -13,6 +13,7 @@ impl Endpoint {
     /// beside what any call looks at; it takes no memory.
     ///
     /// Refused, and then unchanged: `Closed`; `OutOfRange` below 1 and above 2^40.
+    #[inline]
     pub fn set_conn_window(&mut self, window: u64) -> Result<(), SetFault> {
         if self.closed.is_some() {
             return Err(SetFault::Closed);
@@ -31,6 +32,7 @@ impl Endpoint {
     /// no memory.
     ///
     /// Refused, and then unchanged: `Closed`; `OutOfRange` above 2^17.
+    #[inline]
     pub fn set_grant(&mut self, dir: Dir, streams: u64) -> Result<(), SetFault> {
         if self.closed.is_some() {
             return Err(SetFault::Closed);
@@ -48,6 +50,7 @@ impl Endpoint {
     /// writes accept none until enough of them are acknowledged. Of a half that was finished or reset it changes the number alone.
     ///
     /// Refused, and then unchanged: `Closed`; `OutOfRange`; `NoSuchStream` or `WrongDirection` where the stream has no sending half.
+    #[inline]
     pub fn set_send_buffer(&mut self, stream: StreamId, size: usize) -> Result<(), SetFault> {
         if self.closed.is_some() {
             return Err(SetFault::Closed);
@@ -71,6 +74,7 @@ impl Endpoint {
     ///
     /// Refused, and then unchanged: `Closed`; `OutOfRange` below 1 and above 2^30; `NoSuchStream` or `WrongDirection` where the stream
     /// has no receiving half.
+    #[inline]
     pub fn set_stream_window(&mut self, stream: StreamId, size: u64) -> Result<(), SetFault> {
         if self.closed.is_some() {
             return Err(SetFault::Closed);
@@ -88,6 +92,7 @@ impl Endpoint {
     }
 
     // The window is in force.
+    #[inline]
     fn force_window(&mut self, window: u64) {
         let taken = self.core.recvs.tally().taken;
         self.core.limits.set_conn_window(window, taken);
@@ -95,6 +100,7 @@ impl Endpoint {
     }
 
     // The grant is in force.
+    #[inline]
     fn force_grant(&mut self, dir: Dir, streams: u64) {
         let ended = self.core.ended.of(dir);
         self.core.limits.set_grant(dir, streams, ended);
@@ -108,6 +114,7 @@ const MAX_STREAM_WINDOW: u64 = 1 << 30;
 
 const MAX_GRANT: u64 = 1 << 17;
 
+#[inline]
 fn no_half_to_set(other: bool) -> SetFault {
     if other {
         SetFault::WrongDirection

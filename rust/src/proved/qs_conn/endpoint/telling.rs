@@ -10,6 +10,7 @@ impl Endpoint {
     /// from then on, as after any close, and `told_close` tells with what; it has no payload that tells the peer. `receive` and
     /// `take_frame` say so again: the peer's close by its code, and its own as a closing of frame type 0 at place 0. An end that closed
     /// before stays as it is. It takes no memory.
+    #[inline]
     pub fn tell_closed(&mut self, close: ToldClose) {
         if self.closed.is_some() {
             return;

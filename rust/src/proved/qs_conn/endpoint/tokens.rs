@@ -7,6 +7,7 @@ use crate::proved::qs_ranges::NoMemory;
 
 impl Endpoint {
     /// The token of the packet of a number: that of a packet which was made (`Made`), where the layer beneath tells its packets by tokens.
+    #[inline]
     pub fn token_of(&self, number: u64) -> Token {
         Token {
             epoch: self.core.limits.tuning.epoch,
@@ -25,6 +26,7 @@ impl Endpoint {
     /// ```text
     /// for token in acknowledged { end.acked(token)?; }
     /// ```
+    #[inline]
     pub fn acked(&mut self, token: Token) -> Result<(), TokenFault> {
         if let Some(fault) = self.token_refusal(token) {
             return Err(fault);
@@ -43,6 +45,7 @@ impl Endpoint {
     ///
     /// Refused: `Closed`; `NotGiven` where not all of its packets were made yet, or the token is of another epoch; and `NoMemory` where
     /// memory was refused. Then some pieces may be lost already, and the call may be made again.
+    #[inline]
     pub fn lost(&mut self, token: Token) -> Result<(), TokenFault> {
         if let Some(fault) = self.token_refusal(token) {
             return Err(fault);
@@ -51,6 +54,7 @@ impl Endpoint {
     }
 
     // The packets from one number on and below another are lost, from the highest number down.
+    #[inline]
     fn lose_each(&mut self, first: u64, end: u64) -> Result<(), TokenFault> {
         let mut number = end;
         while number > first {
@@ -61,6 +65,7 @@ impl Endpoint {
     }
 
     // A packet is lost, or nothing changes where it is done.
+    #[inline]
     fn lose_one(&mut self, number: u64) -> Result<(), TokenFault> {
         match self.declare_lost(number) {
             Ok(()) => Ok(()),
@@ -71,6 +76,7 @@ impl Endpoint {
     }
 
     // Why nothing is told of a token.
+    #[inline]
     fn token_refusal(&self, token: Token) -> Option<TokenFault> {
         if self.closed.is_some() {
             return Some(TokenFault::Closed);
@@ -82,6 +88,7 @@ impl Endpoint {
     }
 
     // Whether this end made the packets of a token.
+    #[inline]
     fn gave(&self, token: Token) -> bool {
         let limits = &self.core.limits;
         token.epoch == limits.tuning.epoch
@@ -90,6 +97,7 @@ impl Endpoint {
     }
 
     // The packets of a token are acknowledged, as by an ACK of them alone.
+    #[inline]
     fn ack_only(&mut self, token: Token) -> Result<(), NoMemory> {
         let before = self.core.ended;
         let taken = self.core.ack_range(token.first, token.number + 1);

@@ -13,6 +13,7 @@ use crate::proved::qs_wire::{AckRanges, StreamId};
 impl Core {
     /// The packets that an ACK names are acknowledged: the outstanding ones and then the lost ones, each from the highest number down
     /// (RFC 9000, sections 13.2.1 and 13.3).
+    #[inline]
     pub(crate) fn ack<T: Told>(
         &mut self,
         largest: u64,
@@ -26,6 +27,7 @@ impl Core {
 
     /// The packets from one number on and below another are acknowledged, as by an ACK of them alone: the outstanding ones and then the lost
     /// ones, each from the highest number down (RFC 9000, section 13.3).
+    #[inline]
     pub(crate) fn ack_range(&mut self, first: u64, end: u64) -> Result<(), NoMemory> {
         let result = self.ack_both(first, end);
         self.outbox.trim();
@@ -33,6 +35,7 @@ impl Core {
     }
 
     // The packets of these numbers are acknowledged, those that are outstanding and those that were declared lost.
+    #[inline]
     fn ack_both(&mut self, first: u64, end: u64) -> Result<(), NoMemory> {
         self.ack_numbers(false, first, end)?;
         if !self.outbox.keeps_lost() {
@@ -42,6 +45,7 @@ impl Core {
     }
 
     // The packets of these numbers are acknowledged, the outstanding ones or the lost ones.
+    #[inline]
     fn ack_numbers(&mut self, late: bool, first: u64, end: u64) -> Result<(), NoMemory> {
         let mut number = end;
         while number > first {
@@ -52,6 +56,7 @@ impl Core {
     }
 
     // The packets that the ranges name are acknowledged in one pass, the outstanding ones or the lost ones.
+    #[inline]
     fn ack_all<T: Told>(
         &mut self,
         late: bool,
@@ -65,6 +70,7 @@ impl Core {
     }
 
     // The packets that a pass has ahead are acknowledged.
+    #[inline]
     fn ack_ahead<T: Told>(
         &mut self,
         late: bool,
@@ -110,6 +116,7 @@ impl Core {
     }
 
     // A piece left its packet, if that was outstanding.
+    #[inline]
     fn drop_unless(&mut self, packet: KeptPacket, piece: Piece) {
         if !packet.late {
             self.drop_carried(&piece);
@@ -118,6 +125,7 @@ impl Core {
 }
 
 // The stream whose sending half changes as a piece is acknowledged.
+#[inline]
 fn half_of(piece: &Piece) -> Option<StreamId> {
     match *piece {
         Piece::Data { stream, .. } => Some(stream),

@@ -8,6 +8,7 @@ use crate::proved::qs_wire::StreamId;
 
 impl Core {
     /// Whether an outstanding or acknowledged packet told a current item.
+    #[inline]
     pub(super) fn has_covered(&self, item: &Item) -> bool {
         match *item {
             Item::ResetStream { stream, .. } => self.has_told(Kind::ResetStream, stream, item),
@@ -21,6 +22,7 @@ impl Core {
     }
 
     // The same of a stream's item: a mark tells whether it is outstanding.
+    #[inline]
     fn has_told(&self, kind: Kind, stream: StreamId, item: &Item) -> bool {
         if self.carried.has(kind, stream) {
             return true;
@@ -29,6 +31,7 @@ impl Core {
     }
 
     /// The present item of a half went into a packet, if that wasn't full.
+    #[inline]
     pub(super) fn note_put(&mut self, item: &Item, is_full: bool) {
         if !is_full {
             self.carried.set(item, true);
@@ -48,12 +51,14 @@ impl Core {
     }
 
     /// The peer allows the offsets of a stream below a limit. Where that rises nothing outstanding tells that the stream stands at it.
+    #[inline]
     pub(crate) fn allow(&mut self, stream: StreamId, limit: u64) {
         debug_assert!(limit <= 0x3fff_ffff_ffff_ffff);
         self.drop_block(stream, limit);
         self.outbox.allow(stream, limit);
     }
 
+    #[inline]
     fn drop_block(&mut self, stream: StreamId, limit: u64) {
         if self.outbox.limit_rises(stream, limit) {
             self.carried.blocks.set(stream, false);
@@ -61,6 +66,7 @@ impl Core {
     }
 
     /// Sets the window of an open stream. Where its limit rises nothing outstanding tells of that.
+    #[inline]
     pub(crate) fn set_window(&mut self, stream: StreamId, window: u64) {
         debug_assert!(1 <= window);
         debug_assert!(window <= 1 << 30);
@@ -71,6 +77,7 @@ impl Core {
     }
 
     // The limit of a half was this one.
+    #[inline]
     fn drop_limit(&mut self, stream: StreamId, was: Option<u64>) {
         let is = self.recvs.limit_of(stream);
         if !is_same(was, is) {
@@ -79,6 +86,7 @@ impl Core {
     }
 
     // Whether an item has the present value of its half. A stop and a reset keep their value.
+    #[inline]
     fn is_present(&self, item: &Item) -> bool {
         match *item {
             Item::MaxStreamData { stream, maximum } => {
@@ -93,6 +101,7 @@ impl Core {
 }
 
 // Whether two limits are there, and are one.
+#[inline]
 fn is_same(a: Option<u64>, b: Option<u64>) -> bool {
     match (a, b) {
         (Some(x), Some(y)) => x == y,

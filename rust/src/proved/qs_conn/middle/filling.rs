@@ -16,6 +16,7 @@ use crate::proved::qs_wire::{Dir, StreamId};
 impl Core {
     /// Fills a packet from its first byte on with what is asked for, and answers how far it is: the ACK, control items, and the
     /// bytes of streams (RFC 9000, sections 4, 13.2 and 13.3).
+    #[inline]
     pub(crate) fn fill(&mut self, done: &RangeSet, wish: &Wish, out: &mut [u8]) -> Course {
         let len = put_ack_if(done, wish, out);
         let start = Packet {
@@ -28,11 +29,13 @@ impl Core {
 
     /// How many pieces a packet of that many bytes holds at most: each takes two or more, and where nothing of a stream is due there are
     /// the connection's own items alone.
+    #[inline]
     pub(crate) fn most_pieces(&self, room: usize) -> usize {
         if self.is_still() { OWN_ITEMS } else { room / 2 }
     }
 
     // Whether nothing of a stream is due. It looks at how many marks there are, and at no half.
+    #[inline]
     fn is_still(&self) -> bool {
         if self.outbox.may_have(Task::Bytes) {
             return false;
@@ -44,6 +47,7 @@ impl Core {
     }
 
     // Puts the control items into the packet that are due, if they are asked for.
+    #[inline]
     fn put_items(&mut self, wish: &Wish, out: &mut [u8], packet: Packet) -> Packet {
         if !wish.want.items {
             return packet;
@@ -99,6 +103,7 @@ impl Core {
     }
 
     /// The least number from one on of a stream that may have an item of a kind. Of the streams between none is due.
+    #[inline]
     pub(super) fn next_untold(&self, kind: Kind, from: u64) -> Option<StreamId> {
         debug_assert!(from <= 1 << 62);
         match kind {
@@ -117,6 +122,7 @@ impl Core {
     }
 
     // Puts the item of a slot into the packet, if it is due.
+    #[inline]
     fn put_slot(&mut self, slot: Slot, out: &mut [u8], packet: Packet) -> Packet {
         if packet.is_full {
             return packet;
@@ -134,6 +140,7 @@ impl Core {
 
     // Puts the bytes of the streams into the packet that are asked for: of one alone, or of those from it on before the others and lower
     // numbers first, as far as the limits and the room allow.
+    #[inline]
     fn put_streams(&mut self, wish: &Wish, out: &mut [u8], packet: Packet) -> Course {
         let packet = Course {
             len: packet.len,
@@ -155,6 +162,7 @@ impl Core {
     }
 
     // Puts the bytes of the streams of a way into the packet, lower numbers first, as far as the limits and the room allow.
+    #[inline]
     fn put_way(&mut self, first: StreamId, around: bool, out: &mut [u8], packet: Course) -> Course {
         if packet.is_full {
             return packet;
@@ -195,6 +203,7 @@ impl Core {
     }
 
     // Puts chunks of a stream into the packet, one for each run of due offsets, as far as the limits, the room and the cap allow.
+    #[inline]
     fn put_chunks(&mut self, stream: StreamId, out: &mut [u8], packet: Course) -> Course {
         if packet.is_full {
             return packet;

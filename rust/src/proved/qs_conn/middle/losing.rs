@@ -7,6 +7,7 @@ use crate::proved::qs_ranges::NoMemory;
 
 impl Core {
     /// The pieces of a packet are lost, and the packet is outstanding no more (RFC 9000, section 13.3).
+    #[inline]
     pub(crate) fn lose(&mut self, number: u64) -> Result<(), NoMemory> {
         let result = self.lose_pieces(number);
         self.outbox.trim();
@@ -14,6 +15,7 @@ impl Core {
     }
 
     // The pieces of a packet are lost, from the first on.
+    #[inline]
     fn lose_pieces(&mut self, number: u64) -> Result<(), NoMemory> {
         while let Some(piece) = self.outbox.first(number) {
             look_again(&mut self.untold_recvs, &mut self.untold_sends, &piece);

@@ -8,6 +8,7 @@ use crate::proved::qs_wire::{Dir, StreamId};
 
 impl Core {
     /// Whether a control item is due, or bytes of a stream or its end may go (RFC 9000, sections 3.1, 3.3 and 4.1).
+    #[inline]
     pub(crate) fn has_frame(&self) -> bool {
         if self.has_stream() {
             return true;
@@ -17,6 +18,7 @@ impl Core {
 
     /// Whether of what is asked for a control item is due, or bytes of a stream or its end may go (RFC 9000, sections 3.1, 3.3 and 4.1). With
     /// no byte left of the cap no stream is asked for. The stream that sent last is asked before others are looked for.
+    #[inline]
     pub(crate) fn has_wanted(&self, want: &Fill, left: usize, last: Option<StreamId>) -> bool {
         if left == 0 {
             return self.has_wanted_item(want);
@@ -29,6 +31,7 @@ impl Core {
     }
 
     // A control item is due, and items are asked for.
+    #[inline]
     fn has_wanted_item(&self, want: &Fill) -> bool {
         if want.items {
             return self.has_item();
@@ -37,6 +40,7 @@ impl Core {
     }
 
     // Bytes of a stream that is asked for may go, or its end.
+    #[inline]
     fn has_wanted_stream(&self, want: &Fill, last: Option<StreamId>) -> bool {
         if !want.streams {
             return false;
@@ -53,6 +57,7 @@ impl Core {
     }
 
     // A control item is due.
+    #[inline]
     fn has_item(&self) -> bool {
         let found = self.has_own_slot(Slot::MaxData, false);
         let found = self.has_own_slot(Slot::MaxStreams(Dir::Bidi), found);
@@ -103,6 +108,7 @@ impl Core {
     }
 
     // The item of a slot is due, or one was found before.
+    #[inline]
     fn has_slot(&self, slot: Slot, is_found: bool) -> bool {
         if is_found {
             return true;
@@ -114,6 +120,7 @@ impl Core {
     }
 
     // Bytes of some stream may go, or its end.
+    #[inline]
     fn has_stream(&self) -> bool {
         let mut from = 0;
         while let Some(stream) = self.next_going(from) {
@@ -126,6 +133,7 @@ impl Core {
     }
 
     // Bytes of a stream may go, or its end.
+    #[inline]
     fn has_bytes(&self, stream: StreamId) -> bool {
         // With room for any frame's head and one byte, only limits hold a chunk back.
         const ENOUGH: usize = 25;

@@ -8,6 +8,7 @@ use crate::proved::qs_wire::StreamId;
 impl Core {
     /// Takes the mark of a stream's half away, the one that has items of this kind, if all was told that it has to tell. Each look at a
     /// marked half ends so or finds something due, so a half that is due keeps none that follow it marked.
+    #[inline]
     pub(super) fn unmark_told(&mut self, kind: Kind, stream: StreamId) {
         match kind {
             Kind::ResetStream | Kind::StreamDataBlocked => self.unmark_send(stream),
@@ -15,6 +16,7 @@ impl Core {
         }
     }
 
+    #[inline]
     fn unmark_recv(&mut self, stream: StreamId) {
         if !self.is_idle(Slot::StopSending(stream)) {
             return;
@@ -25,6 +27,7 @@ impl Core {
         self.untold_recvs.set(stream, false);
     }
 
+    #[inline]
     fn unmark_send(&mut self, stream: StreamId) {
         if !self.is_idle(Slot::ResetStream(stream)) {
             return;
@@ -36,6 +39,7 @@ impl Core {
     }
 
     // Whether what is current of a slot was told.
+    #[inline]
     fn is_idle(&self, slot: Slot) -> bool {
         let Some(item) = self.limits.current(&self.outbox, &self.recvs, slot) else {
             return true;

@@ -64,6 +64,7 @@ fn next_of(types: &[SendLanes; 4], task: Task, stream_type: usize, from: u64) ->
 }
 
 /// The least number from one on of a stream whose half has something of a task.
+#[inline]
 pub(super) fn next_with(types: &[SendLanes; 4], task: Task, from: u64) -> Option<StreamId> {
     debug_assert!(from <= 1 << 62);
     least_stream(
@@ -75,6 +76,7 @@ pub(super) fn next_with(types: &[SendLanes; 4], task: Task, from: u64) -> Option
 }
 
 // The least such number among the streams of a type.
+#[inline]
 fn next_with_of(types: &[SendLanes; 4], task: Task, stream_type: usize, from: u64) -> Option<u64> {
     debug_assert!(stream_type < 4);
     debug_assert!(from <= 1 << 62);

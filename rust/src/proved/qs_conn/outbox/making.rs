@@ -23,6 +23,7 @@ impl Outbox {
     }
 
     /// The longest chunk of an open stream that may go out in a frame of at most `room` bytes, with `fresh` bytes of credit.
+    #[inline]
     pub(crate) fn next_chunk(&self, stream: StreamId, room: usize, fresh: u64) -> Option<Chunk> {
         let _next = self.next;
         let half = half_of(&self.types, stream);
@@ -30,6 +31,7 @@ impl Outbox {
     }
 
     /// Whether bytes of an open stream that were never sent may go by its own limit.
+    #[inline]
     pub(crate) fn has_unsent(&self, stream: StreamId) -> bool {
         let _next = self.next;
         let half = half_of(&self.types, stream);
@@ -37,6 +39,7 @@ impl Outbox {
     }
 
     /// Whether the room alone holds a chunk of an open stream back.
+    #[inline]
     pub(crate) fn is_held_by_room(&self, stream: StreamId, room: usize, fresh: u64) -> bool {
         let _next = self.next;
         let half = half_of(&self.types, stream);
@@ -44,11 +47,13 @@ impl Outbox {
     }
 
     /// The bytes of a chunk that is still in the buffer, in two pieces.
+    #[inline]
     pub(crate) fn bytes(&self, stream: StreamId, chunk: Chunk) -> (&[u8], &[u8]) {
         half_of(&self.types, stream).bytes(chunk)
     }
 
     /// The chunk stands in the packet in the making.
+    #[inline]
     pub(crate) fn put_chunk(&mut self, stream: StreamId, chunk: Chunk) -> Sent {
         let lanes = &mut self.types[type_of(stream)];
         let index = index_of(stream);
@@ -60,6 +65,7 @@ impl Outbox {
     }
 
     /// The item stands in the packet in the making. No outstanding packet told it with this value.
+    #[inline]
     pub(crate) fn put_item(&mut self, item: Item) {
         let _next = self.next;
         note_told(&mut self.types, &item);
@@ -68,16 +74,19 @@ impl Outbox {
     }
 
     /// The stream of the last STREAM frame in the packet in the making, if it has one (RFC 9000, section 19.8).
+    #[inline]
     pub(crate) fn last_stream(&self) -> Option<StreamId> {
         last_data(&self.pending)
     }
 
     /// Whether the packet in the making has a piece.
+    #[inline]
     pub(crate) fn has_piece(&self) -> bool {
         self.pending.len() > 0
     }
 
     /// The packet is made, and the next one has the next number.
+    #[inline]
     pub(crate) fn commit(&mut self) {
         put_pieces(
             &mut self.records,
@@ -91,12 +100,14 @@ impl Outbox {
 }
 
 // That a STREAM_DATA_BLOCKED was sent is marked in its half.
+#[inline]
 fn note_told(types: &mut [SendLanes; 4], item: &Item) {
     if let Item::StreamDataBlocked { stream, .. } = *item {
         note_blocked(types, stream);
     }
 }
 
+#[inline]
 fn note_blocked(types: &mut [SendLanes; 4], stream: StreamId) {
     if is_open(types, stream) {
         let lanes = &mut types[type_of(stream)];
@@ -117,6 +128,7 @@ fn put_pieces(records: &mut Records, number: u64, pending: &mut Vec<Piece>, room
 }
 
 // The stream of the last chunk among the pieces: mostly the last piece, as the items go in first.
+#[inline]
 fn last_data(pieces: &[Piece]) -> Option<StreamId> {
     if let Some(Piece::Data { stream, .. }) = pieces.last() {
         return Some(*stream);

@@ -11,6 +11,7 @@ use crate::proved::qs_wire::StreamId;
 
 impl Outbox {
     /// Whether an acknowledged packet told the item with this value.
+    #[inline]
     pub(crate) fn is_acked(&self, item: Item) -> bool {
         if let Item::ResetStream { stream, .. } = item {
             return self.is_reset_acked(stream);
@@ -19,6 +20,7 @@ impl Outbox {
     }
 
     /// Whether the reset of a stream was acknowledged.
+    #[inline]
     pub(crate) fn is_reset_acked(&self, stream: StreamId) -> bool {
         let Some(half) = self.half(stream) else {
             return false;
@@ -27,12 +29,14 @@ impl Outbox {
     }
 
     /// The reset of a stream. A frame can tell it.
+    #[inline]
     pub(crate) fn reset_of(&self, stream: StreamId) -> Option<Reset> {
         let half = self.half(stream)?;
         reset_by(half.reset_code(), half.final_size())
     }
 
     /// The limit at which a stream is blocked. A frame can tell it.
+    #[inline]
     pub(crate) fn blocked_at(&self, stream: StreamId) -> Option<u64> {
         let half = self.half(stream)?;
         if let Some(_code) = half.reset_code() {
@@ -49,12 +53,14 @@ impl Outbox {
     }
 
     /// The limit of an open stream.
+    #[inline]
     pub(crate) fn limit_of(&self, stream: StreamId) -> Option<u64> {
         let half = self.half(stream)?;
         Some(half.limit())
     }
 
     /// Whether a MAX_STREAM_DATA of this limit would raise that of an open stream.
+    #[inline]
     pub(crate) fn limit_rises(&self, stream: StreamId, limit: u64) -> bool {
         let Some(half) = self.half(stream) else {
             return false;
@@ -63,6 +69,7 @@ impl Outbox {
     }
 
     /// Whether a STOP_SENDING, which the owner answers or not, would change an open stream.
+    #[inline]
     pub(crate) fn stop_changes(&self, stream: StreamId, owner_answers: bool) -> bool {
         let Some(half) = self.half(stream) else {
             return false;
@@ -71,6 +78,7 @@ impl Outbox {
     }
 
     /// Whether a stream has bytes that only the connection's credit holds back.
+    #[inline]
     pub(crate) fn wants_more(&self, stream: StreamId) -> bool {
         let Some(half) = self.half(stream) else {
             return false;
@@ -82,6 +90,7 @@ impl Outbox {
     }
 
     /// Whether bytes of a stream weren't sent, and its limit alone holds them back, or that of the connection, where that is used up.
+    #[inline]
     pub(crate) fn waits_for_credit(&self, stream: StreamId, is_used_up: bool) -> bool {
         let Some(half) = self.half(stream) else {
             return false;
@@ -96,6 +105,7 @@ impl Outbox {
     }
 
     /// How many bytes a stream has room for now, however many are written.
+    #[inline]
     pub(crate) fn room(&self, stream: StreamId) -> u64 {
         let Some(half) = self.half(stream) else {
             return 0;
@@ -107,6 +117,7 @@ impl Outbox {
     }
 
     /// How many bytes more may be written to a stream that its own limit lets go.
+    #[inline]
     pub(crate) fn limit_left(&self, stream: StreamId) -> u64 {
         let Some(half) = self.half(stream) else {
             return 0;
@@ -115,6 +126,7 @@ impl Outbox {
     }
 
     /// How many bytes of a stream were written that are still to be sent for the first time.
+    #[inline]
     pub(crate) fn unsent(&self, stream: StreamId) -> u64 {
         let Some(half) = self.half(stream) else {
             return 0;
@@ -126,17 +138,20 @@ impl Outbox {
     }
 
     /// The lowest offset of a stream that isn't acknowledged.
+    #[inline]
     pub(crate) fn acked_below(&self, stream: StreamId) -> Option<u64> {
         let half = self.half(stream)?;
         Some(half.unacked_from())
     }
 
     /// Whether any stream may have a task.
+    #[inline]
     pub(crate) fn may_have(&self, task: Task) -> bool {
         may_have(&self.types, task)
     }
 
     /// The least number from one on of a stream that may have a task. The streams between have none of it.
+    #[inline]
     pub(crate) fn next_marked(&self, task: Task, from: u64) -> Option<StreamId> {
         debug_assert!(from <= 1 << 62);
         if !may_have(&self.types, task) {
@@ -146,6 +161,7 @@ impl Outbox {
     }
 
     /// The least number from one on of a stream that may be written to.
+    #[inline]
     pub(crate) fn next_writable(&self, from: u64) -> Option<StreamId> {
         debug_assert!(from <= 1 << 62);
         let _next = self.next;
@@ -153,6 +169,7 @@ impl Outbox {
     }
 
     /// The least number from one on of a stream that may be written to, of those in `short`.
+    #[inline]
     pub(crate) fn next_short(&self, short: &ToldStreams, from: u64) -> Option<StreamId> {
         debug_assert!(from <= 1 << 62);
         let _next = self.next;
@@ -186,6 +203,7 @@ impl Outbox {
     }
 
     /// The marks of the streams of a type, by index, whose sending half may have come to its end. One without a mark hasn't.
+    #[inline]
     pub(crate) fn ended_marks(&self, stream_type: usize) -> &Marks {
         debug_assert!(stream_type < 4);
         let _next = self.next;
@@ -194,6 +212,7 @@ impl Outbox {
     }
 
     /// The least number from one on of a stream of which bytes or the end are due, which its own limit lets go.
+    #[inline]
     pub(crate) fn next_sendable(&self, from: u64) -> Option<StreamId> {
         debug_assert!(from <= 1 << 62);
         let _next = self.next;
@@ -206,11 +225,13 @@ impl Outbox {
     }
 }
 
+#[inline]
 fn either(a: bool, b: bool) -> bool {
     a || b
 }
 
 // A reset, where it has a code.
+#[inline]
 fn reset_by(code: Option<u64>, size: Option<u64>) -> Option<Reset> {
     match (code, size) {
         (Some(code), Some(size)) => Some(Reset { code, size }),
@@ -220,6 +241,7 @@ fn reset_by(code: Option<u64>, size: Option<u64>) -> Option<Reset> {
 }
 
 // Whether a STOP_SENDING would change a half.
+#[inline]
 fn changed_by_stop(half: &SendView<'_>, owner_answers: bool) -> bool {
     if owner_answers {
         half.told_changes()

@@ -8,6 +8,7 @@ impl<'a> AckPass<'a> {
     /// The greatest lost number that the ranges name below the one given last, `None` where there is none. Where no packet is lost, it
     /// reads no range (RFC 9000, section 13.2.1). Each record that it looks at, also one below the range, and each range that it reads
     /// takes one turn. It looks at none twice.
+    #[inline]
     pub fn next_lost(&mut self, records: &LostRecords) -> Option<u64> {
         if records.len() == 0 {
             return None;
@@ -28,6 +29,7 @@ impl<'a> AckPass<'a> {
     }
 
     // The greatest lost number of the range that was read last, below the one given last. Another record is looked at in one turn.
+    #[inline]
     fn lost_in_range(
         &mut self,
         records: &LostRecords,
@@ -48,6 +50,7 @@ impl<'a> AckPass<'a> {
 
     // The greatest lost number below the one given last: the one that was looked at last, where it lies below, else another one, in one
     // turn.
+    #[inline]
     fn look(&mut self, records: &LostRecords, seen: u64, near: &mut usize) -> Option<u64> {
         if seen < self.below {
             return Some(seen);

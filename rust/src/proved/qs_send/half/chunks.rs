@@ -10,6 +10,7 @@ impl SendHalf {
     /// The longest chunk from the lowest due offset on whose STREAM frame takes at most `room` bytes, with
     /// `fresh` bytes of connection credit left for bytes that were never sent. It carries the end where
     /// the end is due and it reaches the last written byte. `None` where no chunk may go.
+    #[inline]
     pub fn next_chunk(&self, room: usize, fresh: u64) -> Option<Chunk> {
         let Some((offset, end)) = self.offsets.due_run() else {
             return self.end_chunk(room);
@@ -38,6 +39,7 @@ impl SendHalf {
 
     /// Whether the room alone holds a chunk back: one that is due, below the stream's limit and within the
     /// credit, and whose frame is longer than `room`.
+    #[inline]
     pub fn is_held_by_room(&self, room: usize, fresh: u64) -> bool {
         match self.next_chunk(usize::MAX, fresh) {
             Some(chunk) => self.frame_len(chunk) > room,
@@ -53,6 +55,7 @@ impl SendHalf {
     }
 
     /// Whether bytes that were never sent may go by the half's own limit.
+    #[inline]
     pub fn has_unsent(&self) -> bool {
         self.reset_code().is_none() && self.sent_end() < self.written().min(self.limit())
     }
@@ -64,6 +67,7 @@ impl SendHalf {
     }
 
     /// The bytes of a chunk that is still in the buffer: a front, and where they go around the buffer's end, a back.
+    #[inline]
     pub fn bytes(&self, chunk: Chunk) -> (&[u8], &[u8]) {
         let first = self.offsets.written() - self.offsets.kept_len() as u64;
         self.offsets
@@ -71,6 +75,7 @@ impl SendHalf {
     }
 
     /// Writes the bytes of a chunk that is still in the buffer into the slice.
+    #[inline]
     pub fn copy(&self, chunk: Chunk, into: &mut [u8]) {
         let (front, back) = self.bytes(chunk);
         let (begin, rest) = into.split_at_mut(front.len());
@@ -79,12 +84,14 @@ impl SendHalf {
     }
 
     /// How many bytes the chunk's STREAM frame takes (RFC 9000, section 19.8).
+    #[inline]
     pub fn frame_len(&self, chunk: Chunk) -> usize {
         let _limit = self.limit;
         self.head_len(chunk.offset) + varint_len(chunk.len as u64) + chunk.len
     }
 
     /// Whether the chunk was sent at some time.
+    #[inline]
     pub fn has_sent(&self, chunk: Chunk) -> bool {
         let sent_end = self.offsets.sent_end();
         chunk.offset <= sent_end
@@ -93,6 +100,7 @@ impl SendHalf {
     }
 
     // A frame without bytes, where no byte is due.
+    #[inline]
     fn end_chunk(&self, room: usize) -> Option<Chunk> {
         if !self.end_due() {
             return None;
@@ -109,6 +117,7 @@ impl SendHalf {
     }
 
     // The length of a frame's type, stream and offset.
+    #[inline]
     fn head_len(&self, offset: u64) -> usize {
         debug_assert!(offset <= 0x3fff_ffff_ffff_ffff);
         let id_len = varint_len(self.id.value());

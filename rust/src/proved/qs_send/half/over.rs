@@ -13,11 +13,13 @@ impl SendHalf {
     }
 
     /// How many streams of its type have a lower number.
+    #[inline]
     pub(crate) fn index(&self) -> u64 {
         self.id.value() / 4
     }
 
     /// The slot of a half of that number that is over: all of it was acknowledged, and neither a reset nor a STOP_SENDING came.
+    #[inline]
     pub(crate) fn over(&self, number: u64) -> Option<SendSlot> {
         if self.id.value() != number {
             return None;

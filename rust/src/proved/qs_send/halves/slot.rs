@@ -16,6 +16,7 @@ pub(crate) struct SendSlot {
 
 impl SendSlot {
     /// Of a half that stands at a place.
+    #[inline]
     pub(crate) fn full(place: usize) -> Self {
         SendSlot {
             written: MaybeNumber::none(),
@@ -26,6 +27,7 @@ impl SendSlot {
     }
 
     /// Of no half: one that is over, and to which nothing was written.
+    #[inline]
     pub(crate) fn none() -> Self {
         SendSlot {
             written: MaybeNumber::some(0),

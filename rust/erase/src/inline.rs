@@ -1,0 +1,112 @@
+//! Short functions may be inlined by whoever calls them: a build with many codegen units otherwise makes calls of them all.
+
+use crate::lex::{Kind, Token, tokens};
+
+/// How many lines a function has at most, from its visibility to its closing brace, so that it is told to.
+const LINES: usize = 40;
+
+/// What stands between an item's beginning and its `fn`. What stands in a visibility's parentheses is behind them.
+const BEFORE: [&str; 4] = ["pub", "const", "unsafe", "default"];
+
+/// The Rust text with `#[inline]` before each short function that says nothing of it by itself, and is no test.
+pub fn inline(rust: &str) -> String {
+    let file = File {
+        text: rust,
+        tokens: tokens(rust).unwrap_or_default(),
+    };
+    let (mut out, mut from) = (String::new(), 0);
+    for at in 0..file.tokens.len() {
+        let Some(start) = file.short(at) else {
+            continue;
+        };
+        let line = rust[..start].rfind('\n').map_or(0, |feed| feed + 1);
+        out.push_str(&rust[from..start]);
+        out.push_str("#[inline]\n");
+        out.push_str(&rust[line..start]);
+        from = start;
+    }
+    out + &rust[from..]
+}
+
+struct File<'a> {
+    text: &'a str,
+    tokens: Vec<Token>,
+}
+
+impl<'a> File<'a> {
+    /// Where the item begins whose `fn` this token is, where it is to have the attribute.
+    fn short(&self, at: usize) -> Option<usize> {
+        if self.word(at) != "fn" || self.tokens.get(at + 1)?.kind != Kind::Name {
+            return None;
+        }
+        let first = self.first(at);
+        let mut before = first;
+        while self.word_before(before) == "]" {
+            let open = self.open(before - 1)?;
+            if matches!(self.word(open + 1), "inline" | "test") {
+                return None;
+            }
+            before = open.checked_sub(1)?;
+        }
+        let end = self.end(at)?;
+        let start = self.tokens[first].start;
+        let lines = 1 + self.text[start..end].matches('\n').count();
+        (lines <= LINES).then_some(start)
+    }
+
+    /// The first token of the item, behind its attributes.
+    fn first(&self, at: usize) -> usize {
+        let mut first = at;
+        loop {
+            let before = self.word_before(first);
+            if BEFORE.contains(&before) {
+                first -= 1;
+            } else if before == ")" && first >= 4 && self.word(first - 4) == "pub" {
+                first -= 4;
+            } else {
+                return first;
+            }
+        }
+    }
+
+    /// Where its body ends, if it has one.
+    fn end(&self, at: usize) -> Option<usize> {
+        let mut depth = 0;
+        for at in at..self.tokens.len() {
+            match self.word(at) {
+                "(" | "[" | "{" => depth += 1,
+                ")" | "]" => depth -= 1,
+                "}" if depth == 1 => return Some(self.tokens[at].end),
+                "}" => depth -= 1,
+                ";" if depth == 0 => return None,
+                _ => {}
+            }
+        }
+        None
+    }
+
+    /// The bracket that opens where this one closes.
+    fn open(&self, close: usize) -> Option<usize> {
+        let mut depth = 0;
+        for at in (0..=close).rev() {
+            match self.word(at) {
+                "]" => depth += 1,
+                "[" => depth -= 1,
+                _ => {}
+            }
+            if depth == 0 {
+                return Some(at);
+            }
+        }
+        None
+    }
+
+    fn word(&self, at: usize) -> &'a str {
+        let token = self.tokens[at];
+        &self.text[token.start..token.end]
+    }
+
+    fn word_before(&self, at: usize) -> &'a str {
+        at.checked_sub(1).map_or("", |at| self.word(at))
+    }
+}
