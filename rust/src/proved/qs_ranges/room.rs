@@ -6,6 +6,7 @@ use crate::proved::qs_ranges::NoMemory;
 
 /// Makes room for so many bytes in all, takes memory for no more, and answers how many these are: what a caller makes of them is then
 /// as large as its memory.
+#[inline]
 pub fn reserve(bytes: &mut Vec<u8>, size: usize) -> Result<usize, NoMemory> {
     bytes.reserve_exact(size - bytes.len())?;
     Ok(size)

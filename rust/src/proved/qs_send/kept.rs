@@ -19,6 +19,7 @@ pub struct Kept {
 }
 
 impl Kept {
+    #[inline]
     pub fn new(alloc: Global) -> Self {
         Self {
             alloc,
@@ -28,17 +29,20 @@ impl Kept {
         }
     }
 
+    #[inline]
     pub fn len(&self) -> usize {
         self.count
     }
 
     /// How many bytes of memory are taken: at least those that are kept, and no more than 4,096 where none is.
+    #[inline]
     pub fn held(&self) -> usize {
         self.ring.len()
     }
 
     /// Appends the bytes. Where `most` bytes at most are ever kept, no more than twice as many are
     /// allocated, and while these are there nothing is.
+    #[inline]
     pub fn append(&mut self, bytes: &[u8], most: usize) -> Result<(), NoMemory> {
         let count = self.count + bytes.len();
         if count > self.ring.len() {
@@ -56,6 +60,7 @@ impl Kept {
     }
 
     /// Leaves the first `n` bytes.
+    #[inline]
     pub fn truncate(&mut self, n: usize) {
         if n == 0 && self.ring.len() > IDLE_ROOM {
             self.give_back();
@@ -66,6 +71,7 @@ impl Kept {
 
     /// Lets the first `n` bytes go. Where nothing is left a room of more than 4,096 bytes is given back, and any where
     /// nothing more comes.
+    #[inline]
     pub fn let_go(&mut self, n: usize, is_over: bool) {
         let count = self.count - n;
         if count > 0 {
@@ -80,6 +86,7 @@ impl Kept {
     }
 
     /// The `len` bytes from a place on: a front, and where they go around the ring's end, a back.
+    #[inline]
     pub fn part(&self, from: usize, len: usize) -> (&[u8], &[u8]) {
         let start = place(self.ring.len(), self.start + from);
         pieces(&self.ring, start, len)
@@ -87,6 +94,7 @@ impl Kept {
 
     // Moves the bytes to the front of a ring with so many places, and puts those behind them that come. Unchanged where memory is
     // refused.
+    #[inline]
     fn move_to(&mut self, size: usize, bytes: &[u8]) -> Result<(), NoMemory> {
         debug_assert!(0 < bytes.len());
         let (front, back) = pieces(&self.ring, self.start, self.count);
@@ -98,6 +106,7 @@ impl Kept {
     }
 
     // Keeps nothing, and takes no memory.
+    #[inline]
     fn give_back(&mut self) {
         self.ring = Vec::new(self.alloc);
         self.start = 0;
@@ -106,11 +115,13 @@ impl Kept {
 }
 
 // Where in a ring of so many places the byte stands that is so many places past the front.
+#[inline]
 fn place(size: usize, at: usize) -> usize {
     if at < size { at } else { at - size }
 }
 
 // So many bytes of a ring, in two pieces where they go around its end.
+#[inline]
 fn pieces(ring: &[u8], start: usize, count: usize) -> (&[u8], &[u8]) {
     debug_assert!(start <= ring.len());
     debug_assert!(count <= ring.len());
@@ -123,6 +134,7 @@ fn pieces(ring: &[u8], start: usize, count: usize) -> (&[u8], &[u8]) {
 }
 
 // Puts bytes behind the first `count` of a ring, which goes on where it stands, to so many places. Unchanged where memory is refused.
+#[inline]
 fn grow(ring: &mut Vec<u8>, count: usize, bytes: &[u8], size: usize) -> Result<(), NoMemory> {
     let room = reserve(ring, size)?;
     ring.truncate(count);
@@ -132,6 +144,7 @@ fn grow(ring: &mut Vec<u8>, count: usize, bytes: &[u8], size: usize) -> Result<(
 }
 
 // Writes bytes behind those that stand in a ring, in two pieces where they go around its end.
+#[inline]
 fn write_behind(ring: &mut [u8], start: usize, count: usize, bytes: &[u8]) {
     debug_assert!(start <= ring.len());
     let at = place(ring.len(), start + count);
@@ -146,11 +159,13 @@ fn write_behind(ring: &mut [u8], start: usize, count: usize, bytes: &[u8]) {
 }
 
 // Writes bytes from a place on.
+#[inline]
 fn write_at(into: &mut [u8], at: usize, bytes: &[u8]) {
     into[at..at + bytes.len()].copy_from_slice(bytes);
 }
 
 // The bytes one behind the other, at the front of a ring of so many places.
+#[inline]
 fn joined(
     alloc: Global,
     front: &[u8],
