@@ -699,7 +699,7 @@ GV_API gv_status gv_acked_below(const gv_endpoint *end, uint64_t stream, uint64_
 /** Writes the next event of an end to *event, each once. ::GV_NONE: there is none; what the owner or the peer does next may bring one.
  * ::GV_NO_MEMORY: there is none for the note that it was told, or for one that is missing; nothing changed, and it comes again. *event is as
  * things stand now: an event that no longer holds, as ::GV_EVENT_READABLE of a stream that was read or stopped since, isn't told. An end
- * keeps notes, in memory of its own, from the first call on, or from the first write that is cut short.
+ * keeps notes, in memory of its own, from the first call on that finds some, or from the first write that is cut short.
  *
  * ::GV_EVENT_READABLE comes again once a stream was read until nothing was left, and more came; until then the stream isn't told again, be
  * it that its end or a reset comes. Of a closed end come no ::GV_EVENT_WRITABLE, no ::GV_EVENT_AVAILABLE and none of the last three kinds,
