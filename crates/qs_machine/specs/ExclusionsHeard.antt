@@ -1,12 +1,13 @@
 -- Of laws.
 -- What is no news, and what an owner didn't hear by it (RFC 9000, sections 2.2 to 2.4, 3 and 4).
-use Rattle.std.specs.Prelude.{◌≡◌, ℕ, true, false, Option, None, Some, Ok, Err}
+use Rattle.std.specs.Prelude.{◌≡◌, ℕ, true, false, [], ◌∷◌, Option, None, Some, Ok, Err}
 use Rattle.qs_ranges.specs.declared.NoMemory.{NoMemory}
 use Rattle.qs_wire.specs.declared.stream_id.Dir.TheVariants.{Bidi, Uni}
 use Rattle.qs_calls.specs.declared.news.News.TheVariants.{Opened, Readable, Writable, Stopped, Finished, ResetAcked, Ended, Available, DataBlocked}
 use Rattle.qs_recv.specs.Lane.{RecvLane}
 use Rattle.qs_send.specs.declared.piece.Item.TheVariants as items
 use Rattle.qs_machine.specs.Seen.{Control}
+use Rattle.qs_machine.specs.Tables.{no_streams}
 use Rattle.qs_machine.specs.Heard.{Hearing, heard_nothing, nothing_blocked, IsNews, IsFirstNews, IsHeardBy, IsNextNews, IsNoted, WillWrite, IsReadOn}
 use Rattle.qs_machine.specs.SmallEnds.{client_with, server_with, raised, only, begun, finished, reset_half, fresh, all_came}
 use Rattle.qs_machine.specs.ExclusionsOwner.{over}
@@ -81,6 +82,9 @@ pub record NotNoted : Type 0 where
   -- memory is asked for a write that isn't, or for a stream that has a mark
   pub marked : (refused : NoMemory) → WillWrite (client_with begun) 0 4000 (record heard_nothing { short = only false }) (Err refused) (record heard_nothing { short = only false }) → ⊥
   pub whole : (refused : NoMemory) → WillWrite (client_with begun) 0 1 heard_nothing (Err refused) heard_nothing → ⊥
+  -- a place is given up, as a stream is noted or read empty
+  pub place_lost : IsHeardBy (Readable 0) (record heard_one { readable = record no_streams { client_bidi = false ∷ false ∷ [] } }) (record heard_one { readable = only true }) → ⊥
+  pub place_dropped : IsReadOn (server_with fresh) 0 (record heard_one { readable = only true }) (record heard_one { readable = no_streams }) → ⊥
   -- a stream that was read empty isn't heard of again
   pub read_empty : IsReadOn (server_with fresh) 0 (record heard_one { readable = only true }) (record heard_one { readable = only true }) → ⊥
   -- what the peer said is told, and is to be told again

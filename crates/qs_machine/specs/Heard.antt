@@ -23,13 +23,17 @@ use Rattle.qs_machine.specs.Asking.{room, stopped_with, open_left}
 abbrev pub is_told : Tables Bool → ℕ → Bool
 is_told t n = unwrap_or (lookup t n) false
 
+-- no place is given up: each stream that had one still has one, in which a mark takes no memory
+abbrev pub StayPlaced : Tables Bool → Tables Bool → Type 0
+StayPlaced old new = (m : ℕ) → is_some (lookup old m) ≡ true → is_some (lookup new m) ≡ true
+
 -- one stream more has a mark
 abbrev pub IsToldBeside : ℕ → Tables Bool → Tables Bool → Type 0
-IsToldBeside n old new = (m : ℕ) → is_told new m ≡ ((m == n) || is_told old m)
+IsToldBeside n old new = ((m : ℕ) → is_told new m ≡ ((m == n) || is_told old m)) × StayPlaced old new
 
 -- one stream has none any more
 abbrev pub IsForgotten : ℕ → Tables Bool → Tables Bool → Type 0
-IsForgotten n old new = (m : ℕ) → is_told new m ≡ (not (m == n) && is_told old m)
+IsForgotten n old new = ((m : ℕ) → is_told new m ≡ (not (m == n) && is_told old m)) × StayPlaced old new
 
 -- what the peer said to hold it back, and its owner wasn't told: the connection's limit, those of streams, each direction's count (RFC 9000,
 -- sections 4.1 and 4.6)
