@@ -63,6 +63,8 @@ def rises(old, new):
                 yield f"{name} is gone"
                 continue
             now = new[compiler][name]
+            if len(now.values) < len(limit.values):
+                yield f"{name} has a limit less"
             for before, after in zip(limit.values, now.values):
                 if after > before and (before, after) not in now.raised:
                     yield f"{name} rose from {before} to {after}, and '# raised {before} {after}: reason' doesn't stand beside it"
@@ -95,7 +97,7 @@ def lowered(blocks, compiler, counts):
 
 
 def above(blocks, compiler, counts):
-    """The counts that are above their limits, and the works that have none."""
+    """The counts that are above their limits, and those that have none."""
     block = blocks.get(compiler, {})
     for name, counted in counts.items():
         if name not in block:
@@ -104,6 +106,3 @@ def above(blocks, compiler, counts):
         for limit, build in zip(block[name].values, ROOM):
             if counted[build] > limit:
                 yield f"{name}, {common.BUILDS[build]}: {counted[build]:.1f} is above {limit}"
-    for name in block:
-        if name not in counts:
-            yield f"{name} isn't counted"
