@@ -1,5 +1,8 @@
-"""What the programs of this folder share: what they build, what they tell of the machine, and their places in docs/PERFORMANCE.md."""
+"""What the programs of this folder share: what they build, what they tell of the machine, and their places in docs/PERFORMANCE.md and
+RESULTS.md."""
 
+import datetime
+import os
 import pathlib
 import platform
 import subprocess
@@ -7,6 +10,9 @@ import sys
 
 HERE = pathlib.Path(__file__).resolve().parent
 PAGE = HERE.parent / "docs" / "PERFORMANCE.md"
+RESULTS = HERE / "RESULTS.md"
+# The builds: cargo's own flags, which a user has, and one codegen unit beside.
+BUILDS = {"release": "default", "one": "one unit"}
 MISSING = 4
 
 
@@ -20,11 +26,11 @@ def build_ours(program, profile="release"):
     return HERE / "target" / ("debug" if profile == "dev" else profile) / program
 
 
-def build_driver(name):
+def build_driver(name, *words):
     """The driver's path, or None where what it stands on isn't there."""
     room = HERE / "target" / "peers"
     room.mkdir(parents=True, exist_ok=True)
-    done = subprocess.run([HERE / name / "build", room], stdout=subprocess.PIPE, text=True)
+    done = subprocess.run([HERE / name / "build", room, *words], stdout=subprocess.PIPE, text=True)
     if done.returncode == MISSING:
         return None
     done.check_returncode()
@@ -43,19 +49,37 @@ def processor():
     return platform.machine()
 
 
-def parts(begin, end):
+def commit():
+    """The commit, with a sign where a source that is measured was changed since."""
+    try:
+        name = ask("git", "-C", HERE, "rev-parse", "--short=10", "HEAD").strip()
+        changed = ask("git", "-C", HERE, "status", "--porcelain", "--", "src", "../rust/src", "quinn", "ngtcp2", "quic-go", "c", "../c/src").strip()
+    except (subprocess.CalledProcessError, FileNotFoundError):
+        return "unknown"
+    return name + (" and changes" if changed else "")
+
+
+def load():
+    return f"{os.getloadavg()[0]:.1f}"
+
+
+def today():
+    return datetime.date.today().isoformat()
+
+
+def parts(begin, end, page=PAGE):
     """The page up to a mark, what stands between it and another one, and the page from that on."""
-    before, first, rest = PAGE.read_text().partition(begin)
+    before, first, rest = page.read_text().partition(begin)
     inside, last, after = rest.partition(end)
     if not first or not last:
-        sys.exit(f"bench: {PAGE} lacks one of its marks, {begin} and {end}")
+        sys.exit(f"bench: {page} lacks one of its marks, {begin} and {end}")
     return before + begin, inside, end + after
 
 
-def write(begin, end, text):
+def write(begin, end, text, page=PAGE):
     """Puts a text between two marks."""
-    before, _old, after = parts(begin, end)
-    PAGE.write_text(f"{before}\n\n{text}\n\n{after}")
+    before, _old, after = parts(begin, end, page)
+    page.write_text(f"{before}\n\n{text}\n\n{after}")
 
 
 def run(main):

@@ -7,6 +7,7 @@
 #include <stdlib.h>
 #include <string.h>
 
+#include "acts.h"
 #include "ends.h"
 #include "payloads.h"
 
@@ -341,4 +342,7 @@ static const struct row rows[] = {
     {"idle-1000000", idle, 1000000},
 };
 
-int main(int argc, char **argv) { return run_rows(argc, argv, rows, sizeof rows / sizeof *rows); }
+int main(int argc, char **argv) {
+  if (argc == 3 && strcmp(argv[1], "--count") == 0) return count_act(argv[2]);
+  return run_rows(argc, argv, rows, sizeof rows / sizeof *rows);
+}

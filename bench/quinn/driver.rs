@@ -10,8 +10,11 @@ use std::sync::atomic::{AtomicBool, Ordering};
 use std::time::Duration;
 
 pub mod attacks;
+mod counted;
 mod ends;
+mod growth;
 mod parts;
+mod requests;
 mod scaling;
 
 use ends::{Load, PLAIN};
@@ -19,9 +22,9 @@ use parts::{
     decode_mixed, decode_stream, even_then_odd, half_by_bytes, half_in_order, half_in_reverse,
     insert, send,
 };
+use requests::{Manner, request_after};
 use scaling::{
-    active, carried, hostile, idle, open, outstanding, raised, request_after, same_ack, threads,
-    transfer,
+    active, carried, hostile, idle, open, outstanding, raised, same_ack, threads, transfer,
 };
 
 const CHUNK: usize = 1200;
@@ -124,6 +127,8 @@ const ROWS: &[Row<Run>] = &[
     }),
     ("hostile-bytes-64k", hostile),
     ("loop", || transfer(PLAIN)),
+    // What is timed in both: each end is asked for its events as it reads.
+    ("loop-events", || transfer(PLAIN)),
     ("loop-ack-each-2", || transfer(Load { burst: 2, ..PLAIN })),
     ("loop-lost-each-100th", || {
         transfer(Load { lose: 100, ..PLAIN })
@@ -183,8 +188,12 @@ const ROWS: &[Row<Run>] = &[
     ("threads-2", || threads(2)),
     ("threads-4", || threads(4)),
     ("same-ack-32-ranges-of-10000", || same_ack(10_000)),
-    ("request", || request_after(0)),
-    ("request-after-60000", || request_after(60_000)),
+    ("request", || request_after(0, Manner::Packets)),
+    ("request-after-60000", || {
+        request_after(60_000, Manner::Packets)
+    }),
+    ("request-events", || request_after(0, Manner::Events)),
+    ("steps", || request_after(0, Manner::Steps)),
 ];
 
 // The rows that tell bytes, not nanoseconds. A million ends would take 57 GB.
@@ -202,6 +211,9 @@ pub fn main() {
             return SIZES.iter().for_each(|row| println!("{}", row.0));
         }
     };
+    if name == "--count" {
+        return counted::count(std::env::args().nth(2));
+    }
     if let Some(row) = SIZES.iter().find(|row| row.0 == name) {
         return println!("{:.2}", (row.1)());
     }

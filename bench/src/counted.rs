@@ -1,15 +1,29 @@
-//! Work whose instructions `tests/bench/run` counts, and whose calls `bench/calls` does: small, and the same at each run.
+//! Work whose instructions `bench/count` counts, and whose calls `bench/calls` does: small, and the same at each run.
 
 use crate::acts::{Act, played};
 use crate::counting::gotsavena_counted;
 use crate::ends::{Load, PLAIN, Pair, Way};
-use crate::parts::{half_takes_in_order, mixed, read_once};
+use crate::growth::{fills, lossy, outstanding, requests};
+use crate::parts::{IN_REVERSE, half_takes_in_order, half_takes_in_reverse, mixed, read_once};
+use crate::requests::{Manner, Requests};
 
 /// Work, by a name of its own.
 pub struct Counted {
     pub name: &'static str,
     /// Does it once, after a warm-up, and answers of how many units it was.
     pub run: fn() -> u64,
+}
+
+// So many calls are counted, once as many were made before.
+fn calls(mut call: impl FnMut(), count: u64) {
+    for _ in 0..count {
+        call();
+    }
+    gotsavena_counted(&mut || {
+        for _ in 0..count {
+            call();
+        }
+    });
 }
 
 fn decode() -> u64 {
@@ -24,56 +38,83 @@ fn decode() -> u64 {
 }
 
 fn in_order() -> u64 {
-    let mut take = half_takes_in_order();
-    let units = 2_000;
-    for _ in 0..units {
-        take();
-    }
-    gotsavena_counted(&mut || {
-        for _ in 0..units {
-            take();
-        }
-    });
-    units
+    calls(half_takes_in_order(), 2_000);
+    2_000
 }
 
-// Packets that go across so, are read from and acknowledged, beside so many active streams.
-fn whole_loop(active: u64, way: Way) -> u64 {
-    let mut pair = Pair::new(Load {
+fn reverse() -> u64 {
+    calls(half_takes_in_reverse(), 40);
+    40 * IN_REVERSE
+}
+
+/// Packets that go across, are read from and acknowledged, for so many bursts after others.
+pub fn turns_of(load: Load, before: u64, counted: u64) -> u64 {
+    let mut pair = Pair::new(load);
+    pair.play(before);
+    let made = pair.made;
+    gotsavena_counted(&mut || pair.play(counted));
+    pair.made - made
+}
+
+// Beside so many active streams.
+fn small(active: u64, way: Way) -> u64 {
+    let load = Load {
         way,
         active,
         open: active,
         window: 16 << 10,
         write: 1200,
         ..PLAIN
-    });
-    let turn = |pair: &mut Pair| {
-        pair.write();
-        pair.carry();
-        pair.read();
-        pair.answer();
     };
-    for _ in 0..200 {
-        turn(&mut pair);
-    }
-    let before = pair.made;
-    gotsavena_counted(&mut || {
-        for _ in 0..100 {
-            turn(&mut pair);
-        }
-    });
-    pair.made - before
+    turns_of(load, 200, 100)
 }
 
-pub fn all() -> [Counted; 12] {
+fn request(manner: Manner) -> u64 {
+    let mut requests = Requests::new(manner, 1 << 16);
+    calls(|| requests.play(), 1_000);
+    1_000
+}
+
+/// The works that have limits, those whose growth is told, and the acts of `bench/calls`.
+pub fn all() -> Vec<Counted> {
     let counted = |name, run| Counted { name, run };
-    [
+    vec![
         counted("decode", decode),
         counted("in-order", in_order),
-        counted("loop-1", || whole_loop(1, Way::Made)),
-        counted("loop-64", || whole_loop(64, Way::Made)),
-        counted("filled-1", || whole_loop(1, Way::Filled)),
-        counted("taken-1", || whole_loop(1, Way::Taken)),
+        counted("reverse", reverse),
+        counted("loop", || turns_of(PLAIN, 200, 200)),
+        counted("loop-events", || {
+            let load = Load {
+                polls: true,
+                ..PLAIN
+            };
+            turns_of(load, 200, 200)
+        }),
+        counted("loop-1", || small(1, Way::Made)),
+        counted("loop-64", || small(64, Way::Made)),
+        counted("filled-1", || small(1, Way::Filled)),
+        counted("taken-1", || small(1, Way::Taken)),
+        counted("16383", || {
+            let load = Load {
+                room: 16_383,
+                ..PLAIN
+            };
+            turns_of(load, 40, 40)
+        }),
+        counted("lost-each-10th", || {
+            turns_of(Load { lose: 10, ..PLAIN }, 200, 200)
+        }),
+        counted("request", || request(Manner::Packets)),
+        counted("request-events", || request(Manner::Events)),
+        counted("steps", || request(Manner::Steps)),
+        counted("window-1m", || lossy(1 << 20, 500, 40)),
+        counted("window-64m", || lossy(64 << 20, 40_000, 1)),
+        counted("outstanding-10", || outstanding(10, 400)),
+        counted("outstanding-100000", || outstanding(100_000, 1)),
+        counted("requests-first", || requests(0)),
+        counted("requests-after-2-to-the-20", || requests(1 << 20)),
+        counted("fill-of-100", || fills(100)),
+        counted("fill-of-10000", || fills(10_000)),
         counted("write", || played(Act::Write)),
         counted("make", || played(Act::Make)),
         counted("receive", || played(Act::Receive)),

@@ -6,3 +6,33 @@
 pub fn gotsavena_counted(work: &mut dyn FnMut()) {
     work();
 }
+
+/// The same, where callgrind was told to look at nothing before: what came before it then takes a fifth of the time.
+#[allow(dead_code)]
+pub fn counted_late(work: &mut dyn FnMut()) {
+    look_from_here();
+    gotsavena_counted(work);
+}
+
+// What valgrind's header has as CALLGRIND_START_INSTRUMENTATION; without valgrind it does nothing.
+#[cfg(target_arch = "x86_64")]
+fn look_from_here() {
+    let request: [u64; 6] = [0x4354_0004, 0, 0, 0, 0, 0];
+    // SAFETY: four rotations by 128 bits in all leave rdi as it was, and the exchange of a register with itself changes nothing. valgrind
+    // reads the request, and writes its answer to rdx.
+    unsafe {
+        core::arch::asm!(
+            "rol rdi, 3",
+            "rol rdi, 13",
+            "rol rdi, 61",
+            "rol rdi, 51",
+            "xchg rbx, rbx",
+            in("rax") &request,
+            inout("rdx") 0u64 => _,
+            out("rdi") _,
+        );
+    }
+}
+
+#[cfg(not(target_arch = "x86_64"))]
+fn look_from_here() {}

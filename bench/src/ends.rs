@@ -1,6 +1,7 @@
 //! Two ends in one process, and what the rows do with them.
 
 use crate::pattern::{self, Source};
+use crate::requests::poll;
 use gotsavena::{Dir, Endpoint, Fill, Read, Role, Settings, StreamId, Token, frames};
 
 /// How packets go across.
@@ -34,6 +35,8 @@ pub struct Load {
     /// The room of a packet, in bytes.
     pub room: usize,
     pub way: Way,
+    /// Whether each end is asked for its events.
+    pub polls: bool,
     /// How many bytes are written in all before each burst, about.
     pub fill: usize,
 }
@@ -48,6 +51,7 @@ pub const PLAIN: Load = Load {
     total: 128 << 20,
     room: 1200,
     way: Way::Made,
+    polls: false,
     fill: 256 << 10,
 };
 
@@ -166,6 +170,9 @@ impl Pair {
 
     /// Reads what came on each active stream, and answers how many bytes.
     pub fn read(&mut self) -> u64 {
+        if self.load.polls {
+            poll(&mut self.reader);
+        }
         while self.reader.accept().is_some() {}
         let mut count = 0;
         for (&stream, taken) in self.streams.iter().zip(&mut self.taken) {
@@ -205,11 +212,24 @@ impl Pair {
             // An ACK may have come first where the packet was made again.
             let _ = self.sender.declare_lost(number);
         }
+        if self.load.polls {
+            poll(&mut self.sender);
+        }
+    }
+
+    /// So many bursts, each read and acknowledged.
+    pub fn play(&mut self, turns: u64) {
+        for _ in 0..turns {
+            self.write();
+            self.carry();
+            self.read();
+            self.answer();
+        }
     }
 }
 
-// Hands the frames in, one by one.
-fn take(end: &mut Endpoint, payload: &[u8]) {
+/// Hands the frames in, one by one.
+pub fn take(end: &mut Endpoint, payload: &[u8]) {
     for placed in frames(payload) {
         let frame = placed.expect("an honest packet").frame;
         end.take_frame(&frame).expect("an honest packet");

@@ -5,12 +5,15 @@
 
 mod acts;
 mod clock;
+mod copies;
 mod counted;
 mod counting;
 mod ends;
+mod growth;
 mod idle;
 mod parts;
 mod pattern;
+mod requests;
 mod scaling;
 mod searches;
 mod whole;
@@ -42,7 +45,9 @@ fn main() -> ExitCode {
     let rows: Vec<Row> = [
         parts::rows(),
         whole::rows(),
+        copies::rows(),
         scaling::rows(),
+        requests::rows(),
         searches::rows(),
     ]
     .into_iter()
@@ -79,7 +84,7 @@ fn main() -> ExitCode {
 fn count(name: Option<String>) -> ExitCode {
     let all = counted::all();
     let Some(work) = all.iter().find(|work| Some(work.name) == name.as_deref()) else {
-        let names = all.map(|work| work.name);
+        let names: Vec<_> = all.iter().map(|work| work.name).collect();
         eprintln!("gotsavena-bench: --count wants one of {}", names.join(", "));
         return ExitCode::from(2);
     };

@@ -167,23 +167,36 @@ fn half_in_order() -> Run {
     Run { time, units }
 }
 
-fn half_in_reverse() -> Run {
+/// How many chunks come in reverse before they are read.
+pub const IN_REVERSE: u64 = 54;
+
+/// Takes the next 54 chunks of a stream, the last one first, and reads them, at each call.
+pub fn half_takes_in_reverse() -> impl FnMut() {
     let source = Source::new(CHUNK);
     let mut out = vec![0; 64 << 10];
     let mut half = RecvHalf::new(Global, 1 << 17, Share::Half).expect("64 bytes are there");
+    let mut first = 0;
+    move || {
+        for k in (0..IN_REVERSE).rev() {
+            let offset = first + k * CHUNK as u64;
+            put(&mut half, offset, source.at(offset));
+        }
+        read_all(&mut half, &mut out, first, IN_REVERSE as usize * CHUNK);
+        first += IN_REVERSE * CHUNK as u64;
+    }
+}
+
+fn half_in_reverse() -> Run {
+    let mut take = half_takes_in_reverse();
     let rounds = 20_000;
     let time = time(|| {
-        for round in 0..rounds {
-            for k in (0..54).rev() {
-                let offset = (round * 54 + k) * CHUNK as u64;
-                put(&mut half, offset, source.at(offset));
-            }
-            read_all(&mut half, &mut out, round * 54 * CHUNK as u64, 54 * CHUNK);
+        for _ in 0..rounds {
+            take();
         }
     });
     Run {
         time,
-        units: rounds * 54,
+        units: rounds * IN_REVERSE,
     }
 }
 

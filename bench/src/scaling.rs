@@ -2,10 +2,9 @@
 
 use crate::clock::time;
 use crate::ends::{Load, PLAIN, Pair};
-use crate::pattern::{self, Source};
 use crate::whole::transfer;
 use crate::{Row, Run};
-use gotsavena::{Dir, Endpoint, Read, Role, Settings};
+use gotsavena::Endpoint;
 use std::hint::black_box;
 use std::sync::Barrier;
 use std::time::{Duration, Instant};
@@ -205,53 +204,6 @@ fn same_ack(packets: u64) -> Run {
     Run { time, units: times }
 }
 
-/// Requests of one byte and answers of 1 KiB, one stream after the other: what the last thousand cost of so many.
-fn request_after(ended: u64) -> Run {
-    let settings = Settings::small()
-        .conn_window(1 << 20)
-        .stream_windows(4096)
-        .send_buffer(4096)
-        .streams(100, 1 << 16);
-    let mut client = Endpoint::new(Role::Client, settings, settings.limits())
-        .expect("the settings are in range");
-    let mut server = Endpoint::new(Role::Server, settings, settings.limits())
-        .expect("the settings are in range");
-    let mut spent = Duration::ZERO;
-    let answer = Source::new(1024);
-    let timed = 1_000;
-    for number in 0..ended + timed {
-        let took = time(|| request(&mut client, &mut server, answer.at(0)));
-        if number >= ended {
-            spent += took;
-        }
-    }
-    Run {
-        time: spent,
-        units: timed,
-    }
-}
-
-fn request(client: &mut Endpoint, server: &mut Endpoint, answer: &[u8]) {
-    let stream = client
-        .open(Dir::Bidi)
-        .expect("the count grew as streams ended");
-    client.write(stream, b"?").expect("it is open");
-    client.finish(stream).expect("it is open");
-    hand_on(client, server);
-    let mut bytes = [0; 2048];
-    let asked = server.accept().expect("the request came");
-    assert_eq!(server.read(asked, &mut bytes), Ok(Read::Bytes(1)));
-    assert_eq!(server.read(asked, &mut bytes), Ok(Read::End));
-    let count = server.write(asked, answer).expect("it is open");
-    assert_eq!(count, answer.len());
-    server.finish(asked).expect("it is open");
-    hand_on(server, client);
-    assert_eq!(client.read(stream, &mut bytes), Ok(Read::Bytes(count)));
-    pattern::check(0, &bytes[..count]);
-    assert_eq!(client.read(stream, &mut bytes), Ok(Read::End));
-    hand_on(client, server);
-}
-
 /// All that an end has for packets comes to the other one.
 pub fn hand_on(from: &mut Endpoint, to: &mut Endpoint) {
     let mut payload = [0; 1200];
@@ -294,7 +246,5 @@ pub fn rows() -> Vec<Row> {
         row("threads-2", "packet", || threads(2)),
         row("threads-4", "packet", || threads(4)),
         row("same-ack-32-ranges-of-10000", "ACK", || same_ack(10_000)),
-        row("request", "request", || request_after(0)),
-        row("request-after-60000", "request", || request_after(60_000)),
     ]
 }

@@ -29,6 +29,12 @@ pub fn rows() -> Vec<Row> {
     };
     vec![
         row("loop", || transfer(PLAIN)),
+        row("loop-events", || {
+            transfer(Load {
+                polls: true,
+                ..PLAIN
+            })
+        }),
         row("filled", || {
             transfer(Load {
                 way: Way::Filled,

@@ -17,7 +17,7 @@ mod play;
 mod streams;
 mod table;
 
-use counting::gotsavena_counted;
+pub use counting::{counted_late, gotsavena_counted};
 use play::{Attack, Setup, Target};
 
 struct Theirs(End);

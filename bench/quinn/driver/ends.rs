@@ -110,6 +110,13 @@ impl End {
             return;
         }
         self.acks.insert_one(number, self.now);
+        let asks = self.take(payload);
+        self.acks.packet_received(asks);
+        self.tell_of_counts();
+    }
+
+    // Takes a payload's frames, and answers whether one of them asks for an ACK.
+    pub fn take(&mut self, payload: Bytes) -> bool {
         let len = payload.len();
         let mut asks = false;
         for frame in Iter::new(payload) {
@@ -140,12 +147,11 @@ impl End {
                 other => panic!("{:?}", other),
             }
         }
-        self.acks.packet_received(asks);
-        self.tell_of_counts();
+        asks
     }
 
     // As streams came to their end the peer may open more.
-    fn tell_of_counts(&mut self) {
+    pub fn tell_of_counts(&mut self) {
         for dir in Dir::iter() {
             if self.streams.take_max_streams_dirty(dir) {
                 self.pending.max_stream_id[dir as usize] = true;
@@ -348,5 +354,14 @@ impl Pair {
             self.sender.lose(number);
         }
         while self.sender.streams.poll().is_some() {}
+    }
+
+    pub fn play(&mut self, turns: u64) {
+        for _ in 0..turns {
+            self.write();
+            self.carry();
+            self.read();
+            self.answer();
+        }
     }
 }

@@ -13,7 +13,7 @@ use crate::{Dir, Side, StreamId};
 
 // Frames
 
-fn mixed() -> (Bytes, u64) {
+pub fn mixed() -> (Bytes, u64) {
     let (mut payload, mut frames) = (Vec::new(), 0);
     let mut acks = ArrayRangeSet::new();
     for run in [1..4, 7..9, 20..23, 30..31] {
@@ -69,13 +69,17 @@ fn stream_frame(
     payload.extend_from_slice(bytes);
 }
 
+pub fn read_once(payload: &Bytes) {
+    for frame in Iter::new(black_box(payload).clone()) {
+        black_box(&frame);
+    }
+}
+
 fn read_frames(payload: &Bytes, frames: u64, times: u64) -> Run {
     assert_eq!(Iter::new(payload.clone()).count() as u64, frames);
     let time = time(|| {
         for _ in 0..times {
-            for frame in Iter::new(black_box(payload).clone()) {
-                black_box(&frame);
-            }
+            read_once(payload);
         }
     });
     Run {
@@ -119,41 +123,59 @@ fn read_all(assembler: &mut Assembler, out: &mut [u8], from: u64, len: usize) {
     check(from, &out[..count]);
 }
 
-pub fn half_in_order() -> Run {
+pub fn half_takes_in_order() -> impl FnMut() {
     let data = Bytes::from(pattern(CHUNK));
     let mut out = vec![0; 64 << 10];
     let mut assembler = Assembler::new();
+    let mut offset = 0;
+    move || {
+        let from = place(offset);
+        assembler.insert(offset, data.slice(from..from + CHUNK), CHUNK);
+        read_all(&mut assembler, &mut out, offset, CHUNK);
+        offset += CHUNK as u64;
+    }
+}
+
+pub fn half_in_order() -> Run {
+    let mut take = half_takes_in_order();
     let units = 1_000_000;
     let time = time(|| {
-        for i in 0..units {
-            let offset = i * CHUNK as u64;
-            let from = place(offset);
-            assembler.insert(offset, data.slice(from..from + CHUNK), CHUNK);
-            read_all(&mut assembler, &mut out, offset, CHUNK);
+        for _ in 0..units {
+            take();
         }
     });
     Run { time, units }
 }
 
-pub fn half_in_reverse() -> Run {
+pub const IN_REVERSE: u64 = 54;
+
+pub fn half_takes_in_reverse() -> impl FnMut() {
     let data = Bytes::from(pattern(CHUNK));
     let mut out = vec![0; 64 << 10];
     let mut assembler = Assembler::new();
+    let mut first = 0;
+    move || {
+        for k in (0..IN_REVERSE).rev() {
+            let offset = first + k * CHUNK as u64;
+            let from = place(offset);
+            assembler.insert(offset, data.slice(from..from + CHUNK), CHUNK);
+        }
+        read_all(&mut assembler, &mut out, first, IN_REVERSE as usize * CHUNK);
+        first += IN_REVERSE * CHUNK as u64;
+    }
+}
+
+pub fn half_in_reverse() -> Run {
+    let mut take = half_takes_in_reverse();
     let rounds = 20_000;
     let time = time(|| {
-        for round in 0..rounds {
-            for k in (0..54).rev() {
-                let offset = (round * 54 + k) * CHUNK as u64;
-                let from = place(offset);
-                assembler.insert(offset, data.slice(from..from + CHUNK), CHUNK);
-            }
-            let offset = round * 54 * CHUNK as u64;
-            read_all(&mut assembler, &mut out, offset, 54 * CHUNK);
+        for _ in 0..rounds {
+            take();
         }
     });
     Run {
         time,
-        units: rounds * 54,
+        units: rounds * IN_REVERSE,
     }
 }
 

@@ -5,10 +5,10 @@ use std::time::{Duration, Instant};
 
 use bytes::Bytes;
 
-use super::super::streams::{RecvStream, SendStream, Streams};
+use super::super::streams::RecvStream;
 use super::ends::{End, Load, PLAIN, Pair};
 use super::parts::even_then_odd;
-use super::{CHUNK, PERIOD, Run, check, pattern, time};
+use super::{CHUNK, PERIOD, Run, check, time};
 use crate::frame::StreamMeta;
 use crate::{Dir, Side, StreamId};
 
@@ -170,82 +170,6 @@ pub fn idle(count: usize) -> f64 {
     let taken = held() - before;
     assert!(ends.iter().all(|end| end.next == 0));
     taken as f64 / count as f64
-}
-
-// Requests of one byte and answers of 1 KiB, one stream after the other: what the last thousand cost of so many.
-pub fn request_after(ended: u64) -> Run {
-    let mut client = End::with(Side::Client, 100, 1 << 20, 1 << 20, 4096);
-    let mut server = End::with(Side::Server, 100, 1 << 20, 1 << 20, 4096);
-    let answer = pattern(1024);
-    let (mut spent, timed) = (Duration::ZERO, 1_000);
-    for number in 0..ended + timed {
-        let took = time(|| request(&mut client, &mut server, &answer[..1024]));
-        if number >= ended {
-            spent += took;
-        }
-    }
-    Run {
-        time: spent,
-        units: timed,
-    }
-}
-
-fn request(client: &mut End, server: &mut End, answer: &[u8]) {
-    let mut streams = Streams {
-        state: &mut client.streams,
-        conn_state: &client.state,
-    };
-    let id = streams.open(Dir::Bi).unwrap();
-    write_and_finish(client, id, &answer[..1]);
-    hand_on(client, server);
-    while server.streams.poll().is_some() {}
-    let mut streams = Streams {
-        state: &mut server.streams,
-        conn_state: &server.state,
-    };
-    assert_eq!(streams.accept(Dir::Bi), Some(id));
-    read_to_end(server, id, 1);
-    write_and_finish(server, id, answer);
-    hand_on(server, client);
-    read_to_end(client, id, 1024);
-    hand_on(client, server);
-    while client.streams.poll().is_some() {}
-}
-
-fn write_and_finish(end: &mut End, id: StreamId, bytes: &[u8]) {
-    let mut stream = SendStream {
-        id,
-        state: &mut end.streams,
-        pending: &mut end.pending,
-        conn_state: &end.state,
-    };
-    assert_eq!(stream.write(bytes), Ok(bytes.len()));
-    stream.finish().unwrap();
-}
-
-// Copies the bytes out, as the others do.
-fn read_to_end(end: &mut End, id: StreamId, len: usize) {
-    let (mut out, mut count) = ([0; 2048], 0);
-    let mut stream = RecvStream {
-        id,
-        state: &mut end.streams,
-        pending: &mut end.pending,
-    };
-    let mut chunks = stream.read(true).unwrap();
-    while let Some(chunk) = chunks.next(2048).unwrap() {
-        out[count..count + chunk.bytes.len()].copy_from_slice(&chunk.bytes);
-        count += chunk.bytes.len();
-    }
-    let _ = chunks.finalize();
-    assert_eq!(count, len);
-    check(0, &out[..len]);
-}
-
-// All that an end has for packets comes to the other one.
-fn hand_on(from: &mut End, to: &mut End) {
-    while let Some((number, payload)) = from.make(1200) {
-        to.receive(number, Bytes::from(payload));
-    }
 }
 
 pub fn same_ack(packets: u64) -> Run {

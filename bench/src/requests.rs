@@ -1,0 +1,182 @@
+//! A request of one byte and an answer of 1 KiB on a stream of their own, one stream after the other.
+
+use crate::clock::time;
+use crate::ends::take;
+use crate::pattern::{self, Source};
+use crate::scaling::hand_on;
+use crate::{Row, Run};
+use gotsavena::{Dir, Endpoint, Fill, Read, Role, Settings, StreamId, Token};
+use std::hint::black_box;
+use std::time::Duration;
+
+/// How the ends' owners go about it.
+#[derive(Clone, Copy, PartialEq, Eq)]
+pub enum Manner {
+    /// Packets are made and received, and nobody asks for news.
+    Packets,
+    /// The same, and each end is asked for its events once packets came to it.
+    Events,
+    /// Packets are filled, their frames taken one by one, and acknowledged by their tokens; each end is asked for its events.
+    Steps,
+}
+
+const ANSWER: usize = 1024;
+
+pub struct Requests {
+    client: Endpoint,
+    server: Endpoint,
+    answer: Source,
+    manner: Manner,
+}
+
+impl Requests {
+    /// Two ends for so many requests at most.
+    pub fn new(manner: Manner, in_all: u64) -> Requests {
+        let settings = Settings::small()
+            .conn_window(1 << 20)
+            .stream_windows(4096)
+            .send_buffer(4096)
+            .streams(100, in_all);
+        let end = |role| {
+            Endpoint::new(role, settings, settings.limits()).expect("the settings are in range")
+        };
+        Requests {
+            client: end(Role::Client),
+            server: end(Role::Server),
+            answer: Source::new(ANSWER),
+            manner,
+        }
+    }
+
+    pub fn play(&mut self) {
+        let stream = self
+            .client
+            .open(Dir::Bidi)
+            .expect("the count grew as streams ended");
+        write_and_finish(&mut self.client, stream, b"?");
+        if self.manner == Manner::Steps {
+            self.by_steps(stream);
+        } else {
+            self.by_packets(stream);
+        }
+    }
+
+    fn by_packets(&mut self, stream: StreamId) {
+        let polls = self.manner == Manner::Events;
+        let Requests { client, server, .. } = self;
+        hand_on(client, server);
+        if polls {
+            poll(server);
+        }
+        answer(server, self.answer.at(0));
+        hand_on(server, client);
+        if polls {
+            poll(client);
+        }
+        read_to_end(client, stream, ANSWER);
+        hand_on(client, server);
+        if polls {
+            poll(server);
+            poll(client);
+        }
+    }
+
+    fn by_steps(&mut self, stream: StreamId) {
+        let Requests { client, server, .. } = self;
+        let asked = fill_and_take(client, server).expect("bytes are due");
+        poll(server);
+        answer(server, self.answer.at(0));
+        let mut payload = [0; 1200];
+        let filled = server.fill(&mut payload, &Fill::all());
+        let filled = filled.expect("there is memory").expect("bytes are due");
+        client.acked(asked).expect("it was given");
+        take(client, &payload[..filled.len]);
+        poll(client);
+        read_to_end(client, stream, ANSWER);
+        server.acked(filled.token).expect("it was given");
+        poll(server);
+        poll(client);
+        // The peer is told that it may open one more.
+        if server.is_sendable()
+            && let Some(token) = fill_and_take(server, client)
+        {
+            server.acked(token).expect("it was given");
+        }
+        black_box(client.is_sendable());
+    }
+}
+
+// What an end has for a packet comes to the other one: its token.
+fn fill_and_take(from: &mut Endpoint, to: &mut Endpoint) -> Option<Token> {
+    let mut payload = [0; 1200];
+    let filled = from.fill(&mut payload, &Fill::all());
+    let filled = filled.expect("there is memory")?;
+    take(to, &payload[..filled.len]);
+    Some(filled.token)
+}
+
+/// Hears all that an end has to tell.
+pub fn poll(end: &mut Endpoint) {
+    while let Some(event) = end.next_event().expect("there is memory") {
+        black_box(event);
+    }
+}
+
+fn answer(server: &mut Endpoint, bytes: &[u8]) {
+    let asked = server.accept().expect("the request came");
+    read_to_end(server, asked, 1);
+    write_and_finish(server, asked, bytes);
+}
+
+fn write_and_finish(end: &mut Endpoint, stream: StreamId, bytes: &[u8]) {
+    assert_eq!(end.write(stream, bytes), Ok(bytes.len()));
+    end.finish(stream).expect("it is open");
+}
+
+// The client's byte isn't one of the pattern.
+fn read_to_end(end: &mut Endpoint, stream: StreamId, len: usize) {
+    let mut bytes = [0; 2048];
+    let mut count = 0;
+    while count < len {
+        match end.read(stream, &mut bytes[count..]) {
+            Ok(Read::Bytes(some)) => count += some,
+            other => panic!("bytes are missing: {other:?}"),
+        }
+    }
+    assert_eq!(count, len);
+    if len == ANSWER {
+        pattern::check(0, &bytes[..len]);
+    }
+    assert_eq!(end.read(stream, &mut bytes), Ok(Read::End));
+}
+
+/// What the last thousand cost of so many.
+fn after(ended: u64, manner: Manner) -> Run {
+    let mut requests = Requests::new(manner, 1 << 16);
+    let mut spent = Duration::ZERO;
+    let timed = 1_000;
+    for number in 0..ended + timed {
+        let took = time(|| requests.play());
+        if number >= ended {
+            spent += took;
+        }
+    }
+    Run {
+        time: spent,
+        units: timed,
+    }
+}
+
+pub fn rows() -> Vec<Row> {
+    let row = |name, run| Row {
+        name,
+        unit: "request",
+        run,
+    };
+    vec![
+        row("request", || after(0, Manner::Packets)),
+        row("request-after-60000", || after(60_000, Manner::Packets)),
+        row("request-events", || after(0, Manner::Events)),
+        row("steps", || after(0, Manner::Steps)),
+    ]
+}
