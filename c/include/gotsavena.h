@@ -704,12 +704,12 @@ GV_API gv_status gv_acked_below(const gv_endpoint *end, uint64_t stream, uint64_
  * ::GV_EVENT_READABLE comes again once a stream was read until nothing was left, and more came; until then the stream isn't told again, be
  * it that its end or a reset comes. Of a closed end come no ::GV_EVENT_WRITABLE, no ::GV_EVENT_AVAILABLE and none of the last three kinds,
  * and ::GV_EVENT_READABLE only where reads_when_closed was chosen. ::GV_EVENT_WRITABLE comes for each stream to which gv_write() accepted
- * fewer bytes than it was handed, ::GV_EVENT_AVAILABLE for each direction of which gv_open() answered ::GV_STREAM_LIMIT, each once until that is so again, also after gv_raise_limits(). The last three
- * kinds come each time that the peer said so of a limit that hadn't risen, as it stands behind the whole packet, once for all that it said
- * since the last one: from gv_take_frame() and gv_take_frames() from the first call of this on, and from gv_receive() where
- * gv_hear_blocked() chose so, which turns the other two on as well. Frames that are handed in twice tell twice. Of a stream whose length is
- * known none comes, of one that was stopped it does. An owner whose windows grow answers them with
- * gv_set_conn_window(), gv_set_stream_window() or gv_set_grant(). The others come at most once of a stream (sections 2 to 4). */
+ * fewer bytes than it was handed, ::GV_EVENT_AVAILABLE for each direction of which gv_open() answered ::GV_STREAM_LIMIT, each once until
+ * that is so again, also after gv_raise_limits(). The last three kinds come each time that the peer said so of a limit that hadn't risen, as
+ * it stands behind the whole packet, once for all that it said since the last one: from gv_take_frame() and gv_take_frames() from the first
+ * call of this on, and from gv_receive() where gv_hear_blocked() chose so, which turns the other two on as well. Frames that are handed in
+ * twice tell twice. Of a stream whose length is known none comes, of one that was stopped it does. An owner whose windows grow answers them
+ * with gv_set_conn_window(), gv_set_stream_window() or gv_set_grant(). The others come at most once of a stream (sections 2 to 4). */
 GV_API gv_status gv_next_event(gv_endpoint *end, gv_event *event);
 
 /** Chooses whether gv_receive() and gv_receive_telling() look each payload through for what the peer says to hold it back (sections 19.12 to
