@@ -25,14 +25,12 @@ pub use maybe_number::MaybeNumber;
 pub struct NoMemory;
 
 impl From<AllocError> for NoMemory {
-    #[inline]
     fn from(_error: AllocError) -> Self {
         NoMemory
     }
 }
 
 impl<T> From<AllocFailed<T>> for NoMemory {
-    #[inline]
     fn from(_error: AllocFailed<T>) -> Self {
         NoMemory
     }
@@ -193,13 +191,11 @@ impl RangeSet {
         }
     }
 
-    #[inline]
     fn has_in_blocks(&self, n: u64) -> bool {
         matches!(self.run_above(n), Some((start, _)) if start <= n)
     }
 
     // The first run that ends above `n`.
-    #[inline]
     fn run_above(&self, n: u64) -> Option<(u64, u64)> {
         if self.blocks.is_empty() {
             return few_above(self.few, n);
@@ -212,7 +208,6 @@ impl RangeSet {
     }
 
     // The first run that ends above `n`, and the one behind it.
-    #[inline]
     fn runs_above(&self, n: u64) -> (Option<(u64, u64)>, Option<(u64, u64)>) {
         if self.blocks.is_empty() {
             return few_above_two(self.few, n);
