@@ -114,7 +114,7 @@ def audit_made(text, made, folder, listed):
 
 
 def _check_inlines(used, new, is_library, name):
-    """Each short function of the library is told to be inlined, and none elsewhere."""
+    """Each short function of the library that others may call is told to be inlined, and none elsewhere."""
     at = not_told(new) if is_library else None
     if at is not None:
         raise Refused(f"{name}: line {new[at][1]}: a function of few lines that isn't told to be inlined")

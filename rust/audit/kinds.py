@@ -14,7 +14,7 @@ Tokens are parted by spaces. Beside plain tokens a pattern may have
     (shared)   a parenthesis in which nothing is `mut`
     {step}     a statement that is a call of such a step: names, calls and places joined by `.` or `::`, the step's name last, and its semicolon
     **;        all up to the next semicolon that no bracket holds, and it
-    {short}    no token: here begins a function of up to 40 lines, behind its attributes
+    {short}    no token: here begins a function of up to 40 lines that has a visibility, behind its attributes
 """
 
 import re
@@ -201,12 +201,13 @@ def _end_of_body(tokens, at):
 
 
 def begins_short(tokens, at):
-    """Whether a function of few lines begins here, behind its attributes."""
+    """Whether a function of few lines that others may call begins here, behind its attributes."""
     first = at
-    if at < len(tokens) and tokens[at][0] == "pub":
-        at += 1
-        if at < len(tokens) and tokens[at][0] == "(":
-            at = end_of_group(tokens, at, "(") or len(tokens)
+    if at >= len(tokens) or tokens[at][0] != "pub":
+        return False
+    at += 1
+    if at < len(tokens) and tokens[at][0] == "(":
+        at = end_of_group(tokens, at, "(") or len(tokens)
     while at < len(tokens) and tokens[at][0] in ("const", "unsafe", "default"):
         at += 1
     if at + 1 >= len(tokens) or tokens[at][0] != "fn" or not _WORD.match(tokens[at + 1][0]):
@@ -216,23 +217,20 @@ def begins_short(tokens, at):
 
 
 def _is_told(tokens, at):
-    """Whether the attributes right before a place say how a function is inlined, or that it is a test."""
+    """Whether the attributes right before a place say how a function is inlined."""
     while at > 0 and tokens[at - 1][0] == "]":
         at -= 1
         while at > 0 and tokens[at][0] != "#":
             at -= 1
-        if tokens[at + 2][0] in ("inline", "test"):
+        if tokens[at + 2][0] == "inline":
             return True
     return False
 
 
 def not_told(tokens):
-    """The first place where a function of few lines begins that isn't told how it is inlined, or None."""
-    for at in range(len(tokens)):
-        is_inner = at > 0 and tokens[at - 1][0] in ("pub", "const", "unsafe", "default", ")")
-        if not is_inner and begins_short(tokens, at) and not _is_told(tokens, at):
-            return at
-    return None
+    """The first place where a function begins that isn't told how it is inlined and should be, or None."""
+    found = (at for at in range(len(tokens)) if begins_short(tokens, at) and not _is_told(tokens, at))
+    return next(found, None)
 
 
 def _end_of_element(element, tokens, at):

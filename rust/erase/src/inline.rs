@@ -1,4 +1,5 @@
-//! Short functions may be inlined by whoever calls them: a build with many codegen units otherwise makes calls of them all.
+//! Short functions that other modules call may be inlined by them: a build with many codegen units otherwise makes calls of them all.
+//! One that only its own module calls needs no word for it, and would take rustc's time for nothing.
 
 use crate::lex::{Kind, Token, tokens};
 
@@ -8,7 +9,7 @@ const LINES: usize = 40;
 /// What stands between an item's beginning and its `fn`. What stands in a visibility's parentheses is behind them.
 const BEFORE: [&str; 4] = ["pub", "const", "unsafe", "default"];
 
-/// The Rust text with `#[inline]` before each short function that says nothing of it by itself, and is no test.
+/// The Rust text with `#[inline]` before each short function that has a visibility and says nothing of it by itself.
 pub fn inline(rust: &str) -> String {
     let file = File {
         text: rust,
@@ -40,10 +41,13 @@ impl<'a> File<'a> {
             return None;
         }
         let first = self.first(at);
+        if self.word(first) != "pub" {
+            return None;
+        }
         let mut before = first;
         while self.word_before(before) == "]" {
             let open = self.open(before - 1)?;
-            if matches!(self.word(open + 1), "inline" | "test") {
+            if self.word(open + 1) == "inline" {
                 return None;
             }
             before = open.checked_sub(1)?;

@@ -133,7 +133,7 @@ fn a_hint_on_inlining_stays() {
 }
 
 #[test]
-fn a_short_function_is_inlined() {
+fn a_short_function_that_others_call_is_inlined() {
     let place = Place {
         inlines: true,
         ..PLACE
@@ -141,18 +141,18 @@ fn a_short_function_is_inlined() {
     let made = |rattle: &str| erase(&place, rattle).map_err(|unknown| unknown.what);
     assert_eq!(
         made(
-            "/// It.\npub(crate) fn f()\n    ensures { a }\n{}\n\ntrait T {\n    fn g(a: [u8; 2]);\n\n    #[cfg(test)]\n    pub const fn h() {\n        fn inner() {}\n    }\n}\n"
+            "/// It.\npub(crate) fn f()\n    ensures { a }\n{}\n\nimpl T {\n    #[cfg(test)]\n    pub const fn h(a: [u8; 2]) {\n        fn inner() {}\n    }\n}\n"
         ),
-        Ok("/// It.\n#[inline]\npub(crate) fn f() {}\n\ntrait T {\n    fn g(a: [u8; 2]);\n\n    #[cfg(test)]\n    #[inline]\n    pub const fn h() {\n        #[inline]\n        fn inner() {}\n    }\n}\n".to_owned())
+        Ok("/// It.\n#[inline]\npub(crate) fn f() {}\n\nimpl T {\n    #[cfg(test)]\n    #[inline]\n    pub const fn h(a: [u8; 2]) {\n        fn inner() {}\n    }\n}\n".to_owned())
     );
     for same in [
-        "#[inline(never)]\n#[cfg(a)]\nfn f() {}\n",
+        "#[inline(never)]\n#[cfg(a)]\npub fn f() {}\n",
         "#[test]\nfn f() {}\n",
-        "type F = fn(u8) -> u8;\n",
+        "pub type F = fn(u8) -> u8;\n",
     ] {
         assert_eq!(made(same), Ok(same.to_owned()));
     }
-    let of_lines = |count: usize| format!("fn f() {{\n{}}}\n", "    a();\n".repeat(count - 2));
+    let of_lines = |count: usize| format!("pub fn f() {{\n{}}}\n", "    a();\n".repeat(count - 2));
     assert_eq!(
         made(&of_lines(40)),
         Ok(format!("#[inline]\n{}", of_lines(40)))

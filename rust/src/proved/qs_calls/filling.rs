@@ -116,7 +116,6 @@ pub struct Filled {
 }
 
 // Stream 0.
-#[inline]
 fn first_stream() -> StreamId {
     match StreamId::new(0) {
         Some(stream) => stream,

@@ -20,7 +20,6 @@ pub enum MakeFault {
 }
 
 impl core::fmt::Display for MakeFault {
-    #[inline]
     fn fmt(&self, f: &mut core::fmt::Formatter<'_>) -> core::fmt::Result {
         match self {
             Self::Closed => f.write_str("the connection is closed"),
@@ -43,7 +42,6 @@ pub enum LostFault {
 }
 
 impl core::fmt::Display for LostFault {
-    #[inline]
     fn fmt(&self, f: &mut core::fmt::Formatter<'_>) -> core::fmt::Result {
         match self {
             Self::NotOutstanding => f.write_str("no such packet is outstanding"),

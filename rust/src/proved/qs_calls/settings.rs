@@ -70,7 +70,6 @@ pub enum SetupFault {
 }
 
 impl core::fmt::Display for SetupFault {
-    #[inline]
     fn fmt(&self, f: &mut core::fmt::Formatter<'_>) -> core::fmt::Result {
         match self {
             Self::OutOfRange => f.write_str("a setting is out of its range"),
@@ -90,7 +89,6 @@ pub enum RaiseFault {
 }
 
 impl core::fmt::Display for RaiseFault {
-    #[inline]
     fn fmt(&self, f: &mut core::fmt::Formatter<'_>) -> core::fmt::Result {
         match self {
             Self::Closed => f.write_str("the connection is closed"),
@@ -113,7 +111,6 @@ pub enum SetFault {
 }
 
 impl core::fmt::Display for SetFault {
-    #[inline]
     fn fmt(&self, f: &mut core::fmt::Formatter<'_>) -> core::fmt::Result {
         match self {
             Self::Closed => f.write_str("the connection is closed"),

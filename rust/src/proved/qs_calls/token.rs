@@ -55,7 +55,6 @@ pub enum TakeFault {
 }
 
 impl core::fmt::Display for TakeFault {
-    #[inline]
     fn fmt(&self, f: &mut core::fmt::Formatter<'_>) -> core::fmt::Result {
         match self {
             Self::Closing(..) => f.write_str("this end closed the connection"),
@@ -78,7 +77,6 @@ pub enum TokenFault {
 }
 
 impl core::fmt::Display for TokenFault {
-    #[inline]
     fn fmt(&self, f: &mut core::fmt::Formatter<'_>) -> core::fmt::Result {
         match self {
             Self::NotGiven => f.write_str("no packet has this token"),

@@ -11,7 +11,6 @@ pub enum OpenFault {
 }
 
 impl core::fmt::Display for OpenFault {
-    #[inline]
     fn fmt(&self, f: &mut core::fmt::Formatter<'_>) -> core::fmt::Result {
         match self {
             Self::Blocked(field) => write!(f, "the peer allows {0} streams", field),
@@ -36,7 +35,6 @@ pub enum UseFault {
 }
 
 impl core::fmt::Display for UseFault {
-    #[inline]
     fn fmt(&self, f: &mut core::fmt::Formatter<'_>) -> core::fmt::Result {
         match self {
             Self::NoSuchStream => f.write_str("the stream is not open"),

@@ -10,7 +10,6 @@ pub(crate) fn next_named(payload: &[u8], from: u64) -> Option<u64> {
     least_of_frames(payload, from)
 }
 
-#[inline]
 fn least_of_frames(payload: &[u8], from: u64) -> Option<u64> {
     let mut frames = Frames::new(payload);
     let mut least = None;
@@ -29,7 +28,6 @@ fn least_of_frames(payload: &[u8], from: u64) -> Option<u64> {
 }
 
 // With the ranges of an ACK.
-#[inline]
 fn with_ranges(from: u64, largest: u64, ranges: &[u8], least: Option<u64>) -> Option<u64> {
     debug_assert!(largest < 1 << 62);
     let mut left = AckRanges::new(largest, ranges);
@@ -41,7 +39,6 @@ fn with_ranges(from: u64, largest: u64, ranges: &[u8], least: Option<u64>) -> Op
 }
 
 // With one range.
-#[inline]
 fn with_range(from: u64, low: u64, high: u64, least: Option<u64>) -> Option<u64> {
     let first = low.max(from);
     if high < first {

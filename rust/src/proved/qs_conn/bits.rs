@@ -172,13 +172,11 @@ impl Bits {
     }
 
     // The marks here and there of a word that weren't told.
-    #[inline]
     fn untold_word(&self, others: &Bits, told: &Bits, place: usize) -> u64 {
         self.word(place) & others.word(place) & !told.word(place)
     }
 
     // The marks of a word: past the last one there is none.
-    #[inline]
     fn word(&self, place: usize) -> u64 {
         if place >= self.words.len() {
             return 0;
@@ -188,14 +186,12 @@ impl Bits {
 }
 
 /// Whether a bit of a word is set.
-#[inline]
 fn has_bit(word: u64, bit: usize) -> bool {
     debug_assert!(bit < 64);
     (word >> bit) & 1 == 1
 }
 
 /// A word with its bits from one on cleared.
-#[inline]
 fn cut_at(word: u64, bit: usize) -> u64 {
     debug_assert!(bit < 64);
     word & ((1 << bit) - 1)

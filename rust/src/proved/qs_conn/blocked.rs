@@ -77,7 +77,6 @@ impl BlockedMarks {
     }
 
     // The least one of a type.
-    #[inline]
     fn next_of(&self, stream_type: usize) -> Option<StreamId> {
         debug_assert!(stream_type < 4);
         let told = self.streams.of_type(stream_type);

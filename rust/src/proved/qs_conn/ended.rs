@@ -25,7 +25,6 @@ impl ByDir<u64> {
 }
 
 // A count with what a stream adds, and without what it added.
-#[inline]
 fn moved(count: u64, was: bool, is: bool) -> u64 {
     debug_assert!(count <= 1 << 60);
     count + u64::from(is) - u64::from(was)

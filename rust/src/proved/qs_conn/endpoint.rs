@@ -90,7 +90,6 @@ impl Endpoint {
     }
 
     // The end that begins with such settings.
-    #[inline]
     fn begun(
         alloc: Global,
         role: Role,
@@ -183,7 +182,6 @@ impl Endpoint {
     }
 
     // Each limit becomes the next one, and each granted count of streams: where nothing moved they are.
-    #[inline]
     fn settle(&mut self) {
         if self.is_settled {
             return;
@@ -220,25 +218,21 @@ impl Endpoint {
     }
 
     // Whether this end opens the stream.
-    #[inline]
     fn is_own(&self, stream: StreamId) -> bool {
         type_of(stream) % 2 == role_bit(self.core.limits.role)
     }
 
     // The window of a receiving half, which is its first limit too.
-    #[inline]
     fn window(&self, stream: StreamId) -> u64 {
         self.core.limits.window(stream)
     }
 
     // How many bytes a sending half keeps at most as it begins.
-    #[inline]
     fn send_buffer(&self) -> u32 {
         self.core.limits.settings.send_buffer as u32
     }
 
     // The limit with which a sending half begins.
-    #[inline]
     fn first_send_limit(&self, stream: StreamId) -> u64 {
         if is_uni(stream) {
             self.peer.uni
@@ -267,7 +261,6 @@ pub(crate) fn is_uni(stream: StreamId) -> bool {
 
 // How many streams may be opened, where so many came to their end: the grant and as many more of them as make whole steps, and no fewer
 // than were granted (RFC 9000, section 4.6).
-#[inline]
 fn next_count(step: Option<Share>, granted: u64, grant: u64, lifetime: u64, ended: u64) -> u64 {
     let more = match step {
         None => ended,
@@ -277,13 +270,11 @@ fn next_count(step: Option<Share>, granted: u64, grant: u64, lifetime: u64, ende
 }
 
 // As many of so many as make whole steps.
-#[inline]
 fn in_steps(step: u64, count: u64) -> u64 {
     debug_assert!(0 < step);
     count - count % step
 }
 
-#[inline]
 fn put_close(closing: Closing, out: &mut [u8]) -> Option<usize> {
     let frame = Frame::ConnectionClose {
         code: closing.code,

@@ -40,7 +40,6 @@ pub(crate) struct Wish {
 
 /// Writes a frame behind the bytes that are there, and answers how many there are then. `None` where it doesn't fit; then nothing is
 /// written.
-#[inline]
 fn put_frame(frame: &Frame<'_>, out: &mut [u8], len: usize) -> Option<usize> {
     debug_assert!(len <= out.len());
     match put(frame, &mut out[len..]) {
@@ -67,7 +66,6 @@ fn put_data(
 }
 
 // The frame that tells an item.
-#[inline]
 fn frame_of(item: &Item) -> Frame<'static> {
     match *item {
         Item::MaxData { maximum } => Frame::MaxData { maximum },

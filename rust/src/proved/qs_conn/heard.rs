@@ -120,7 +120,6 @@ impl Heard {
     }
 
     // The first piece of news.
-    #[inline]
     fn first(&self, end: &Endpoint) -> Option<News> {
         if let Some(stream) = end.next_opened(self.opened) {
             return Some(News::Opened(stream));
@@ -147,7 +146,6 @@ impl Heard {
     }
 
     // The first of what the peer said.
-    #[inline]
     fn first_blocked(&self, end: &Endpoint) -> Option<News> {
         if end.is_closed() {
             return None;
@@ -165,7 +163,6 @@ impl Heard {
     }
 
     // What is told, if anything, is noted.
-    #[inline]
     fn hear(&mut self, answer: &Option<News>) -> Result<(), NoMemory> {
         match *answer {
             None => {}
@@ -185,7 +182,6 @@ impl Heard {
     }
 
     // The next stream of its direction opened.
-    #[inline]
     fn hear_opened(&mut self, stream: StreamId) {
         let count = index_of(stream) as u64 + 1;
         match stream.dir() {
@@ -196,7 +192,6 @@ impl Heard {
 }
 
 // The news of a sending half that came to its end.
-#[inline]
 fn sent_news(end: &Endpoint, stream: StreamId) -> News {
     if end.was_reset_acked(stream) {
         News::ResetAcked(stream)

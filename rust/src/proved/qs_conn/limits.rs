@@ -109,7 +109,6 @@ impl Limits {
     }
 
     // The connection's limit, once it was raised.
-    #[inline]
     fn max_data(&self) -> Option<Item> {
         if self.granted <= self.settings.conn_window {
             return None;
@@ -120,7 +119,6 @@ impl Limits {
     }
 
     // The count of streams granted, once it was raised.
-    #[inline]
     fn max_streams(&self, dir: Dir) -> Option<Item> {
         let (first, count) = match dir {
             Dir::Bidi => (self.settings.grant_bidi, self.granted_streams.bidi),
@@ -133,7 +131,6 @@ impl Limits {
     }
 
     // A stream's limit, once it was raised, while no final size is known.
-    #[inline]
     fn max_stream_data(&self, recvs: &RecvTables, stream: StreamId) -> Option<Item> {
         match recvs.limit_to_tell(stream) {
             Some(maximum) if self.window(stream) < maximum => {
@@ -156,7 +153,6 @@ impl Limits {
     }
 
     // The connection's limit, where it holds bytes of a stream back.
-    #[inline]
     fn data_blocked(&self, outbox: &Outbox) -> Option<Item> {
         if outbox.sent_sum() == self.known_data && any_wants_more(outbox) {
             Some(Item::DataBlocked {
@@ -168,7 +164,6 @@ impl Limits {
     }
 
     // The count of streams at which `open` was blocked, while it is the peer's.
-    #[inline]
     fn streams_blocked(&self, dir: Dir) -> Option<Item> {
         let count = self.known_streams.of(dir);
         match self.wanted_streams.of(dir) {
@@ -179,7 +174,6 @@ impl Limits {
 }
 
 // The count of streams that a grant leaves where so many ended.
-#[inline]
 fn count_with(present: u64, granted: u64, lifetime: u64, ended: u64, grant: u64) -> u64 {
     if present < grant {
         granted.max(grant.saturating_add(ended).min(lifetime))
@@ -188,7 +182,6 @@ fn count_with(present: u64, granted: u64, lifetime: u64, ended: u64, grant: u64)
     }
 }
 
-#[inline]
 fn reset_stream(outbox: &Outbox, stream: StreamId) -> Option<Item> {
     let reset = outbox.reset_of(stream)?;
     Some(Item::ResetStream {
@@ -198,20 +191,17 @@ fn reset_stream(outbox: &Outbox, stream: StreamId) -> Option<Item> {
     })
 }
 
-#[inline]
 fn stop_sending(recvs: &RecvTables, stream: StreamId) -> Option<Item> {
     let code = recvs.stop_to_tell(stream)?;
     Some(Item::StopSending { stream, code })
 }
 
-#[inline]
 fn stream_data_blocked(outbox: &Outbox, stream: StreamId) -> Option<Item> {
     let limit = outbox.blocked_at(stream)?;
     Some(Item::StreamDataBlocked { stream, limit })
 }
 
 // Whether the connection's credit alone holds bytes of some stream back.
-#[inline]
 fn any_wants_more(outbox: &Outbox) -> bool {
     let mut from = 0;
     while let Some(stream) = outbox.next_marked(Task::Bytes, from) {

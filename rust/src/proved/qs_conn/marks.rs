@@ -123,7 +123,6 @@ impl Marks {
     }
 
     // The same, by a look at each index from that one on.
-    #[inline]
     fn search(&self, from: usize) -> Option<usize> {
         if let Some(index) = self.marks.next_in_word(from) {
             return Some(index);
@@ -170,7 +169,6 @@ impl Marks {
     }
 
     // The same, by a look at each index from that one on.
-    #[inline]
     fn search_untold(&self, others: &Marks, told: &ToldMarks, from: usize) -> Option<usize> {
         let marks = told.bits();
         if let Some(index) = self.marks.next_untold_in_word(&others.marks, marks, from) {
@@ -190,7 +188,6 @@ impl Marks {
 }
 
 // Below which index there is no mark, once one index is marked or its mark is taken away.
-#[inline]
 fn least_after(least: usize, index: usize, is_marked: bool) -> usize {
     if is_marked {
         least.min(index)
@@ -202,7 +199,6 @@ fn least_after(least: usize, index: usize, is_marked: bool) -> usize {
 }
 
 // Whether a word of marks may have one: it has where one was set.
-#[inline]
 fn has_mark(marks: &Bits, word: usize, was_set: bool) -> bool {
     if was_set {
         return true;

@@ -61,7 +61,6 @@ impl OwnCarried {
 }
 
 // Where an item's value is kept; an item of a stream has no place.
-#[inline]
 fn place_of(item: &Item) -> usize {
     match *item {
         Item::MaxData { .. } => 0,
@@ -72,7 +71,6 @@ fn place_of(item: &Item) -> usize {
     }
 }
 
-#[inline]
 fn value_of(item: &Item) -> u64 {
     match *item {
         Item::MaxData { maximum } => maximum,
@@ -83,7 +81,6 @@ fn value_of(item: &Item) -> u64 {
     }
 }
 
-#[inline]
 fn number_of(dir: Dir) -> usize {
     match dir {
         Dir::Bidi => 0,

@@ -290,7 +290,6 @@ impl RecvLanes {
 }
 
 // One lane more.
-#[inline]
 fn open_one(
     halves: &mut Vec<Half>,
     alloc: Global,
@@ -305,7 +304,6 @@ fn open_one(
 }
 
 // What a half adds to the sums.
-#[inline]
 fn measure(half: &Half) -> Tally {
     let sizes = half.sizes();
     Tally {
@@ -317,7 +315,6 @@ fn measure(half: &Half) -> Tally {
 }
 
 // What the rings of some halves take. A sum that is no u64 is the greatest one.
-#[inline]
 fn held_of(halves: &[Half]) -> u64 {
     let mut held: u64 = 0;
     for index in 0..halves.len() {
@@ -328,7 +325,6 @@ fn held_of(halves: &[Half]) -> u64 {
 }
 
 // The sums once a lane's part became another.
-#[inline]
 fn moved(total: Tally, was: Tally, is: Tally) -> Tally {
     Tally {
         spent: total.spent - was.spent + is.spent,
@@ -356,7 +352,6 @@ fn raise_touched(
     }
 }
 
-#[inline]
 fn raise_at(
     halves: &mut Vec<Half>,
     index: usize,

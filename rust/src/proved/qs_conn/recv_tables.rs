@@ -276,7 +276,6 @@ impl RecvTables {
     }
 
     // The least such number among the streams of a type.
-    #[inline]
     fn next_with_of(&self, task: RecvTask, stream_type: usize, from: u64) -> Option<u64> {
         debug_assert!(stream_type < 4);
         debug_assert!(from <= 1 << 62);
@@ -351,7 +350,6 @@ impl RecvTables {
     }
 }
 
-#[inline]
 fn sum(a: Tally, b: Tally, c: Tally, d: Tally) -> Tally {
     Tally {
         spent: a.spent + b.spent + c.spent + d.spent,

@@ -326,7 +326,6 @@ impl SendLanes {
 }
 
 // How many bytes of a half were sent or are still to be sent for the first time.
-#[inline]
 fn promised(half: &SendHalf) -> u128 {
     if let Some(_code) = half.reset_code() {
         return half.sent_end() as u128;
@@ -335,13 +334,11 @@ fn promised(half: &SendHalf) -> u128 {
 }
 
 // How many bytes of a half are kept until they are acknowledged.
-#[inline]
 fn kept(half: &SendHalf) -> u128 {
     half.kept_len() as u128
 }
 
 // A STOP_SENDING breaks a half off, or its owner answers it.
-#[inline]
 fn take_stop(half: &mut SendHalf, code: u64, owner_answers: bool) {
     debug_assert!(code <= 0x3fff_ffff_ffff_ffff);
     if owner_answers {
@@ -352,7 +349,6 @@ fn take_stop(half: &mut SendHalf, code: u64, owner_answers: bool) {
 }
 
 // A write to a half that has no room: no byte is accepted.
-#[inline]
 fn write_none(half: &SendView<'_>) -> Result<usize, SendFault> {
     match half.refusal() {
         Some(fault) => Err(fault),

@@ -205,7 +205,6 @@ pub(crate) fn has(task: Task, half: &SendView<'_>) -> bool {
 }
 
 // Whether a half that isn't over has something of a task.
-#[inline]
 fn full_has(task: Task, half: &SendHalf) -> bool {
     match task {
         Task::Bytes => may_send(half),
@@ -217,7 +216,6 @@ fn full_has(task: Task, half: &SendHalf) -> bool {
 }
 
 // Whether bytes or the end may go: a byte below the limit is due, or the end is and every byte was sent.
-#[inline]
 fn may_send(half: &SendHalf) -> bool {
     // Bytes that were never sent come first: they need no search of what was sent and what of it is acknowledged.
     if half.reset_code().is_none() && half.sent_end() < half.written().min(half.limit()) {
@@ -230,7 +228,6 @@ fn may_send(half: &SendHalf) -> bool {
 }
 
 // Whether bytes that were sent before may go, or the end.
-#[inline]
 fn may_send_again(half: &SendHalf) -> bool {
     if half.end_due() && half.sent_end() == half.written() {
         return true;
@@ -239,7 +236,6 @@ fn may_send_again(half: &SendHalf) -> bool {
 }
 
 // Whether all that was sent is acknowledged, the end too, or the reset is (RFC 9000, section 3.1).
-#[inline]
 fn has_ended(half: &SendHalf) -> bool {
     matches!(half.state(), SendState::DataRecvd | SendState::ResetRecvd)
 }

@@ -19,7 +19,6 @@ pub(crate) fn wide_setup_fault(settings: &Settings, peer: &PeerLimits) -> Option
 }
 
 // Why no end can be made of settings that are in their ranges or aren't.
-#[inline]
 fn fault_where(in_range: bool, peer: &PeerLimits) -> Option<SetupFault> {
     if in_range {
         limits_fault(peer)
@@ -46,7 +45,6 @@ pub(crate) fn is_between(low: u64, high: u64, n: u64) -> bool {
 }
 
 // Whether each window, buffer, grant and lifetime is at least as large as it must be, and at most so large.
-#[inline]
 fn are_within(conn_window: u64, window: u64, grant: u64, lifetime: u64, s: &Settings) -> bool {
     is_between(1, conn_window, s.conn_window)
         && is_between(1, window, s.bidi_local)
@@ -60,7 +58,6 @@ fn are_within(conn_window: u64, window: u64, grant: u64, lifetime: u64, s: &Sett
 }
 
 // Whether each of the peer's data limits has a spelling (RFC 9000, section 16).
-#[inline]
 fn are_spellable(p: &PeerLimits) -> bool {
     p.max_data <= MAX_VARINT
         && p.bidi_local <= MAX_VARINT
@@ -69,7 +66,6 @@ fn are_spellable(p: &PeerLimits) -> bool {
 }
 
 // Whether no more streams are allowed than have a number (RFC 9000, section 4.6).
-#[inline]
 fn are_countable(p: &PeerLimits) -> bool {
     p.streams_bidi <= 1 << 60 && p.streams_uni <= 1 << 60
 }

@@ -86,7 +86,6 @@ impl ToldItems {
 }
 
 // The value, or the one known where that is greater.
-#[inline]
 fn greatest(known: Option<u64>, value: u64) -> Option<u64> {
     match known {
         Some(before) => Some(before.max(value)),
@@ -95,7 +94,6 @@ fn greatest(known: Option<u64>, value: u64) -> Option<u64> {
 }
 
 // Adds the stream's number.
-#[inline]
 fn add(streams: &mut RangeSet, stream: StreamId) -> Result<(), NoMemory> {
     let number = stream.value();
     streams.insert(number, number + 1)

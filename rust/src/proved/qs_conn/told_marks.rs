@@ -116,7 +116,6 @@ impl ToldMarks {
 }
 
 // Below which index all were told, once an index was told or may be told again. Words become full in their order, mostly.
-#[inline]
 fn first_after(first: usize, index: usize, is_full: bool) -> usize {
     if !is_full {
         return first.min(index);

@@ -79,7 +79,6 @@ impl Touches {
     }
 
     // The least of several.
-    #[inline]
     fn pop_marked(&mut self) -> Option<usize> {
         match self.marks.next(0) {
             Some(index) => {

@@ -15,20 +15,17 @@ struct UntoldLanes {
 }
 
 impl UntoldLanes {
-    #[inline]
     fn new(alloc: Global) -> Self {
         UntoldLanes {
             marks: Marks::new(alloc),
         }
     }
 
-    #[inline]
     fn open_to(&mut self, count: usize) -> Result<(), NoMemory> {
         debug_assert!(count <= 1 << 60);
         self.marks.open_to(count)
     }
 
-    #[inline]
     fn set(&mut self, index: usize, is_marked: bool) {
         if index >= self.marks.len() {
             return;
@@ -36,7 +33,6 @@ impl UntoldLanes {
         self.marks.set(index, is_marked);
     }
 
-    #[inline]
     fn has(&self, index: usize) -> bool {
         if index >= self.marks.len() {
             return false;
@@ -49,7 +45,6 @@ impl UntoldLanes {
         self.marks.may_have()
     }
 
-    #[inline]
     fn next(&self, from: usize) -> Option<usize> {
         self.marks.next(from)
     }
@@ -142,7 +137,6 @@ impl Untold {
     }
 
     // The least such number among the streams of a type.
-    #[inline]
     fn next_of(&self, stream_type: usize, from: u64) -> Option<u64> {
         debug_assert!(stream_type < 4);
         debug_assert!(from <= 1 << 62);

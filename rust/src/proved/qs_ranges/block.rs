@@ -136,7 +136,6 @@ impl Block {
 }
 
 // Takes out the runs from `from` on and before `to`, by one move of those behind.
-#[inline]
 fn take_out(runs: &mut Vec<(u64, u64)>, from: usize, to: usize) {
     debug_assert!(from <= to);
     if from < to {

@@ -80,7 +80,6 @@ pub(crate) fn runs_in(blocks: &[Block], span: Span) -> usize {
 }
 
 // Puts two runs in the place of one.
-#[inline]
 fn split_one(
     blocks: &mut Vec<Block>,
     block: usize,
@@ -123,7 +122,6 @@ fn insert_before(blocks: &mut Vec<Block>, block: usize, run: (u64, u64)) -> Resu
 }
 
 // A place in a block that isn't full, before and behind which the same runs are: a full block is parted in two. `NoMemory` leaves the runs as they were.
-#[inline]
 fn make_room(blocks: &mut Vec<Block>, block: usize, at: usize) -> Result<(usize, usize), NoMemory> {
     let len = blocks[block].len();
     if len < MOST_RUNS {
@@ -140,21 +138,18 @@ fn make_room(blocks: &mut Vec<Block>, block: usize, at: usize) -> Result<(usize,
 }
 
 // Puts a run in the place of the runs of a block from a place on.
-#[inline]
 fn end_with(blocks: &mut Vec<Block>, block: usize, from: usize, run: (u64, u64)) {
     let len = blocks[block].len();
     blocks[block].replace(from, len, run);
 }
 
 // Puts a run in the place of the runs of a block before a place.
-#[inline]
 fn start_with(blocks: &mut Vec<Block>, block: usize, to: usize, run: (u64, u64)) {
     debug_assert!(0 < to);
     blocks[block].replace(0, to, run);
 }
 
 // Takes out the runs of a block from a place on, where some are left, and answers how many blocks are to be kept up to it.
-#[inline]
 fn cut_back(blocks: &mut Vec<Block>, block: usize, from: usize) -> usize {
     if from == 0 {
         return block;
@@ -165,7 +160,6 @@ fn cut_back(blocks: &mut Vec<Block>, block: usize, from: usize) -> usize {
 }
 
 // Takes out the runs of a block before a place, where some are left, and answers from which block on they are to be kept.
-#[inline]
 fn cut_front(blocks: &mut Vec<Block>, block: usize, to: usize) -> usize {
     if to == blocks[block].len() {
         return block + 1;
@@ -175,7 +169,6 @@ fn cut_front(blocks: &mut Vec<Block>, block: usize, to: usize) -> usize {
 }
 
 // Takes out the blocks from `first` on and before `last`.
-#[inline]
 fn drop_blocks(blocks: &mut Vec<Block>, first: usize, last: usize) {
     debug_assert!(first <= last);
     if first < last {
@@ -224,7 +217,6 @@ pub(crate) fn two_above(blocks: &[Block], n: u64) -> (Option<(u64, u64)>, Option
 }
 
 // The run behind one of a block.
-#[inline]
 fn run_behind(blocks: &[Block], block: usize, at: usize) -> Option<(u64, u64)> {
     debug_assert!(block < blocks.len());
     if at < blocks[block].len() - 1 {
@@ -267,7 +259,6 @@ fn search_from(blocks: &[Block], low: u64) -> (usize, usize) {
 }
 
 // The first block whose last run ends at `low` or later.
-#[inline]
 fn block_from(blocks: &[Block], low: u64) -> usize {
     let mut from = 0;
     let mut to = blocks.len();
@@ -283,7 +274,6 @@ fn block_from(blocks: &[Block], low: u64) -> usize {
 }
 
 // The place behind the last run that starts below `high`, from a run on that does.
-#[inline]
 fn behind(blocks: &[Block], block: usize, from: usize, high: u64) -> (usize, usize) {
     debug_assert!(block < blocks.len());
     let after = block_behind(blocks, block + 1, high);

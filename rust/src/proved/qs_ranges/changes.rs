@@ -45,7 +45,6 @@ fn lengthen_last(blocks: &mut Vec<Block>, lo: u64, hi: u64) -> bool {
 }
 
 // Adds a range to the runs of blocks, wherever it goes.
-#[inline]
 fn insert_anywhere(few: &mut Few, blocks: &mut Vec<Block>, lo: u64, hi: u64) -> Result<(), NoMemory> {
     debug_assert!(lo < hi);
     debug_assert!(hi <= 1 << 62);
@@ -89,7 +88,6 @@ pub(crate) fn remove_many(
 }
 
 // Takes a range out of the runs of blocks, however few are left, and answers how many are.
-#[inline]
 fn cut_blocks(blocks: &mut Vec<Block>, count: usize, lo: u64, hi: u64) -> Result<usize, NoMemory> {
     debug_assert!(lo < hi);
     debug_assert!(hi <= 1 << 62);
@@ -121,7 +119,6 @@ fn cut_blocks(blocks: &mut Vec<Block>, count: usize, lo: u64, hi: u64) -> Result
 }
 
 // Two runs, or one, come back into the value, and their block goes. Of more the value tells the count.
-#[inline]
 fn settle(few: &mut Few, blocks: &mut Vec<Block>, count: usize) {
     *few = Few::InBlocks(count);
     if blocks.is_empty() {
@@ -148,7 +145,6 @@ pub(crate) fn copy_runs(blocks: &[Block], into: &mut [(u64, u64)]) -> usize {
 }
 
 // Copies the runs of one block to a place.
-#[inline]
 fn copy_block(block: &Block, into: &mut [(u64, u64)], at: usize) {
     let end = at + block.len();
     block.copy_to(&mut into[at..end]);

@@ -34,7 +34,6 @@ pub(crate) fn insert_few(
 }
 
 // Adds a range to two runs.
-#[inline]
 fn add_to_two(
     few: &mut Few,
     blocks: &mut Vec<Block>,
@@ -85,7 +84,6 @@ pub(crate) fn remove_few(
 }
 
 // What is left of a run.
-#[inline]
 fn without_range_of(run: (u64, u64), lo: u64, hi: u64) -> Few {
     debug_assert!(lo < hi);
     let (start, end) = run;
@@ -127,7 +125,6 @@ fn take_from_two(
 }
 
 // Takes a range out that doesn't meet the higher of two runs.
-#[inline]
 fn take_from_low(
     few: &mut Few,
     blocks: &mut Vec<Block>,
@@ -150,7 +147,6 @@ fn take_from_low(
 }
 
 // Takes a range out that doesn't meet the lower of two runs.
-#[inline]
 fn take_from_high(
     few: &mut Few,
     blocks: &mut Vec<Block>,
@@ -173,7 +169,6 @@ fn take_from_high(
 }
 
 // Puts three runs into a block.
-#[inline]
 fn put_three(
     few: &mut Few,
     blocks: &mut Vec<Block>,
@@ -211,7 +206,6 @@ pub(crate) fn few_above(few: Few, n: u64) -> Option<(u64, u64)> {
 }
 
 // The run, where it ends above `n`.
-#[inline]
 fn one_above(run: (u64, u64), n: u64) -> Option<(u64, u64)> {
     if n < run.1 { Some(run) } else { None }
 }

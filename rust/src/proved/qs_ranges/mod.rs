@@ -27,14 +27,12 @@ pub use room::reserve;
 pub struct NoMemory;
 
 impl From<AllocError> for NoMemory {
-    #[inline]
     fn from(_error: AllocError) -> Self {
         NoMemory
     }
 }
 
 impl<T> From<AllocFailed<T>> for NoMemory {
-    #[inline]
     fn from(_error: AllocFailed<T>) -> Self {
         NoMemory
     }
@@ -195,13 +193,11 @@ impl RangeSet {
         }
     }
 
-    #[inline]
     fn has_in_blocks(&self, n: u64) -> bool {
         matches!(self.run_above(n), Some((start, _)) if start <= n)
     }
 
     // The first run that ends above `n`.
-    #[inline]
     fn run_above(&self, n: u64) -> Option<(u64, u64)> {
         if self.blocks.is_empty() {
             return few_above(self.few, n);
@@ -214,7 +210,6 @@ impl RangeSet {
     }
 
     // The first run that ends above `n`, and the one behind it.
-    #[inline]
     fn runs_above(&self, n: u64) -> (Option<(u64, u64)>, Option<(u64, u64)>) {
         if self.blocks.is_empty() {
             return few_above_two(self.few, n);

@@ -466,7 +466,6 @@ impl<A: Assembly> RecvHalf<A> {
     }
 
     // A half that stores nothing any more is kept by its numbers alone, where no offset is missing and memory for them isn't refused.
-    #[inline]
     fn settle(&mut self) {
         let Parts::Live(live) = &self.parts else {
             return;
@@ -491,7 +490,6 @@ impl<A: Assembly> RecvHalf<A> {
     }
 
     // A half at rest, with an assembly that stores nothing.
-    #[inline]
     fn revived(&self, rest: &Rest) -> LiveHalf<A> {
         LiveHalf::revived(self.alloc, rest)
     }

@@ -410,7 +410,6 @@ impl<A: Assembly> LiveHalf<A> {
     }
 
     // Whether all of the stream was read.
-    #[inline]
     fn is_at_end(&self) -> bool {
         self.is_sized && self.read_count == self.size
     }
@@ -422,7 +421,6 @@ impl<A: Assembly> LiveHalf<A> {
     }
 
     // Whether a frame with len bytes at offset names another final size, or lies outside the known one.
-    #[inline]
     fn breaks_final_size(&self, offset: u64, len: u64, fin: bool) -> bool {
         let end = offset + len;
         if self.is_sized {
@@ -484,7 +482,6 @@ impl<A: Skipping> LiveHalf<A> {
 }
 
 // One more than the largest offset, once the len offsets from another one on came too.
-#[inline]
 fn end_with(before: u64, offset: u64, len: u64) -> u64 {
     if len == 0 {
         before

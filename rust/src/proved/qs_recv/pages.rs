@@ -132,7 +132,6 @@ impl Pages {
 }
 
 // A page of zeros.
-#[inline]
 fn zeros(alloc: Global) -> Result<Vec<u8>, NoMemory> {
     let mut page = Vec::new(alloc);
     let size = reserve(&mut page, PAGE as usize)?;

@@ -279,7 +279,6 @@ impl Rest {
 
     // The number below which the offsets are that came, once a frame's did. None where one of its bytes would be stored, or
     // offsets lie apart.
-    #[inline]
     fn end_with(&self, offset: u64, bytes: &[u8]) -> Option<u64> {
         let end = offset + bytes.len() as u64;
         if self.is_reset || end <= offset || end <= self.received_end {
@@ -292,7 +291,6 @@ impl Rest {
     }
 
     // Whether a reader is told of the end, where it isn't of a reset.
-    #[inline]
     fn ends(&self) -> bool {
         if self.is_stopped {
             self.is_whole()
@@ -308,7 +306,6 @@ impl Rest {
     }
 
     // Whether nothing is noted of the offsets that came.
-    #[inline]
     fn keeps_none(&self) -> bool {
         (self.told && self.is_whole()) || self.is_reset
     }
@@ -320,7 +317,6 @@ impl Rest {
     }
 
     // Whether the final size is known and every offset below it came.
-    #[inline]
     fn is_whole(&self) -> bool {
         self.is_sized && self.size <= self.received_end
     }

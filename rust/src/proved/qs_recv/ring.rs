@@ -166,7 +166,6 @@ impl Ring {
 }
 
 // The place of an offset in a ring of that size. Most are powers of two, at which no division is made.
-#[inline]
 fn place_of(at: u64, size: usize) -> usize {
     debug_assert!(0 < size);
     if size.is_power_of_two() {
@@ -177,7 +176,6 @@ fn place_of(at: u64, size: usize) -> usize {
 }
 
 // How far the places of a ring of that size lie further on, that an offset has the given one.
-#[inline]
 fn turn_to(place: usize, from: u64, size: usize) -> usize {
     debug_assert!(size <= 1 << 30);
     debug_assert!(place < size);
@@ -186,7 +184,6 @@ fn turn_to(place: usize, from: u64, size: usize) -> usize {
 }
 
 // Makes that so many bytes from a place on are kept. Those that never were written are zero.
-#[inline]
 fn fill(bytes: &mut Vec<u8>, size: usize, place: usize, count: usize) {
     debug_assert!(size <= 1 << 30);
     debug_assert!(place < size);
@@ -198,7 +195,6 @@ fn fill(bytes: &mut Vec<u8>, size: usize, place: usize, count: usize) {
 }
 
 // So many bytes from a place on, in two pieces where they go around the ring's end.
-#[inline]
 fn pieces(bytes: &[u8], size: usize, place: usize, count: usize) -> (&[u8], &[u8]) {
     debug_assert!(bytes.len() <= size);
     debug_assert!(place < size);
@@ -212,7 +208,6 @@ fn pieces(bytes: &[u8], size: usize, place: usize, count: usize) -> (&[u8], &[u8
 }
 
 // Keeps the same bytes alone. Where they go around the ring's end the others move, too.
-#[inline]
 fn bring_to_front(bytes: &mut Vec<u8>, place: usize, count: usize) {
     if count <= bytes.len() - place {
         bytes.copy_within(place..place + count, 0);
@@ -224,7 +219,6 @@ fn bring_to_front(bytes: &mut Vec<u8>, place: usize, count: usize) {
 }
 
 // The same in one piece, in memory that has room for it.
-#[inline]
 fn copy_to(made: &mut Vec<u8>, bytes: &[u8], size: usize, place: usize, count: usize) {
     debug_assert!(bytes.len() <= size);
     debug_assert!(place < size);

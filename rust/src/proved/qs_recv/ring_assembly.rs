@@ -48,7 +48,6 @@ pub struct RingAssembly {
 }
 
 impl Assembly for RingAssembly {
-    #[inline]
     fn new(alloc: Global, window: u64) -> Self {
         RingAssembly {
             alloc,
@@ -64,7 +63,6 @@ impl Assembly for RingAssembly {
         }
     }
 
-    #[inline]
     fn at_rest(alloc: Global, window: u64, read_count: u64, end: u64, discarding: bool) -> Self {
         RingAssembly {
             alloc,
@@ -80,7 +78,6 @@ impl Assembly for RingAssembly {
         }
     }
 
-    #[inline]
     fn put(&mut self, offset: u64, bytes: &[u8]) -> Result<(), NoMemory> {
         let end = offset + bytes.len() as u64;
         if offset == end {
@@ -111,7 +108,6 @@ impl Assembly for RingAssembly {
         Ok(())
     }
 
-    #[inline]
     fn take(&mut self, into: &mut [u8]) -> usize {
         if self.discarding {
             return 0;
@@ -123,7 +119,6 @@ impl Assembly for RingAssembly {
         count
     }
 
-    #[inline]
     fn discard(&mut self) {
         self.ring = Ring::none(self.alloc);
         self.apart = Pages::none(self.alloc);
@@ -131,19 +126,16 @@ impl Assembly for RingAssembly {
         self.discarding = true;
     }
 
-    #[inline]
     fn widen(&mut self, window: u64) {
         self.window = self.window.max(window);
     }
 
-    #[inline]
     fn give_back(&mut self) {
         if self.stored == 0 {
             self.ring = Ring::none(self.alloc);
         }
     }
 
-    #[inline]
     fn same(&self, offset: u64, bytes: &[u8]) -> bool {
         if self.discarding {
             return true;
@@ -163,17 +155,14 @@ impl Assembly for RingAssembly {
         )
     }
 
-    #[inline]
     fn stored(&self) -> u64 {
         self.stored
     }
 
-    #[inline]
     fn held(&self) -> u64 {
         self.ring.len() as u64 + self.apart.count() * PAGE
     }
 
-    #[inline]
     fn received(&self) -> &RangeSet {
         &self.received
     }
@@ -228,7 +217,6 @@ impl RingAssembly {
     }
 
     // Stores bytes that lie far past the ring's apart.
-    #[inline]
     fn put_apart(
         &mut self,
         first: u64,
@@ -259,7 +247,6 @@ impl RingAssembly {
     }
 
     // Moves what stands apart into the ring, up to the first page past `end` that isn't in use.
-    #[inline]
     fn draw(&mut self, end: u64) -> Result<(), NoMemory> {
         debug_assert!(end <= 0x3fff_ffff_ffff_ffff);
         if self.apart.is_empty() {
@@ -298,7 +285,6 @@ impl RingAssembly {
 }
 
 impl Skipping for RingAssembly {
-    #[inline]
     fn skip(&mut self, most: usize) -> usize {
         if self.discarding {
             return 0;
@@ -311,7 +297,6 @@ impl Skipping for RingAssembly {
 }
 
 impl Peeking for RingAssembly {
-    #[inline]
     fn front(&self) -> (&[u8], &[u8]) {
         if self.discarding {
             return (&[], &[]);
@@ -326,7 +311,6 @@ impl Peeking for RingAssembly {
 }
 
 // The size of a ring that reaches so far past what was read.
-#[inline]
 fn size_for(span: u64, window: u64) -> u64 {
     debug_assert!(window <= 1 << 30);
     debug_assert!(span <= window);
@@ -342,7 +326,6 @@ fn front_of(kept: u64, first: u64, from: u64) -> u64 {
 }
 
 // Lets a ring reach so many offsets past `from`, with the bytes of the first `kept` of these.
-#[inline]
 fn reach(
     alloc: Global,
     ring: &mut Ring,
@@ -433,7 +416,6 @@ fn fill_gaps(
 }
 
 // The same, apart from the ring. Where memory is refused, what was taken of it may stay.
-#[inline]
 fn store_apart(
     alloc: Global,
     apart: &mut Pages,
@@ -454,7 +436,6 @@ fn store_apart(
 
 // Writes the bytes at offsets that didn't come before to their pages, and answers how many these are. The first such
 // offsets are those from `first` on and below `stop`.
-#[inline]
 fn fill_apart(
     apart: &mut Pages,
     received: &RangeSet,
@@ -481,7 +462,6 @@ fn fill_apart(
 
 // Where the next offsets from `at` on and below the end begin that didn't come, and where what came does behind them, or the
 // end is. Where there are none, the first is no less than the end.
-#[inline]
 fn next_gap(received: &RangeSet, at: u64, end: u64) -> (u64, u64) {
     if at >= end {
         return (at, at);
@@ -493,7 +473,6 @@ fn next_gap(received: &RangeSet, at: u64, end: u64) -> (u64, u64) {
 }
 
 // The same, without a search where none came from `at` on, as none did from `last` on.
-#[inline]
 fn first_gap(received: &RangeSet, last: u64, at: u64, end: u64) -> (u64, u64) {
     if last <= at && at < end {
         return (at, end);
@@ -502,7 +481,6 @@ fn first_gap(received: &RangeSet, last: u64, at: u64, end: u64) -> (u64, u64) {
 }
 
 // Where the next offsets from `at` on that came begin, and where the gap behind them does: both at most at the end.
-#[inline]
 fn next_run(received: &RangeSet, at: u64, end: u64) -> (u64, u64) {
     debug_assert!(at < end);
     match received.run_from(at) {

@@ -57,7 +57,6 @@ impl<'a> AckPass<'a> {
     }
 
     // The next range, `false` after the last.
-    #[inline]
     fn read_range(&mut self) -> bool {
         let Some((low, high)) = self.ranges.next() else {
             return false;
@@ -69,7 +68,6 @@ impl<'a> AckPass<'a> {
     }
 
     // The greatest outstanding number of the range that was read last, below the one given last.
-    #[inline]
     fn in_range(&mut self, records: &Records) -> Option<u64> {
         match records.within(self.low, self.below, &mut self.turns) {
             Some(number) => {

@@ -93,7 +93,6 @@ impl ByNumber {
     }
 
     // How many records are those of numbers below `number`: without a search where these are `near`.
-    #[inline]
     fn count_near(&self, number: u64, near: usize) -> usize {
         if self.parts_at(number, near) {
             return near;
@@ -102,7 +101,6 @@ impl ByNumber {
     }
 
     // Whether the first `count` records are those of numbers below `number`.
-    #[inline]
     fn parts_at(&self, number: u64, count: usize) -> bool {
         let records = &self.records;
         if count > records.len() {
@@ -118,7 +116,6 @@ impl ByNumber {
     }
 
     // How many records are those of numbers below `number`.
-    #[inline]
     fn count_below(&self, number: u64) -> usize {
         match self.place_of(number) {
             Ok(place) => place,
@@ -128,7 +125,6 @@ impl ByNumber {
 
     // Where the record of a number is, or where it would go: with no search past the last record and at the first, where a packet that
     // is lost goes in mostly, and the oldest one out.
-    #[inline]
     fn place_of(&self, number: u64) -> Result<usize, usize> {
         let records = &self.records;
         let count = records.len();
@@ -149,7 +145,6 @@ impl ByNumber {
     }
 
     // Makes room for a record more with one piece.
-    #[inline]
     fn reserve_record(&mut self) -> Result<(), NoMemory> {
         self.records.reserve(1)?;
         self.spare.reserve(1)?;
@@ -157,7 +152,6 @@ impl ByNumber {
     }
 
     // A record of one piece.
-    #[inline]
     fn insert(&mut self, place: usize, number: u64, piece: Piece) {
         hold(&mut self.spare, piece);
         let pieces = mem::replace(&mut self.spare, Vec::new(self.alloc));

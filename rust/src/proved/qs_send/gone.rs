@@ -87,7 +87,6 @@ impl Gone {
 }
 
 // Makes room for the bits up to that of an index, if there is memory.
-#[inline]
 fn make_room(words: &mut VecDeque<u64>, index: usize) {
     let place = index / PER_WORD;
     if place >= words.len() {
@@ -96,7 +95,6 @@ fn make_room(words: &mut VecDeque<u64>, index: usize) {
 }
 
 // The bit of an index is cleared, or begins so.
-#[inline]
 fn begin(words: &mut VecDeque<u64>, index: usize) {
     let place = index / PER_WORD;
     if place < words.len() {
@@ -107,7 +105,6 @@ fn begin(words: &mut VecDeque<u64>, index: usize) {
 }
 
 // The bit of an index is set.
-#[inline]
 fn note(words: &mut VecDeque<u64>, index: usize) {
     let place = index / PER_WORD;
     if place < words.len() {
@@ -116,7 +113,6 @@ fn note(words: &mut VecDeque<u64>, index: usize) {
 }
 
 // The first words go, so many as a word has bits.
-#[inline]
 fn drop_words(words: &mut VecDeque<u64>) {
     let mut left = PER_WORD;
     while left > 0 {
@@ -126,13 +122,11 @@ fn drop_words(words: &mut VecDeque<u64>) {
 }
 
 // Whether a word has all of its bits set.
-#[inline]
 fn is_full(words: &VecDeque<u64>, place: usize) -> bool {
     place < words.len() && words[place] == u64::MAX
 }
 
 // An end as low as one word tells, behind which all indexes below `end` are noted as empty.
-#[inline]
 fn end_in_word(words: &VecDeque<u64>, end: usize) -> usize {
     if end == 0 {
         return 0;
@@ -149,7 +143,6 @@ fn end_in_word(words: &VecDeque<u64>, end: usize) -> usize {
 }
 
 // The bit of an index in its word. The lower one's lies above, so that a search for the greatest index is one for the lowest bit.
-#[inline]
 fn bit_of(index: usize) -> usize {
     PER_WORD - 1 - index % PER_WORD
 }

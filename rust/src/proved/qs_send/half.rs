@@ -137,7 +137,6 @@ impl SendHalf {
         self.keep_stop(code);
     }
 
-    #[inline]
     fn keep_stop(&mut self, code: u64) {
         debug_assert!(code <= 0x3fff_ffff_ffff_ffff);
         if self.stop_code.get().is_none() {
@@ -329,13 +328,11 @@ impl SendHalf {
         self.offsets.kept_len() < self.buffer as usize && self.offsets.written() < MAX_VARINT
     }
 
-    #[inline]
     fn was_reset(&self) -> bool {
         self.reset_code.get().is_some()
     }
 
     // Whether every written offset and the end were acknowledged, where no reset let bytes go before.
-    #[inline]
     fn is_whole(&self) -> bool {
         self.fin_acked && self.offsets.kept_len() == 0
     }

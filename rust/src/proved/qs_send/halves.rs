@@ -157,7 +157,6 @@ impl SendHalves {
 
 // Puts a slot of a half that is over where another stands, and lets its half go. The last half moves to the place that is left. Its slot has
 // to name that, so nothing changes where the half's number doesn't tell the slot.
-#[inline]
 fn put_over(slots: &mut Vec<SendSlot>, full: &mut Vec<SendHalf>, index: usize, over: SendSlot) {
     let slot = slots[index];
     if slot.is_over() {

@@ -95,7 +95,6 @@ impl LostRecords {
 }
 
 // The order with a number behind it, if it isn't held.
-#[inline]
 fn note(order: &mut VecDeque<u64>, number: u64, held: bool) {
     if !held {
         order.push_back_reserved(number);
@@ -103,7 +102,6 @@ fn note(order: &mut VecDeque<u64>, number: u64, held: bool) {
 }
 
 // Where there is one record too many, the oldest goes.
-#[inline]
 fn drop_oldest(order: &mut VecDeque<u64>, list: &mut ByNumber) {
     if order.len() > MOST {
         if let Some(oldest) = order.pop_front() {
@@ -113,7 +111,6 @@ fn drop_oldest(order: &mut VecDeque<u64>, list: &mut ByNumber) {
 }
 
 // The order without a number.
-#[inline]
 fn forget(order: &mut VecDeque<u64>, number: u64) {
     order.retain(|k| *k != number);
 }

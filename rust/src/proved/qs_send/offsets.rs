@@ -86,7 +86,6 @@ impl Offsets {
     }
 
     // The first bytes behind those that are at rest: they take a box.
-    #[inline]
     fn begin(&mut self, bytes: &[u8], most: usize) -> Result<(), NoMemory> {
         let mut live = Box::new(self.alloc, LiveOffsets::at_rest(self.alloc, self.written))?;
         live.write(bytes, most)?;

@@ -148,7 +148,6 @@ impl Records {
     }
 
     // The place of a number's slot. A number without one isn't held.
-    #[inline]
     fn slot_of(&self, number: u64) -> Option<usize> {
         if number < self.base {
             return None;
@@ -162,7 +161,6 @@ impl Records {
     }
 
     // The greatest number that is held in the first slots.
-    #[inline]
     fn last_of(&self, count: usize) -> Option<u64> {
         let _slots = &self.slots;
         self.last_from(0, count, &mut 0)
@@ -186,7 +184,6 @@ impl Records {
     }
 
     // The same by a look at each slot.
-    #[inline]
     fn last_looked_at(&self, from: usize, count: usize, looks: &mut u64) -> Option<u64> {
         let mut place = count;
         while place > from {
@@ -201,7 +198,6 @@ impl Records {
 
     // An end of the first slots behind which none that is below `count` has a record, as low as the bits tell, down to `from`. Each look
     // is counted, also that at the slot before the end.
-    #[inline]
     fn end_of_left(&self, from: usize, count: usize, looks: &mut u64) -> usize {
         debug_assert!(from < count);
         let skew = (self.base - self.first) as usize;
@@ -218,7 +214,6 @@ impl Records {
     }
 
     // It is noted that a slot is empty, where it is. No clause sees it. Of few slots each is looked at itself.
-    #[inline]
     fn note(&mut self, place: usize) {
         if self.slots.len() >= gone::PER_WORD && !self.is_filled(place) {
             let skew = (self.base - self.first) as usize;
@@ -227,13 +222,11 @@ impl Records {
     }
 
     // Whether a slot has a record.
-    #[inline]
     fn is_filled(&self, place: usize) -> bool {
         self.slots[place].len() > 0
     }
 
     // The bits of slots that went go, once there are so many of these. No clause sees it.
-    #[inline]
     fn drop_group(&mut self) {
         if self.base - self.first >= gone::PER_GROUP as u64 {
             self.gone.drop_group();
@@ -242,7 +235,6 @@ impl Records {
     }
 
     // Whether the first slot is an empty one.
-    #[inline]
     fn starts_empty(&self) -> bool {
         match self.slots.front() {
             Some(slot) => slot.len() == 0,
@@ -251,7 +243,6 @@ impl Records {
     }
 
     // The first slot, which is empty, goes.
-    #[inline]
     fn drop_front(&mut self) {
         drop(self.slots.pop_front());
         if !self.slots.is_empty() {
@@ -260,7 +251,6 @@ impl Records {
     }
 
     // The slots of a number and of those above it go, which are empty. Mostly there are none.
-    #[inline]
     fn drop_from(&mut self, number: u64) {
         while self.ends_past(number) {
             self.drop_back();
@@ -268,19 +258,16 @@ impl Records {
     }
 
     // Whether the last slot is that of a number or of one above it.
-    #[inline]
     fn ends_past(&self, number: u64) -> bool {
         number.saturating_sub(self.base) < self.slots.len() as u64
     }
 
     // The last slot, which is empty, goes.
-    #[inline]
     fn drop_back(&mut self) {
         drop(self.slots.pop_back());
     }
 
     // Without slots the first one is to be that of the number.
-    #[inline]
     fn start_at(&mut self, number: u64) {
         if self.slots.is_empty() {
             self.base = number;
@@ -290,7 +277,6 @@ impl Records {
     }
 
     // Empty slots for the numbers below `number`, so that the next slot is that number's.
-    #[inline]
     fn fill_to(&mut self, number: u64) {
         while self.ends_before(number) {
             let place = self.slots.len();
@@ -300,13 +286,11 @@ impl Records {
     }
 
     // Whether a number below `number` has no slot yet.
-    #[inline]
     fn ends_before(&self, number: u64) -> bool {
         self.slots.len() < (number - self.base) as usize
     }
 
     // One slot more.
-    #[inline]
     fn push_slot(&mut self, slot: Carried) {
         let index = (self.base - self.first) as usize + self.slots.len();
         self.gone.begin(index);
@@ -315,7 +299,6 @@ impl Records {
 }
 
 // Whether one of the slots has the piece.
-#[inline]
 fn some_has(slots: &VecDeque<Carried>, piece: Piece) -> bool {
     slots.iter().any(|slot| slot.has(piece))
 }

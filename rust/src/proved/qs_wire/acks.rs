@@ -43,7 +43,6 @@ impl<'a> AckRanges<'a> {
 }
 
 /// The two numbers that spell a range below the range that begins at a number.
-#[inline]
 fn gap_and_length(above: u64, pair: (u64, u64)) -> (u64, u64) {
     debug_assert!(above <= 1 << 62);
     let (start, end) = pair;
@@ -62,7 +61,6 @@ fn two_fit(a: u64, b: u64, room: usize) -> bool {
 }
 
 /// Writes as many of the ranges below a number as fit, at a place, and answers how many these are and the place after them.
-#[inline]
 fn put_ranges(smallest: u64, pairs: &[(u64, u64)], at: usize, out: &mut [u8]) -> (usize, usize) {
     debug_assert!(smallest <= 1 << 62);
     debug_assert!(at <= out.len());

@@ -10,7 +10,6 @@ use crate::proved::qs_wire::frame_type::FrameType;
 use crate::proved::qs_wire::stream_id::{Dir, StreamId};
 use crate::proved::qs_wire::varint::number_at;
 
-#[inline]
 fn ack_at(ecn: bool, bytes: &[u8]) -> Result<(Frame<'_>, &[u8]), FaultKind> {
     let (largest, rest) = number_at(bytes)?;
     let (delay, rest) = number_at(rest)?;
@@ -30,7 +29,6 @@ fn ack_at(ecn: bool, bytes: &[u8]) -> Result<(Frame<'_>, &[u8]), FaultKind> {
     ))
 }
 
-#[inline]
 fn reset_stream_at(bytes: &[u8]) -> Result<(Frame<'_>, &[u8]), FaultKind> {
     let (stream, rest) = number_at(bytes)?;
     let (code, rest) = number_at(rest)?;
@@ -46,7 +44,6 @@ fn reset_stream_at(bytes: &[u8]) -> Result<(Frame<'_>, &[u8]), FaultKind> {
     ))
 }
 
-#[inline]
 fn stop_sending_at(bytes: &[u8]) -> Result<(Frame<'_>, &[u8]), FaultKind> {
     let (stream, rest) = number_at(bytes)?;
     let (code, rest) = number_at(rest)?;
@@ -55,7 +52,6 @@ fn stop_sending_at(bytes: &[u8]) -> Result<(Frame<'_>, &[u8]), FaultKind> {
 }
 
 /// Whether the bytes that stand at an offset of a stream end below 2^62.
-#[inline]
 fn ends_in_range(offset: u64, bytes: &[u8]) -> bool {
     match offset.checked_add(bytes.len() as u64) {
         Some(end) => end < 1 << 62,
@@ -63,7 +59,6 @@ fn ends_in_range(offset: u64, bytes: &[u8]) -> bool {
     }
 }
 
-#[inline]
 fn crypto_at(bytes: &[u8]) -> Result<(Frame<'_>, &[u8]), FaultKind> {
     let (offset, rest) = number_at(bytes)?;
     let (bytes, rest) = counted_at(rest)?;
@@ -73,13 +68,11 @@ fn crypto_at(bytes: &[u8]) -> Result<(Frame<'_>, &[u8]), FaultKind> {
     Ok((Frame::Crypto { offset, bytes }, rest))
 }
 
-#[inline]
 fn new_token_at(bytes: &[u8]) -> Result<(Frame<'_>, &[u8]), FaultKind> {
     let (bytes, rest) = counted_at(bytes)?;
     Ok((Frame::NewToken { bytes }, rest))
 }
 
-#[inline]
 fn stream_at(off: bool, len: bool, fin: bool, bytes: &[u8]) -> Result<(Frame<'_>, &[u8]), FaultKind> {
     let (stream, rest) = number_at(bytes)?;
     let (offset, rest) = number_if(off, rest)?;
@@ -99,13 +92,11 @@ fn stream_at(off: bool, len: bool, fin: bool, bytes: &[u8]) -> Result<(Frame<'_>
     ))
 }
 
-#[inline]
 fn max_data_at(bytes: &[u8]) -> Result<(Frame<'_>, &[u8]), FaultKind> {
     let (maximum, rest) = number_at(bytes)?;
     Ok((Frame::MaxData { maximum }, rest))
 }
 
-#[inline]
 fn max_stream_data_at(bytes: &[u8]) -> Result<(Frame<'_>, &[u8]), FaultKind> {
     let (stream, rest) = number_at(bytes)?;
     let (maximum, rest) = number_at(rest)?;
@@ -113,7 +104,6 @@ fn max_stream_data_at(bytes: &[u8]) -> Result<(Frame<'_>, &[u8]), FaultKind> {
     Ok((Frame::MaxStreamData { stream, maximum }, rest))
 }
 
-#[inline]
 fn max_streams_at(dir: Dir, bytes: &[u8]) -> Result<(Frame<'_>, &[u8]), FaultKind> {
     let (count, rest) = number_at(bytes)?;
     if count > 1 << 60 {
@@ -122,13 +112,11 @@ fn max_streams_at(dir: Dir, bytes: &[u8]) -> Result<(Frame<'_>, &[u8]), FaultKin
     Ok((Frame::MaxStreams { dir, count }, rest))
 }
 
-#[inline]
 fn data_blocked_at(bytes: &[u8]) -> Result<(Frame<'_>, &[u8]), FaultKind> {
     let (limit, rest) = number_at(bytes)?;
     Ok((Frame::DataBlocked { limit }, rest))
 }
 
-#[inline]
 fn stream_data_blocked_at(bytes: &[u8]) -> Result<(Frame<'_>, &[u8]), FaultKind> {
     let (stream, rest) = number_at(bytes)?;
     let (limit, rest) = number_at(rest)?;
@@ -136,7 +124,6 @@ fn stream_data_blocked_at(bytes: &[u8]) -> Result<(Frame<'_>, &[u8]), FaultKind>
     Ok((Frame::StreamDataBlocked { stream, limit }, rest))
 }
 
-#[inline]
 fn streams_blocked_at(dir: Dir, bytes: &[u8]) -> Result<(Frame<'_>, &[u8]), FaultKind> {
     let (count, rest) = number_at(bytes)?;
     if count > 1 << 60 {
@@ -145,7 +132,6 @@ fn streams_blocked_at(dir: Dir, bytes: &[u8]) -> Result<(Frame<'_>, &[u8]), Faul
     Ok((Frame::StreamsBlocked { dir, count }, rest))
 }
 
-#[inline]
 fn new_connection_id_at(bytes: &[u8]) -> Result<(Frame<'_>, &[u8]), FaultKind> {
     let (sequence, rest) = number_at(bytes)?;
     let (retire, rest) = number_at(rest)?;
@@ -162,25 +148,21 @@ fn new_connection_id_at(bytes: &[u8]) -> Result<(Frame<'_>, &[u8]), FaultKind> {
     ))
 }
 
-#[inline]
 fn retire_connection_id_at(bytes: &[u8]) -> Result<(Frame<'_>, &[u8]), FaultKind> {
     let (sequence, rest) = number_at(bytes)?;
     Ok((Frame::RetireConnectionId { sequence }, rest))
 }
 
-#[inline]
 fn path_challenge_at(bytes: &[u8]) -> Result<(Frame<'_>, &[u8]), FaultKind> {
     let (bytes, rest) = plain_at(8, bytes)?;
     Ok((Frame::PathChallenge { bytes }, rest))
 }
 
-#[inline]
 fn path_response_at(bytes: &[u8]) -> Result<(Frame<'_>, &[u8]), FaultKind> {
     let (bytes, rest) = plain_at(8, bytes)?;
     Ok((Frame::PathResponse { bytes }, rest))
 }
 
-#[inline]
 fn connection_close_at(bytes: &[u8]) -> Result<(Frame<'_>, &[u8]), FaultKind> {
     let (code, rest) = number_at(bytes)?;
     let (frame_type, rest) = number_at(rest)?;
@@ -195,7 +177,6 @@ fn connection_close_at(bytes: &[u8]) -> Result<(Frame<'_>, &[u8]), FaultKind> {
     ))
 }
 
-#[inline]
 fn application_close_at(bytes: &[u8]) -> Result<(Frame<'_>, &[u8]), FaultKind> {
     let (code, rest) = number_at(bytes)?;
     let (reason, rest) = counted_at(rest)?;

@@ -65,7 +65,6 @@ pub struct WireFault {
 }
 
 impl core::fmt::Display for WireFault {
-    #[inline]
     fn fmt(&self, f: &mut core::fmt::Formatter<'_>) -> core::fmt::Result {
         match self {
             Self { frame_type, place, code, .. } => write!(f, "a frame of type {frame_type:#x} at {place} breaks code {code:#x}"),
@@ -80,7 +79,6 @@ impl core::error::Error for WireFault {}
 pub struct Full;
 
 impl core::fmt::Display for Full {
-    #[inline]
     fn fmt(&self, f: &mut core::fmt::Formatter<'_>) -> core::fmt::Result {
         match self {
             Self => f.write_str("the frame does not fit"),

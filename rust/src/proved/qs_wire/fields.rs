@@ -53,7 +53,6 @@ pub(crate) fn counted_if(there: bool, bytes: &[u8]) -> Result<(&[u8], &[u8]), Fa
     }
 }
 
-#[inline]
 fn counts_at(bytes: &[u8]) -> Result<(Option<EcnCounts>, &[u8]), FaultKind> {
     let (ect0, rest) = number_at(bytes)?;
     let (ect1, rest) = number_at(rest)?;
@@ -72,7 +71,6 @@ pub(crate) fn ecn_if(there: bool, bytes: &[u8]) -> Result<(Option<EcnCounts>, &[
 }
 
 /// What follows so many numbers, and what is left of a limit from which each takes one more than itself.
-#[inline]
 fn skip_numbers(count: u64, limit: u64, bytes: &[u8]) -> Result<(u64, &[u8]), FaultKind> {
     let mut left = limit;
     let mut rest = bytes;

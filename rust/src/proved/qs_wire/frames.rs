@@ -12,7 +12,6 @@ pub struct Frames<'a> {
     rest: &'a [u8],
 }
 
-#[inline]
 fn fault_at(place: usize, broken: Broken) -> WireFault {
     WireFault {
         kind: broken.kind,

@@ -14,7 +14,6 @@ pub(crate) struct Broken {
     pub(crate) frame_type: u64,
 }
 
-#[inline]
 fn type_at(bytes: &[u8]) -> Result<(u64, &[u8]), Broken> {
     match bytes.split_first() {
         // One byte has no shorter spelling.
@@ -24,7 +23,6 @@ fn type_at(bytes: &[u8]) -> Result<(u64, &[u8]), Broken> {
 }
 
 /// The number of a type, however long.
-#[inline]
 fn long_type_at(bytes: &[u8]) -> Result<(u64, &[u8]), Broken> {
     let Some((frame_type, len)) = read_varint(bytes) else {
         return Err(Broken {

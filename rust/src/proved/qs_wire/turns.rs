@@ -19,7 +19,6 @@ pub fn last_stream(payload: &[u8]) -> Option<StreamId> {
     }
 }
 
-#[inline]
 fn stream_or(last: Option<StreamId>, frame: &Frame<'_>) -> Option<StreamId> {
     match frame {
         Frame::Stream { stream, .. } => Some(*stream),

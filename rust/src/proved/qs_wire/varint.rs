@@ -11,7 +11,6 @@ pub fn read_varint(bytes: &[u8]) -> Option<(u64, usize)> {
     parse(bytes)
 }
 
-#[inline]
 fn parse(bytes: &[u8]) -> Option<(u64, usize)> {
     match number_at(bytes) {
         Ok((value, after)) => Some((value, bytes.len() - after.len())),

@@ -24,7 +24,6 @@ pub(crate) enum Part<'a> {
 }
 
 impl<'a> Part<'a> {
-    #[inline]
     fn len(self) -> usize {
         match self {
             Part::Nothing | Part::Counts(None) => 0,
@@ -41,7 +40,6 @@ impl<'a> Part<'a> {
     }
 
     /// Writes the part at a place, and answers the place after it.
-    #[inline]
     fn put(self, at: usize, out: &mut [u8]) -> usize {
         match self {
             Part::Nothing | Part::Counts(None) => at,
@@ -77,7 +75,6 @@ pub(crate) fn put_numbers(numbers: &[u64], out: &mut [u8]) -> usize {
 }
 
 /// Writes numbers at the front, where they fit, and answers the place after them.
-#[inline]
 fn put_fitting(numbers: &[u64], out: &mut [u8]) -> Result<usize, Full> {
     let mut len = 0;
     for number in numbers {
@@ -91,7 +88,6 @@ fn put_fitting(numbers: &[u64], out: &mut [u8]) -> Result<usize, Full> {
 }
 
 /// Writes bytes at a place, and answers the place after them.
-#[inline]
 fn put_bytes(bytes: &[u8], at: usize, out: &mut [u8]) -> usize {
     let end = at + bytes.len();
     out[at..end].copy_from_slice(bytes);
@@ -99,7 +95,6 @@ fn put_bytes(bytes: &[u8], at: usize, out: &mut [u8]) -> usize {
 }
 
 /// Writes bytes behind their count at a place, and answers the place after them.
-#[inline]
 fn put_counted(bytes: &[u8], at: usize, out: &mut [u8]) -> usize {
     debug_assert!(bytes.len() < 1 << 62);
     let next = put_number(bytes.len() as u64, at, out);
@@ -107,7 +102,6 @@ fn put_counted(bytes: &[u8], at: usize, out: &mut [u8]) -> usize {
 }
 
 /// Writes the bytes of two pieces behind their count at a place, and answers the place after them.
-#[inline]
 fn put_pieces(front: &[u8], back: &[u8], at: usize, out: &mut [u8]) -> usize {
     let count = front.len() + back.len();
     let next = put_number(count as u64, at, out);
@@ -115,13 +109,11 @@ fn put_pieces(front: &[u8], back: &[u8], at: usize, out: &mut [u8]) -> usize {
     put_bytes(back, next, out)
 }
 
-#[inline]
 fn counts_len(counts: EcnCounts) -> usize {
     varint_len(counts.ect0) + varint_len(counts.ect1) + varint_len(counts.ce)
 }
 
 /// Writes the three counts at a place, and answers the place after them.
-#[inline]
 fn put_counts(counts: EcnCounts, at: usize, out: &mut [u8]) -> usize {
     let next = put_number(counts.ect0, at, out);
     let next = put_number(counts.ect1, next, out);
@@ -129,7 +121,6 @@ fn put_counts(counts: EcnCounts, at: usize, out: &mut [u8]) -> usize {
 }
 
 /// How many numbers the bytes spell, and how long their shortest spellings are together.
-#[inline]
 fn shortest(numbers: &[u8]) -> (u64, usize) {
     let mut count = 0;
     let mut shortest_len = 0;
@@ -144,7 +135,6 @@ fn shortest(numbers: &[u8]) -> (u64, usize) {
 }
 
 /// Writes the shortest spelling of each number that the bytes spell, and answers the place after them.
-#[inline]
 fn put_shortest(numbers: &[u8], at: usize, out: &mut [u8]) -> usize {
     let mut next = at;
     let mut rest = numbers;
@@ -157,7 +147,6 @@ fn put_shortest(numbers: &[u8], at: usize, out: &mut [u8]) -> usize {
 }
 
 /// A type and up to four fields.
-#[inline]
 fn parts<'a>(
     frame_type: FrameType,
     a: Part<'a>,
@@ -296,7 +285,6 @@ fn parts_of<'a>(frame: &Frame<'a>) -> [Part<'a>; 5] {
     }
 }
 
-#[inline]
 fn number_if<'a>(there: bool, value: u64) -> Part<'a> {
     debug_assert!(value < 1 << 62);
     if there {
@@ -330,14 +318,12 @@ pub(crate) fn put_parts(parts: &[Part], out: &mut [u8]) {
 }
 
 /// How many bytes a number takes, if it is there.
-#[inline]
 fn len_if(there: bool, value: u64) -> usize {
     debug_assert!(value < 1 << 62);
     if there { varint_len(value) } else { 0 }
 }
 
 /// Writes a number at a place, if it is there, and answers the place after it.
-#[inline]
 fn put_number_if(there: bool, value: u64, at: usize, out: &mut [u8]) -> usize {
     debug_assert!(value < 1 << 62);
     if there {
@@ -377,7 +363,6 @@ pub fn put_stream(
 }
 
 /// Writes a frame part by part, as `put` does.
-#[inline]
 fn put_any(frame: &Frame, out: &mut [u8]) -> Result<usize, Full> {
     let parts = parts_of(frame);
     let len = len_within(&parts, out.len()).ok_or(Full)?;

@@ -89,7 +89,6 @@ impl Endpoint {
     }
 
     // The frames take effect, one after the other, as far as they may.
-    #[inline]
     fn take_each(&mut self, frames: &[Frame<'_>]) -> Result<Taken, TakeFault> {
         let mut taken = Taken::NotOurs;
         for frame in frames {
@@ -149,7 +148,6 @@ impl Endpoint {
         }
     }
 
-    #[inline]
     fn item_changes(&self, item: Item) -> bool {
         match item {
             Item::MaxData { maximum } => self.core.limits.known_data < maximum,
@@ -173,7 +171,6 @@ impl Endpoint {
     }
 
     // Whether a stream is the peer's, and a half of it isn't open.
-    #[inline]
     fn is_yet_to_open(&self, stream: StreamId) -> bool {
         if self.is_own(stream) {
             return false;
@@ -185,7 +182,6 @@ impl Endpoint {
     }
 
     // This end closes for a frame that came alone.
-    #[inline]
     fn close_alone(&mut self, frame: &Frame<'_>, code: u64) -> Closing {
         debug_assert!(code < 1 << 62);
         let closing = Closing {
@@ -198,7 +194,6 @@ impl Endpoint {
     }
 
     // What an end that is closed answers to a frame.
-    #[inline]
     fn closed_fault(&self) -> Option<TakeFault> {
         match self.closed {
             Some(Closed::ByUs(closing)) => Some(TakeFault::Closing(closing)),
@@ -210,7 +205,6 @@ impl Endpoint {
 }
 
 // What an end that was told of a close says again.
-#[inline]
 fn told_fault(close: ToldClose) -> TakeFault {
     match close.by {
         Closer::Us => TakeFault::Closing(told_of_us(close.code)),
@@ -219,7 +213,6 @@ fn told_fault(close: ToldClose) -> TakeFault {
 }
 
 // What came of two frames.
-#[inline]
 fn of_both(one: Taken, later: Taken) -> Taken {
     match (one, later) {
         (Taken::Took, _) => Taken::Took,

@@ -126,7 +126,6 @@ impl Endpoint {
     }
 
     // How many bytes a stream takes by its buffer, and by credit where writes keep within it.
-    #[inline]
     fn credit_room(&self, stream: StreamId) -> u64 {
         let room = self.core.outbox.room(stream);
         if self.core.limits.tuning.within_credit {

@@ -84,7 +84,6 @@ impl Endpoint {
     }
 
     // Whether every half of a stream here came to its end.
-    #[inline]
     fn has_ended(&self, stream: StreamId) -> bool {
         if !is_uni(stream) {
             self.core.recvs.has_ended(stream) && self.core.outbox.has_ended(stream)

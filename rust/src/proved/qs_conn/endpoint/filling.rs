@@ -52,7 +52,6 @@ impl Endpoint {
     }
 
     // What a call answers that found no memory: where nothing that is asked for may go, it needs none.
-    #[inline]
     fn unfilled(&self, want: &Fill) -> Result<Option<Filled>, MakeFault> {
         // (the cap of bytes holds nothing back that memory does)
         if self.has_more(want, 1, None) {
@@ -63,7 +62,6 @@ impl Endpoint {
 
     // Whether something that is asked for is due that no limit holds back, where so many bytes are left of the cap. The stream that sent
     // last is asked first.
-    #[inline]
     fn has_more(&self, want: &Fill, left: usize, last: Option<StreamId>) -> bool {
         self.core.has_wanted(want, left, last)
     }

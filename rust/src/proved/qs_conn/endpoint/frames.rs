@@ -49,7 +49,6 @@ impl Endpoint {
     }
 
     // Of an ACK, which may name no number that wasn't used (RFC 9000, section 13.1).
-    #[inline]
     fn ack_fault(&self, largest: u64) -> Option<u64> {
         if largest >= self.core.outbox.next() {
             Some(PROTOCOL_VIOLATION)
@@ -86,7 +85,6 @@ impl Endpoint {
 
     // The bytes come last, and only those that are still stored are compared (RFC 9000, section 2.2). A frame that raises the highest offset
     // changes this end.
-    #[inline]
     fn judge_stream(&self, stream: Place, offset: u64, bytes: &[u8], fin: bool) -> Result<bool, u64> {
         if let Some(code) = self.state_fault_in(stream) {
             return Err(code);
@@ -105,7 +103,6 @@ impl Endpoint {
     }
 
     // The first frame of a stream opens it, so it changes this end.
-    #[inline]
     fn judge_first(&self, stream: Place, offset: u64, bytes: &[u8], fin: bool) -> Result<bool, u64> {
         let window = self.window(stream.id);
         let judged = Half::judge_first(self.alloc, window, offset, bytes, fin);
@@ -118,7 +115,6 @@ impl Endpoint {
         }
     }
 
-    #[inline]
     fn reset_fault(&self, stream: StreamId, size: u64) -> Option<u64> {
         debug_assert!(size <= 0x3fff_ffff_ffff_ffff);
         if let Some(code) = self.state_fault_in(Place::of(stream)) {
@@ -130,7 +126,6 @@ impl Endpoint {
     }
 
     // Of a frame on what the peer sends.
-    #[inline]
     fn state_fault_in(&self, stream: Place) -> Option<u64> {
         if stream.stream_type % 2 == role_bit(self.core.limits.role) {
             return match self.core.recvs.half(stream) {
@@ -152,7 +147,6 @@ impl Endpoint {
     }
 
     // Of a frame on what this end sends.
-    #[inline]
     fn state_fault_out(&self, stream: StreamId) -> Option<u64> {
         if self.is_own(stream) {
             if self.core.outbox.is_open(stream) {
@@ -170,7 +164,6 @@ impl Endpoint {
     }
 
     // What a half's check says, and then whether the connection has the credit.
-    #[inline]
     fn credit_fault(&self, check: Result<Highest, RecvFault>) -> Option<u64> {
         match check {
             Err(fault) => Some(code_of(fault)),
@@ -186,7 +179,6 @@ impl Endpoint {
     }
 
     // How many streams of its type the peer may open (RFC 9000, section 4.6).
-    #[inline]
     fn grant(&self, stream: StreamId) -> u64 {
         if is_uni(stream) {
             self.core.limits.granted_streams.uni
@@ -197,7 +189,6 @@ impl Endpoint {
 }
 
 // Whether the highest offset rises.
-#[inline]
 fn is_rise(check: Result<Highest, RecvFault>) -> bool {
     match check {
         Ok(highest) => highest.before < highest.after,
@@ -206,7 +197,6 @@ fn is_rise(check: Result<Highest, RecvFault>) -> bool {
 }
 
 // The code of a half's fault.
-#[inline]
 fn code_of(fault: RecvFault) -> u64 {
     match fault {
         RecvFault::FinalSize => FINAL_SIZE_ERROR,

@@ -18,7 +18,6 @@ impl Endpoint {
     }
 
     // The next one of a direction.
-    #[inline]
     fn next_opened_of(&self, dir: Dir, heard: u64) -> Option<StreamId> {
         let stream_type = self.peer_type(dir);
         if heard >= self.opened_count(stream_type) as u64 {
@@ -57,7 +56,6 @@ impl Endpoint {
     }
 
     // Whether all streams together keep so much that none of them takes a byte.
-    #[inline]
     fn is_window_full(&self) -> bool {
         match self.window_left() {
             Some(left) => left == 0,

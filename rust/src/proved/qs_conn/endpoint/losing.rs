@@ -22,7 +22,6 @@ impl Endpoint {
     }
 
     // Why the packet can't be lost.
-    #[inline]
     fn lose_refusal(&self, number: u64) -> Option<LostFault> {
         if self.closed.is_some() {
             return Some(LostFault::Closed);

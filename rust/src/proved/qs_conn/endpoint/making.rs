@@ -88,7 +88,6 @@ impl Endpoint {
     }
 
     // What a call answers that found no memory for a packet: where nothing may go, it needs none.
-    #[inline]
     fn without_memory(&self) -> Result<Option<Made>, MakeFault> {
         if self.may_make() {
             return Err(MakeFault::NoMemory);
@@ -97,7 +96,6 @@ impl Endpoint {
     }
 
     // Whether something is due that no limit holds back.
-    #[inline]
     fn may_make(&self) -> bool {
         if self.ack_due {
             return true;

@@ -56,7 +56,6 @@ impl Endpoint {
         }
     }
 
-    #[inline]
     fn accept_bidi(&mut self) -> Option<StreamId> {
         let bidi = self.peer_type(Dir::Bidi);
         if self.accepted.bidi < self.opened_count(bidi) as u64 {
@@ -68,7 +67,6 @@ impl Endpoint {
         None
     }
 
-    #[inline]
     fn accept_uni(&mut self) -> Option<StreamId> {
         let uni = self.peer_type(Dir::Uni);
         if self.accepted.uni < self.opened_count(uni) as u64 {
@@ -90,7 +88,6 @@ impl Endpoint {
     }
 
     // Whether no frame opens the stream: it is this end's own, or open with the halves that it has here.
-    #[inline]
     fn is_open_here(&self, stream: StreamId) -> bool {
         if self.is_own(stream) {
             return true;
@@ -103,14 +100,12 @@ impl Endpoint {
 
     // Opens a stream and all lower ones of its type, or changes nothing. The memory of halves is taken first: their marks are a few bits
     // more.
-    #[inline]
     fn open_stream(&mut self, stream: StreamId) -> Result<(), NoMemory> {
         self.reserve(stream)?;
         self.open_reserved(stream)
     }
 
     // The same, where memory was taken. No clause tells that, so a refusal is undone.
-    #[inline]
     fn open_reserved(&mut self, stream: StreamId) -> Result<(), NoMemory> {
         let (uni, own) = (is_uni(stream), self.is_own(stream));
         let limit = self.first_send_limit(stream);
@@ -144,7 +139,6 @@ impl Endpoint {
     }
 
     // Takes the memory that the halves want, so that a refusal of theirs comes before anything changes.
-    #[inline]
     fn reserve(&mut self, stream: StreamId) -> Result<(), NoMemory> {
         let (uni, own) = (is_uni(stream), self.is_own(stream));
         let (sends, receives) = (!both(uni, !own), !both(uni, own));
@@ -158,7 +152,6 @@ impl Endpoint {
     }
 
     // That another stream was wanted is noted.
-    #[inline]
     fn want(&mut self, dir: Dir, count: u64) {
         self.core.limits.wanted_streams.set(dir, Some(count));
     }
@@ -198,7 +191,6 @@ impl Endpoint {
     }
 }
 
-#[inline]
 fn open_sends(
     outbox: &mut Outbox,
     absent: bool,
@@ -213,7 +205,6 @@ fn open_sends(
     outbox.open_to(limit, buffer, stream)
 }
 
-#[inline]
 fn open_recvs(
     recvs: &mut RecvTables,
     absent: bool,
@@ -230,7 +221,6 @@ fn open_recvs(
 }
 
 // Takes the memory for those halves of a stream that it has, and opens none.
-#[inline]
 fn reserve_halves(
     outbox: &mut Outbox,
     recvs: &mut RecvTables,
@@ -247,7 +237,6 @@ fn reserve_halves(
     Ok(())
 }
 
-#[inline]
 fn both(a: bool, b: bool) -> bool {
     a && b
 }

@@ -39,7 +39,6 @@ impl Endpoint {
     }
 
     // As many of the bytes as credit lets go, and as the window over all streams leaves.
-    #[inline]
     fn offered<'a>(&self, stream: StreamId, bytes: &'a [u8]) -> &'a [u8] {
         let bytes = self.let_go(stream, bytes);
         match self.window_left() {
@@ -49,7 +48,6 @@ impl Endpoint {
     }
 
     // As many of the bytes as credit lets go, where writes keep within it.
-    #[inline]
     fn let_go<'a>(&self, stream: StreamId, bytes: &'a [u8]) -> &'a [u8] {
         if !self.core.limits.tuning.within_credit {
             return bytes;
@@ -140,7 +138,6 @@ impl Endpoint {
     }
 
     // Takes the bytes that are next at an open stream, and moves no limit yet.
-    #[inline]
     fn skip(&mut self, stream: StreamId, most: usize) -> Read {
         let was = self.core.is_over(stream);
         let answer = self.core.recvs.skip(stream, most);
@@ -214,7 +211,6 @@ impl Endpoint {
     }
 
     // Why the stream can't be sent on.
-    #[inline]
     fn no_sender(&self, stream: StreamId) -> Option<UseFault> {
         if self.closed.is_some() {
             Some(UseFault::Closed)
@@ -232,13 +228,11 @@ impl Endpoint {
     }
 
     // Why the stream can't be stopped.
-    #[inline]
     fn no_receiver(&self, stream: StreamId) -> Option<UseFault> {
         self.no_receiver_where(self.closed.is_some(), stream)
     }
 
     // Why a call on a receiving half is refused, where the end is shut for it or not.
-    #[inline]
     fn no_receiver_where(&self, is_shut: bool, stream: StreamId) -> Option<UseFault> {
         if is_shut {
             Some(UseFault::Closed)
@@ -256,12 +250,10 @@ impl Endpoint {
     }
 }
 
-#[inline]
 fn is_end(read: Read) -> bool {
     matches!(read, Read::End)
 }
 
-#[inline]
 fn no_half(other: bool) -> UseFault {
     if other {
         UseFault::WrongDirection
@@ -270,7 +262,6 @@ fn no_half(other: bool) -> UseFault {
     }
 }
 
-#[inline]
 fn use_fault(fault: SendFault) -> UseFault {
     match fault {
         SendFault::Finished => UseFault::Finished,
@@ -280,7 +271,6 @@ fn use_fault(fault: SendFault) -> UseFault {
 }
 
 // As many of the bytes.
-#[inline]
 fn front(bytes: &[u8], most: u64) -> &[u8] {
     if most < bytes.len() as u64 {
         &bytes[..most as usize]

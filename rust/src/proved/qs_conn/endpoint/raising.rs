@@ -27,7 +27,6 @@ impl Endpoint {
     }
 
     // Why limits are refused.
-    #[inline]
     fn raise_refusal(&self, limits: &PeerLimits) -> Option<RaiseFault> {
         if self.closed.is_some() {
             return Some(RaiseFault::Closed);
@@ -39,7 +38,6 @@ impl Endpoint {
     }
 
     // The first limits and the counts are known, and the connection's limit; open streams aren't looked at.
-    #[inline]
     fn know_limits(&mut self, limits: &PeerLimits) {
         self.peer = greater_limits(&self.peer, limits);
         self.core.limits.known_data = self.core.limits.known_data.max(limits.max_data);
@@ -58,7 +56,6 @@ impl Endpoint {
     }
 
     // Each open half of a type may send what one may that opens now.
-    #[inline]
     fn allow_type(&mut self, stream_type: usize) {
         debug_assert!(stream_type < 4);
         let limit = self.first_send_limit(StreamId::new(stream_type as u64).unwrap());
@@ -69,7 +66,6 @@ impl Endpoint {
     }
 
     // An open half may send the offsets below a limit.
-    #[inline]
     fn allow_to(&mut self, stream: StreamId, limit: u64) {
         debug_assert!(limit <= 0x3fff_ffff_ffff_ffff);
         self.core.allow(stream, limit);
@@ -77,7 +73,6 @@ impl Endpoint {
 }
 
 // Of two limits each the greater one.
-#[inline]
 fn greater_limits(a: &PeerLimits, b: &PeerLimits) -> PeerLimits {
     PeerLimits {
         max_data: a.max_data.max(b.max_data),

@@ -69,7 +69,6 @@ impl Endpoint {
     }
 
     // The frames of a payload take effect, one after the other, as far as they may.
-    #[inline]
     fn take_payload<T: Told>(
         &mut self,
         number: u64,
@@ -92,7 +91,6 @@ impl Endpoint {
     }
 
     // One frame takes effect, or the processing ends with it.
-    #[inline]
     fn take_placed<T: Told>(&mut self, placed: &Placed<'_>, told: &mut T) -> Progress {
         let seen = seen(&placed.frame);
         if let SeenFrame::Close(code) = seen {
@@ -119,7 +117,6 @@ impl Endpoint {
     }
 
     // This end closes for a frame that has a fault.
-    #[inline]
     fn close_at(&mut self, placed: &Placed<'_>, code: u64) -> Closing {
         debug_assert!(code < 1 << 62);
         let closing = Closing {
@@ -132,7 +129,6 @@ impl Endpoint {
     }
 
     // This end closes for bytes that are no frame.
-    #[inline]
     fn close_by(&mut self, fault: WireFault) -> Closing {
         let closing = Closing {
             code: fault.code,
@@ -145,7 +141,6 @@ impl Endpoint {
 }
 
 // What an end that was told of a close says again.
-#[inline]
 fn told_receive(close: ToldClose) -> Result<Received, Closing> {
     match close.by {
         Closer::Us => Err(told_of_us(close.code)),

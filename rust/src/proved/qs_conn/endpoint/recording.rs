@@ -20,7 +20,6 @@ impl Endpoint {
 }
 
 // Where too many ranges are kept, the lowest one leaves. Answers the number below which none is told apart.
-#[inline]
 fn trim(done: &mut RangeSet, floor: u64) -> u64 {
     if done.count() <= MAX_RUNS {
         return floor;
@@ -31,12 +30,10 @@ fn trim(done: &mut RangeSet, floor: u64) -> u64 {
 }
 
 // One more than the largest number of the lowest range.
-#[inline]
 fn lowest_end(done: &RangeSet) -> u64 {
     done.first_missing(lowest(done))
 }
 
-#[inline]
 fn lowest(done: &RangeSet) -> u64 {
     match done.first() {
         Some(number) => number,

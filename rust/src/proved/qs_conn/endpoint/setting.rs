@@ -92,7 +92,6 @@ impl Endpoint {
     }
 
     // The window is in force.
-    #[inline]
     fn force_window(&mut self, window: u64) {
         let taken = self.core.recvs.tally().taken;
         self.core.limits.set_conn_window(window, taken);
@@ -100,7 +99,6 @@ impl Endpoint {
     }
 
     // The grant is in force.
-    #[inline]
     fn force_grant(&mut self, dir: Dir, streams: u64) {
         let ended = self.core.ended.of(dir);
         self.core.limits.set_grant(dir, streams, ended);
@@ -114,7 +112,6 @@ const MAX_STREAM_WINDOW: u64 = 1 << 30;
 
 const MAX_GRANT: u64 = 1 << 17;
 
-#[inline]
 fn no_half_to_set(other: bool) -> SetFault {
     if other {
         SetFault::WrongDirection

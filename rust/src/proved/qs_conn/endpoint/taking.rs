@@ -52,7 +52,6 @@ impl Endpoint {
     }
 
     // The packets that an ACK names are acknowledged, also those that were declared lost (RFC 9000, sections 13.2.1 and 13.3).
-    #[inline]
     fn on_ack<T: Told>(&mut self, largest: u64, ranges: &[u8], told: &mut T) -> Result<(), NoMemory> {
         debug_assert!(largest < 1 << 62);
         let before = self.core.ended;
@@ -62,14 +61,12 @@ impl Endpoint {
     }
 
     // The peer allows so many bytes on all streams.
-    #[inline]
     fn on_max_data(&mut self, maximum: u64) {
         debug_assert!(maximum <= 0x3fff_ffff_ffff_ffff);
         self.core.limits.known_data = self.core.limits.known_data.max(maximum);
     }
 
     // The peer allows so many streams of a direction.
-    #[inline]
     fn on_max_streams(&mut self, dir: Dir, count: u64) {
         debug_assert!(count <= 1 << 60);
         let known = &mut self.core.limits.known_streams;
@@ -77,7 +74,6 @@ impl Endpoint {
     }
 
     // The peer allows the offsets of a stream below a limit.
-    #[inline]
     fn on_max_stream_data(&mut self, stream: StreamId, maximum: u64) -> Result<(), NoMemory> {
         debug_assert!(maximum <= 0x3fff_ffff_ffff_ffff);
         self.open_by_peer(stream)?;
@@ -86,7 +82,6 @@ impl Endpoint {
     }
 
     // The peer reads a stream no more: that breaks it off, or its owner answers it.
-    #[inline]
     fn on_stop_sending(&mut self, stream: StreamId, code: u64) -> Result<(), NoMemory> {
         debug_assert!(code <= 0x3fff_ffff_ffff_ffff);
         self.open_by_peer(stream)?;
@@ -97,7 +92,6 @@ impl Endpoint {
     }
 
     // The peer broke a stream off.
-    #[inline]
     fn on_reset_stream(&mut self, stream: StreamId, code: u64, size: u64) -> Result<(), NoMemory> {
         debug_assert!(size <= 0x3fff_ffff_ffff_ffff);
         let _granted = self.core.limits.granted;
@@ -111,7 +105,6 @@ impl Endpoint {
     }
 
     // Bytes of a stream came. Mostly they move nothing but what came of it.
-    #[inline]
     fn on_stream(
         &mut self,
         stream: Place,
@@ -127,7 +120,6 @@ impl Endpoint {
     }
 
     // Whether a stream is open, and no end, reset or stop was told of it: a frame moves no limit then, and no count of streams.
-    #[inline]
     fn is_plain(&self, stream: Place) -> bool {
         let Some(half) = self.core.recvs.half(stream) else {
             return false;
@@ -148,7 +140,6 @@ impl Endpoint {
     }
 
     // Bytes of a stream came, which they may open.
-    #[inline]
     fn on_any_stream(
         &mut self,
         stream: StreamId,

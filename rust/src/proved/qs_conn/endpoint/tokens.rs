@@ -54,7 +54,6 @@ impl Endpoint {
     }
 
     // The packets from one number on and below another are lost, from the highest number down.
-    #[inline]
     fn lose_each(&mut self, first: u64, end: u64) -> Result<(), TokenFault> {
         let mut number = end;
         while number > first {
@@ -65,7 +64,6 @@ impl Endpoint {
     }
 
     // A packet is lost, or nothing changes where it is done.
-    #[inline]
     fn lose_one(&mut self, number: u64) -> Result<(), TokenFault> {
         match self.declare_lost(number) {
             Ok(()) => Ok(()),
@@ -76,7 +74,6 @@ impl Endpoint {
     }
 
     // Why nothing is told of a token.
-    #[inline]
     fn token_refusal(&self, token: Token) -> Option<TokenFault> {
         if self.closed.is_some() {
             return Some(TokenFault::Closed);
@@ -88,7 +85,6 @@ impl Endpoint {
     }
 
     // Whether this end made the packets of a token.
-    #[inline]
     fn gave(&self, token: Token) -> bool {
         let limits = &self.core.limits;
         token.epoch == limits.tuning.epoch
@@ -97,7 +93,6 @@ impl Endpoint {
     }
 
     // The packets of a token are acknowledged, as by an ACK of them alone.
-    #[inline]
     fn ack_only(&mut self, token: Token) -> Result<(), NoMemory> {
         let before = self.core.ended;
         let taken = self.core.ack_range(token.first, token.number + 1);

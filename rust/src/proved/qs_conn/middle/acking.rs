@@ -35,7 +35,6 @@ impl Core {
     }
 
     // The packets of these numbers are acknowledged, those that are outstanding and those that were declared lost.
-    #[inline]
     fn ack_both(&mut self, first: u64, end: u64) -> Result<(), NoMemory> {
         self.ack_numbers(false, first, end)?;
         if !self.outbox.keeps_lost() {
@@ -45,7 +44,6 @@ impl Core {
     }
 
     // The packets of these numbers are acknowledged, the outstanding ones or the lost ones.
-    #[inline]
     fn ack_numbers(&mut self, late: bool, first: u64, end: u64) -> Result<(), NoMemory> {
         let mut number = end;
         while number > first {
@@ -56,7 +54,6 @@ impl Core {
     }
 
     // The packets that the ranges name are acknowledged in one pass, the outstanding ones or the lost ones.
-    #[inline]
     fn ack_all<T: Told>(
         &mut self,
         late: bool,
@@ -70,7 +67,6 @@ impl Core {
     }
 
     // The packets that a pass has ahead are acknowledged.
-    #[inline]
     fn ack_ahead<T: Told>(
         &mut self,
         late: bool,
@@ -116,7 +112,6 @@ impl Core {
     }
 
     // A piece left its packet, if that was outstanding.
-    #[inline]
     fn drop_unless(&mut self, packet: KeptPacket, piece: Piece) {
         if !packet.late {
             self.drop_carried(&piece);
@@ -125,7 +120,6 @@ impl Core {
 }
 
 // The stream whose sending half changes as a piece is acknowledged.
-#[inline]
 fn half_of(piece: &Piece) -> Option<StreamId> {
     match *piece {
         Piece::Data { stream, .. } => Some(stream),

@@ -22,7 +22,6 @@ impl Core {
     }
 
     // The same of a stream's item: a mark tells whether it is outstanding.
-    #[inline]
     fn has_told(&self, kind: Kind, stream: StreamId, item: &Item) -> bool {
         if self.carried.has(kind, stream) {
             return true;
@@ -58,7 +57,6 @@ impl Core {
         self.outbox.allow(stream, limit);
     }
 
-    #[inline]
     fn drop_block(&mut self, stream: StreamId, limit: u64) {
         if self.outbox.limit_rises(stream, limit) {
             self.carried.blocks.set(stream, false);
@@ -77,7 +75,6 @@ impl Core {
     }
 
     // The limit of a half was this one.
-    #[inline]
     fn drop_limit(&mut self, stream: StreamId, was: Option<u64>) {
         let is = self.recvs.limit_of(stream);
         if !is_same(was, is) {
@@ -86,7 +83,6 @@ impl Core {
     }
 
     // Whether an item has the present value of its half. A stop and a reset keep their value.
-    #[inline]
     fn is_present(&self, item: &Item) -> bool {
         match *item {
             Item::MaxStreamData { stream, maximum } => {
@@ -101,7 +97,6 @@ impl Core {
 }
 
 // Whether two limits are there, and are one.
-#[inline]
 fn is_same(a: Option<u64>, b: Option<u64>) -> bool {
     match (a, b) {
         (Some(x), Some(y)) => x == y,

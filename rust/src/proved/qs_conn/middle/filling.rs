@@ -35,7 +35,6 @@ impl Core {
     }
 
     // Whether nothing of a stream is due. It looks at how many marks there are, and at no half.
-    #[inline]
     fn is_still(&self) -> bool {
         if self.outbox.may_have(Task::Bytes) {
             return false;
@@ -47,7 +46,6 @@ impl Core {
     }
 
     // Puts the control items into the packet that are due, if they are asked for.
-    #[inline]
     fn put_items(&mut self, wish: &Wish, out: &mut [u8], packet: Packet) -> Packet {
         if !wish.want.items {
             return packet;
@@ -122,7 +120,6 @@ impl Core {
     }
 
     // Puts the item of a slot into the packet, if it is due.
-    #[inline]
     fn put_slot(&mut self, slot: Slot, out: &mut [u8], packet: Packet) -> Packet {
         if packet.is_full {
             return packet;
@@ -140,7 +137,6 @@ impl Core {
 
     // Puts the bytes of the streams into the packet that are asked for: of one alone, or of those from it on before the others and lower
     // numbers first, as far as the limits and the room allow.
-    #[inline]
     fn put_streams(&mut self, wish: &Wish, out: &mut [u8], packet: Packet) -> Course {
         let packet = Course {
             len: packet.len,
@@ -162,7 +158,6 @@ impl Core {
     }
 
     // Puts the bytes of the streams of a way into the packet, lower numbers first, as far as the limits and the room allow.
-    #[inline]
     fn put_way(&mut self, first: StreamId, around: bool, out: &mut [u8], packet: Course) -> Course {
         if packet.is_full {
             return packet;
@@ -203,7 +198,6 @@ impl Core {
     }
 
     // Puts chunks of a stream into the packet, one for each run of due offsets, as far as the limits, the room and the cap allow.
-    #[inline]
     fn put_chunks(&mut self, stream: StreamId, out: &mut [u8], packet: Course) -> Course {
         if packet.is_full {
             return packet;

@@ -15,7 +15,6 @@ impl Core {
     }
 
     // The pieces of a packet are lost, from the first on.
-    #[inline]
     fn lose_pieces(&mut self, number: u64) -> Result<(), NoMemory> {
         while let Some(piece) = self.outbox.first(number) {
             look_again(&mut self.untold_recvs, &mut self.untold_sends, &piece);

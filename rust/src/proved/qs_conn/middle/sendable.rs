@@ -31,7 +31,6 @@ impl Core {
     }
 
     // A control item is due, and items are asked for.
-    #[inline]
     fn has_wanted_item(&self, want: &Fill) -> bool {
         if want.items {
             return self.has_item();
@@ -40,7 +39,6 @@ impl Core {
     }
 
     // Bytes of a stream that is asked for may go, or its end.
-    #[inline]
     fn has_wanted_stream(&self, want: &Fill, last: Option<StreamId>) -> bool {
         if !want.streams {
             return false;
@@ -57,7 +55,6 @@ impl Core {
     }
 
     // A control item is due.
-    #[inline]
     fn has_item(&self) -> bool {
         let found = self.has_own_slot(Slot::MaxData, false);
         let found = self.has_own_slot(Slot::MaxStreams(Dir::Bidi), found);
@@ -108,7 +105,6 @@ impl Core {
     }
 
     // The item of a slot is due, or one was found before.
-    #[inline]
     fn has_slot(&self, slot: Slot, is_found: bool) -> bool {
         if is_found {
             return true;
@@ -120,7 +116,6 @@ impl Core {
     }
 
     // Bytes of some stream may go, or its end.
-    #[inline]
     fn has_stream(&self) -> bool {
         let mut from = 0;
         while let Some(stream) = self.next_going(from) {
@@ -133,7 +128,6 @@ impl Core {
     }
 
     // Bytes of a stream may go, or its end.
-    #[inline]
     fn has_bytes(&self, stream: StreamId) -> bool {
         // With room for any frame's head and one byte, only limits hold a chunk back.
         const ENOUGH: usize = 25;

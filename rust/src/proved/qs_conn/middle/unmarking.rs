@@ -16,7 +16,6 @@ impl Core {
         }
     }
 
-    #[inline]
     fn unmark_recv(&mut self, stream: StreamId) {
         if !self.is_idle(Slot::StopSending(stream)) {
             return;
@@ -27,7 +26,6 @@ impl Core {
         self.untold_recvs.set(stream, false);
     }
 
-    #[inline]
     fn unmark_send(&mut self, stream: StreamId) {
         if !self.is_idle(Slot::ResetStream(stream)) {
             return;
@@ -39,7 +37,6 @@ impl Core {
     }
 
     // Whether what is current of a slot was told.
-    #[inline]
     fn is_idle(&self, slot: Slot) -> bool {
         let Some(item) = self.limits.current(&self.outbox, &self.recvs, slot) else {
             return true;

@@ -88,7 +88,6 @@ impl Outbox {
     }
 
     // The first piece of a lost packet is acknowledged, or nothing changes.
-    #[inline]
     fn ack_lost(&mut self, number: u64, piece: Piece) -> Result<(), NoMemory> {
         let _next = self.next;
         piece_acked(&mut self.types, &mut self.told, &piece)?;
@@ -111,7 +110,6 @@ impl Outbox {
 
 // The least number from one on that is held: steps that double lead past those that aren't, and halves back to the least. Each look is
 // a search downwards, at one word for 4,096 numbers of which none is held.
-#[inline]
 fn next_held(records: &Records, from: u64) -> Option<u64> {
     let mut top = records.greatest()?;
     let mut low = from.max(records.base());
@@ -136,7 +134,6 @@ fn next_held(records: &Records, from: u64) -> Option<u64> {
 }
 
 // The greatest number from `low` on and below `end` that is held.
-#[inline]
 fn last_held(records: &Records, low: u64, end: u64) -> Option<u64> {
     let number = records.below(end)?;
     if number < low {
@@ -146,7 +143,6 @@ fn last_held(records: &Records, low: u64, end: u64) -> Option<u64> {
 }
 
 // A chunk, or an item, is acknowledged; or nothing changes.
-#[inline]
 fn piece_acked(
     types: &mut [SendLanes; 4],
     told: &mut ToldItems,
@@ -159,14 +155,12 @@ fn piece_acked(
 }
 
 // Takes in that a chunk is acknowledged, or changes nothing.
-#[inline]
 fn chunk_acked(types: &mut [SendLanes; 4], stream: StreamId, chunk: Chunk) -> Result<(), NoMemory> {
     let lanes = &mut types[type_of(stream)];
     lanes.acked(index_of(stream), chunk)
 }
 
 // An item is acknowledged, or nothing changes. A RESET_STREAM is marked in its half, once.
-#[inline]
 fn item_acked(types: &mut [SendLanes; 4], told: &mut ToldItems, item: Item) -> Result<(), NoMemory> {
     if let Item::ResetStream { stream, .. } = item {
         reset_acked(types, stream);
@@ -176,7 +170,6 @@ fn item_acked(types: &mut [SendLanes; 4], told: &mut ToldItems, item: Item) -> R
 }
 
 // The RESET_STREAM of a half is acknowledged, once more or for the first time.
-#[inline]
 fn reset_acked(types: &mut [SendLanes; 4], stream: StreamId) {
     if matches!(half_of(types, stream).state(), SendState::ResetSent) {
         let lanes = &mut types[type_of(stream)];
@@ -185,7 +178,6 @@ fn reset_acked(types: &mut [SendLanes; 4], stream: StreamId) {
 }
 
 // A chunk is due again, or nothing changes. An item is due by itself.
-#[inline]
 fn piece_lost(types: &mut [SendLanes; 4], piece: &Piece) -> Result<(), NoMemory> {
     match *piece {
         Piece::Data { stream, chunk } => chunk_lost(types, stream, chunk),
@@ -194,7 +186,6 @@ fn piece_lost(types: &mut [SendLanes; 4], piece: &Piece) -> Result<(), NoMemory>
 }
 
 // Takes in that a chunk is lost, or changes nothing.
-#[inline]
 fn chunk_lost(types: &mut [SendLanes; 4], stream: StreamId, chunk: Chunk) -> Result<(), NoMemory> {
     let lanes = &mut types[type_of(stream)];
     lanes.lost(index_of(stream), chunk)

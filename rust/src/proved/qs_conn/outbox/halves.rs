@@ -76,7 +76,6 @@ pub(super) fn next_with(types: &[SendLanes; 4], task: Task, from: u64) -> Option
 }
 
 // The least such number among the streams of a type.
-#[inline]
 fn next_with_of(types: &[SendLanes; 4], task: Task, stream_type: usize, from: u64) -> Option<u64> {
     debug_assert!(stream_type < 4);
     debug_assert!(from <= 1 << 62);

@@ -100,14 +100,12 @@ impl Outbox {
 }
 
 // That a STREAM_DATA_BLOCKED was sent is marked in its half.
-#[inline]
 fn note_told(types: &mut [SendLanes; 4], item: &Item) {
     if let Item::StreamDataBlocked { stream, .. } = *item {
         note_blocked(types, stream);
     }
 }
 
-#[inline]
 fn note_blocked(types: &mut [SendLanes; 4], stream: StreamId) {
     if is_open(types, stream) {
         let lanes = &mut types[type_of(stream)];
@@ -128,7 +126,6 @@ fn put_pieces(records: &mut Records, number: u64, pending: &mut Vec<Piece>, room
 }
 
 // The stream of the last chunk among the pieces: mostly the last piece, as the items go in first.
-#[inline]
 fn last_data(pieces: &[Piece]) -> Option<StreamId> {
     if let Some(Piece::Data { stream, .. }) = pieces.last() {
         return Some(*stream);

@@ -225,13 +225,11 @@ impl Outbox {
     }
 }
 
-#[inline]
 fn either(a: bool, b: bool) -> bool {
     a || b
 }
 
 // A reset, where it has a code.
-#[inline]
 fn reset_by(code: Option<u64>, size: Option<u64>) -> Option<Reset> {
     match (code, size) {
         (Some(code), Some(size)) => Some(Reset { code, size }),
@@ -241,7 +239,6 @@ fn reset_by(code: Option<u64>, size: Option<u64>) -> Option<Reset> {
 }
 
 // Whether a STOP_SENDING would change a half.
-#[inline]
 fn changed_by_stop(half: &SendView<'_>, owner_answers: bool) -> bool {
     if owner_answers {
         half.told_changes()

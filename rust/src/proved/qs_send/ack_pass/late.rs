@@ -29,7 +29,6 @@ impl<'a> AckPass<'a> {
     }
 
     // The greatest lost number of the range that was read last, below the one given last. Another record is looked at in one turn.
-    #[inline]
     fn lost_in_range(
         &mut self,
         records: &LostRecords,
@@ -50,7 +49,6 @@ impl<'a> AckPass<'a> {
 
     // The greatest lost number below the one given last: the one that was looked at last, where it lies below, else another one, in one
     // turn.
-    #[inline]
     fn look(&mut self, records: &LostRecords, seen: u64, near: &mut usize) -> Option<u64> {
         if seen < self.below {
             return Some(seen);

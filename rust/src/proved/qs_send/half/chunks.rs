@@ -100,7 +100,6 @@ impl SendHalf {
     }
 
     // A frame without bytes, where no byte is due.
-    #[inline]
     fn end_chunk(&self, room: usize) -> Option<Chunk> {
         if !self.end_due() {
             return None;
@@ -117,7 +116,6 @@ impl SendHalf {
     }
 
     // The length of a frame's type, stream and offset.
-    #[inline]
     fn head_len(&self, offset: u64) -> usize {
         debug_assert!(offset <= 0x3fff_ffff_ffff_ffff);
         let id_len = varint_len(self.id.value());
