@@ -94,7 +94,6 @@ impl Kept {
 
     // Moves the bytes to the front of a ring with so many places, and puts those behind them that come. Unchanged where memory is
     // refused.
-    #[inline]
     fn move_to(&mut self, size: usize, bytes: &[u8]) -> Result<(), NoMemory> {
         debug_assert!(0 < bytes.len());
         let (front, back) = pieces(&self.ring, self.start, self.count);
@@ -106,7 +105,6 @@ impl Kept {
     }
 
     // Keeps nothing, and takes no memory.
-    #[inline]
     fn give_back(&mut self) {
         self.ring = Vec::new(self.alloc);
         self.start = 0;
@@ -115,13 +113,11 @@ impl Kept {
 }
 
 // Where in a ring of so many places the byte stands that is so many places past the front.
-#[inline]
 fn place(size: usize, at: usize) -> usize {
     if at < size { at } else { at - size }
 }
 
 // So many bytes of a ring, in two pieces where they go around its end.
-#[inline]
 fn pieces(ring: &[u8], start: usize, count: usize) -> (&[u8], &[u8]) {
     debug_assert!(start <= ring.len());
     debug_assert!(count <= ring.len());
@@ -134,7 +130,6 @@ fn pieces(ring: &[u8], start: usize, count: usize) -> (&[u8], &[u8]) {
 }
 
 // Puts bytes behind the first `count` of a ring, which goes on where it stands, to so many places. Unchanged where memory is refused.
-#[inline]
 fn grow(ring: &mut Vec<u8>, count: usize, bytes: &[u8], size: usize) -> Result<(), NoMemory> {
     let room = reserve(ring, size)?;
     ring.truncate(count);
@@ -144,7 +139,6 @@ fn grow(ring: &mut Vec<u8>, count: usize, bytes: &[u8], size: usize) -> Result<(
 }
 
 // Writes bytes behind those that stand in a ring, in two pieces where they go around its end.
-#[inline]
 fn write_behind(ring: &mut [u8], start: usize, count: usize, bytes: &[u8]) {
     debug_assert!(start <= ring.len());
     let at = place(ring.len(), start + count);
@@ -159,13 +153,11 @@ fn write_behind(ring: &mut [u8], start: usize, count: usize, bytes: &[u8]) {
 }
 
 // Writes bytes from a place on.
-#[inline]
 fn write_at(into: &mut [u8], at: usize, bytes: &[u8]) {
     into[at..at + bytes.len()].copy_from_slice(bytes);
 }
 
 // The bytes one behind the other, at the front of a ring of so many places.
-#[inline]
 fn joined(
     alloc: Global,
     front: &[u8],
