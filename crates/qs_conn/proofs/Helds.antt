@@ -1,9 +1,11 @@
 -- What the rings and the buffers of an end take, all together.
-use Rattle.std.proofs.Common.{◌≡◌, ℕ, ◌+◌, ◌-◌, ◌*◌, ◌^◌, ◌≤◌, ◌==◌, Bool, true, false, not, cond, min, max, List, [], ◌∷◌, map, Option, None, Some, refl, arith}
+use Rattle.std.proofs.Common.{◌≡◌, ℕ, ◌+◌, ◌-◌, ◌*◌, ◌^◌, ◌<◌, ◌≤◌, ◌==◌, Bool, true, false, not, cond, min, max, List, [], ◌∷◌, map, Option, None, Some, refl, arith}
 use Rattle.std.specs.List.{sum_by}
 use Rattle.std.proofs.lemmas.List.Sums.{sum_by-cons}
 use Rattle.qs_wire.specs.declared.stream_id.Role.{Role}
 use Rattle.qs_recv.specs.Lane.{RecvLane, highest, taken}
+use Rattle.qs_recv.specs.Room.{least_room}
+use Rattle.std.proofs.lemmas.Bool.{eqb-false}
 use Rattle.qs_recv.proofs.LawfulLaws.{taken_within}
 use Rattle.qs_send.specs.Lane.{SendLane, Sending}
 use Rattle.qs_calls.specs.declared.settings.Settings.{Settings}
@@ -16,7 +18,7 @@ use Rattle.qs_machine.specs.Standing.{HasLawfulLane, IsInCredit}
 use Rattle.qs_machine.specs.Sums.{stored_on}
 use Rattle.qs_machine.proofs.TableLaws.{value, total_le, total_both}
 use Rattle.qs_conn.specs.declared.held.Held.{Held}
-use Rattle.qs_conn.specs.Held.{keeps, most_held, most_buffered, half_count, IsHeldBy}
+use Rattle.qs_conn.specs.Held.{keeps, least_held, most_held, most_buffered, half_count, IsHeldBy}
 
 module _ {X : Type 0} (f : X → ℕ) where
   -- a page for each that counts
@@ -55,12 +57,21 @@ most_of_all e h =
       total_pages (λ l. cond (keeps l) 1 0) e.recvs,
     )
 
-pub is_held : (e : End) (held : Held) → IsInCredit e → total stored_on e.recvs ≤ held.receiving → held.receiving ≤ total most_held e.recvs
+-- what a half tells is no less than its ring takes
+pub half_least : (lane : RecvLane) (n : ℕ) → (0 < stored_on lane → least_room lane.arrived ≤ n) → least_held lane ≤ n
+half_least lane n least = go (stored_on lane == 0) refl
+  where
+    go : (b : Bool) → (stored_on lane == 0) ≡ b → cond b 0 (least_room lane.arrived) ≤ n
+    go true is = omega arith
+    go false is = (let some = eqb-false (stored_on lane) 0 is in least (omega (arith, some)))
+
+pub is_held : (e : End) (held : Held) → IsInCredit e → total stored_on e.recvs ≤ held.receiving → min (total least_held e.recvs) (2 ^ 64 - 1) ≤ held.receiving → held.receiving ≤ total most_held e.recvs
     → min (total kept_on e.sends) (2 ^ 64 - 1) ≤ held.sending → held.sending ≤ total most_buffered e.sends → IsHeldBy e held
-is_held e held h stored most kept buffers =
+is_held e held h stored least most kept buffers =
     let all = most_of_all e h in
     record {
       stored = stored;
+      least = least;
       rings = most;
       spent = omega (arith, most, all);
       window = omega (arith, most, all, h.spent, h.in_window);

@@ -1,39 +1,40 @@
 -- What it is to a table of marks that one of them is set or taken away.
-use Rattle.std.proofs.Common.{◌≡◌, ℕ, ◌+◌, ◌-◌, ◌/◌, ◌%◌, ◌<◌, ◌≤◌, ◌==◌, ◌&&◌, ◌||◌, not, Bool, true, false, List, ◌++◌, replicate, length, get_or, unwrap_or, refl, sym, ap, ◌∙◌, arith, inl, inr}
+use Rattle.std.proofs.Common.{◌≡◌, ℕ, ◌+◌, ◌-◌, ◌/◌, ◌%◌, ◌<◌, ◌≤◌, ◌==◌, ◌&&◌, ◌||◌, not, Bool, true, false, List, ◌++◌, replicate, length, get_or, slice_get, is_some, nat_lt, unwrap_or, refl, sym, ap, ◌∙◌, arith, inl, inr}
 use Rattle.std.proofs.Math.ListN.{set}
+use Rattle.std.proofs.lemmas.Bool.Decides.{nat_tests}
 use Rattle.std.proofs.lemmas.Bool.{cases_eq, eqb-true, eqb-false, eq-eqb}
 use Rattle.std.proofs.lemmas.Grind.{get_or-set_at}
 use Rattle.std.proofs.lemmas.List.{length-append, length-replicate, length-set, get_or_past, get_or-set_other}
 use Rattle.std.proofs.lemmas.Option.{unwrap_or-slice_get}
-use Rattle.qs_machine.specs.Heard.{is_told}
+use Rattle.qs_machine.specs.Heard.{is_told, StayPlaced}
 use Rattle.qs_machine.specs.Sums.{tables_of}
-use Rattle.qs_machine.proofs.TableEdits.{lookup_is}
+use Rattle.qs_machine.proofs.TableEdits.{lookup_is, open_there, some_tested}
 use Rattle.qs_conn.specs.Marks.{is_marked, IsMarkedBeside, IsUnmarkedBeside}
 use Rattle.qs_conn.proofs.Words.{padded}
 
 -- One row
 
 pub marked_beside : (old mid new : List Bool) (n : ℕ) → mid ≡ old ++ replicate (n + 1 - length old) false → new ≡ set mid n true → IsMarkedBeside n old new
-marked_beside old mid new n opened is i = go (i == n) refl
+marked_beside old mid new n opened is = (λ i. go i (i == n) refl, omega (arith, ap length is, length-set mid n true, ap length opened, length-append old (replicate (n + 1 - length old) false)))
   where
-    go : (b : Bool) → (i == n) ≡ b → is_marked new i ≡ (b || is_marked old i)
-    go true e = ap (λ xs. is_marked xs i) is ∙ get_or-set_at mid n i true false (eqb-true i n e) (omega (arith, ap length opened, length-append old (replicate (n + 1 - length old) false), length-replicate (n + 1 - length old) false))
-    go false e = ap (λ xs. is_marked xs i) is ∙ get_or-set_other mid n i true false (eqb-false i n e) ∙ ap (λ xs. is_marked xs i) opened ∙ padded old (n + 1 - length old) i false
+    go : (i : ℕ) (b : Bool) → (i == n) ≡ b → is_marked new i ≡ (b || is_marked old i)
+    go i true e = ap (λ xs. is_marked xs i) is ∙ get_or-set_at mid n i true false (eqb-true i n e) (omega (arith, ap length opened, length-append old (replicate (n + 1 - length old) false), length-replicate (n + 1 - length old) false))
+    go i false e = ap (λ xs. is_marked xs i) is ∙ get_or-set_other mid n i true false (eqb-false i n e) ∙ ap (λ xs. is_marked xs i) opened ∙ padded old (n + 1 - length old) i false
 
 pub unmarked_beside : (old new : List Bool) (n : ℕ) → n < length old → new ≡ set old n false → IsUnmarkedBeside n old new
-unmarked_beside old new n there is i = go (i == n) refl
+unmarked_beside old new n there is = (λ i. go i (i == n) refl, omega (arith, ap length is, length-set old n false))
   where
-    go : (b : Bool) → (i == n) ≡ b → is_marked new i ≡ (not b && is_marked old i)
-    go true e = ap (λ xs. is_marked xs i) is ∙ get_or-set_at old n i false false (eqb-true i n e) there
-    go false e = ap (λ xs. is_marked xs i) is ∙ get_or-set_other old n i false false (eqb-false i n e)
+    go : (i : ℕ) (b : Bool) → (i == n) ≡ b → is_marked new i ≡ (not b && is_marked old i)
+    go i true e = ap (λ xs. is_marked xs i) is ∙ get_or-set_at old n i false false (eqb-true i n e) there
+    go i false e = ap (λ xs. is_marked xs i) is ∙ get_or-set_other old n i false false (eqb-false i n e)
 
 -- an index past the last has no mark
 pub none_unmarked : (old : List Bool) (n : ℕ) → length old ≤ n → IsUnmarkedBeside n old old
-none_unmarked old n past i = go (i == n) refl
+none_unmarked old n past = (λ i. go i (i == n) refl, omega arith)
   where
-    go : (b : Bool) → (i == n) ≡ b → is_marked old i ≡ (not b && is_marked old i)
-    go true e = let at = eqb-true i n e in get_or_past old i false (omega (arith, past, at))
-    go false e = refl
+    go : (i : ℕ) (b : Bool) → (i == n) ≡ b → is_marked old i ≡ (not b && is_marked old i)
+    go i true e = let at = eqb-true i n e in get_or_past old i false (omega (arith, past, at))
+    go i false e = refl
 
 -- Four rows
 
@@ -61,14 +62,14 @@ not_same m n apart = go (m == n) refl
     go true e = absurd (apart (eqb-true m n e))
     go false e = refl
 
-module _ (f : Bool → Bool → Bool) (keeps : (b : Bool) → f false b ≡ b) (ls : List (List Bool)) (n k i : ℕ) (d new : List Bool) (len : length ls ≡ 4) (kind : k ≡ n % 4) (index : i ≡ n / 4) (row : (j : ℕ) → is_marked new j ≡ f (j == i) (is_marked (get_or ls k d) j)) where
-  pub table_changed : (m : ℕ) → is_told (tables_of (set ls k new)) m ≡ f (m == n) (is_told (tables_of ls) m)
-  table_changed m =
+module _ (f : Bool → Bool → Bool) (keeps : (b : Bool) → f false b ≡ b) (ls : List (List Bool)) (n k i : ℕ) (d new : List Bool) (len : length ls ≡ 4) (kind : k ≡ n % 4) (index : i ≡ n / 4) (row : ((j : ℕ) → is_marked new j ≡ f (j == i) (is_marked (get_or ls k d) j)) × (length (get_or ls k d) ≤ length new)) where
+  mark_changed : (m : ℕ) → is_told (tables_of (set ls k new)) m ≡ f (m == n) (is_told (tables_of ls) m)
+  mark_changed m =
       elim (cases_eq (m % 4) k) [
         | inl same ↦
             told_at (set ls k new) m k d (length-set ls k new ∙ len) (sym same)
             ∙ ap (λ xs. is_marked xs (m / 4)) (get_or-set_at ls k k new d refl (omega (arith, len, kind)))
-            ∙ row (m / 4)
+            ∙ row.0 (m / 4)
             ∙ ap (λ j. f (m / 4 == j) (is_marked (get_or ls k d) (m / 4))) index
             ∙ ap (λ b. f b (is_marked (get_or ls k d) (m / 4))) (same_test m n (same ∙ kind))
             ∙ ap (f (m == n)) (sym (told_at ls m k d len (sym same)))
@@ -79,3 +80,21 @@ module _ (f : Bool → Bool → Bool) (keeps : (b : Bool) → f false b ≡ b) (
             ∙ sym (keeps (is_told (tables_of ls) m))
             ∙ ap (λ b. f b (is_told (tables_of ls) m)) (sym (not_same m n (λ at. differs (omega (arith, at, kind)))))
       ]
+
+  stays_placed : StayPlaced (tables_of ls) (tables_of (set ls k new))
+  stays_placed m there =
+      elim (cases_eq (m % 4) k) [
+        | inl same ↦
+            ap is_some (lookup_is (set ls k new) m k (m / 4) d (length-set ls k new ∙ len) (sym same) refl)
+            ∙ ap (λ xs. is_some (slice_get xs (m / 4))) (get_or-set_at ls k k new d refl (omega (arith, len, kind)))
+            ∙ sym (some_tested new (m / 4) (length new) refl)
+            ∙ (let below = open_there ls m k (m / 4) d len (sym same) refl there in let t : nat_lt (m / 4) (length new) ≡ true = grind (arith, nat_tests, below, row.1) in t)
+        | inr differs ↦
+            ap is_some (lookup_is (set ls k new) m (m % 4) (m / 4) d (length-set ls k new ∙ len) refl refl
+            ∙ ap (λ xs. slice_get xs (m / 4)) (get_or-set_other ls k (m % 4) new d differs)
+            ∙ sym (lookup_is ls m (m % 4) (m / 4) d len refl refl))
+            ∙ there
+      ]
+
+  pub table_changed : ((m : ℕ) → is_told (tables_of (set ls k new)) m ≡ f (m == n) (is_told (tables_of ls) m)) × StayPlaced (tables_of ls) (tables_of (set ls k new))
+  table_changed = (mark_changed, stays_placed)

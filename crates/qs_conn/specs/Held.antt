@@ -2,6 +2,7 @@
 -- How much memory an end takes for the bytes of its streams (ours, for the whole file: RFC 9000, section 4, bounds the bytes alone).
 use Rattle.std.specs.Prelude.{ℕ, ◌+◌, ◌-◌, ◌*◌, ◌^◌, ◌≤◌, Bool, not, ◌&&◌, ◌||◌, if◌then◌else◌, ◌==◌, min, max, length, is_some}
 use Rattle.qs_recv.specs.Lane.{RecvLane, highest, taken}
+use Rattle.qs_recv.specs.Room.{least_room}
 use Rattle.qs_send.specs.Lane.{SendLane, is_whole}
 use Rattle.qs_conn.specs.declared.held.Held.{Held}
 use Rattle.qs_machine.specs.Tables.{total}
@@ -21,6 +22,10 @@ most_held lane =
     if not (keeps lane) then 0
     else (if stored_on lane == 0 then 4096 else max 4096 (4 * (highest lane - taken lane)))
 
+-- the least that it takes: while some are stored, as many bytes as these span, of a page or less
+abbrev pub least_held : RecvLane → ℕ
+least_held lane = if stored_on lane == 0 then 0 else least_room lane.arrived
+
 -- the most that the buffer of a sending half takes: nothing after a reset, and once all that was written and the end were acknowledged;
 -- else 4,096 bytes, or while some are kept twice the most that it was set to
 abbrev pub most_buffered : SendLane → ℕ
@@ -32,11 +37,12 @@ most_buffered lane =
 abbrev pub half_count : End → ℕ
 half_count e = total (λ l. if keeps l then 1 else 0) e.recvs
 
--- All rings together take what is stored at least, and at most what each may take: four times what was spent beyond what was taken, which
+-- All rings together take at least what is stored, and what each takes at least, where that has a number of 64 bits; and at most what each may take: four times what was spent beyond what was taken, which
 -- is within the widest window of the connection, and 4,096 bytes for each half that keeps bytes still. All buffers together take what is kept at least,
 -- where that has a number of 64 bits, and at most what each may take.
 pub record IsHeldBy (e : End) (held : Held) : Type 0 where
   pub stored : all_stored e ≤ held.receiving
+  pub least : min (total least_held e.recvs) (2 ^ 64 - 1) ≤ held.receiving
   pub rings : held.receiving ≤ total most_held e.recvs
   pub spent : held.receiving ≤ 4 * (spent e - all_taken e) + 4096 * half_count e
   pub window : held.receiving ≤ 4 * e.present.widest + 4096 * half_count e

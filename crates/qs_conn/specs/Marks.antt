@@ -27,13 +27,13 @@ untold [] told = []
 untold (m ∷ marks) [] = m ∷ marks
 untold (m ∷ marks) (t ∷ told) = (m && not t) ∷ untold marks told
 
--- an index is marked, and the others stand as they did
+-- an index is marked, the others stand as they did, and none goes
 abbrev pub IsMarkedBeside : ℕ → List Bool → List Bool → Type 0
-IsMarkedBeside n old new = (i : ℕ) → is_marked new i ≡ ((i == n) || is_marked old i)
+IsMarkedBeside n old new = ((i : ℕ) → is_marked new i ≡ ((i == n) || is_marked old i)) × (length old ≤ length new)
 
--- an index isn't marked any more, and the others stand as they did
+-- an index isn't marked any more, the others stand as they did, and none goes
 abbrev pub IsUnmarkedBeside : ℕ → List Bool → List Bool → Type 0
-IsUnmarkedBeside n old new = (i : ℕ) → is_marked new i ≡ (not (i == n) && is_marked old i)
+IsUnmarkedBeside n old new = ((i : ℕ) → is_marked new i ≡ (not (i == n) && is_marked old i)) × (length old ≤ length new)
 
 -- each part that isn't marked has the property
 abbrev pub AreMarked : {X : Type 0} → (X → Type 0) → List X → List Bool → Type 0

@@ -8,7 +8,7 @@ ghost use Rattle.qs_machine.specs.Tables.{widened};
 ghost use Rattle.qs_machine.specs.Memory.{HasNews};
 ghost use Rattle.qs_machine.specs.Verdicts.{or_new};
 ghost use Rattle.qs_machine.specs.Sums.{changed, tally_of, tally_on, stored_on, moved, IsPart, IsPaid, EachLawful};
-ghost use Rattle.qs_conn.specs.Held.{most_held};
+ghost use Rattle.qs_conn.specs.Held.{least_held, most_held};
 ghost use Rattle.qs_conn.specs.Touches.{AreSettled};
 ghost use Rattle.qs_machine.specs.News.{IsLeast};
 ghost use Rattle.qs_conn.specs.Marks.{AreMarked, IsAt, IsUntoldAt};
@@ -109,6 +109,7 @@ impl RecvLanes {
     /// What the rings of all lanes take, in bytes, by a walk over them.
     pub(crate) fn held(&self) -> u64
         ensures stored { sum_by stored_on self.now ≤ result }
+        ensures least { min (sum_by least_held self.now) (2 ^ 64 - 1) ≤ result }
         ensures most { result ≤ sum_by most_held self.now }
     {
         let _stored = self.tally.stored;
@@ -430,8 +431,10 @@ fn measure(half: &Half) -> Tally
 }
 
 // What the rings of some halves take. A sum that is no u64 is the greatest one.
+#[tactic(auto, using(crate::proofs::Helds::half_least))]
 fn held_of(halves: &[Half]) -> u64
     ensures stored { min (sum_by stored_on halves.now) (2 ^ 64 - 1) ≤ result }
+    ensures least { min (sum_by least_held halves.now) (2 ^ 64 - 1) ≤ result }
     ensures most { result ≤ sum_by most_held halves.now }
 {
     let mut held: u64 = 0;

@@ -1,5 +1,5 @@
 //! The receiving halves of an end.
-ghost use Rattle.std.specs.Prelude.{◌≡◌, ◌+◌, ◌≤◌, ◌<◌, ◌^◌, ◌++◌, ℕ, length, drop, take, is_some, option_map, true, false, Some, None, OnOk, OnErr, IsOk, IfSome, IfNone};
+ghost use Rattle.std.specs.Prelude.{◌≡◌, ◌+◌, ◌≤◌, ◌<◌, ◌^◌, ◌++◌, ℕ, length, drop, take, is_some, option_map, true, false, Some, None, OnOk, OnErr, IsOk, IfSome, IfNone, min, ◌-◌};
 ghost use Rattle.qs_ranges.specs.Numbers.{MAX_VARINT};
 ghost use Rattle.qs_recv.specs.Lane.{RecvLane, new_lane, check_stream, check_reset, check_bytes, highest, taken, noted, take_stream, take_reset, read_answer, bytes_read, after_read, raise, stop, stop_and_forget, MAX_WINDOW, set_window};
 ghost use Rattle.qs_machine.specs.Tables.{no_streams, table, with_table, lookup, updated, open_to, each, total, type_of};
@@ -11,7 +11,7 @@ ghost use Rattle.qs_machine.specs.Reports.{recv_report};
 ghost use Rattle.qs_machine.specs.Verdicts.{or_new};
 ghost use Rattle.qs_machine.specs.Sums.{stored_on, tally_on, IsPaid};
 ghost use Rattle.qs_conn.specs.Ended.{recv_over};
-ghost use Rattle.qs_conn.specs.Held.{most_held};
+ghost use Rattle.qs_conn.specs.Held.{least_held, most_held};
 ghost use Rattle.qs_conn.specs.Layers.{limit_to_tell, stop_to_tell};
 ghost use Rattle.qs_machine.specs.News.{IsLeast, IsHeld};
 ghost use Rattle.qs_conn.specs.Marks.{IsHeldOf, AreEndsMarked, IsUntold, IsUntoldOf};
@@ -458,6 +458,7 @@ impl RecvTables {
     pub(crate) fn held(&self) -> u64
         requires { total highest self.now < 2 ^ 62 }
         ensures stored { total stored_on self.now ≤ result }
+        ensures least { min (total least_held self.now) (2 ^ 64 - 1) ≤ result }
         ensures most { result ≤ total most_held self.now }
     {
         let _tally = self.tally();

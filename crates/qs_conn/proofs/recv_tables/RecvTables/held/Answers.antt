@@ -1,7 +1,7 @@
 use Rattle.std.proofs.Common.{arith}
 use Rattle.qs_machine.specs.Sums.{stored_on}
 use Rattle.qs_machine.proofs.TableEdits.{total_four}
-use Rattle.qs_conn.specs.Held.{most_held}
+use Rattle.qs_conn.specs.Held.{least_held, most_held}
 use Rattle.qs_conn.proofs.recv_tables.RecvTables.held.Goals as goal
 
 pub returns-clause-stored : goal.returns-clause-stored
@@ -14,6 +14,14 @@ returns-clause-stored c =
     let uni = c.saturating_add-uni.ensures in
     let sum = c.saturating_add.ensures in
     rw (← c.self.view_is) (omega (arith, stored, small, spent, is, c.tally-tally.ensures.paid.moved, bidi, uni, sum, c.held.ensures.stored, c.held-2.ensures.stored, c.held-3.ensures.stored, c.held-4.ensures.stored))
+
+pub returns-clause-least : goal.returns-clause-least
+returns-clause-least c =
+    let least = total_four least_held c.self.inside.types c.index-self-0.result c.index-self-1.result c.index-self-2.result c.index-self-3.result c.self.invariant in
+    let bidi = c.saturating_add-bidi.ensures in
+    let uni = c.saturating_add-uni.ensures in
+    let sum = c.saturating_add.ensures in
+    rw (← c.self.view_is) (omega (arith, least, bidi, uni, sum, c.held.ensures.least, c.held-2.ensures.least, c.held-3.ensures.least, c.held-4.ensures.least))
 
 pub returns-clause-most : goal.returns-clause-most
 returns-clause-most c =
