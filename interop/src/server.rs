@@ -1,7 +1,8 @@
 //! A server: many connections on one socket.
 
 use crate::connection::{Config, Connection, DATAGRAM};
-use crate::fault::Close;
+use crate::fault::{Close, Outcome};
+use crate::log;
 use crate::memory;
 use crate::packet::{
     ConnectionId, Kind, Level, Packet, VERSION_1, read_packet, version_negotiation,
@@ -157,6 +158,19 @@ fn part<A: Application>(phase: Phase, connection: &mut Connection, application: 
         Ok(false) => {}
         Ok(true) => connection.close(close, Instant::now()),
         Err(close) => connection.close(close, Instant::now()),
+    }
+}
+
+// Of a connection that ended as it is to be a line stands in the log where more is asked for.
+fn tell_end<A: Application>(peer: SocketAddr, was_open: bool, outcome: &Outcome) {
+    program::tell_more(&format!("connection with {peer} ended: {outcome}"));
+    match outcome {
+        _ if !was_open => log::trouble(peer, "the handshake failed", outcome),
+        Outcome::Closed(close) if close.code == A::NO_ERROR => {}
+        Outcome::Closed(_) | Outcome::Failed(_) => {
+            log::trouble(peer, "the connection failed", outcome);
+        }
+        _ => {}
     }
 }
 
@@ -343,7 +357,7 @@ impl<A: Application> Server<A> {
         if let (Some(outcome), false) = (connection.outcome(), *was_told) {
             *was_told = true;
             application.ended(connection.last_end(), outcome);
-            program::tell_more(&format!("connection with {peer} ended: {outcome}"));
+            tell_end::<A>(*peer, connection.was_open(), outcome);
         }
         if connection.is_gone() {
             for id in connection.ids() {
@@ -363,7 +377,6 @@ mod tests {
     use super::*;
     use crate::certificate::Identity;
     use crate::client::connect;
-    use crate::fault::Outcome;
     use crate::files::Folder;
     use crate::packet::VERSION_1;
     use crate::program::client;
@@ -449,6 +462,26 @@ mod tests {
                 connection.time_is_up(now);
             }
         }
+    }
+
+    #[test]
+    fn a_handshake_that_fails_is_told() {
+        let mut world = World::new();
+        let server = world.server.socket.local_addr().unwrap();
+        let mut client = Client {
+            socket: connect(server).unwrap(),
+            connection: client(b"another", "localhost", VERSION_1, world.config).unwrap(),
+            application: Nothing,
+            sent: 0,
+        };
+        while client.connection.outcome().is_none() {
+            world.step(&mut client);
+        }
+        let said = log::SAID.take();
+        assert_eq!(said.len(), 1, "{said:?}");
+        // no_application_protocol (RFC 7301, section 3.2; RFC 9001, section 8.1)
+        let told = " the handshake failed: failed with code 0x178 ";
+        assert!(said[0].contains(told), "{said:?}");
     }
 
     #[test]

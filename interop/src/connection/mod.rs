@@ -251,6 +251,11 @@ impl Connection {
         self.outcome.as_ref()
     }
 
+    /// Whether the handshake was done.
+    pub fn was_open(&self) -> bool {
+        self.session.is_done()
+    }
+
     /// Whether nothing more is to come of it.
     pub fn is_gone(&self) -> bool {
         matches!(self.state, State::Gone)

@@ -210,7 +210,9 @@ impl Loader {
                 self.ask_again(stream);
             }
             Event::GoAway(first) => self.go_away(first),
-            Event::Broken(stream, _) => self.loaded.extend(self.running.remove(&stream)),
+            Event::Broken(stream, _) | Event::Malformed(stream, _) => {
+                self.loaded.extend(self.running.remove(&stream));
+            }
             // A response that is too large is dropped (RFC 9114, section 4.2.2).
             Event::TooManyFields(stream) => {
                 session.cancel(end, stream)?;

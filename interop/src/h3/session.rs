@@ -25,6 +25,8 @@ pub enum Event {
     TooManyFields(StreamId),
     Data(StreamId, Vec<u8>),
     End(StreamId),
+    /// The library refuses the stream.
+    Malformed(StreamId, u64),
     /// The peer broke the stream off, or asked to stop.
     Broken(StreamId, u64),
     /// The peer takes no new request on this connection, and won't answer those on this stream and on higher ones.
@@ -553,6 +555,8 @@ impl Session {
         }
         for (stream, code) in std::mem::take(&mut self.shared().resets) {
             abandon(end, id(stream), code).map_err(internal)?;
+            let event = Event::Malformed(id(stream), code);
+            self.shared().events.push_back(event);
         }
         Ok(())
     }
