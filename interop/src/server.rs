@@ -128,6 +128,7 @@ pub fn turn<A: Application>(
     {
         connection.close(close, now);
     }
+    application.prioritize(connection.priorities());
     for _ in 0..BATCH {
         if !connection.send(out, now) {
             return Ok(false);

@@ -17,6 +17,7 @@ use crate::fault::{Fault, Outcome};
 use crate::ids::{ACTIVE_IDS, PeerIds};
 use crate::packet::{ConnectionId, Level, OWN_ID_LEN, VERSION_1};
 use crate::parameters::Parameters;
+use crate::priorities::Priorities;
 use crate::protection::DataKeys;
 use crate::qlog::Trace;
 use crate::ranges::Numbers;
@@ -103,6 +104,7 @@ pub struct Connection {
     windows: Windows,
     /// The stream behind the one that sent last: from it on the next packet takes bytes, so that streams send by turns.
     turn: StreamId,
+    priorities: Priorities,
     /// One more than the largest number of a 1-RTT packet that came.
     expected: u64,
     early: Vec<Vec<u8>>,
@@ -196,6 +198,7 @@ impl Connection {
             end: None,
             windows: Windows::new(role, config.settings.limits(), config.most_window, now),
             turn: stream_behind(None),
+            priorities: Priorities::default(),
             expected: 0,
             early: Vec::new(),
             recovery: Recovery::new(DATAGRAM),
@@ -234,6 +237,11 @@ impl Connection {
             State::Open if self.session.is_done() => self.end.as_mut(),
             _ => None,
         }
+    }
+
+    /// How soon each stream goes.
+    pub fn priorities(&mut self) -> &mut Priorities {
+        &mut self.priorities
     }
 
     /// The stream layer's end, if there was one, whatever became of the connection: to look at.

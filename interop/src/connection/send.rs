@@ -267,11 +267,13 @@ impl Connection {
         Ok(Some(Planned { draft, sent }))
     }
 
-    // The stream layer writes what is due behind the header, bytes of the stream behind the one that sent last first. Answers
-    // whether it had something.
+    // The stream layer writes what is due behind the header, bytes of the most urgent stream first, or of the one behind that which sent
+    // last. Answers whether it had something.
     fn make(&mut self, out: &mut Vec<u8>, room: usize) -> Result<bool, Fault> {
-        let (at, turn) = (out.len(), self.turn);
-        let made = self.put_made(out, room, |end, room| end.make_packet_from(turn, 0, room))?;
+        let at = out.len();
+        let next = |end: &Endpoint| self.priorities.next(end, self.turn);
+        let first = self.end.as_ref().map_or(self.turn, next);
+        let made = self.put_made(out, room, |end, room| end.make_packet_from(first, 0, room))?;
         if let Some(last) = last_stream(&out[at..]) {
             self.turn = stream_behind(Some(last));
         }

@@ -7,6 +7,7 @@ use crate::budget::{Budget, Share, most};
 use crate::fault::{Close, Outcome};
 use crate::files::Folder;
 use crate::log::Entry;
+use crate::priorities::{Priorities, Priority};
 use crate::streams::Application;
 use gotsavena::{Dir, Endpoint, Role, SendState, StreamId};
 use httpdate::fmt_http_date;
@@ -226,6 +227,27 @@ impl FileServer {
 
 impl Application for FileServer {
     const NO_ERROR: u64 = NO_ERROR;
+
+    // As RFC 9218 has it. The connection's own streams have little to say, and go before all.
+    fn prioritize(&self, priorities: &mut Priorities) {
+        let Some(session) = &self.session else {
+            return;
+        };
+        let first = Priority {
+            urgency: 0,
+            is_incremental: false,
+        };
+        let own = session.own().iter().map(|stream| (*stream, Some(first)));
+        own.for_each(|(stream, first)| priorities.set(stream, first));
+        for stream in self.answered.keys() {
+            if let Some(priority) = session.priority(*stream) {
+                priorities.set(*stream, Some(priority));
+            }
+        }
+        let is_over =
+            |stream: &StreamId| stream.dir() == Dir::Bidi && !self.answered.contains_key(stream);
+        priorities.forget(is_over);
+    }
 
     fn stop(&mut self) -> Result<bool, Close> {
         let Some(session) = &mut self.session else {

@@ -6,6 +6,7 @@
 use super::declarations::*;
 use super::{CLOSED_CRITICAL_STREAM, INTERNAL_ERROR, NO_ERROR, REQUEST_CANCELLED};
 use crate::fault::Close;
+use crate::priorities;
 use crate::streams::{Body, abandon};
 use gotsavena::{Dir, Endpoint, OpenFault, Read, Role, StreamId, UseFault};
 use std::collections::{BTreeSet, HashMap, VecDeque};
@@ -459,6 +460,23 @@ impl Session {
             }
             error => check(error),
         }
+    }
+
+    /// How soon the answer on a stream is to go, as the client told last; `None` once it went to the end.
+    pub fn priority(&self, stream: StreamId) -> Option<priorities::Priority> {
+        let mut told = Priority::default();
+        // Sound: as above, and this end is a server's.
+        let error =
+            unsafe { nghttp3_conn_get_stream_priority(self.conn, &mut told, number(stream)) };
+        (error == 0).then(|| priorities::Priority {
+            urgency: told.urgency as u8,
+            is_incremental: told.incremental != 0,
+        })
+    }
+
+    /// The streams that this end opened for itself.
+    pub fn own(&self) -> &[StreamId] {
+        &self.own
     }
 
     fn keep_body(&mut self, stream: StreamId, body: Option<Body>, is_whole: bool) {
