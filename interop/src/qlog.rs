@@ -143,6 +143,7 @@ impl Trace {
                 word(&mut data, name, &format!("{id:?}"));
             }
         }
+        _ = write!(data, r#","disable_active_migration":{}"#, told.stays);
         let limits = &told.limits;
         for (name, value) in [
             ("max_idle_timeout", told.idle.as_millis() as u64),

@@ -292,7 +292,16 @@ impl<A: Application> Server<A> {
         let packet = read_packet(datagram)?;
         if let Some(key) = self.ids.get(&packet.destination) {
             let served = self.served.get(*key)?;
-            served.connection.receive(datagram, Instant::now());
+            let connection = &mut served.connection;
+            if connection.receive(datagram, Instant::now()) && served.peer != from {
+                let is_other_host = served.peer.ip() != from.ip();
+                let followed = connection.follow(datagram.len(), is_other_host);
+                followed
+                    .inspect_err(|fault| program::tell(&fault.to_string()))
+                    .ok()?;
+                program::tell_more(&format!("{} goes on as {from}", served.peer));
+                served.peer = from;
+            }
             return Some(*key);
         }
         if packet.version != VERSION_1 && packet.version != 0 && datagram.len() >= DATAGRAM {
@@ -355,6 +364,9 @@ impl<A: Application> Server<A> {
         let more = turn(connection, application, out, |bytes| {
             self.socket.send_to(bytes, *peer)
         })?;
+        for id in connection.take_new_ids() {
+            self.ids.insert(id, key);
+        }
         if let (Some(outcome), false) = (connection.outcome(), *was_told) {
             *was_told = true;
             application.ended(connection.last_end(), outcome);
@@ -456,7 +468,9 @@ mod tests {
             turn(connection, &mut client.application, &mut out, transmit).unwrap();
             let now = Some(Instant::now());
             self.server.turn(now, &mut out).unwrap();
-            let take = |datagram: &mut [u8], _| connection.receive(datagram, Instant::now());
+            let take = |datagram: &mut [u8], _| {
+                connection.receive(datagram, Instant::now());
+            };
             receive_batch(&client.socket, now, take).unwrap();
             let now = Instant::now();
             if connection.timer(now).is_some_and(|at| at <= now) {
@@ -486,13 +500,37 @@ mod tests {
     }
 
     #[test]
+    fn a_client_that_moves_is_followed() {
+        let mut world = World::new();
+        let wanted = vec!["Cargo.toml".to_owned(); FILES];
+        let mut client = world.client(RawClient::new(wanted));
+        let server = world.server.socket.local_addr().unwrap();
+        let mut moves = 0;
+        while client.connection.outcome().is_none() {
+            if client.application.loaded.len() >= 15 * (moves + 1) {
+                client.socket = connect(server).unwrap();
+                moves += 1;
+            }
+            world.step(&mut client);
+        }
+        assert_eq!(moves, 3);
+        assert_eq!(client.application.loaded.len(), FILES);
+        assert!(matches!(
+            client.connection.outcome(),
+            Some(Outcome::Closed(_))
+        ));
+    }
+
+    #[test]
     fn a_stop_tells_the_clients() {
         let mut world = World::new();
         let mut client = world.client(Nothing);
         // (its handshake is over at both ends)
         (0..20).for_each(|_| world.step(&mut client));
         world.server.stop(&mut Vec::new()).unwrap();
-        let take = |datagram: &mut [u8], _| client.connection.receive(datagram, Instant::now());
+        let take = |datagram: &mut [u8], _| {
+            client.connection.receive(datagram, Instant::now());
+        };
         receive_batch(&client.socket, Some(Instant::now()), take).unwrap();
         let told = Outcome::PeerClosed {
             by_application: true,

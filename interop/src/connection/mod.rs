@@ -7,6 +7,7 @@
 mod ending;
 mod frames;
 mod handshake;
+mod moving;
 mod receive;
 mod send;
 #[cfg(test)]
@@ -26,6 +27,7 @@ use crate::tls::Session;
 use crate::windows::Windows;
 use ending::State;
 use gotsavena::{Endpoint, Role, Settings, StreamId, Tuning};
+use moving::Moving;
 use ring::rand::{SecureRandom, SystemRandom};
 use rustls::quic::{Keys, Version};
 use rustls::{ClientConfig, ServerConfig};
@@ -107,6 +109,8 @@ pub struct Connection {
     priorities: Priorities,
     /// One more than the largest number of a 1-RTT packet that came.
     expected: u64,
+    /// The largest of those that did more than to look at an address.
+    newest: Option<u64>,
     early: Vec<Vec<u8>>,
     recovery: Recovery,
     own_id: ConnectionId,
@@ -114,6 +118,7 @@ pub struct Connection {
     retry_source: Option<ConnectionId>,
     token: Vec<u8>,
     peer_ids: PeerIds,
+    moving: Moving,
     peer: Parameters,
     controls: VecDeque<Control>,
     known: Known,
@@ -168,6 +173,7 @@ impl Connection {
     ) -> Result<Connection, Fault> {
         let own_id = random_id()?;
         let mut told = own_parameters(&config, own_id);
+        told.stays = false;
         told.original_destination = Some(destination);
         let session = Session::server(tls, told.write())?;
         let mut connection =
@@ -200,6 +206,7 @@ impl Connection {
             turn: stream_behind(None),
             priorities: Priorities::default(),
             expected: 0,
+            newest: None,
             early: Vec::new(),
             recovery: Recovery::new(DATAGRAM),
             own_id,
@@ -207,6 +214,7 @@ impl Connection {
             retry_source: None,
             token: Vec::new(),
             peer_ids: PeerIds::new(ConnectionId::default()),
+            moving: Moving::default(),
             peer: Parameters::default(),
             controls: VecDeque::new(),
             known: Known::default(),
@@ -224,11 +232,6 @@ impl Connection {
         if let Some(trace) = &mut self.trace {
             trace.parameters("local", told, now);
         }
-    }
-
-    /// The identifiers under which the peer finds this connection.
-    pub fn ids(&self) -> [ConnectionId; 2] {
-        [self.own_id, self.first_destination]
     }
 
     /// The stream layer's end, once the handshake is done and until the connection ends.
@@ -311,6 +314,7 @@ fn own_parameters(config: &Config, own_id: ConnectionId) -> Parameters {
         max_ack_delay: MAX_ACK_DELAY,
         active_ids: ACTIVE_IDS,
         initial_source: Some(own_id),
+        stays: true,
         ..Parameters::default()
     }
 }

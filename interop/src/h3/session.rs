@@ -468,7 +468,7 @@ impl Session {
         // Sound: as above, and this end is a server's.
         let error =
             unsafe { nghttp3_conn_get_stream_priority(self.conn, &mut told, number(stream)) };
-        (error == 0).then(|| priorities::Priority {
+        (error == 0).then_some(priorities::Priority {
             urgency: told.urgency as u8,
             is_incremental: told.incremental != 0,
         })
