@@ -111,14 +111,6 @@ mod tests {
         assert_eq!(next(a, Some(d)), a);
         assert_eq!(next(b, None), b);
         assert_eq!(next(c, None), a);
-        priorities.set(
-            b,
-            Some(Priority {
-                urgency: 2,
-                is_incremental: false,
-            }),
-        );
-        assert_eq!(priorities.next(&end, a), b);
         priorities.set(b, None);
         assert_eq!(priorities.next(&end, b), a);
     }

@@ -260,7 +260,16 @@ impl Trace {
     }
 }
 
-impl Packet<'_> {
+impl<'a> Packet<'a> {
+    pub fn new(level: Level, number: u64, len: usize, payload: &'a [u8]) -> Packet<'a> {
+        Packet {
+            level,
+            number,
+            len,
+            payload,
+        }
+    }
+
     fn members(&self) -> String {
         let mut data = header(self.level, self.number);
         let (len, payload_len) = (self.len, self.payload.len());

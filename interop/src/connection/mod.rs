@@ -109,8 +109,6 @@ pub struct Connection {
     priorities: Priorities,
     /// One more than the largest number of a 1-RTT packet that came.
     expected: u64,
-    /// The largest of those that did more than to look at an address.
-    newest: Option<u64>,
     early: Vec<Vec<u8>>,
     recovery: Recovery,
     own_id: ConnectionId,
@@ -206,7 +204,6 @@ impl Connection {
             turn: stream_behind(None),
             priorities: Priorities::default(),
             expected: 0,
-            newest: None,
             early: Vec::new(),
             recovery: Recovery::new(DATAGRAM),
             own_id,

@@ -21,6 +21,8 @@ const SMALL: usize = 64;
 /// What is known of addresses.
 #[derive(Default)]
 pub(super) struct Moving {
+    /// The largest number of a packet that did more than to look at an address.
+    pub newest: Option<u64>,
     /// Identifiers that were given out behind the first one: their numbers are 1 and so on.
     given: Vec<ConnectionId>,
     /// How many of them the loop over the socket knows.

@@ -20,9 +20,9 @@ impl Connection {
     /// Takes a datagram in. It is opened in place. Answers whether the peer is where it came from: a packet of it is the newest, and does
     /// more than to look whether the address is there (RFC 9000, section 9.3).
     pub fn receive(&mut self, datagram: &mut [u8], now: Instant) -> bool {
-        let newest = self.newest;
+        let newest = self.moving.newest;
         self.take_datagram(datagram, now);
-        self.newest > newest
+        self.moving.newest > newest
     }
 
     fn take_datagram(&mut self, datagram: &mut [u8], now: Instant) {
@@ -82,13 +82,8 @@ impl Connection {
         self.asked_since_active = false;
         let payload = &bytes[opened.payload.clone()];
         if let Some(trace) = &mut self.trace {
-            let packet = qlog::Packet {
-                level,
-                number: opened.number,
-                len: bytes.len(),
-                payload,
-            };
-            trace.received(&packet, now);
+            let told = qlog::Packet::new(level, opened.number, bytes.len(), payload);
+            trace.received(&told, now);
         }
         if level == Level::Data {
             self.take_data(opened.number, payload, now)?;
@@ -154,7 +149,7 @@ impl Connection {
             ));
         }
         if number >= self.expected && !is_probing(payload) {
-            self.newest = Some(number);
+            self.moving.newest = Some(number);
         }
         self.expected = self.expected.max(number + 1);
         match end.receive(number, payload) {

@@ -95,13 +95,10 @@ impl Connection {
     pub(super) fn note_sent(&mut self, plan: Planned, out: &mut [u8]) {
         let Planned { draft, mut sent } = plan;
         if let Some(trace) = &mut self.trace {
-            let packet = qlog::Packet {
-                level: draft.level,
-                number: draft.number,
-                len: draft.end + TAG_LEN - draft.start,
-                payload: &out[draft.payload_at()..draft.end],
-            };
-            trace.sent(&packet, sent.at);
+            let len = draft.end + TAG_LEN - draft.start;
+            let payload = &out[draft.payload_at()..draft.end];
+            let told = qlog::Packet::new(draft.level, draft.number, len, payload);
+            trace.sent(&told, sent.at);
         }
         match (
             draft.level,
