@@ -1,5 +1,5 @@
-//! What a server is known by: a certificate and its key, of files (PEM), or a certificate that signs itself, for `localhost`, which no
-//! one has a reason to trust (RFC 5280).
+//! What a server is known by: a certificate and its key, of files (PEM), or a certificate that signs itself, for `localhost` and its
+//! addresses, which no one has a reason to trust (RFC 5280).
 
 use crate::program::Refusal;
 use ring::digest::{SHA256, digest};
@@ -10,6 +10,7 @@ use rustls_pemfile::Item;
 use std::fmt::Display;
 use std::fs::{File, OpenOptions, create_dir_all};
 use std::io::{self, BufReader, Write};
+use std::net::{Ipv4Addr, Ipv6Addr};
 use std::os::unix::fs::OpenOptionsExt;
 use std::path::Path;
 
@@ -28,6 +29,8 @@ const UTF8: u8 = 0x0c;
 const TIME: u8 = 0x18;
 const INTEGER: u8 = 0x02;
 const VERSION: u8 = 0xa0;
+const DNS_NAME: u8 = 0x82;
+const IP_ADDRESS: u8 = 0x87;
 
 // Object identifiers, with their tag and length.
 const ECDSA_WITH_SHA256: &[u8] = &[0x06, 8, 0x2a, 0x86, 0x48, 0xce, 0x3d, 4, 3, 2];
@@ -86,6 +89,13 @@ impl Identity {
             write_pem(&certificate, "CERTIFICATE", &made.certificates[0]).map_err(wrong)?;
         }
         Identity::read(&certificate, &key)
+    }
+
+    /// The hash of the certificate, as Firefox names it.
+    pub fn fingerprint(&self) -> Option<String> {
+        let hash = digest(&SHA256, self.certificates.first()?);
+        let bytes = hash.as_ref().iter().map(|byte| format!("{byte:02X}"));
+        Some(bytes.collect::<Vec<String>>().join(":"))
     }
 
     /// The hash of the certificate's public key, as browsers name it (RFC 7469, section 2.4); `None` where it has none.
@@ -183,7 +193,13 @@ fn to_be_signed(public_key: &[u8]) -> Vec<u8> {
         SEQUENCE,
         &[&key_type, &der(BIT_STRING, &[&[0], public_key])],
     );
-    let names = der(SEQUENCE, &[&der(0x82, &[NAME])]);
+    // (RFC 5280, section 4.2.1.6: a name, and addresses)
+    let [four, six] = [
+        &Ipv4Addr::LOCALHOST.octets()[..],
+        &Ipv6Addr::LOCALHOST.octets(),
+    ]
+    .map(|address| der(IP_ADDRESS, &[address]));
+    let names = der(SEQUENCE, &[&der(DNS_NAME, &[NAME]), &four, &six]);
     let extension = der(SEQUENCE, &[SUBJECT_ALT_NAME, &der(OCTET_STRING, &[&names])]);
     let extensions = der(0xa3, &[&der(SEQUENCE, &[&extension])]);
     let parts: [&[u8]; 8] = [

@@ -111,7 +111,7 @@ fn go_on(socket: &UdpSocket, connection: &mut Connection) -> io::Result<()> {
         socket.send(bytes)
     })?;
     receive_batch(socket, Some(now), |datagram, _| {
-        connection.receive(datagram, now)
+        connection.receive(datagram, now);
     })?;
     if connection.timer(now).is_some_and(|at| at <= now) {
         connection.time_is_up(now);

@@ -69,13 +69,21 @@ pub enum Outcome {
     NoVersion,
 }
 
+// No colon stands there without a reason behind it.
+fn because(f: &mut fmt::Formatter<'_>, reason: &str) -> fmt::Result {
+    match reason {
+        "" => Ok(()),
+        reason => write!(f, ": {reason}"),
+    }
+}
+
 impl fmt::Display for Fault {
     fn fmt(&self, f: &mut fmt::Formatter<'_>) -> fmt::Result {
         write!(f, "code {:#x}", self.code)?;
         if self.frame_type != 0 {
             write!(f, " for a frame of type {:#x}", self.frame_type)?;
         }
-        write!(f, ": {}", self.reason)
+        because(f, &self.reason)
     }
 }
 
@@ -83,7 +91,8 @@ impl fmt::Display for Outcome {
     fn fmt(&self, f: &mut fmt::Formatter<'_>) -> fmt::Result {
         match self {
             Outcome::Closed(close) => {
-                write!(f, "closed with code {:#x}: {}", close.code, close.reason)
+                write!(f, "closed with code {:#x}", close.code)?;
+                because(f, &close.reason)
             }
             Outcome::Failed(fault) => write!(f, "failed with {fault}"),
             Outcome::PeerClosed {
@@ -96,7 +105,8 @@ impl fmt::Display for Outcome {
                 } else {
                     "QUIC's"
                 };
-                write!(f, "the peer closed with {whose} code {code:#x}: {reason}")
+                write!(f, "the peer closed with {whose} code {code:#x}")?;
+                because(f, reason)
             }
             Outcome::Idle => f.write_str("nothing came for too long"),
             Outcome::Reset => f.write_str("the peer reset the connection"),
@@ -108,3 +118,24 @@ impl fmt::Display for Outcome {
 
 impl std::error::Error for Fault {}
 impl std::error::Error for Outcome {}
+
+#[cfg(test)]
+mod tests {
+    use super::*;
+
+    #[test]
+    fn a_reason_stands_behind_each_colon() {
+        for (reason, wanted) in [("", "code 0x7"), ("enough", "code 0x7: enough")] {
+            let close = Close::new(7, reason);
+            let peer = Outcome::PeerClosed {
+                by_application: false,
+                code: 7,
+                reason: reason.to_owned(),
+            };
+            let failed = Outcome::Failed(Fault::new(7, 0, reason));
+            for outcome in [Outcome::Closed(close), failed, peer] {
+                assert!(outcome.to_string().ends_with(wanted), "{outcome}");
+            }
+        }
+    }
+}

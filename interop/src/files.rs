@@ -3,44 +3,14 @@
 use crate::streams::Body;
 use std::ffi::OsStr;
 use std::fs::File;
-use std::io::{self, ErrorKind};
-use std::os::unix::ffi::OsStrExt;
+use std::io::{self, ErrorKind, Seek, SeekFrom};
+use std::ops::Range;
+use std::os::unix::ffi::{OsStrExt, OsStringExt};
 use std::path::{Path, PathBuf};
+use std::time::SystemTime;
 
 /// The file of a folder that stands for the folder.
 const INDEX: &str = "index.html";
-
-/// Endings of names, and the types of what the files hold.
-const TYPES: &[(&str, &str)] = &[
-    ("avif", "image/avif"),
-    ("css", "text/css; charset=utf-8"),
-    ("gif", "image/gif"),
-    ("htm", "text/html; charset=utf-8"),
-    ("html", "text/html; charset=utf-8"),
-    ("ico", "image/x-icon"),
-    ("jpeg", "image/jpeg"),
-    ("jpg", "image/jpeg"),
-    ("js", "text/javascript; charset=utf-8"),
-    ("json", "application/json"),
-    ("md", "text/markdown; charset=utf-8"),
-    ("mjs", "text/javascript; charset=utf-8"),
-    ("mp3", "audio/mpeg"),
-    ("mp4", "video/mp4"),
-    ("ogg", "audio/ogg"),
-    ("pdf", "application/pdf"),
-    ("png", "image/png"),
-    ("svg", "image/svg+xml"),
-    ("ttf", "font/ttf"),
-    ("txt", "text/plain; charset=utf-8"),
-    ("wasm", "application/wasm"),
-    ("wav", "audio/wav"),
-    ("webm", "video/webm"),
-    ("webp", "image/webp"),
-    ("woff", "font/woff"),
-    ("woff2", "font/woff2"),
-    ("xml", "application/xml"),
-    ("zip", "application/zip"),
-];
 
 /// A folder whose files are given out.
 #[derive(Clone, Debug)]
@@ -53,8 +23,16 @@ pub struct Folder {
 pub struct Found {
     file: File,
     pub len: u64,
+    pub modified: SystemTime,
     /// What it holds, by the ending of its name.
-    pub kind: &'static str,
+    pub kind: String,
+}
+
+/// What stands in a folder.
+#[derive(Debug, PartialEq, Eq, PartialOrd, Ord)]
+pub struct Listed {
+    pub name: Vec<u8>,
+    pub is_folder: bool,
 }
 
 /// What a path of a URL names.
@@ -63,6 +41,8 @@ pub enum Named {
     File(Found),
     /// A folder whose path lacks its last slash, so that relative links on its page would lead elsewhere: the reference to it.
     Folder(String),
+    /// A folder without a page.
+    Listing(Vec<Listed>),
 }
 
 impl Folder {
@@ -100,7 +80,10 @@ impl Folder {
             return open(&file).map(Named::File);
         }
         match last {
-            [] => open(&self.within(&file.join(INDEX))?).map(Named::File),
+            [] => match self.within(&file.join(INDEX)) {
+                Ok(index) => open(&index).map(Named::File),
+                Err(_) => list(self, &file).map(Named::Listing),
+            },
             name => Ok(Named::Folder(format!("./{}/", name.escape_ascii()))),
         }
     }
@@ -125,9 +108,14 @@ impl Folder {
 }
 
 impl Found {
-    /// Its bytes, to be sent.
-    pub fn body(self) -> Body {
-        Body::new(self.file, self.len)
+    /// Its bytes from one place to another, to be sent.
+    ///
+    /// # Errors
+    ///
+    /// Of a file that has no such place.
+    pub fn body(mut self, range: Range<u64>) -> io::Result<Body> {
+        self.file.seek(SeekFrom::Start(range.start))?;
+        Ok(Body::new(self.file, range.end - range.start))
     }
 }
 
@@ -137,9 +125,13 @@ fn open(path: &Path) -> io::Result<Found> {
         return Err(ErrorKind::NotFound.into());
     }
     let file = File::open(path)?;
-    let len = file.metadata()?.len();
-    let kind = kind(path);
-    Ok(Found { file, len, kind })
+    let about = file.metadata()?;
+    Ok(Found {
+        file,
+        len: about.len(),
+        modified: about.modified()?,
+        kind: kind(path),
+    })
 }
 
 /// Whether the system has too little for now to open a file that may be there.
@@ -150,10 +142,31 @@ pub fn is_exhausted(error: &io::Error) -> bool {
     )
 }
 
-fn kind(path: &Path) -> &'static str {
-    let ending = path.extension().unwrap_or_default().to_ascii_lowercase();
-    let found = TYPES.iter().find(|(known, _)| ending == *known);
-    found.map_or("application/octet-stream", |(_, kind)| kind)
+// By the ending of the name. Texts are taken for UTF-8.
+fn kind(path: &Path) -> String {
+    let guess = mime_guess::from_path(path).first_or_octet_stream();
+    match (guess.type_().as_str(), guess.subtype().as_str()) {
+        (_, "javascript") => "text/javascript; charset=utf-8".to_owned(),
+        ("text", _) => format!("{}; charset=utf-8", guess.essence_str()),
+        _ => guess.essence_str().to_owned(),
+    }
+}
+
+// What stands in a folder, by name; not what begins with a dot, nor what leads out.
+fn list(folder: &Folder, path: &Path) -> io::Result<Vec<Listed>> {
+    let mut listed = Vec::new();
+    for entry in path.read_dir()? {
+        let entry = entry?;
+        let name = entry.file_name().into_vec();
+        if !name.starts_with(b".")
+            && let Ok(path) = folder.within(&entry.path())
+        {
+            let is_folder = path.is_dir();
+            listed.push(Listed { name, is_folder });
+        }
+    }
+    listed.sort();
+    Ok(listed)
 }
 
 // A part of a path, with what stands there as % and two digits; `None` where no two digits follow.
@@ -216,15 +229,53 @@ mod tests {
             Ok(Named::File(found)) => Some((found.len, found.kind)),
             _ => None,
         };
-        let html = "text/html; charset=utf-8";
-        assert_eq!(named("/a%20b%25.SVG?v=1"), Some((7, "image/svg+xml")));
-        assert_eq!(named("/a%20b%25.SVG#part"), Some((7, "image/svg+xml")));
-        assert_eq!(named("/plain"), Some((1, "application/octet-stream")));
-        assert_eq!(named("/"), Some((3, html)));
-        assert_eq!(named("/sub/"), Some((3, html)));
+        let html = "text/html; charset=utf-8".to_owned();
+        let svg = "image/svg+xml".to_owned();
+        assert_eq!(named("/a%20b%25.SVG?v=1"), Some((7, svg.clone())));
+        assert_eq!(named("/a%20b%25.SVG#part"), Some((7, svg)));
+        let other = "application/octet-stream".to_owned();
+        assert_eq!(named("/plain"), Some((1, other)));
+        assert_eq!(named("/"), Some((3, html.clone())));
+        assert_eq!(named("/sub/"), Some((3, html.clone())));
         assert_eq!(named("/./sub/index.html"), Some((3, html)));
         let slash = folder.named(b"/sub?q");
         assert!(matches!(slash, Ok(Named::Folder(to)) if to == "./sub/"));
+    }
+
+    #[test]
+    fn types_are_those_of_browsers() {
+        for (name, wanted) in [
+            ("a.html", "text/html; charset=utf-8"),
+            ("a.js", "text/javascript; charset=utf-8"),
+            ("a.mjs", "text/javascript; charset=utf-8"),
+            ("a.css", "text/css; charset=utf-8"),
+            ("a.json", "application/json"),
+            ("a.wasm", "application/wasm"),
+            ("a.woff2", "font/woff2"),
+            ("a.webp", "image/webp"),
+            ("a.mp4", "video/mp4"),
+            ("a.m3u8", "audio/x-mpegurl"),
+            ("a.gz", "application/gzip"),
+            ("a.geojson", "application/geo+json"),
+        ] {
+            assert_eq!(kind(Path::new(name)), wanted, "{name}");
+        }
+    }
+
+    #[test]
+    fn a_folder_without_a_page_is_listed() {
+        let room = Room::new("gotsavena-listed");
+        let root = room.0.join("files");
+        std::fs::remove_file(root.join("index.html")).unwrap();
+        std::fs::write(root.join(".hidden"), "no").unwrap();
+        let folder = Folder::open(root.to_str().unwrap()).unwrap();
+        let Ok(Named::Listing(listed)) = folder.named(b"/") else {
+            panic!();
+        };
+        let names: Vec<&[u8]> = listed.iter().map(|listed| listed.name.as_slice()).collect();
+        // Neither the hidden file, nor the link that leads out.
+        assert_eq!(names, [&b"a b%.SVG"[..], b"plain", b"sub"]);
+        assert!(listed[2].is_folder && !listed[1].is_folder);
     }
 
     #[test]

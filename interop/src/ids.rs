@@ -41,6 +41,16 @@ impl PeerIds {
         self.kept.first().map(|kept| kept.id).unwrap_or_default()
     }
 
+    /// The next identifier is used, where there is one. Answers which number is retired for it.
+    pub fn advance(&mut self) -> Option<u64> {
+        if self.kept.len() < 2 {
+            return None;
+        }
+        let retired = self.kept.remove(0).sequence;
+        self.retired_below = self.retired_below.max(retired + 1);
+        Some(retired)
+    }
+
     /// The peer chose another first identifier.
     pub fn replace_first(&mut self, id: ConnectionId) {
         self.kept[0].id = id;

@@ -27,6 +27,7 @@ pub mod pacing;
 pub mod packet;
 pub mod parameters;
 pub mod path_size;
+pub mod priorities;
 pub mod program;
 pub mod protection;
 pub mod qlog;

@@ -2,7 +2,6 @@
 
 use crate::fault::Outcome;
 use std::fmt::Display;
-use std::io::{self, Write};
 use std::net::SocketAddr;
 use std::time::{Duration, SystemTime, UNIX_EPOCH};
 
@@ -56,6 +55,11 @@ impl Entry {
         );
     }
 
+    /// The request breaks a rule, and is answered by a reset.
+    pub fn malformed(&self, code: u64) {
+        self.write(0, format_args!("malformed: code {code:#x}"));
+    }
+
     /// The connection ended before, after so many bytes of the answer.
     pub fn cut(&self, all_was_sent: bool, written: u64, outcome: &Outcome) {
         let how = match all_was_sent {
@@ -74,13 +78,25 @@ impl Entry {
     }
 }
 
+/// A connection came to nothing, or failed.
+pub fn trouble(peer: SocketAddr, what: &str, outcome: &Outcome) {
+    let time = utc(SystemTime::now());
+    say(format_args!("{time} {peer} {what}: {outcome}"));
+}
+
+#[cfg(test)]
+thread_local! {
+    /// What a test's thread said.
+    pub static SAID: std::cell::RefCell<Vec<String>> = const { std::cell::RefCell::new(Vec::new()) };
+}
+
 /// Writes a line on standard output. A server goes on where no one reads it.
 pub fn say(line: impl Display) {
-    if cfg!(test) {
-        // (which a test keeps to itself)
-        println!("{line}");
-    } else {
-        _ = writeln!(io::stdout(), "{line}");
+    #[cfg(test)]
+    SAID.with_borrow_mut(|said| said.push(line.to_string()));
+    #[cfg(not(test))]
+    {
+        _ = std::io::Write::write_fmt(&mut std::io::stdout(), format_args!("{line}\n"));
     }
 }
 

@@ -16,6 +16,8 @@ pub struct Parameters {
     pub ack_delay_exponent: u64,
     pub max_ack_delay: Duration,
     pub active_ids: u64,
+    /// Whether the peer isn't to move to another address.
+    pub stays: bool,
     pub initial_source: Option<ConnectionId>,
     pub original_destination: Option<ConnectionId>,
     pub retry_source: Option<ConnectionId>,
@@ -52,6 +54,7 @@ impl Default for Parameters {
             ack_delay_exponent: 3,
             max_ack_delay: Duration::from_millis(25),
             active_ids: 2,
+            stays: false,
             initial_source: None,
             original_destination: None,
             retry_source: None,
@@ -95,7 +98,9 @@ impl Parameters {
         for (name, value) in numbers {
             push_number(&mut out, name, value);
         }
-        push_bytes(&mut out, DISABLE_MIGRATION, &[]);
+        if self.stays {
+            push_bytes(&mut out, DISABLE_MIGRATION, &[]);
+        }
         let ids = [
             (INITIAL_SOURCE, &self.initial_source),
             (ORIGINAL_DESTINATION, &self.original_destination),
@@ -139,7 +144,10 @@ impl Parameters {
                 self.initial_source = Some(ConnectionId::new(value)?);
                 Some(())
             }
-            DISABLE_MIGRATION => value.is_empty().then_some(()),
+            DISABLE_MIGRATION => {
+                self.stays = true;
+                value.is_empty().then_some(())
+            }
             IDLE_TIMEOUT..=MAX_ACK_DELAY | ACTIVE_ID_LIMIT => {
                 let mut rest = Reader::new(value);
                 let number = rest.varint()?;

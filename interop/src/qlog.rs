@@ -143,6 +143,7 @@ impl Trace {
                 word(&mut data, name, &format!("{id:?}"));
             }
         }
+        _ = write!(data, r#","disable_active_migration":{}"#, told.stays);
         let limits = &told.limits;
         for (name, value) in [
             ("max_idle_timeout", told.idle.as_millis() as u64),
@@ -259,7 +260,16 @@ impl Trace {
     }
 }
 
-impl Packet<'_> {
+impl<'a> Packet<'a> {
+    pub fn new(level: Level, number: u64, len: usize, payload: &'a [u8]) -> Packet<'a> {
+        Packet {
+            level,
+            number,
+            len,
+            payload,
+        }
+    }
+
     fn members(&self) -> String {
         let mut data = header(self.level, self.number);
         let (len, payload_len) = (self.len, self.payload.len());

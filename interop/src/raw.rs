@@ -60,8 +60,12 @@ impl Answer {
                 }
             }
             let path = String::from_utf8_lossy(path);
-            match folder.plain(&path) {
-                Ok(found) => *self = Answer::Goes(Outgoing::new(found.body())),
+            let body = folder.plain(&path).and_then(|found| {
+                let len = found.len;
+                found.body(0..len)
+            });
+            match body {
+                Ok(body) => *self = Answer::Goes(Outgoing::new(body)),
                 Err(error) => {
                     let code = if is_exhausted(&error) {
                         tell(&format!("{} can't be opened: {error}", path.escape_debug()));

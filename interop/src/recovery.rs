@@ -3,7 +3,7 @@
 
 use crate::congestion::{Cubic, first_window};
 use crate::pacing::Pacer;
-use crate::packet::Level;
+use crate::packet::{ConnectionId, Level};
 use crate::path_size::PathSize;
 use crate::qlog::{Metrics, RoundTrips};
 use std::collections::{BTreeMap, BTreeSet};
@@ -22,6 +22,12 @@ pub enum Control {
     HandshakeDone,
     RetireId(u64),
     PathResponse([u8; 8]),
+    PathChallenge([u8; 8]),
+    NewId {
+        sequence: u64,
+        id: ConnectionId,
+        token: [u8; 16],
+    },
 }
 
 /// A packet that was sent and is neither acknowledged nor lost.

@@ -1,7 +1,8 @@
 //! A server: many connections on one socket.
 
 use crate::connection::{Config, Connection, DATAGRAM};
-use crate::fault::Close;
+use crate::fault::{Close, Outcome};
+use crate::log;
 use crate::memory;
 use crate::packet::{
     ConnectionId, Kind, Level, Packet, VERSION_1, read_packet, version_negotiation,
@@ -127,6 +128,7 @@ pub fn turn<A: Application>(
     {
         connection.close(close, now);
     }
+    application.prioritize(connection.priorities());
     for _ in 0..BATCH {
         if !connection.send(out, now) {
             return Ok(false);
@@ -157,6 +159,19 @@ fn part<A: Application>(phase: Phase, connection: &mut Connection, application: 
         Ok(false) => {}
         Ok(true) => connection.close(close, Instant::now()),
         Err(close) => connection.close(close, Instant::now()),
+    }
+}
+
+// Of a connection that ended as it is to be a line stands in the log where more is asked for.
+fn tell_end<A: Application>(peer: SocketAddr, was_open: bool, outcome: &Outcome) {
+    program::tell_more(&format!("connection with {peer} ended: {outcome}"));
+    match outcome {
+        _ if !was_open => log::trouble(peer, "the handshake failed", outcome),
+        Outcome::Closed(close) if close.code == A::NO_ERROR => {}
+        Outcome::Closed(_) | Outcome::Failed(_) => {
+            log::trouble(peer, "the connection failed", outcome);
+        }
+        _ => {}
     }
 }
 
@@ -277,7 +292,16 @@ impl<A: Application> Server<A> {
         let packet = read_packet(datagram)?;
         if let Some(key) = self.ids.get(&packet.destination) {
             let served = self.served.get(*key)?;
-            served.connection.receive(datagram, Instant::now());
+            let connection = &mut served.connection;
+            if connection.receive(datagram, Instant::now()) && served.peer != from {
+                let is_other_host = served.peer.ip() != from.ip();
+                let followed = connection.follow(datagram.len(), is_other_host);
+                followed
+                    .inspect_err(|fault| program::tell(&fault.to_string()))
+                    .ok()?;
+                program::tell_more(&format!("{} goes on as {from}", served.peer));
+                served.peer = from;
+            }
             return Some(*key);
         }
         if packet.version != VERSION_1 && packet.version != 0 && datagram.len() >= DATAGRAM {
@@ -340,10 +364,13 @@ impl<A: Application> Server<A> {
         let more = turn(connection, application, out, |bytes| {
             self.socket.send_to(bytes, *peer)
         })?;
+        for id in connection.take_new_ids() {
+            self.ids.insert(id, key);
+        }
         if let (Some(outcome), false) = (connection.outcome(), *was_told) {
             *was_told = true;
             application.ended(connection.last_end(), outcome);
-            program::tell_more(&format!("connection with {peer} ended: {outcome}"));
+            tell_end::<A>(*peer, connection.was_open(), outcome);
         }
         if connection.is_gone() {
             for id in connection.ids() {
@@ -363,7 +390,6 @@ mod tests {
     use super::*;
     use crate::certificate::Identity;
     use crate::client::connect;
-    use crate::fault::Outcome;
     use crate::files::Folder;
     use crate::packet::VERSION_1;
     use crate::program::client;
@@ -442,7 +468,9 @@ mod tests {
             turn(connection, &mut client.application, &mut out, transmit).unwrap();
             let now = Some(Instant::now());
             self.server.turn(now, &mut out).unwrap();
-            let take = |datagram: &mut [u8], _| connection.receive(datagram, Instant::now());
+            let take = |datagram: &mut [u8], _| {
+                connection.receive(datagram, Instant::now());
+            };
             receive_batch(&client.socket, now, take).unwrap();
             let now = Instant::now();
             if connection.timer(now).is_some_and(|at| at <= now) {
@@ -452,13 +480,57 @@ mod tests {
     }
 
     #[test]
+    fn a_handshake_that_fails_is_told() {
+        let mut world = World::new();
+        let server = world.server.socket.local_addr().unwrap();
+        let mut client = Client {
+            socket: connect(server).unwrap(),
+            connection: client(b"another", "localhost", VERSION_1, world.config).unwrap(),
+            application: Nothing,
+            sent: 0,
+        };
+        while client.connection.outcome().is_none() {
+            world.step(&mut client);
+        }
+        let said = log::SAID.take();
+        assert_eq!(said.len(), 1, "{said:?}");
+        // no_application_protocol (RFC 7301, section 3.2; RFC 9001, section 8.1)
+        let told = " the handshake failed: failed with code 0x178 ";
+        assert!(said[0].contains(told), "{said:?}");
+    }
+
+    #[test]
+    fn a_client_that_moves_is_followed() {
+        let mut world = World::new();
+        let wanted = vec!["Cargo.toml".to_owned(); FILES];
+        let mut client = world.client(RawClient::new(wanted));
+        let server = world.server.socket.local_addr().unwrap();
+        let mut moves = 0;
+        while client.connection.outcome().is_none() {
+            if client.application.loaded.len() >= 15 * (moves + 1) {
+                client.socket = connect(server).unwrap();
+                moves += 1;
+            }
+            world.step(&mut client);
+        }
+        assert_eq!(moves, 3);
+        assert_eq!(client.application.loaded.len(), FILES);
+        assert!(matches!(
+            client.connection.outcome(),
+            Some(Outcome::Closed(_))
+        ));
+    }
+
+    #[test]
     fn a_stop_tells_the_clients() {
         let mut world = World::new();
         let mut client = world.client(Nothing);
         // (its handshake is over at both ends)
         (0..20).for_each(|_| world.step(&mut client));
         world.server.stop(&mut Vec::new()).unwrap();
-        let take = |datagram: &mut [u8], _| client.connection.receive(datagram, Instant::now());
+        let take = |datagram: &mut [u8], _| {
+            client.connection.receive(datagram, Instant::now());
+        };
         receive_batch(&client.socket, Some(Instant::now()), take).unwrap();
         let told = Outcome::PeerClosed {
             by_application: true,

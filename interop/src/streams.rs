@@ -1,6 +1,7 @@
 //! What the applications do with streams: read one to its end, write bytes as room comes.
 
 use crate::fault::{Close, Outcome};
+use crate::priorities::Priorities;
 use gotsavena::{Endpoint, Read, StreamId, UseFault};
 use std::io;
 
@@ -20,6 +21,9 @@ pub trait Application {
     fn waits_for_streams(&self) -> bool {
         false
     }
+
+    /// Tells how soon streams go, where it isn't by turns.
+    fn prioritize(&self, _priorities: &mut Priorities) {}
 
     /// The server stops: the peer is told, where the protocol has words for that. Answers whether nothing is under way. It is asked
     /// again and again until then.

@@ -1,6 +1,7 @@
 //! An HTTP/3 client: loads files of one server, all at once, into a folder, on one connection or as many as the server asks for. With `--stop-after BYTES` it stops each
 //! file in the middle; with `--resets N` it begins N requests before each file that it breaks off in the middle; with `--unread N` it
-//! asks N times for the first file, reads nothing of the answers, and loads the others.
+//! asks N times for the first file, reads nothing of the answers, and loads the others. With `--urgent PATH` that file is wanted before
+//! the others (RFC 9218).
 
 use gotsavena_interop::client::run_errand;
 use gotsavena_interop::h3::client::{Loader, Manners, Url};
@@ -11,7 +12,7 @@ use std::time::Instant;
 
 fn main() -> ExitCode {
     program::run(
-        "h3-client [--download DIR] [--stop-after BYTES] [--resets N] [--unread N] [--window BYTES] [--stream-window BYTES] [--most-window BYTES] [--streams N] [--idle SECONDS] [--qlog FOLDER] [--quic-version HEX] URL..",
+        "h3-client [--download DIR] [--stop-after BYTES] [--resets N] [--unread N] [--urgent PATH] [--window BYTES] [--stream-window BYTES] [--most-window BYTES] [--streams N] [--idle SECONDS] [--qlog FOLDER] [--quic-version HEX] URL..",
         load,
     )
 }
@@ -23,6 +24,7 @@ fn load(mut words: Words) -> Result<(), Refusal> {
     let stop_after = words.number("stop-after", u64::MAX)?;
     let resets = words.number("resets", 0)? as usize;
     let unread = words.number("unread", 0)? as usize;
+    let urgent = words.option("urgent");
     words.no_more_options()?;
     let (first, urls) = urls(&words.rest)?;
     let begin = Instant::now();
@@ -30,6 +32,7 @@ fn load(mut words: Words) -> Result<(), Refusal> {
         stop_after: stop_after as usize,
         resets,
         unread,
+        urgent,
     };
     let mut loader = Loader::new(urls, manners);
     let make = || client(PROTOCOL, first.host(), version, config);

@@ -1,4 +1,4 @@
-//! An HTTP/3 server of the files of a folder, on one address or several. It tells how Chromium is led to it.
+//! An HTTP/3 server of the files of a folder, on one address or several. It tells how Chromium and Firefox are led to it.
 
 use gotsavena_interop::budget::{self, Budget};
 use gotsavena_interop::files::Folder;
@@ -11,7 +11,6 @@ use gotsavena_interop::program::{
 use gotsavena_interop::server::Server;
 use gotsavena_interop::stop::Stop;
 use gotsavena_interop::tls::server_config;
-use std::net::UdpSocket;
 use std::process::ExitCode;
 
 fn main() -> ExitCode {
@@ -35,12 +34,14 @@ fn serve(mut words: Words) -> Result<(), Refusal> {
     }
     let folder = Folder::open(root)
         .map_err(|error| Refusal::Failure(format!("{root} can't be opened: {error}")))?;
-    let hash = identity.key_hash();
+    let hashes = identity.key_hash().zip(identity.fingerprint());
     let tls = server_config(identity, &[PROTOCOL])?;
     raise_file_limit();
     let sockets = listen_on_all(addresses)?;
-    if let (Some(hash), Some(socket)) = (hash, sockets.first()) {
-        tell_browsers(&hash, socket)?;
+    if let (Some((hash, fingerprint)), Some(socket)) = (hashes, sockets.first()) {
+        let port = socket.local_addr().map_err(Refusal::failure)?.port();
+        tell_chromium(&hash, port);
+        tell_firefox(&fingerprint, port);
     }
     let budget = Budget::new(budget::OF_ALL);
     let stop = Stop::by_signals(&sockets).map_err(Refusal::failure)?;
@@ -57,9 +58,8 @@ fn serve(mut words: Words) -> Result<(), Refusal> {
     run_all(servers)
 }
 
-// A browser takes a certificate that it can't know by the hash of its key.
-fn tell_browsers(hash: &str, socket: &UdpSocket) -> Result<(), Refusal> {
-    let port = socket.local_addr().map_err(Refusal::failure)?.port();
+// Chromium takes a certificate that it can't know by the hash of its key.
+fn tell_chromium(hash: &str, port: u16) {
     let url = format!("https://localhost:{port}/");
     say(format_args!("{url}"));
     say(format_args!("the key of the certificate: sha256/{hash}"));
@@ -67,5 +67,17 @@ fn tell_browsers(hash: &str, socket: &UdpSocket) -> Result<(), Refusal> {
         "chromium --user-data-dir=/tmp/gotsavena-chromium --origin-to-force-quic-on=localhost:{port} \
          --ignore-certificate-errors-spki-list={hash} {url}"
     ));
-    Ok(())
+}
+
+// Firefox finds both in its folder: where HTTP/3 is spoken, and an exception for the certificate (by SHA-256, whose identifier it names).
+fn tell_firefox(fingerprint: &str, port: u16) {
+    let folder = "/tmp/gotsavena-firefox";
+    let pref = "network.http.http3.";
+    say(format_args!(
+        "mkdir -p {folder} && \
+         echo 'user_pref(\"{pref}alt-svc-mapping-for-testing\", \"localhost;h3=:{port}\"); \
+         user_pref(\"{pref}force-use-alt-svc-mapping-for-testing\", true);' >{folder}/user.js && \
+         printf 'localhost:{port}:\\tOID.2.16.840.1.101.3.4.2.1\\t{fingerprint}\\t\\n' >{folder}/cert_override.txt && \
+         firefox --profile {folder} https://localhost:{port}/"
+    ));
 }

@@ -144,12 +144,14 @@ impl Connection {
             Frame::PathChallenge { bytes } => {
                 self.control(Control::PathResponse(bytes.try_into().unwrap_or_default()));
             }
+            Frame::PathResponse { bytes } => self.take_path_response(bytes),
+            Frame::RetireConnectionId { .. } => self.take_retired()?,
             Frame::HandshakeDone if !self.known.is_confirmed => self.confirm(),
             Frame::ConnectionClose { code, reason, .. } => {
                 self.peer_closed(false, code, reason, now)
             }
             Frame::ApplicationClose { code, reason } => self.peer_closed(true, code, reason, now),
-            // What else is the stream layer's own, a token, and a path that wasn't challenged.
+            // What else is the stream layer's own, and a token.
             _ => {}
         }
         Ok(())
@@ -162,9 +164,10 @@ impl Connection {
                 Some((PROTOCOL_VIOLATION, "a frame that only a server sends"))
             }
             Frame::NewToken { bytes: [] } => Some((FRAME_ENCODING_ERROR, "a token without a byte")),
-            Frame::RetireConnectionId { .. } => {
-                Some((PROTOCOL_VIOLATION, "the only identifier is retired"))
-            }
+            Frame::RetireConnectionId { sequence } if !self.may_retire(*sequence) => Some((
+                PROTOCOL_VIOLATION,
+                "the only identifier is retired, or one that wasn't given",
+            )),
             _ => None,
         }
     }

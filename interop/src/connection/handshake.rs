@@ -26,6 +26,7 @@ impl Connection {
         self.look_at_parameters()?;
         if self.session.is_done() && !self.known.is_confirmed && self.role == Role::Server {
             self.controls.push_back(Control::HandshakeDone);
+            self.give_ids()?;
             self.confirm();
         }
         Ok(())

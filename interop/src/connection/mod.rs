@@ -7,6 +7,7 @@
 mod ending;
 mod frames;
 mod handshake;
+mod moving;
 mod receive;
 mod send;
 #[cfg(test)]
@@ -17,6 +18,7 @@ use crate::fault::{Fault, Outcome};
 use crate::ids::{ACTIVE_IDS, PeerIds};
 use crate::packet::{ConnectionId, Level, OWN_ID_LEN, VERSION_1};
 use crate::parameters::Parameters;
+use crate::priorities::Priorities;
 use crate::protection::DataKeys;
 use crate::qlog::Trace;
 use crate::ranges::Numbers;
@@ -25,6 +27,7 @@ use crate::tls::Session;
 use crate::windows::Windows;
 use ending::State;
 use gotsavena::{Endpoint, Role, Settings, StreamId, Tuning};
+use moving::Moving;
 use ring::rand::{SecureRandom, SystemRandom};
 use rustls::quic::{Keys, Version};
 use rustls::{ClientConfig, ServerConfig};
@@ -103,6 +106,7 @@ pub struct Connection {
     windows: Windows,
     /// The stream behind the one that sent last: from it on the next packet takes bytes, so that streams send by turns.
     turn: StreamId,
+    priorities: Priorities,
     /// One more than the largest number of a 1-RTT packet that came.
     expected: u64,
     early: Vec<Vec<u8>>,
@@ -112,6 +116,7 @@ pub struct Connection {
     retry_source: Option<ConnectionId>,
     token: Vec<u8>,
     peer_ids: PeerIds,
+    moving: Moving,
     peer: Parameters,
     controls: VecDeque<Control>,
     known: Known,
@@ -166,6 +171,7 @@ impl Connection {
     ) -> Result<Connection, Fault> {
         let own_id = random_id()?;
         let mut told = own_parameters(&config, own_id);
+        told.stays = false;
         told.original_destination = Some(destination);
         let session = Session::server(tls, told.write())?;
         let mut connection =
@@ -196,6 +202,7 @@ impl Connection {
             end: None,
             windows: Windows::new(role, config.settings.limits(), config.most_window, now),
             turn: stream_behind(None),
+            priorities: Priorities::default(),
             expected: 0,
             early: Vec::new(),
             recovery: Recovery::new(DATAGRAM),
@@ -204,6 +211,7 @@ impl Connection {
             retry_source: None,
             token: Vec::new(),
             peer_ids: PeerIds::new(ConnectionId::default()),
+            moving: Moving::default(),
             peer: Parameters::default(),
             controls: VecDeque::new(),
             known: Known::default(),
@@ -223,17 +231,17 @@ impl Connection {
         }
     }
 
-    /// The identifiers under which the peer finds this connection.
-    pub fn ids(&self) -> [ConnectionId; 2] {
-        [self.own_id, self.first_destination]
-    }
-
     /// The stream layer's end, once the handshake is done and until the connection ends.
     pub fn end(&mut self) -> Option<&mut Endpoint> {
         match self.state {
             State::Open if self.session.is_done() => self.end.as_mut(),
             _ => None,
         }
+    }
+
+    /// How soon each stream goes.
+    pub fn priorities(&mut self) -> &mut Priorities {
+        &mut self.priorities
     }
 
     /// The stream layer's end, if there was one, whatever became of the connection: to look at.
@@ -249,6 +257,11 @@ impl Connection {
     /// How it ended, or ends.
     pub fn outcome(&self) -> Option<&Outcome> {
         self.outcome.as_ref()
+    }
+
+    /// Whether the handshake was done.
+    pub fn was_open(&self) -> bool {
+        self.session.is_done()
     }
 
     /// Whether nothing more is to come of it.
@@ -298,6 +311,7 @@ fn own_parameters(config: &Config, own_id: ConnectionId) -> Parameters {
         max_ack_delay: MAX_ACK_DELAY,
         active_ids: ACTIVE_IDS,
         initial_source: Some(own_id),
+        stays: true,
         ..Parameters::default()
     }
 }

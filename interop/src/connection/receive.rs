@@ -1,5 +1,6 @@
 //! Datagrams come (RFC 9000, section 12.2).
 
+use super::moving::is_probing;
 use super::{Connection, MOST_EARLY, State};
 use crate::fault::{Fault, INTERNAL_ERROR, Outcome, PROTOCOL_VIOLATION};
 use crate::packet::{Kind, Level, Packet, VERSION_1, read_packet};
@@ -16,8 +17,15 @@ const TOKEN_LEN: usize = 16;
 const MOST_RUNS: u64 = 1 << 14;
 
 impl Connection {
-    /// Takes a datagram in. It is opened in place.
-    pub fn receive(&mut self, datagram: &mut [u8], now: Instant) {
+    /// Takes a datagram in. It is opened in place. Answers whether the peer is where it came from: a packet of it is the newest, and does
+    /// more than to look whether the address is there (RFC 9000, section 9.3).
+    pub fn receive(&mut self, datagram: &mut [u8], now: Instant) -> bool {
+        let newest = self.moving.newest;
+        self.take_datagram(datagram, now);
+        self.moving.newest > newest
+    }
+
+    fn take_datagram(&mut self, datagram: &mut [u8], now: Instant) {
         self.bytes_in += datagram.len();
         match self.state {
             State::Open => {}
@@ -74,13 +82,8 @@ impl Connection {
         self.asked_since_active = false;
         let payload = &bytes[opened.payload.clone()];
         if let Some(trace) = &mut self.trace {
-            let packet = qlog::Packet {
-                level,
-                number: opened.number,
-                len: bytes.len(),
-                payload,
-            };
-            trace.received(&packet, now);
+            let told = qlog::Packet::new(level, opened.number, bytes.len(), payload);
+            trace.received(&told, now);
         }
         if level == Level::Data {
             self.take_data(opened.number, payload, now)?;
@@ -144,6 +147,9 @@ impl Connection {
                 0x08,
                 "too many gaps on streams",
             ));
+        }
+        if number >= self.expected && !is_probing(payload) {
+            self.moving.newest = Some(number);
         }
         self.expected = self.expected.max(number + 1);
         match end.receive(number, payload) {

@@ -17,9 +17,9 @@ const LEAST_ROOM: usize = 64;
 const ACK_LEN: usize = 300;
 
 /// A packet in the making, and what is to be known of it once it was sent.
-struct Planned {
-    draft: Draft,
-    sent: Sent,
+pub(super) struct Planned {
+    pub draft: Draft,
+    pub sent: Sent,
 }
 
 /// The transport's own frames of a packet.
@@ -35,7 +35,7 @@ impl Connection {
     pub fn send(&mut self, out: &mut Vec<u8>, now: Instant) -> bool {
         out.clear();
         if self.standing().is_held_back {
-            return false;
+            return self.send_challenge(out, now);
         }
         if let (Some(trace), Some(end)) = (&mut self.trace, &self.end) {
             trace.moves(end, now);
@@ -92,16 +92,13 @@ impl Connection {
         }
     }
 
-    fn note_sent(&mut self, plan: Planned, out: &mut [u8]) {
+    pub(super) fn note_sent(&mut self, plan: Planned, out: &mut [u8]) {
         let Planned { draft, mut sent } = plan;
         if let Some(trace) = &mut self.trace {
-            let packet = qlog::Packet {
-                level: draft.level,
-                number: draft.number,
-                len: draft.end + TAG_LEN - draft.start,
-                payload: &out[draft.payload_at()..draft.end],
-            };
-            trace.sent(&packet, sent.at);
+            let len = draft.end + TAG_LEN - draft.start;
+            let payload = &out[draft.payload_at()..draft.end];
+            let told = qlog::Packet::new(draft.level, draft.number, len, payload);
+            trace.sent(&told, sent.at);
         }
         match (
             draft.level,
@@ -123,7 +120,7 @@ impl Connection {
         self.recovery.sent(draft.level, draft.number, sent);
     }
 
-    fn header(&self, level: Level, number: u64) -> Header<'_> {
+    pub(super) fn header(&self, level: Level, number: u64) -> Header<'_> {
         Header {
             level,
             version: self.version,
@@ -246,6 +243,11 @@ impl Connection {
         }
         self.space(Level::Data).probes = probes.saturating_sub(1);
         draft.finish(out);
+        // So that the path is known to carry as much (RFC 9000, section 8.2.1).
+        let is_challenge = |control: &Control| matches!(control, Control::PathChallenge(_));
+        if own.controls.iter().any(is_challenge) {
+            draft.pad(out, DATAGRAM);
+        }
         let sent = sent_now(now, asks, own.crypto, own.controls);
         Ok(Some(Planned { draft, sent }))
     }
@@ -267,11 +269,13 @@ impl Connection {
         Ok(Some(Planned { draft, sent }))
     }
 
-    // The stream layer writes what is due behind the header, bytes of the stream behind the one that sent last first. Answers
-    // whether it had something.
+    // The stream layer writes what is due behind the header, bytes of the most urgent stream first, or of the one behind that which sent
+    // last. Answers whether it had something.
     fn make(&mut self, out: &mut Vec<u8>, room: usize) -> Result<bool, Fault> {
-        let (at, turn) = (out.len(), self.turn);
-        let made = self.put_made(out, room, |end, room| end.make_packet_from(turn, 0, room))?;
+        let at = out.len();
+        let next = |end: &Endpoint| self.priorities.next(end, self.turn);
+        let first = self.end.as_ref().map_or(self.turn, next);
+        let made = self.put_made(out, room, |end, room| end.make_packet_from(first, 0, room))?;
         if let Some(last) = last_stream(&out[at..]) {
             self.turn = stream_behind(Some(last));
         }
@@ -301,7 +305,7 @@ impl Connection {
     }
 
     /// The next number of the application's space, for a packet without the stream layer's frames.
-    fn claim(&mut self) -> Result<u64, Fault> {
+    pub(super) fn claim(&mut self) -> Result<u64, Fault> {
         let claimed = self.end.as_mut().map(|end| end.claim_number());
         claimed
             .unwrap_or(Ok(0))
@@ -351,7 +355,7 @@ impl Connection {
     }
 }
 
-fn sent_now(
+pub(super) fn sent_now(
     at: Instant,
     asks: bool,
     crypto: Vec<std::ops::Range<usize>>,
@@ -373,6 +377,17 @@ fn frame_of(control: &Control) -> Frame<'_> {
             sequence: *sequence,
         },
         Control::PathResponse(bytes) => Frame::PathResponse { bytes },
+        Control::PathChallenge(bytes) => Frame::PathChallenge { bytes },
+        Control::NewId {
+            sequence,
+            id,
+            token,
+        } => Frame::NewConnectionId {
+            sequence: *sequence,
+            retire: 0,
+            identifier: id.as_slice(),
+            reset_token: token,
+        },
     }
 }
 

@@ -261,6 +261,29 @@ fn a_server_sends_little_to_an_address_that_is_not_validated() {
     assert!(world.end(1).is_gone());
 }
 
+#[test]
+fn little_goes_to_an_address_to_which_a_client_moved_until_it_answers() {
+    let mut world = World::new(0, Duration::from_secs(5));
+    world.connect();
+    exchange(&mut world, 10_000);
+    let (now, mut out, mut sent) = (world.now, Vec::new(), 0);
+    let server = world.end(1);
+    let stream = server.end().unwrap().open(Dir::Uni).unwrap();
+    server.end().unwrap().write(stream, &[7; 10_000]).unwrap();
+    server.follow(50, true).unwrap();
+    let mut datagrams = Vec::new();
+    while server.send(&mut out, now) {
+        sent += out.len();
+        datagrams.push(out.clone());
+    }
+    // Three times what came (RFC 9000, section 8), and what asks for an answer.
+    assert!((1..=150).contains(&sent), "{sent}");
+    datagrams
+        .iter_mut()
+        .for_each(|datagram| world.deliver(0, datagram));
+    exchange(&mut world, 100_000);
+}
+
 // One end writes so many bytes, which the other one reads. Answers how long that takes.
 fn sends(world: &mut World, count: usize) -> Duration {
     let begin = world.now;

@@ -80,10 +80,11 @@ pub struct Loader {
     is_away: bool,
     /// After so many bytes of a body no more is wanted.
     stop_after: usize,
+    urgent: Option<String>,
 }
 
 /// What a client does beside loading files.
-#[derive(Clone, Copy, Debug)]
+#[derive(Clone, Debug)]
 pub struct Manners {
     /// After so many bytes of a body no more is wanted.
     pub stop_after: usize,
@@ -91,6 +92,8 @@ pub struct Manners {
     pub resets: usize,
     /// So many requests for the first file are sent of which no answer is read. Without another file the client stays then.
     pub unread: usize,
+    /// The path of the file that is wanted most.
+    pub urgent: Option<String>,
 }
 
 impl Loader {
@@ -99,6 +102,7 @@ impl Loader {
             stop_after,
             resets,
             unread,
+            urgent,
         } = manners;
         let stays = unread > 0 && urls.len() == 1;
         let first = urls.iter().take(1).cycle().take(unread);
@@ -114,6 +118,7 @@ impl Loader {
             given_up: BTreeSet::new(),
             loaded: Vec::new(),
             stop_after,
+            urgent,
             stays,
             is_away: false,
         }
@@ -141,12 +146,14 @@ impl Loader {
                 Wanted::File(url) | Wanted::Unread(url) => ("GET", url, None),
                 Wanted::Nothing(url) => ("GET", url, Some(Body::of_bytes(vec![0; BEGUN]))),
             };
+            let is_urgent = self.urgent.as_ref() == Some(&url.path);
             let fields = [
                 (":method", method),
                 (":scheme", "https"),
                 (":authority", &url.authority),
                 (":path", &url.path),
                 ("user-agent", "gotsavena-interop"),
+                ("priority", if is_urgent { "u=0" } else { "u=3" }),
             ];
             let fields =
                 fields.map(|(name, value)| (name.as_bytes().to_vec(), value.as_bytes().to_vec()));
@@ -210,7 +217,9 @@ impl Loader {
                 self.ask_again(stream);
             }
             Event::GoAway(first) => self.go_away(first),
-            Event::Broken(stream, _) => self.loaded.extend(self.running.remove(&stream)),
+            Event::Broken(stream, _) | Event::Malformed(stream, _) => {
+                self.loaded.extend(self.running.remove(&stream));
+            }
             // A response that is too large is dropped (RFC 9114, section 4.2.2).
             Event::TooManyFields(stream) => {
                 session.cancel(end, stream)?;

@@ -84,6 +84,13 @@ pub struct Settings {
 }
 
 #[repr(C)]
+#[derive(Default)]
+pub struct Priority {
+    pub urgency: u32,
+    pub incremental: c_int,
+}
+
+#[repr(C)]
 pub struct DataReader {
     pub read_data: ReadData,
 }
@@ -143,6 +150,11 @@ unsafe extern "C" {
     pub fn nghttp3_conn_shutdown_stream_write(conn: *mut Conn, stream: i64);
     pub fn nghttp3_conn_shutdown_stream_read(conn: *mut Conn, stream: i64) -> c_int;
     pub fn nghttp3_conn_submit_shutdown_notice(conn: *mut Conn) -> c_int;
+    pub fn nghttp3_conn_get_stream_priority(
+        conn: *mut Conn,
+        priority: *mut Priority,
+        stream: i64,
+    ) -> c_int;
     pub fn nghttp3_conn_shutdown(conn: *mut Conn) -> c_int;
     pub fn nghttp3_conn_close_stream(conn: *mut Conn, stream: i64, code: u64) -> c_int;
     pub fn nghttp3_conn_submit_request(

@@ -1,5 +1,6 @@
 //! HTTP/3 (RFC 9114) over the streams, by the C library nghttp3.
 
+mod answers;
 pub mod client;
 mod declarations;
 pub mod server;

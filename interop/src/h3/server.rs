@@ -1,17 +1,19 @@
 //! A server of files: GET and HEAD.
 
 use super::NO_ERROR;
-use super::session::{Event, Field, Session};
+use super::answers::{Answer, Request, field};
+use super::session::{Event, Session};
 use crate::budget::{Budget, Share, most};
 use crate::fault::{Close, Outcome};
-use crate::files::{Folder, Named, is_exhausted};
+use crate::files::Folder;
 use crate::log::Entry;
-use crate::program::tell;
-use crate::streams::{Application, Body};
+use crate::priorities::{Priorities, Priority};
+use crate::streams::Application;
 use gotsavena::{Dir, Endpoint, Role, SendState, StreamId};
-use std::collections::{BTreeMap, HashMap};
+use httpdate::fmt_http_date;
+use std::collections::{BTreeMap, BTreeSet, HashMap};
 use std::net::SocketAddr;
-use std::time::{Duration, Instant};
+use std::time::{Duration, Instant, SystemTime};
 
 /// How much is read of the body of a request that is refused, and for how long. Chromium doesn't look at an answer whose request is
 /// stopped meanwhile.
@@ -47,82 +49,8 @@ pub struct FileServer {
     /// Once it may open no more than so many, it is told to take a new connection; `None` once it was told.
     away_at: Option<u64>,
     is_stopping: bool,
-}
-
-/// What is used of a request's fields.
-#[derive(Default)]
-struct Request {
-    method: Vec<u8>,
-    path: Vec<u8>,
-}
-
-/// What a request is answered with.
-struct Answer {
-    status: &'static str,
-    fields: Vec<Field>,
-    /// How long the body is, of HEAD too, and the body itself.
-    len: u64,
-    body: Option<Body>,
-}
-
-impl Request {
-    fn take(&mut self, (name, value): Field) {
-        match name.as_slice() {
-            b":method" => self.method = value,
-            b":path" => self.path = value,
-            // CONNECT has no path (RFC 9114, section 4.4).
-            b":authority" if self.path.is_empty() => self.path = value,
-            _ => {}
-        }
-    }
-
-    fn is_of_files(&self) -> bool {
-        matches!(self.method.as_slice(), b"GET" | b"HEAD")
-    }
-
-    // What is there can't be given out for now (RFC 9110, section 15.6.4).
-    fn unavailable(&self, reason: &str) -> Answer {
-        tell(&format!(
-            "{} is answered 503: {reason}",
-            self.path.escape_ascii()
-        ));
-        Answer::of("503", &[("retry-after", "10")])
-    }
-
-    fn answer(&self, folder: &Folder) -> Answer {
-        match folder.named(&self.path) {
-            Ok(Named::File(found)) => {
-                let mut answer = Answer::of("200", &[("content-type", found.kind)]);
-                answer.len = found.len;
-                answer.body = (self.method == b"GET").then(|| found.body());
-                answer
-            }
-            Ok(Named::Folder(to)) => Answer::of("301", &[("location", &to)]),
-            Err(error) if is_exhausted(&error) => self.unavailable(&error.to_string()),
-            Err(_) => Answer::of("404", &[]),
-        }
-    }
-}
-
-impl Answer {
-    /// How many bytes of the body go: none of HEAD.
-    fn sent_len(&self) -> u64 {
-        self.body.as_ref().map_or(0, |_| self.len)
-    }
-
-    fn of(status: &'static str, fields: &[(&str, &str)]) -> Answer {
-        let fields = fields.iter().map(|(name, value)| field(name, value));
-        Answer {
-            status,
-            fields: fields.collect(),
-            len: 0,
-            body: None,
-        }
-    }
-}
-
-fn field(name: &str, value: &str) -> Field {
-    (name.as_bytes().to_vec(), value.as_bytes().to_vec())
+    /// Requests that broke a rule, and of which the client may tell that they are over.
+    malformed: BTreeSet<StreamId>,
 }
 
 impl FileServer {
@@ -139,6 +67,7 @@ impl FileServer {
             in_all: 0,
             away_at: None,
             is_stopping: false,
+            malformed: BTreeSet::new(),
         }
     }
 
@@ -186,8 +115,14 @@ impl FileServer {
             }
             Event::End(stream) => {
                 self.refused.remove(&stream);
+                self.malformed.remove(&stream);
                 let folder = self.folder.clone();
                 self.respond(session, stream, |request| request.answer(&folder))?;
+            }
+            Event::Malformed(stream, code) => {
+                let request = self.requests.remove(&stream).unwrap_or_default();
+                self.entry(&request, "-", 0).malformed(code);
+                self.malformed.insert(stream);
             }
             Event::Broken(stream, code) => self.break_off(stream, code),
             // What a request brings beside its fields isn't used.
@@ -229,7 +164,7 @@ impl FileServer {
     fn break_off(&mut self, stream: StreamId, code: u64) {
         self.refused.remove(&stream);
         let request = self.requests.remove(&stream).unwrap_or_default();
-        if !self.answered.contains_key(&stream) {
+        if !self.malformed.remove(&stream) && !self.answered.contains_key(&stream) {
             self.entry(&request, "-", 0).broken(code, 0);
         }
     }
@@ -252,8 +187,13 @@ impl FileServer {
         let mut fields = vec![
             field(":status", answer.status),
             field("server", "gotsavena-interop"),
-            field("content-length", &answer.len.to_string()),
+            field("date", &fmt_http_date(SystemTime::now())),
         ];
+        fields.extend(
+            answer
+                .len
+                .map(|len| field("content-length", &len.to_string())),
+        );
         let entry = self.entry(&request, answer.status, answer.sent_len());
         fields.extend(answer.fields);
         self.answered.insert(stream, entry);
@@ -287,6 +227,27 @@ impl FileServer {
 
 impl Application for FileServer {
     const NO_ERROR: u64 = NO_ERROR;
+
+    // As RFC 9218 has it. The connection's own streams have little to say, and go before all.
+    fn prioritize(&self, priorities: &mut Priorities) {
+        let Some(session) = &self.session else {
+            return;
+        };
+        let first = Priority {
+            urgency: 0,
+            is_incremental: false,
+        };
+        let own = session.own().iter().map(|stream| (*stream, Some(first)));
+        own.for_each(|(stream, first)| priorities.set(stream, first));
+        for stream in self.answered.keys() {
+            if let Some(priority) = session.priority(*stream) {
+                priorities.set(*stream, Some(priority));
+            }
+        }
+        let is_over =
+            |stream: &StreamId| stream.dir() == Dir::Bidi && !self.answered.contains_key(stream);
+        priorities.forget(is_over);
+    }
 
     fn stop(&mut self) -> Result<bool, Close> {
         let Some(session) = &mut self.session else {

@@ -6,6 +6,7 @@
 use super::declarations::*;
 use super::{CLOSED_CRITICAL_STREAM, INTERNAL_ERROR, NO_ERROR, REQUEST_CANCELLED};
 use crate::fault::Close;
+use crate::priorities;
 use crate::streams::{Body, abandon};
 use gotsavena::{Dir, Endpoint, OpenFault, Read, Role, StreamId, UseFault};
 use std::collections::{BTreeSet, HashMap, VecDeque};
@@ -25,6 +26,8 @@ pub enum Event {
     TooManyFields(StreamId),
     Data(StreamId, Vec<u8>),
     End(StreamId),
+    /// The library refuses the stream.
+    Malformed(StreamId, u64),
     /// The peer broke the stream off, or asked to stop.
     Broken(StreamId, u64),
     /// The peer takes no new request on this connection, and won't answer those on this stream and on higher ones.
@@ -459,6 +462,23 @@ impl Session {
         }
     }
 
+    /// How soon the answer on a stream is to go, as the client told last; `None` once it went to the end.
+    pub fn priority(&self, stream: StreamId) -> Option<priorities::Priority> {
+        let mut told = Priority::default();
+        // Sound: as above, and this end is a server's.
+        let error =
+            unsafe { nghttp3_conn_get_stream_priority(self.conn, &mut told, number(stream)) };
+        (error == 0).then_some(priorities::Priority {
+            urgency: told.urgency as u8,
+            is_incremental: told.incremental != 0,
+        })
+    }
+
+    /// The streams that this end opened for itself.
+    pub fn own(&self) -> &[StreamId] {
+        &self.own
+    }
+
     fn keep_body(&mut self, stream: StreamId, body: Option<Body>, is_whole: bool) {
         let outgoing = body.map(|body| (number(stream), Outgoing::new(body, is_whole)));
         self.shared().bodies.extend(outgoing);
@@ -553,6 +573,8 @@ impl Session {
         }
         for (stream, code) in std::mem::take(&mut self.shared().resets) {
             abandon(end, id(stream), code).map_err(internal)?;
+            let event = Event::Malformed(id(stream), code);
+            self.shared().events.push_back(event);
         }
         Ok(())
     }

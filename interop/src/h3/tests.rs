@@ -6,6 +6,7 @@ use super::{CLOSED_CRITICAL_STREAM, NO_ERROR};
 use crate::budget::{Budget, OF_ALL};
 use crate::fault::Close;
 use crate::files::Folder;
+use crate::log::SAID;
 use crate::streams::{Application, Body};
 use gotsavena::{Dir, Endpoint, Role, Settings, StreamId};
 use std::collections::{BTreeMap, HashMap};
@@ -135,7 +136,7 @@ impl Pair {
                 self.came.entry(stream).or_default().broken = Some(code);
             }
             Event::GoAway(stream) => self.away = Some(stream),
-            Event::FieldsEnd(_) | Event::TooManyFields(_) => {}
+            Event::FieldsEnd(_) | Event::TooManyFields(_) | Event::Malformed(..) => {}
         }
     }
 }
@@ -153,7 +154,10 @@ fn a_file_comes_with_its_type_and_length() {
     let mut pair = Pair::new();
     let got = pair.load("GET", "/src/h3/session%2ers", None);
     assert_eq!(got.field(":status"), Some("200"));
-    assert_eq!(got.field("content-type"), Some("application/octet-stream"));
+    assert_eq!(
+        got.field("content-type"),
+        Some("text/x-rust; charset=utf-8")
+    );
     assert_eq!(got.field("content-length"), Some(len.as_str()));
     assert!(got.is_whole && got.body == text);
     // A HEAD has the same fields and no body (RFC 9110, section 8.6).
@@ -242,6 +246,61 @@ fn a_stop_says_which_requests_are_answered() {
     // The two are; the third isn't (RFC 9114, section 5.2).
     assert_eq!(pair.away, StreamId::new(8));
     assert!(pair.application.stop().unwrap());
+}
+
+#[test]
+fn what_a_browser_has_is_not_sent_again() {
+    let mut pair = Pair::new();
+    let first = pair.load("GET", FILE, None);
+    let [tag, time] = ["etag", "last-modified"].map(|name| first.field(name).unwrap().to_owned());
+    assert!(
+        first
+            .field("date")
+            .is_some_and(|date| date.ends_with(" GMT"))
+    );
+    let mut ask = |more: &[(&str, &str)]| {
+        let stream = pair.ask(&[&GET[..], more].concat(), None);
+        pair.run().unwrap();
+        let came = pair.came.remove(&stream).unwrap();
+        (came.field(":status").unwrap().to_owned(), came.body)
+    };
+    let others = format!("\"other\", W/{tag}");
+    let (old, weak) = ("Sun, 06 Nov 1994 08:49:37 GMT", format!("W/{tag}"));
+    let none = ("304".to_owned(), Vec::new());
+    assert_eq!(ask(&[("if-none-match", &tag)]), none);
+    assert_eq!(ask(&[("if-none-match", &others)]), none);
+    assert_eq!(ask(&[("if-modified-since", &time)]), none);
+    let whole = ("200".to_owned(), first.body.clone());
+    assert_eq!(ask(&[("if-none-match", "\"other\"")]), whole);
+    assert_eq!(ask(&[("if-modified-since", old)]), whole);
+    // A tag that differs counts, whatever the time says (RFC 9110, section 13.1.3).
+    assert_eq!(
+        ask(&[("if-none-match", "\"other\""), ("if-modified-since", &time)]),
+        whole
+    );
+    let range = ("range", "bytes=5-9");
+    let part = ("206".to_owned(), first.body[5..10].to_vec());
+    assert_eq!(ask(&[range]), part);
+    assert_eq!(ask(&[range, ("if-range", &tag)]), part);
+    assert_eq!(ask(&[range, ("if-range", &time)]), part);
+    assert_eq!(ask(&[range, ("if-range", "\"other\"")]), whole);
+    assert_eq!(ask(&[range, ("if-range", &weak)]), whole);
+    assert_eq!(ask(&[range, ("if-range", old)]), whole);
+    assert_eq!(ask(&[("range", "bytes=1000000-")]).0, "416");
+}
+
+#[test]
+fn a_malformed_request_is_told() {
+    let mut pair = Pair::new();
+    // There is no path (RFC 9114, section 4.3.1).
+    let stream = pair.ask(&GET[..3], None);
+    pair.run().unwrap();
+    assert_eq!(pair.came[&stream].broken, Some(0x10e));
+    let said = SAID.take();
+    assert_eq!(said.len(), 1, "{said:?}");
+    let told = " 127.0.0.1:1 GET localhost - 0 malformed: code 0x10e";
+    assert!(said[0].ends_with(told), "{said:?}");
+    assert_eq!(pair.load("GET", FILE, None).field(":status"), Some("200"));
 }
 
 #[test]

@@ -1,0 +1,144 @@
+//! A client that moves to another address (RFC 9000, section 9): the server follows it, and asks there whether it is the client's. It gives
+//! out identifiers, so that the client needn't use one at two addresses.
+
+use super::send::{Planned, sent_now};
+use super::{Connection, random_id};
+use crate::crypto::push_frame;
+use crate::fault::{Fault, INTERNAL_ERROR};
+use crate::packet::{ConnectionId, Level};
+use crate::recovery::Control;
+use gotsavena::{Frame, Role, frames};
+use ring::rand::{SecureRandom, SystemRandom};
+use std::time::Instant;
+
+/// How many identifiers a client has at once, if it takes so many, and how many it gets in all.
+const AT_ONCE: u64 = 3;
+const IN_ALL: usize = 32;
+
+/// What a datagram takes that asks an address alone, at most.
+const SMALL: usize = 64;
+
+/// What is known of addresses.
+#[derive(Default)]
+pub(super) struct Moving {
+    /// The largest number of a packet that did more than to look at an address.
+    pub newest: Option<u64>,
+    /// Identifiers that were given out behind the first one: their numbers are 1 and so on.
+    given: Vec<ConnectionId>,
+    /// How many of them the loop over the socket knows.
+    known: usize,
+    /// What the address is asked that wasn't validated.
+    challenge: Option<[u8; 8]>,
+}
+
+fn random<const N: usize>() -> Result<[u8; N], Fault> {
+    let mut bytes = [0; N];
+    match SystemRandom::new().fill(&mut bytes) {
+        Ok(()) => Ok(bytes),
+        Err(_) => Err(Fault::new(INTERNAL_ERROR, 0, "no random bytes")),
+    }
+}
+
+/// Whether a payload only looks whether an address is there (section 9.1).
+pub(super) fn is_probing(payload: &[u8]) -> bool {
+    frames(payload).flatten().all(|placed| {
+        matches!(
+            placed.frame,
+            Frame::PathChallenge { .. }
+                | Frame::PathResponse { .. }
+                | Frame::NewConnectionId { .. }
+                | Frame::Padding
+        )
+    })
+}
+
+impl Connection {
+    /// Identifiers under which the peer finds this connection, too, from now on.
+    pub fn take_new_ids(&mut self) -> Vec<ConnectionId> {
+        let known = std::mem::replace(&mut self.moving.known, self.moving.given.len());
+        self.moving.given[known..].to_vec()
+    }
+
+    /// The identifiers under which the peer finds this connection.
+    pub fn ids(&self) -> Vec<ConnectionId> {
+        let first = [self.own_id, self.first_destination];
+        first
+            .into_iter()
+            .chain(self.moving.given.iter().copied())
+            .collect()
+    }
+
+    /// The peer goes on at another address, from which so many bytes came, with another host or only another port.
+    pub fn follow(&mut self, bytes: usize, is_other_host: bool) -> Result<(), Fault> {
+        // Until it answers, little goes there (sections 8.1 and 9.3.1).
+        self.known.is_validated = false;
+        (self.bytes_in, self.bytes_out) = (bytes, 0);
+        let challenge = random()?;
+        self.moving.challenge = Some(challenge);
+        self.controls.push_front(Control::PathChallenge(challenge));
+        self.controls
+            .extend(self.peer_ids.advance().map(Control::RetireId));
+        if is_other_host {
+            self.recovery.congestion.collapse();
+            self.recovery.path.narrow();
+        }
+        Ok(())
+    }
+
+    /// Asks an address that got as much as it may, by a datagram that is small: one that came may have been, too (section 8.2.1).
+    pub(super) fn send_challenge(&mut self, out: &mut Vec<u8>, now: Instant) -> bool {
+        let has_room = self.bytes_out + SMALL <= 3 * self.bytes_in;
+        let Some(Control::PathChallenge(bytes)) = self.controls.front().cloned() else {
+            return false;
+        };
+        let Some(number) = has_room.then(|| self.claim().ok()).flatten() else {
+            return false;
+        };
+        let control = self.controls.pop_front();
+        let mut draft = self.header(Level::Data, number).write(out);
+        push_frame(out, &Frame::PathChallenge { bytes: &bytes });
+        draft.finish(out);
+        let sent = sent_now(now, true, Vec::new(), control.into_iter().collect());
+        self.note_sent(Planned { draft, sent }, out);
+        self.bytes_out += out.len();
+        true
+    }
+
+    pub(super) fn take_path_response(&mut self, bytes: &[u8]) {
+        if self.moving.challenge.is_some_and(|asked| asked == bytes) {
+            self.moving.challenge = None;
+            self.known.is_validated = true;
+        }
+    }
+
+    /// The first identifiers of a server.
+    pub(super) fn give_ids(&mut self) -> Result<(), Fault> {
+        (1..self.peer.active_ids.min(AT_ONCE)).try_for_each(|_| self.give_id())
+    }
+
+    fn give_id(&mut self) -> Result<(), Fault> {
+        if self.moving.given.len() < IN_ALL {
+            let id = random_id()?;
+            self.moving.given.push(id);
+            let sequence = self.moving.given.len() as u64;
+            let token = random()?;
+            self.controls.push_back(Control::NewId {
+                sequence,
+                id,
+                token,
+            });
+        }
+        Ok(())
+    }
+
+    /// The peer uses an identifier no more: it gets another one.
+    pub(super) fn take_retired(&mut self) -> Result<(), Fault> {
+        self.give_id()
+    }
+
+    /// Whether an identifier of this number was given out, and isn't the only one.
+    pub(super) fn may_retire(&self, sequence: u64) -> bool {
+        let given = self.moving.given.len() as u64;
+        self.role == Role::Server && given > 0 && sequence <= given
+    }
+}
