@@ -91,13 +91,6 @@ impl Identity {
         Identity::read(&certificate, &key)
     }
 
-    /// The hash of the certificate, as Firefox names it.
-    pub fn fingerprint(&self) -> Option<String> {
-        let hash = digest(&SHA256, self.certificates.first()?);
-        let bytes = hash.as_ref().iter().map(|byte| format!("{byte:02X}"));
-        Some(bytes.collect::<Vec<String>>().join(":"))
-    }
-
     /// The hash of the certificate's public key, as browsers name it (RFC 7469, section 2.4); `None` where it has none.
     pub fn key_hash(&self) -> Option<String> {
         let mut certificate = self.certificates.first()?.as_slice();

@@ -34,14 +34,14 @@ fn serve(mut words: Words) -> Result<(), Refusal> {
     }
     let folder = Folder::open(root)
         .map_err(|error| Refusal::Failure(format!("{root} can't be opened: {error}")))?;
-    let hashes = identity.key_hash().zip(identity.fingerprint());
+    let hash = identity.key_hash();
     let tls = server_config(identity, &[PROTOCOL])?;
     raise_file_limit();
     let sockets = listen_on_all(addresses)?;
-    if let (Some((hash, fingerprint)), Some(socket)) = (hashes, sockets.first()) {
+    if let (Some(hash), Some(socket)) = (hash, sockets.first()) {
         let port = socket.local_addr().map_err(Refusal::failure)?.port();
         tell_chromium(&hash, port);
-        tell_firefox(&fingerprint, port);
+        tell_firefox(port);
     }
     let budget = Budget::new(budget::OF_ALL);
     let stop = Stop::by_signals(&sockets).map_err(Refusal::failure)?;
@@ -69,15 +69,14 @@ fn tell_chromium(hash: &str, port: u16) {
     ));
 }
 
-// Firefox finds both in its folder: where HTTP/3 is spoken, and an exception for the certificate (by SHA-256, whose identifier it names).
-fn tell_firefox(fingerprint: &str, port: u16) {
+// Firefox finds in its folder where HTTP/3 is spoken. An exception for the certificate is the user's to make.
+fn tell_firefox(port: u16) {
     let folder = "/tmp/gotsavena-firefox";
     let pref = "network.http.http3.";
     say(format_args!(
         "mkdir -p {folder} && \
          echo 'user_pref(\"{pref}alt-svc-mapping-for-testing\", \"localhost;h3=:{port}\"); \
          user_pref(\"{pref}force-use-alt-svc-mapping-for-testing\", true);' >{folder}/user.js && \
-         printf 'localhost:{port}:\\tOID.2.16.840.1.101.3.4.2.1\\t{fingerprint}\\t\\n' >{folder}/cert_override.txt && \
          firefox --profile {folder} https://localhost:{port}/"
     ));
 }
