@@ -37,6 +37,9 @@ pub enum Event {
 /// How many bytes of a stream are read at once.
 const TURN: usize = 1 << 16;
 
+/// How much may wait to be sent: more than goes at once.
+const MOST_UNSENT: u64 = 1 << 17;
+
 /// How many parts of a stream are written at once.
 const PARTS: usize = 16;
 
@@ -647,9 +650,10 @@ impl Session {
         Ok(())
     }
 
-    // Whether the connection takes nothing for now: not even its control stream does, on which next to nothing goes.
+    // Whether the connection takes nothing for now: not even its control stream does, on which next to nothing goes; or enough waits to
+    // be sent, before which what comes to be more urgent couldn't go.
     fn is_full(&self, end: &Endpoint) -> bool {
-        end.room(self.own[0]) == 0
+        end.room(self.own[0]) == 0 || end.unsent_sum() >= MOST_UNSENT
     }
 
     // A file that can't be read any more breaks its stream off.
