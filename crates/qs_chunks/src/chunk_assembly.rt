@@ -64,7 +64,7 @@ impl Assembly for ChunkAssembly {
 
     ghost size = { λ a. map.len a.stored };
 
-    ghost least = { λ a. map.len a.stored };
+    ghost least = { λ _. 0 };
 
     fn new(alloc: Global, window: u64) -> Self {
         ChunkAssembly {
