@@ -9,6 +9,8 @@ const SERVER: Setup = Setup {
     streams: 100,
     max_data: 1 << 40,
     max_stream_data: 1 << 40,
+    send_buffer: 1 << 20,
+    within_credit: false,
 };
 /// Its windows hold a long fat path.
 const WIDE: Setup = Setup {
@@ -28,6 +30,19 @@ const TIGHT: Setup = Setup {
 const POOR: Setup = Setup {
     max_data: 10,
     ..BUSY
+};
+/// The same, with an owner that writes within credit, or one whose buffers are as small.
+const TIGHT_WITHIN: Setup = Setup {
+    within_credit: true,
+    ..TIGHT
+};
+const POOR_WITHIN: Setup = Setup {
+    within_credit: true,
+    ..POOR
+};
+const TIGHT_BUFFERS: Setup = Setup {
+    send_buffer: 10,
+    ..TIGHT
 };
 const BYTEWISE: Setup = Setup {
     max_stream_data: 1,
@@ -80,6 +95,42 @@ impl<T: Target + 'static> Attack<T> {
             ready: p::nothing,
             steps: |_| 64,
             step: s::near_and_far_byte,
+        },
+        Attack {
+            name: "bytes-apart",
+            what: "x",
+            sizes: [2047, 2048, 65_535],
+            setup: BUSY,
+            ready: p::nothing,
+            steps: |_| 256,
+            step: s::bytes_apart,
+        },
+        Attack {
+            name: "many-apart",
+            what: "x",
+            sizes: [2047, 2048, 16_383],
+            setup: BUSY,
+            ready: p::nothing,
+            steps: |_| 256,
+            step: s::many_apart,
+        },
+        Attack {
+            name: "edges-apart",
+            what: "x",
+            sizes: [2047, 2048, 16_383],
+            setup: BUSY,
+            ready: p::nothing,
+            steps: |_| 256,
+            step: s::edges_apart,
+        },
+        Attack {
+            name: "drawn-up",
+            what: "x",
+            sizes: [2047, 2048, 16_383],
+            setup: BUSY,
+            ready: p::nothing,
+            steps: |_| 128,
+            step: s::drawn_up,
         },
         Attack {
             name: "pages-then-filled",
@@ -212,6 +263,51 @@ impl<T: Target + 'static> Attack<T> {
             ready: p::resets,
             steps: |_| 200,
             step: p::ping,
+        },
+        Attack {
+            name: "news-beside-limits",
+            what: "a PING, then its owner asks for news, while so many writers wait for their streams' credit",
+            sizes: [100, 640, 4096],
+            setup: TIGHT_WITHIN,
+            ready: p::waiting,
+            steps: |_| 200,
+            step: p::ping_heard,
+        },
+        Attack {
+            name: "news-beside-starved",
+            what: "the same, while they wait for the connection's credit",
+            sizes: [100, 640, 4096],
+            setup: POOR_WITHIN,
+            ready: p::waiting,
+            steps: |_| 200,
+            step: p::ping_heard,
+        },
+        Attack {
+            name: "news-beside-full",
+            what: "the same, while they wait for room in their buffers, which their streams' credit holds back",
+            sizes: [100, 640, 4096],
+            setup: TIGHT_BUFFERS,
+            ready: p::waiting,
+            steps: |_| 200,
+            step: p::ping_heard,
+        },
+        Attack {
+            name: "said-beside-limits",
+            what: "150 STREAM_DATA_BLOCKED in place of the PING, each of which is news",
+            sizes: [100, 640, 4096],
+            setup: TIGHT_WITHIN,
+            ready: p::waiting,
+            steps: |_| 200,
+            step: p::said_heard,
+        },
+        Attack {
+            name: "stops-beside-limits",
+            what: "ten STOP_SENDING of further writers in place of the PING",
+            sizes: [100, 640, 4096],
+            setup: TIGHT_WITHIN,
+            ready: p::waiting,
+            steps: |_| 20,
+            step: p::stops_heard,
         },
         Attack {
             name: "blocked-below",
