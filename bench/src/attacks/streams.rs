@@ -10,8 +10,8 @@ const SOME: u64 = 16;
 /// The runs of a stream that is reset over holes.
 const RUNS: u64 = 4096;
 /// The bytes of a page, and how many pages lie nearer than those that stand apart from a ring.
-const PAGE: u64 = 1 << 14;
-const APART: u64 = 4;
+const PAGE: u64 = 1 << 11;
+const APART: u64 = 1;
 /// The window of a stream, in bytes.
 const WINDOW: u64 = 1 << 20;
 /// In how many pieces three quarters of a window come.

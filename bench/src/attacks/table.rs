@@ -98,7 +98,7 @@ impl<T: Target + 'static> Attack<T> {
         },
         Attack {
             name: "bytes-apart",
-            what: "x",
+            what: "on each of four streams 16 bytes come, each so far behind the one before it, then resets, which are read",
             sizes: [2047, 2048, 65_535],
             setup: BUSY,
             ready: p::nothing,
@@ -107,7 +107,7 @@ impl<T: Target + 'static> Attack<T> {
         },
         Attack {
             name: "many-apart",
-            what: "x",
+            what: "the same with 64 bytes on one stream",
             sizes: [2047, 2048, 16_383],
             setup: BUSY,
             ready: p::nothing,
@@ -116,7 +116,7 @@ impl<T: Target + 'static> Attack<T> {
         },
         Attack {
             name: "edges-apart",
-            what: "x",
+            what: "the same with two bytes each, over a multiple of the distance",
             sizes: [2047, 2048, 16_383],
             setup: BUSY,
             ready: p::nothing,
@@ -125,7 +125,7 @@ impl<T: Target + 'static> Attack<T> {
         },
         Attack {
             name: "drawn-up",
-            what: "x",
+            what: "on each of 32 streams a byte comes at this distance, then the one before it, then resets, which are read",
             sizes: [2047, 2048, 16_383],
             setup: BUSY,
             ready: p::nothing,
@@ -134,7 +134,7 @@ impl<T: Target + 'static> Attack<T> {
         },
         Attack {
             name: "pages-then-filled",
-            what: "a byte in each of so many pages of 16 KiB past the first four, then the one that fills the gap before them",
+            what: "a byte in each of so many pages of 2 KiB past the first, then the one before them",
             sizes: [252, 4092, 16_380],
             setup: WIDE,
             ready: p::nothing,
