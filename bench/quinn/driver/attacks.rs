@@ -17,7 +17,11 @@ mod play;
 mod streams;
 mod table;
 
+<<<<<<< HEAD
 pub use counting::{counted_late, gotsavena_counted};
+=======
+use counting::{gotsavena_counted, minor_faults};
+>>>>>>> 86a6673f982567b42dfddb7d41b498dd991d7b6e
 use play::{Attack, Setup, Target};
 
 struct Theirs(End);
@@ -76,6 +80,8 @@ fn limit(value: u64) -> VarInt {
 
 impl Target for Theirs {
     fn new(setup: Setup) -> Self {
+        // Its writes keep within credit, so that no buffer of a stream is bounded beside it.
+        let _ours = (setup.send_buffer, setup.within_credit);
         let streams = limit(setup.streams);
         let (conn_window, window) = (limit(16 * setup.window), limit(setup.window));
         let mut state =
@@ -147,6 +153,9 @@ impl Target for Theirs {
     fn stop(&mut self, stream: gotsavena::StreamId) {
         self.receiving(theirs(stream)).stop(limit(0)).unwrap();
     }
+
+    // It hears as payloads come.
+    fn hear(&mut self) {}
 
     fn settle(&mut self, _came: u64) {}
 }

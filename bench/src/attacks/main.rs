@@ -16,7 +16,7 @@ mod streams;
 mod table;
 
 use clock::time;
-use counting::gotsavena_counted;
+use counting::{gotsavena_counted, minor_faults};
 use play::Attack;
 use std::process::ExitCode;
 

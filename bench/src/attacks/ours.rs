@@ -2,7 +2,7 @@
 
 use super::play::{Attack, Play, Setup, Target, own, theirs};
 use super::table::BUSY;
-use gotsavena::{Dir, Endpoint, Frame, PeerLimits, Read, Received, Role, Settings, StreamId};
+use gotsavena::{Dir, Endpoint, Frame, PeerLimits, Read, Received, Role, Settings, StreamId, Tuning};
 
 pub struct Ours(Endpoint);
 
@@ -11,7 +11,7 @@ impl Target for Ours {
         let settings = Settings::small()
             .conn_window(16 * setup.window)
             .stream_windows(setup.window)
-            .send_buffer(1 << 20)
+            .send_buffer(setup.send_buffer)
             .streams(setup.streams, 1 << 16);
         let peer = PeerLimits {
             max_data: setup.max_data,
@@ -21,7 +21,11 @@ impl Target for Ours {
             streams_bidi: 1 << 17,
             streams_uni: 1 << 17,
         };
-        Ours(Endpoint::new(Role::Server, settings, peer).expect("they are in range"))
+        let tuning = Tuning::default().within_credit(setup.within_credit);
+        let mut end =
+            Endpoint::new_wide(Role::Server, settings, tuning, peer).expect("they are in range");
+        end.hear_blocked(setup.within_credit);
+        Ours(end)
     }
 
     fn receive(&mut self, number: u64, payload: &[u8]) {
@@ -47,7 +51,8 @@ impl Target for Ours {
     }
 
     fn write(&mut self, stream: StreamId, bytes: &[u8]) {
-        assert_eq!(self.0.write(stream, bytes), Ok(bytes.len()));
+        let count = self.0.write(stream, bytes).expect("it sends");
+        assert!(count <= bytes.len());
     }
 
     fn read(&mut self, stream: StreamId) {
@@ -61,6 +66,10 @@ impl Target for Ours {
 
     fn stop(&mut self, stream: StreamId) {
         self.0.stop(stream, 0).expect("it receives");
+    }
+
+    fn hear(&mut self) {
+        while self.0.next_event().expect("there is memory").is_some() {}
     }
 
     // Only a rule that is broken closes it: bytes on a stream that it alone sends on (RFC 9000, section 19.8).

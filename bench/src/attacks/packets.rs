@@ -1,6 +1,6 @@
 //! Attacks by ACKs, and by what makes an end look at much as it makes a packet.
 
-use super::play::{Play, ROOM, Target, own};
+use super::play::{Play, ROOM, Target, own, theirs};
 use gotsavena::{Dir, Frame};
 
 pub fn nothing<T>(_play: &mut Play<T>, _size: u64) {}
@@ -66,6 +66,44 @@ fn writers<T: Target>(play: &mut Play<T>, streams: u64) {
 pub fn blocked<T: Target>(play: &mut Play<T>, streams: u64) {
     writers(play, streams);
     play.ack_all();
+}
+
+/// So many, and 200 more, wait to write, and their owner heard all news. The peer says what holds it back.
+pub fn waiting<T: Target>(play: &mut Play<T>, streams: u64) {
+    writers(play, streams + 200);
+    play.ack_all();
+    for _ in 0..2 {
+        play.aside(|play| said_heard(play, streams, 0));
+    }
+}
+
+pub fn ping_heard<T: Target>(play: &mut Play<T>, _streams: u64, _step: u64) {
+    play.send(Frame::Ping);
+    play.hear();
+}
+
+/// The peer says of 150 streams that their limits hold it back.
+pub fn said_heard<T: Target>(play: &mut Play<T>, _streams: u64, _step: u64) {
+    for index in 0..150 {
+        play.put(Frame::StreamDataBlocked {
+            stream: theirs(Dir::Uni, index),
+            limit: 1 << 20,
+        });
+    }
+    play.deliver();
+    play.hear();
+}
+
+/// Ten of the 200 are stopped.
+pub fn stops_heard<T: Target>(play: &mut Play<T>, streams: u64, step: u64) {
+    for index in 10 * step..10 * (step + 1) {
+        play.put(Frame::StopSending {
+            stream: own(Dir::Uni, streams + index),
+            code: 0,
+        });
+    }
+    play.deliver();
+    play.hear();
 }
 
 /// They are reset, and the peer doesn't acknowledge it.

@@ -2,6 +2,7 @@
 //! driver over quinn-proto is built of this file, too.
 
 use super::gotsavena_counted;
+use super::minor_faults;
 use super::time;
 use gotsavena::{Dir, Frame, Role, StreamId};
 use std::process::ExitCode;
@@ -18,6 +19,10 @@ pub struct Setup {
     pub max_data: u64,
     /// And on each stream.
     pub max_stream_data: u64,
+    /// How many bytes of a stream it keeps to send, where writes don't keep within credit.
+    pub send_buffer: usize,
+    /// Its writes keep within the peer's credit, and its owner asks what holds the peer back.
+    pub within_credit: bool,
 }
 
 /// An end that is attacked, with its owner. It is a server; what it opens, the peer grants.
@@ -30,11 +35,14 @@ pub trait Target {
     /// The same, and answers how many of its packets the payload newly acknowledges.
     fn receive_telling(&mut self, number: u64, payload: &[u8]) -> u64;
     fn open(&mut self, dir: Dir) -> StreamId;
+    /// Writes these bytes, as far as they are taken.
     fn write(&mut self, stream: StreamId, bytes: &[u8]);
     /// Reads all that there is, an end or a reset too.
     fn read(&mut self, stream: StreamId);
     fn reset(&mut self, stream: StreamId);
     fn stop(&mut self, stream: StreamId);
+    /// Asks for all its news, where taking payloads in doesn't.
+    fn hear(&mut self);
     /// The attack is over, and so many packets came.
     fn settle(&mut self, came: u64);
 }
@@ -66,6 +74,7 @@ pub struct Play<T> {
     is_timed: bool,
     spent: Duration,
     looks: u32,
+    faults: i64,
 }
 
 /// What a run told.
@@ -74,6 +83,7 @@ struct Told {
     heap: usize,
     sent: usize,
     payloads: u64,
+    faults: i64,
 }
 
 /// The room of a packet, in bytes.
@@ -82,13 +92,14 @@ pub const ROOM: usize = 1200;
 impl<T: Target> Play<T> {
     /// Calls the end. In the last tenth the call is timed and counted.
     pub fn call(&mut self, mut call: impl FnMut(&mut T)) {
-        let end = &mut self.end;
+        let (end, before) = (&mut self.end, minor_faults());
         if self.is_timed {
             self.spent += time(|| gotsavena_counted(&mut || call(end)));
             self.looks += 1;
         } else {
             call(end);
         }
+        self.faults += minor_faults() - before;
     }
 
     /// How long the payload is so far.
@@ -136,6 +147,11 @@ impl<T: Target> Play<T> {
 
     pub fn make(&mut self) -> Option<u64> {
         self.make_in(ROOM)
+    }
+
+    /// The end's owner asks for all its news.
+    pub fn hear(&mut self) {
+        self.call(T::hear);
     }
 
     /// The end makes all packets that it has something for.
@@ -204,6 +220,7 @@ fn play<T: Target>(attack: &Attack<T>, size: u64, live: fn() -> usize) -> Told {
         is_timed: false,
         spent: Duration::ZERO,
         looks: 0,
+        faults: 0,
     };
     (attack.ready)(&mut play, size);
     let steps = (attack.steps)(size);
@@ -220,6 +237,7 @@ fn play<T: Target>(attack: &Attack<T>, size: u64, live: fn() -> usize) -> Told {
         heap,
         sent: play.sent,
         payloads,
+        faults: play.faults,
     }
 }
 
@@ -248,7 +266,7 @@ pub fn main<T: Target>(groups: &[&[Attack<T>]], live: fn() -> usize) -> ExitCode
     if is_count {
         println!("{}", told.payloads);
     } else {
-        println!("{:.1} {} {}", told.time, told.heap, told.sent);
+        println!("{:.1} {} {} {}", told.time, told.heap, told.sent, told.faults);
     }
     ExitCode::SUCCESS
 }

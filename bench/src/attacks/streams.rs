@@ -10,8 +10,8 @@ const SOME: u64 = 16;
 /// The runs of a stream that is reset over holes.
 const RUNS: u64 = 4096;
 /// The bytes of a page, and how many pages lie nearer than those that stand apart from a ring.
-const PAGE: u64 = 1 << 14;
-const APART: u64 = 4;
+const PAGE: u64 = 1 << 11;
+const APART: u64 = 1;
 /// The window of a stream, in bytes.
 const WINDOW: u64 = 1 << 20;
 /// In how many pieces three quarters of a window come.
@@ -117,6 +117,63 @@ pub fn near_and_far_byte<T: Target>(play: &mut Play<T>, offset: u64, step: u64) 
     }
     play.deliver();
     play.aside(|play| abandon(play, streams, offset + 1));
+}
+
+/// On each of four streams 16 bytes come, each so far behind the one before it, and then a reset, which is read.
+pub fn bytes_apart<T: Target>(play: &mut Play<T>, distance: u64, step: u64) {
+    sparse(play, step, [4, 16], |place| (place * distance, b"x"));
+}
+
+/// The same, with 64 bytes on one stream.
+pub fn many_apart<T: Target>(play: &mut Play<T>, distance: u64, step: u64) {
+    sparse(play, step, [1, 64], |place| (place * distance, b"x"));
+}
+
+/// The same, with two bytes each, over a multiple of the distance.
+pub fn edges_apart<T: Target>(play: &mut Play<T>, distance: u64, step: u64) {
+    sparse(play, step, [1, 64], |place| {
+        ((place + 1) * distance - 1, b"xx")
+    });
+}
+
+/// On each of 32 streams a byte comes at this distance, and then the one before it.
+pub fn drawn_up<T: Target>(play: &mut Play<T>, distance: u64, step: u64) {
+    sparse(play, step, [32, 2], |place| (distance - place, b"x"));
+}
+
+// On so many streams so many frames come, and then a reset, which is read.
+fn sparse<T: Target>(
+    play: &mut Play<T>,
+    step: u64,
+    [streams, frames]: [u64; 2],
+    at: impl Fn(u64) -> (u64, &'static [u8]),
+) {
+    let streams = streams * step..streams * (step + 1);
+    let ends = (0..frames).map(|place| {
+        let (offset, bytes) = at(place);
+        offset + bytes.len() as u64
+    });
+    let final_size = ends.max().expect("there are frames");
+    for index in streams.clone() {
+        for (offset, bytes) in (0..frames).map(&at) {
+            play.put(Frame::Stream {
+                stream: uni(index),
+                offset,
+                fin: false,
+                bytes,
+            });
+        }
+    }
+    play.deliver();
+    for index in streams.clone() {
+        play.put(Frame::ResetStream {
+            stream: uni(index),
+            code: 0,
+            final_size,
+        });
+    }
+    play.deliver();
+    streams.for_each(|index| play.end.read(uni(index)));
 }
 
 /// A byte in each page that stands apart from the ring, and at last one before them all, which lets the ring reach to their end.

@@ -9,6 +9,8 @@ const SERVER: Setup = Setup {
     streams: 100,
     max_data: 1 << 40,
     max_stream_data: 1 << 40,
+    send_buffer: 1 << 20,
+    within_credit: false,
 };
 /// Its windows hold a long fat path.
 const WIDE: Setup = Setup {
@@ -28,6 +30,19 @@ const TIGHT: Setup = Setup {
 const POOR: Setup = Setup {
     max_data: 10,
     ..BUSY
+};
+/// The same, with an owner that writes within credit, or one whose buffers are as small.
+const TIGHT_WITHIN: Setup = Setup {
+    within_credit: true,
+    ..TIGHT
+};
+const POOR_WITHIN: Setup = Setup {
+    within_credit: true,
+    ..POOR
+};
+const TIGHT_BUFFERS: Setup = Setup {
+    send_buffer: 10,
+    ..TIGHT
 };
 const BYTEWISE: Setup = Setup {
     max_stream_data: 1,
@@ -82,8 +97,44 @@ impl<T: Target + 'static> Attack<T> {
             step: s::near_and_far_byte,
         },
         Attack {
+            name: "bytes-apart",
+            what: "on each of four streams 16 bytes come, each so far behind the one before it, then resets, which are read",
+            sizes: [2047, 2048, 65_535],
+            setup: BUSY,
+            ready: p::nothing,
+            steps: |_| 256,
+            step: s::bytes_apart,
+        },
+        Attack {
+            name: "many-apart",
+            what: "the same with 64 bytes on one stream",
+            sizes: [2047, 2048, 16_383],
+            setup: BUSY,
+            ready: p::nothing,
+            steps: |_| 256,
+            step: s::many_apart,
+        },
+        Attack {
+            name: "edges-apart",
+            what: "the same with two bytes each, over a multiple of the distance",
+            sizes: [2047, 2048, 16_383],
+            setup: BUSY,
+            ready: p::nothing,
+            steps: |_| 256,
+            step: s::edges_apart,
+        },
+        Attack {
+            name: "drawn-up",
+            what: "on each of 32 streams a byte comes at this distance, then the one before it, then resets, which are read",
+            sizes: [2047, 2048, 16_383],
+            setup: BUSY,
+            ready: p::nothing,
+            steps: |_| 128,
+            step: s::drawn_up,
+        },
+        Attack {
             name: "pages-then-filled",
-            what: "a byte in each of so many pages of 16 KiB past the first four, then the one that fills the gap before them",
+            what: "a byte in each of so many pages of 2 KiB past the first, then the one before them",
             sizes: [252, 4092, 16_380],
             setup: WIDE,
             ready: p::nothing,
@@ -212,6 +263,51 @@ impl<T: Target + 'static> Attack<T> {
             ready: p::resets,
             steps: |_| 200,
             step: p::ping,
+        },
+        Attack {
+            name: "news-beside-limits",
+            what: "a PING, then its owner asks for news, while so many writers wait for their streams' credit",
+            sizes: [100, 640, 4096],
+            setup: TIGHT_WITHIN,
+            ready: p::waiting,
+            steps: |_| 200,
+            step: p::ping_heard,
+        },
+        Attack {
+            name: "news-beside-starved",
+            what: "the same, while they wait for the connection's credit",
+            sizes: [100, 640, 4096],
+            setup: POOR_WITHIN,
+            ready: p::waiting,
+            steps: |_| 200,
+            step: p::ping_heard,
+        },
+        Attack {
+            name: "news-beside-full",
+            what: "the same, while they wait for room in their buffers, which their streams' credit holds back",
+            sizes: [100, 640, 4096],
+            setup: TIGHT_BUFFERS,
+            ready: p::waiting,
+            steps: |_| 200,
+            step: p::ping_heard,
+        },
+        Attack {
+            name: "said-beside-limits",
+            what: "150 STREAM_DATA_BLOCKED in place of the PING, each of which is news",
+            sizes: [100, 640, 4096],
+            setup: TIGHT_WITHIN,
+            ready: p::waiting,
+            steps: |_| 200,
+            step: p::said_heard,
+        },
+        Attack {
+            name: "stops-beside-limits",
+            what: "ten STOP_SENDING of further writers in place of the PING",
+            sizes: [100, 640, 4096],
+            setup: TIGHT_WITHIN,
+            ready: p::waiting,
+            steps: |_| 20,
+            step: p::stops_heard,
         },
         Attack {
             name: "blocked-below",

@@ -22,14 +22,16 @@ use Rattle.qs_send.specs.Lane.{SendLane, refusal, free_room, accepted}
 use Rattle.qs_send.specs.Writable.{is_writable}
 use Rattle.qs_send.specs.declared.parts.SendFault.{SendFault}
 use Rattle.qs_conn.specs.RecvTasks.{has_news}
-use Rattle.qs_conn.specs.Sending.{WasStopped, MayWrite}
+use Rattle.qs_conn.specs.Sending.{WasStopped, TakesAlone}
+use Rattle.qs_conn.specs.Tasks.{is_funded}
 use Rattle.qs_machine.specs.Heard.{Hearing, IsNextOpened, heard_opened, WasResetAcked, is_told}
 use Rattle.qs_conn.specs.Marks.{least_of}
 use Rattle.qs_conn.specs.Hearing.{next_of_peer}
 use Rattle.qs_conn.specs.Marks.{IsUntold}
 use Rattle.qs_conn.specs.RecvTasks.{HasOne}
 use Rattle.qs_conn.specs.declared.recv_marks.RecvTask.TheVariants as recv_tasks
-use Rattle.qs_conn.proofs.Least.{IsClear, least_two, least_by, none_before}
+use Rattle.qs_conn.proofs.Least.{least_two, least_by}
+use Rattle.qs_conn.proofs.Within.{takes_alone}
 
 dir_bidi : (n : ℕ) → type_of n < 2 → dir_of n ≡ Bidi
 dir_bidi n lt = (let half : n / 2 % 2 ≡ 0 = omega (arith, lt) in grind (arith, nat_tests, half))
@@ -158,15 +160,15 @@ acked_there t n is = go (lookup t n) refl is
     go (Some l) at acked = (l, at, acked)
     go None at acked = absurd acked
 
--- one that takes a byte may be written to
-pub room_is : (e : End) (n : ℕ) → 0 < room e n → IsHeld MayWrite e.sends n
+-- one that takes a byte does so by its own buffer, and by its limit where writes keep within credit
+pub room_is : (e : End) (n : ℕ) → 0 < room e n → IsHeld (TakesAlone e) e.sends n
 room_is e n lt = go (is_some e.closed) (send_lane e n) refl lt
   where
-    accepts : (l : SendLane) (x : Option SendFault) → refusal l ≡ x → 0 < (if is_some x then 0 else accepted_by e l (free_room l)) → is_writable l ≡ true
-    accepts l None is some = (let more : 0 < accepted l (free_room l) = omega (arith, some, accepted_few e l (free_room l)) in rw is (grind (arith, nat_tests, more)))
+    accepts : (l : SendLane) (x : Option SendFault) → refusal l ≡ x → 0 < (if is_some x then 0 else accepted_by e l (free_room l)) → TakesAlone e l
+    accepts l None is some = takes_alone e l e.tuning.within_credit is some
     accepts l (Some fault) is some = absurd (omega (arith, some))
 
-    go : (b : Bool) (x : Option SendLane) → send_lane e n ≡ x → 0 < (if b then 0 else room_of e x) → IsHeld MayWrite e.sends n
+    go : (b : Bool) (x : Option SendLane) → send_lane e n ≡ x → 0 < (if b then 0 else room_of e x) → IsHeld (TakesAlone e) e.sends n
     go true x at some = absurd (omega (arith, some))
     go false None at some = absurd (omega (arith, some))
     go false (Some l) at some = (l, at, accepts l (refusal l) refl some)
@@ -198,37 +200,19 @@ readable_untold v old b told r same is none h =
     least_as (IsUntold (IsHeld (HasOne recv_tasks.Readable) old.recvs) told) (λ n. IsReadable old n × (is_told told n ≡ false)) 0 r (λ n p. ((sym is ∙ none, p.0), p.1)) (λ n q. (q.0.1, q.1))
     (subst (λ (x : End). IsLeast (IsUntold (IsHeld (HasOne recv_tasks.Readable) x.recvs) told) 0 r) same h)
 
--- Streams that take a byte, among those that may be written to
+-- Streams that take a byte, among those that their own buffers and limits let take one
 
 module _ (v old : End) (same : v ≡ old) (short : Tables Bool) where
   abbrev Takes : ℕ → Type 0
   Takes n = (0 < room old n) × (is_told short n ≡ true)
 
-  abbrev Writable : ℕ → Type 0
-  Writable n = IsHeld MayWrite v.sends n × (is_told short n ≡ true)
+  abbrev Alone : Bool → ℕ → Type 0
+  Alone b n = IsHeld (λ l. (if b then is_funded l else is_writable l) ≡ true) v.sends n × (is_told short n ≡ true)
 
-  may_write : (n : ℕ) → Takes n → Writable n
-  may_write n p = (subst (λ (x : End). IsHeld MayWrite x.sends n) (sym same) (room_is old n p.0), p.1)
-
-  none_to : (next m n : ℕ) → IsClear Takes 0 next → IsLeast Writable next (Some m) → n < m → Takes n → ⊥
-  none_to next m n clear h lt p = elim (cases_lt n next) [
-    | inl before ↦ clear.none n (omega arith) before p
-    | inr ge ↦ none_before Writable next (Some m) h n ge lt (may_write n p)
-  ]
-
-  pub takes_found : (next m : ℕ) → IsClear Takes 0 next → IsLeast Writable next (Some m) → 0 < room old m → IsLeast Takes 0 (Some m)
-  takes_found next m clear h lt =
-      least_by Takes 0 (Some m) (λ n is. (omega arith, subst Takes (same_Some m n is) (lt, (h.found m refl).1.1))) (λ n ge before p. none_to next m n clear h before p)
-
-  pub takes_next : (next m : ℕ) → IsClear Takes 0 next → IsLeast Writable next (Some m) → (0 < room old m → ⊥) → IsClear Takes 0 (m + 1)
-  takes_next next m clear h none =
-      record {
-        after = omega arith;
-        none = λ n ge lt p. elim (cases_lt n m) [
-          | inl before ↦ none_to next m n clear h before p
-          | inr past ↦ (let is : n ≡ m = omega (arith, lt, past) in none (subst (λ i. 0 < room old i) is p.0))
-        ];
-      }
+  pub takes_by : ((n : ℕ) → IsHeld (TakesAlone old) old.sends n → 0 < room old n) → (b : Bool) → v.tuning.within_credit ≡ b → (r : Option ℕ) → IsLeast (Alone b) 0 r → IsLeast Takes 0 r
+  takes_by some b is r h =
+      least_as (Alone old.tuning.within_credit) Takes 0 r (λ n p. (some n (subst (λ (x : End). IsHeld (TakesAlone old) x.sends n) same p.0), p.1)) (λ n p. (subst (λ (x : End). IsHeld (TakesAlone old) x.sends n) (sym same) (room_is old n p.0), p.1))
+      (subst (λ b. IsLeast (Alone b) 0 r) (sym is ∙ ap (λ (x : End). x.tuning.within_credit) same) h)
 
   pub takes_full : ((n : ℕ) → 0 < room old n → ⊥) → IsLeast Takes 0 None
   takes_full none = least_by Takes 0 None (λ n is. absurd (none-some n is)) (λ n ge before p. none n p.0)
@@ -240,11 +224,3 @@ module _ (v old : End) (same : v ≡ old) (short : Tables Bool) where
       go : (n : ℕ) (x : Option Bool) → lookup short n ≡ x → unwrap_or x false ≡ true → ⊥
       go n None at is = true≢false (sym is)
       go n (Some b) at is = both_ways b (none n b at) is
-
-  pub takes_none : (next : ℕ) → IsClear Takes 0 next → IsLeast Writable next None → IsLeast Takes 0 None
-  takes_none next clear h =
-      least_by Takes 0 None (λ n is. absurd (none-some n is))
-      (λ n ge before p. elim (cases_lt n next) [
-        | inl lt ↦ clear.none n ge lt p
-        | inr past ↦ none_before Writable next None h n past tt (may_write n p)
-      ])

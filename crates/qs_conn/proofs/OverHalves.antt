@@ -27,7 +27,7 @@ use Rattle.qs_conn.specs.declared.send_marks.Task.TheVariants as tasks
 use Rattle.qs_conn.specs.declared.send_marks.SendMarks.{SendMarks}
 use Rattle.qs_conn.specs.Marks.{is_marked}
 use Rattle.qs_conn.specs.Promised.{AreSums}
-use Rattle.qs_conn.specs.Tasks.{IsQuiet, IsLooked, HasTask, AreAllMarked, marks_of}
+use Rattle.qs_conn.specs.Tasks.{IsQuiet, IsLooked, HasTask, AreAllMarked, is_funded, marks_of}
 use Rattle.qs_conn.proofs.Least.{part_at}
 use Rattle.qs_conn.proofs.Marked.{unmarked_at, mark_kept}
 use Rattle.qs_conn.proofs.Promised.{promised_of, kept_of, sums_same}
@@ -128,6 +128,7 @@ unfolding is_end
 still tasks.Bytes x y a b q = subst (IsQuiet tasks.Bytes) (sym b.is) (over_quiet tasks.Bytes y.lane.id b.written y.lane.limit b.blocked y.lane.buffer b.widest (λ e. true≢false (sym (ap is_end e))))
 still tasks.Again x y a b q = subst (IsQuiet tasks.Again) (sym b.is) (over_quiet tasks.Again y.lane.id b.written y.lane.limit b.blocked y.lane.buffer b.widest (λ e. true≢false (sym (ap is_end e))))
 still tasks.Writable x y a b q = ap (λ (t : Sending). is_writable t.lane) b.is
+still tasks.Funded x y a b q = ap (λ (t : Sending). is_funded t.lane) b.is
 still tasks.Ended x y a b q = absurd (true≢false (sym a ∙ q))
 still tasks.Stopped x y a b q = ap (λ (t : Sending). t.lane.stopped) b.is
 

@@ -71,6 +71,7 @@ pub begins_quiet : (t : Task) → begins t ≡ false → (id limit buffer : ℕ)
 begins_quiet tasks.Bytes unmarked id limit buffer = record { no_offset = λ q lt. set.contains-empty nat_cmp q; no_end = λ whole. refl; sent = λ none lt. omega arith }
 begins_quiet tasks.Again unmarked id limit buffer = record { no_offset = λ q lt. set.contains-empty nat_cmp q; no_end = λ whole. refl }
 begins_quiet tasks.Writable unmarked id limit buffer = absurd (true≢false unmarked)
+begins_quiet tasks.Funded unmarked id limit buffer = absurd (true≢false unmarked)
 begins_quiet _ _ _ _ _ = refl
 
 -- bytes that are written weren't sent before

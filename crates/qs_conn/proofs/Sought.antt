@@ -18,7 +18,7 @@ use Rattle.qs_conn.specs.Sending.{IsDueOf, MayWrite}
 use Rattle.qs_conn.specs.RecvTasks.{HasOne}
 use Rattle.qs_conn.specs.declared.recv_marks.RecvTask.TheVariants as recv_tasks
 use Rattle.qs_conn.proofs.Least.{least_given}
-use Rattle.qs_conn.specs.Tasks.{IsQuiet, HasTask}
+use Rattle.qs_conn.specs.Tasks.{IsQuiet, HasTask, is_funded}
 use Rattle.qs_conn.specs.declared.send_marks.Task.{Task}
 use Rattle.qs_conn.specs.declared.send_marks.Task.TheVariants as tasks
 use Rattle.qs_conn.proofs.DueTied.{due_is, is_due, end_due_is, is_end_due}
@@ -31,6 +31,7 @@ quiet_has_none tasks.Bytes s quiet (inr (due, whole)) = both_ways s.due.fin (qui
 quiet_has_none tasks.Again s quiet (inl (q, due, sent)) = both_ways (set.contains s.due.offsets q) (quiet.no_offset q sent) due
 quiet_has_none tasks.Again s quiet (inr (due, whole)) = both_ways s.due.fin (quiet.no_end whole) due
 quiet_has_none tasks.Writable s quiet room = both_ways (is_writable s.lane) quiet room
+quiet_has_none tasks.Funded s quiet room = both_ways (is_funded s.lane) quiet room
 quiet_has_none tasks.Ended s quiet over = both_ways (send_ended s.lane) quiet over
 quiet_has_none tasks.Stopped s quiet came = both_ways (is_some s.lane.stopped) (ap is_some quiet) came
 

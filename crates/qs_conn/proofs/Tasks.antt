@@ -17,14 +17,15 @@ use Rattle.qs_conn.proofs.Openings.{none_is}
 use Rattle.qs_conn.specs.Promised.{AreSums}
 use Rattle.qs_conn.proofs.Promised.{promised_of, kept_of, sums_taken, sums_opened}
 
-module _ (old new : SendMarks) (index : ℕ) (s : Sending) (b g w e p : Bool) where
-  pub looked : (b ≡ false → IsQuiet tasks.Bytes s) → (g ≡ false → IsQuiet tasks.Again s) → (w ≡ false → IsQuiet tasks.Writable s) → (e ≡ false → IsQuiet tasks.Ended s) → (p ≡ false → IsQuiet tasks.Stopped s) → new.bytes ≡ slice_set old.bytes index b → new.again ≡ slice_set old.again index g → new.writable ≡ slice_set old.writable index w → new.ended ≡ slice_set old.ended index e → new.stopped ≡ slice_set old.stopped index p
+module _ (old new : SendMarks) (index : ℕ) (s : Sending) (b g w f e p : Bool) where
+  pub looked : (b ≡ false → IsQuiet tasks.Bytes s) → (g ≡ false → IsQuiet tasks.Again s) → (w ≡ false → IsQuiet tasks.Writable s) → (f ≡ false → IsQuiet tasks.Funded s) → (e ≡ false → IsQuiet tasks.Ended s) → (p ≡ false → IsQuiet tasks.Stopped s) → new.bytes ≡ slice_set old.bytes index b → new.again ≡ slice_set old.again index g → new.writable ≡ slice_set old.writable index w → new.funded ≡ slice_set old.funded index f → new.ended ≡ slice_set old.ended index e → new.stopped ≡ slice_set old.stopped index p
       → (t : Task) → IsLooked t index s (marks_of old t) (marks_of new t)
-  looked no_bytes no_again no_room no_end no_stop bytes again writable ended stopped tasks.Bytes = (b, no_bytes, bytes)
-  looked no_bytes no_again no_room no_end no_stop bytes again writable ended stopped tasks.Again = (g, no_again, again)
-  looked no_bytes no_again no_room no_end no_stop bytes again writable ended stopped tasks.Writable = (w, no_room, writable)
-  looked no_bytes no_again no_room no_end no_stop bytes again writable ended stopped tasks.Ended = (e, no_end, ended)
-  looked no_bytes no_again no_room no_end no_stop bytes again writable ended stopped tasks.Stopped = (p, no_stop, stopped)
+  looked no_bytes no_again no_room no_funds no_end no_stop bytes again writable funded ended stopped tasks.Bytes = (b, no_bytes, bytes)
+  looked no_bytes no_again no_room no_funds no_end no_stop bytes again writable funded ended stopped tasks.Again = (g, no_again, again)
+  looked no_bytes no_again no_room no_funds no_end no_stop bytes again writable funded ended stopped tasks.Writable = (w, no_room, writable)
+  looked no_bytes no_again no_room no_funds no_end no_stop bytes again writable funded ended stopped tasks.Funded = (f, no_funds, funded)
+  looked no_bytes no_again no_room no_funds no_end no_stop bytes again writable funded ended stopped tasks.Ended = (e, no_end, ended)
+  looked no_bytes no_again no_room no_funds no_end no_stop bytes again writable funded ended stopped tasks.Stopped = (p, no_stop, stopped)
 
 -- whether a STOP_SENDING came is marked, and then all else is looked at
 module _ (old : SendMarks) (stops : List Bool) (index : ℕ) (s : Sending) (b : Bool) (is : stops ≡ slice_set old.stopped index b) where
@@ -35,6 +36,7 @@ module _ (old : SendMarks) (stops : List Bool) (index : ℕ) (s : Sending) (b : 
   stopped_there there tasks.Bytes = there tasks.Bytes
   stopped_there there tasks.Again = there tasks.Again
   stopped_there there tasks.Writable = there tasks.Writable
+  stopped_there there tasks.Funded = there tasks.Funded
   stopped_there there tasks.Ended = there tasks.Ended
   stopped_there there tasks.Stopped = rw (is, length-set) (there tasks.Stopped)
 
@@ -45,6 +47,7 @@ module _ (old : SendMarks) (stops : List Bool) (index : ℕ) (s : Sending) (b : 
   stopped_looked new looked tasks.Bytes = looked tasks.Bytes
   stopped_looked new looked tasks.Again = looked tasks.Again
   stopped_looked new looked tasks.Writable = looked tasks.Writable
+  stopped_looked new looked tasks.Funded = looked tasks.Funded
   stopped_looked new looked tasks.Ended = looked tasks.Ended
   stopped_looked new looked tasks.Stopped = let l = looked tasks.Stopped in (l.0, l.1, l.2 ∙ ap (λ ms. slice_set ms index l.0) is ∙ set-set old.stopped index b l.0)
 

@@ -12,6 +12,7 @@ use Rattle.qs_calls.specs.declared.filling.Fill.{Fill}
 use Rattle.qs_machine.specs.Filling.{IsAsked, WantedGoes}
 use Rattle.qs_machine.specs.News.{IsHeld, HasForPacket}
 use Rattle.qs_conn.specs.Filling.{slot_of, Passed, IsPassed}
+use Rattle.qs_conn.specs.Tasks.{is_funded}
 
 -- bytes of the stream or its end are due, which its own limit lets go
 abbrev pub IsDueOf : End → ℕ → Type 0
@@ -20,6 +21,14 @@ IsDueOf e n = IsHeld (HasForPacket e n) e.sends n
 -- a half takes bytes now
 abbrev pub MayWrite : SendLane → Type 0
 MayWrite l = is_writable l ≡ true
+
+-- and its limit lets them go (RFC 9000, section 4.1)
+abbrev pub IsFunded : SendLane → Type 0
+IsFunded l = is_funded l ≡ true
+
+-- what a half's own buffer, and its limit where writes keep within credit, let it take (RFC 9000, sections 2.2 and 4.1)
+abbrev pub TakesAlone : End → SendLane → Type 0
+TakesAlone e l = (if e.tuning.within_credit then is_funded l else is_writable l) ≡ true
 
 -- how many bytes a half takes by its buffer, however many are written: none where it refuses them (RFC 9000, sections 2.2 and 2.4)
 abbrev pub buffer_room : Option SendLane → ℕ

@@ -1,6 +1,6 @@
 -- Of private contracts.
 -- Which sending halves have something for a packet or for their owner, by what it is, and those that have not.
-use Rattle.std.specs.Prelude.{◌≡◌, ℕ, ◌≤◌, ◌<◌, ◌⊎◌, Bool, true, false, if◌then◌else◌, List, slice_set, None, Some, is_some}
+use Rattle.std.specs.Prelude.{◌≡◌, ℕ, ◌≤◌, ◌<◌, ◌⊎◌, ◌&&◌, nat_lt, Bool, true, false, if◌then◌else◌, List, slice_set, None, Some, is_some}
 use Rattle.std.specs.FinSet as set
 use Rattle.qs_send.specs.declared.parts.Chunk.{Chunk}
 use Rattle.qs_send.specs.Lane.{SendLane, Sending, after_sent}
@@ -29,12 +29,17 @@ pub record HasNoneAgain (s : Sending) : Type 0 where
   pub no_offset : (q : ℕ) → q < s.lane.sent_end → set.contains s.due.offsets q ≡ false
   pub no_end : s.lane.sent_end ≡ s.lane.written → s.due.fin ≡ false
 
--- A half that has nothing of a kind: no bytes and no end for a packet; none that takes no credit; no room to write; not its end; no
+-- whether a half takes bytes now that its limit lets go (RFC 9000, sections 2.2 and 4.1)
+abbrev pub is_funded : SendLane → Bool
+is_funded lane = is_writable lane && nat_lt lane.written lane.limit
+
+-- A half that has nothing of a kind: no bytes and no end for a packet; none that takes no credit; no room to write, and none below its limit; not its end; no
 -- STOP_SENDING that came (RFC 9000, sections 3.1, 3.5, 4.1 and 13.3).
 abbrev pub IsQuiet : Task → Sending → Type 0
 IsQuiet tasks.Bytes s = HasNothing s
 IsQuiet tasks.Again s = HasNoneAgain s
 IsQuiet tasks.Writable s = is_writable s.lane ≡ false
+IsQuiet tasks.Funded s = is_funded s.lane ≡ false
 IsQuiet tasks.Ended s = send_ended s.lane ≡ false
 IsQuiet tasks.Stopped s = s.lane.stopped ≡ None
 
@@ -43,6 +48,7 @@ abbrev pub HasTask : Task → Sending → Type 0
 HasTask tasks.Bytes s = ((q : ℕ) × (set.contains s.due.offsets q ≡ true) × (q < s.lane.limit)) ⊎ ((s.due.fin ≡ true) × (s.lane.sent_end ≡ s.lane.written))
 HasTask tasks.Again s = ((q : ℕ) × (set.contains s.due.offsets q ≡ true) × (q < s.lane.sent_end)) ⊎ ((s.due.fin ≡ true) × (s.lane.sent_end ≡ s.lane.written))
 HasTask tasks.Writable s = is_writable s.lane ≡ true
+HasTask tasks.Funded s = is_funded s.lane ≡ true
 HasTask tasks.Ended s = send_ended s.lane ≡ true
 HasTask tasks.Stopped s = is_some s.lane.stopped ≡ true
 
@@ -51,6 +57,7 @@ abbrev pub begins : Task → Bool
 begins tasks.Bytes = false
 begins tasks.Again = false
 begins tasks.Writable = true
+begins tasks.Funded = true
 begins tasks.Ended = false
 begins tasks.Stopped = false
 
@@ -59,6 +66,7 @@ abbrev pub marks_of : SendMarks → Task → List Bool
 marks_of marks tasks.Bytes = marks.bytes
 marks_of marks tasks.Again = marks.again
 marks_of marks tasks.Writable = marks.writable
+marks_of marks tasks.Funded = marks.funded
 marks_of marks tasks.Ended = marks.ended
 marks_of marks tasks.Stopped = marks.stopped
 

@@ -2,7 +2,7 @@
 ghost use Rattle.std.specs.Prelude.{◌≡◌, ◌++◌, ◌-◌, ◌<◌, [], true, false, length, take, replicate, OnOk, OnErr};
 ghost use Rattle.qs_machine.specs.Credit.{send_ended};
 ghost use Rattle.qs_conn.specs.Marks.{is_marked, IsNextMark};
-ghost use Rattle.qs_conn.specs.Tasks.{IsQuiet, IsLooked, IsStill, HasTask, begins, marks_of, sought_of};
+ghost use Rattle.qs_conn.specs.Tasks.{IsQuiet, IsLooked, IsStill, HasTask, begins, is_funded, marks_of, sought_of};
 ghost use Rattle.qs_conn.specs.Untold.{IsClear};
 ghost use Rattle.qs_conn.specs.declared.send_marks.Task.TheVariants as tasks;
 
@@ -21,6 +21,8 @@ pub(crate) enum Task {
     Again,
     /// Room for its owner to write.
     Writable,
+    /// The same, below the stream's limit.
+    Funded,
     /// Its end: Data Recvd or Reset Recvd.
     Ended,
     /// A STOP_SENDING that came.
@@ -40,6 +42,7 @@ pub(crate) struct SendMarks {
     bytes: Marks,
     again: Marks,
     writable: Marks,
+    funded: Marks,
     ended: Marks,
     stopped: Marks,
 }
@@ -52,18 +55,20 @@ impl SendMarks {
             bytes: Marks::new(alloc),
             again: Marks::new(alloc),
             writable: Marks::new(alloc),
+            funded: Marks::new(alloc),
             ended: Marks::new(alloc),
             stopped: Marks::new(alloc),
         }
     }
 
-    /// Makes room for all indexes below a count: the new ones have no mark but that they may be written to.
+    /// Makes room for all indexes below a count: the new ones have no mark but that they may be written to, below their limit or not.
     pub(crate) fn open_to(&mut self, count: usize) -> Result<(), NoMemory>
         ensures ok { OnOk result ((t : Task) → marks_of self.new t ≡ marks_of self.old t ++ replicate (count - length (marks_of self.old t)) (begins t)) }
         ensures err { OnErr result ((t : Task) → marks_of self.new t ≡ marks_of self.old t) }
     {
         let (bytes, again) = (self.bytes.len(), self.again.len());
-        let (writable, ended) = (self.writable.len(), self.ended.len());
+        let (writable, funded) = (self.writable.len(), self.funded.len());
+        let ended = self.ended.len();
         self.bytes.open_to(count)?;
         if let Err(refused) = self.again.open_to(count) {
             self.bytes.close_to(bytes);
@@ -74,16 +79,24 @@ impl SendMarks {
             self.again.close_to(again);
             return Err(refused);
         }
+        if let Err(refused) = self.funded.open_marked_to(count) {
+            self.bytes.close_to(bytes);
+            self.again.close_to(again);
+            self.writable.close_to(writable);
+            return Err(refused);
+        }
         if let Err(refused) = self.ended.open_to(count) {
             self.bytes.close_to(bytes);
             self.again.close_to(again);
             self.writable.close_to(writable);
+            self.funded.close_to(funded);
             return Err(refused);
         }
         if let Err(refused) = self.stopped.open_to(count) {
             self.bytes.close_to(bytes);
             self.again.close_to(again);
             self.writable.close_to(writable);
+            self.funded.close_to(funded);
             self.ended.close_to(ended);
             return Err(refused);
         }
@@ -97,6 +110,7 @@ impl SendMarks {
         self.bytes.close_to(count);
         self.again.close_to(count);
         self.writable.close_to(count);
+        self.funded.close_to(count);
         self.ended.close_to(count);
         self.stopped.close_to(count);
     }
@@ -110,6 +124,7 @@ impl SendMarks {
         self.bytes.set(index, may_send(half));
         self.again.set(index, may_send_again(half));
         self.writable.set(index, half.is_writable());
+        self.funded.set(index, is_funded(half));
         self.ended.set(index, has_ended(half));
     }
 
@@ -132,6 +147,7 @@ impl SendMarks {
     {
         self.bytes.set(index, may_send(half));
         self.writable.set(index, half.is_writable());
+        self.funded.set(index, is_funded(half));
     }
 
     /// Looks again at a half of which a chunk was sent, and answers whether nothing more may go: that moves neither its room nor its end, and
@@ -140,6 +156,7 @@ impl SendMarks {
         requires there { (t : Task) → index < length (marks_of self.old t) }
         requires again { IsStill tasks.Again index half.now self.old }
         requires room { IsStill tasks.Writable index half.now self.old }
+        requires funds { IsStill tasks.Funded index half.now self.old }
         requires end { IsStill tasks.Ended index half.now self.old }
         requires stop { IsStill tasks.Stopped index half.now self.old }
         ensures looked { (t : Task) → IsLooked t index half.now (marks_of self.old t) (marks_of self.new t) }
@@ -161,6 +178,7 @@ impl SendMarks {
         self.bytes.set(index, may_send(half));
         look_again(&mut self.again, index, half);
         self.writable.set(index, half.is_writable());
+        self.funded.set(index, is_funded(half));
         self.ended.set(index, has_ended(half));
     }
 
@@ -219,6 +237,7 @@ impl SendMarks {
             Task::Bytes => &self.bytes,
             Task::Again => &self.again,
             Task::Writable => &self.writable,
+            Task::Funded => &self.funded,
             Task::Ended => &self.ended,
             Task::Stopped => &self.stopped,
         }
@@ -260,9 +279,17 @@ fn full_has(task: Task, half: &SendHalf) -> bool
         Task::Bytes => may_send(half),
         Task::Again => may_send_again(half),
         Task::Writable => half.is_writable(),
+        Task::Funded => is_funded(half),
         Task::Ended => has_ended(half),
         Task::Stopped => half.stop_code().is_some(),
     }
+}
+
+// Whether its owner may write, and its limit lets what is written go.
+fn is_funded(half: &SendHalf) -> bool
+    ensures { result ≡ is_funded half.now.lane }
+{
+    half.is_writable() && half.written() < half.limit()
 }
 
 // Whether bytes or the end may go: a byte below the limit is due, or the end is and every byte was sent.

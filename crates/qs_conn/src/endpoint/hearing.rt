@@ -1,14 +1,15 @@
 //! What of an end is news to its owner.
-ghost use Rattle.std.specs.Prelude.{◌≡◌, ◌<◌, ◌↔◌, IsTrue, true, false, is_some, ℕ, None, Some};
+ghost use Rattle.std.specs.Prelude.{◌≡◌, ◌<◌, ◌≤◌, ◌↔◌, IsTrue, true, false, is_some, ℕ, None, Some};
 ghost use Rattle.qs_send.specs.Lane.{SendLane};
 ghost use Rattle.qs_machine.specs.Tables.{lookup};
-ghost use Rattle.qs_machine.specs.Asking.{room, stopped_with};
+ghost use Rattle.qs_machine.specs.Asking.{all_unsent, credit_left, room, stopped_with};
 ghost use Rattle.qs_machine.specs.Credit.{send_ended};
 ghost use Rattle.qs_machine.specs.Ends.{recv_lane};
 ghost use Rattle.qs_machine.specs.Heard.{Hearing, IsNextOpened, MayOpen, is_cut_short, is_met, limit_to_tell, WasResetAcked, is_told, wants};
 ghost use Rattle.qs_machine.specs.News.{IsLeast, IsReadable, IsHeld};
 ghost use Rattle.qs_conn.specs.ByDir.{IsFirstDir};
 ghost use Rattle.qs_conn.specs.Hearing.{next_of_peer};
+ghost use Rattle.qs_conn.specs.Sending.{TakesAlone};
 
 use super::Endpoint;
 use crate::by_dir::ByDir;
@@ -57,28 +58,38 @@ impl Endpoint {
         if !short.may_have() {
             return None;
         }
-        if self.is_window_full() {
+        if self.takes_nothing() {
             return None;
         }
-        let mut next = 0;
-        while let Some(stream) = self.core.outbox.next_short(short, next) {
-            if self.room(stream) > 0 {
-                return Some(stream);
-            }
-            next = stream.value() + 1;
+        if self.core.limits.tuning.within_credit {
+            return self.core.outbox.next_short_funded(short);
         }
-        None
+        self.core.outbox.next_short(short)
     }
 
-    // Whether all streams together keep so much that none of them takes a byte.
-    #[tactic(auto, using(crate::proofs::Within::full_takes_none))]
-    fn is_window_full(&self) -> bool
-        ensures { result ≡ true → (n : ℕ) → 0 < room self.now n → ⊥ }
+    // Whether no stream takes a byte, whatever its buffer and its limit let it take: of an end that closed, where the connection's credit is
+    // used up, and where all streams together keep as much as they may.
+    fn takes_nothing(&self) -> bool
+        ensures none { result ≡ true → (n : ℕ) → 0 < room self.now n → ⊥ }
+        ensures some { result ≡ false → (n : ℕ) → IsHeld (TakesAlone self.now) self.now.sends n → 0 < room self.now n }
     {
+        if self.closed.is_some() {
+            return true;
+        }
+        if self.is_credit_used_up() {
+            return true;
+        }
         match self.window_left() {
             Some(left) => left == 0,
             None => false,
         }
+    }
+
+    // Whether writes keep within credit, and all that the peer's limit on the connection lets go is sent or waits to be.
+    fn is_credit_used_up(&self) -> bool
+        ensures { IsTrue result ↔ ((self.now.tuning.within_credit ≡ true) × (credit_left self.now ≤ all_unsent self.now)) }
+    {
+        self.core.limits.tuning.within_credit && self.credit_left() <= self.unsent_sum()
     }
 
     /// The least stream that the peer stopped, of those without a mark.

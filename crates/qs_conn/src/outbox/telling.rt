@@ -11,7 +11,7 @@ ghost use Rattle.qs_machine.specs.Changes.{half_changes};
 ghost use Rattle.qs_send.specs.Changes.{changes_by_stop};
 ghost use Rattle.qs_machine.specs.Asking.{waits_for_credit, unsent_of, acked_below_of};
 ghost use Rattle.qs_conn.specs.Marks.{IsBefore, AreEndsMarked};
-ghost use Rattle.qs_conn.specs.Sending.{IsDueOf, MayWrite, HasSent, WasStopped, buffer_room, limit_left};
+ghost use Rattle.qs_conn.specs.Sending.{IsDueOf, IsFunded, MayWrite, HasSent, WasStopped, buffer_room, limit_left};
 ghost use Rattle.qs_conn.specs.Tasks.{IsOpen, IsQuietAt};
 ghost use Rattle.qs_machine.specs.Outgoing.{IsCarried, IsAckedOut, IsAckedReset, IsBlockedAt, WantsMore, reset_by, with_outgoing};
 
@@ -203,17 +203,28 @@ impl Outbox {
         next_with(&self.types, Task::Writable, from)
     }
 
-    /// The least number from one on of a stream that may be written to, of those in `short`.
-    pub(crate) fn next_short(&self, short: &ToldStreams, from: u64) -> Option<StreamId>
-        requires { from ≤ 2 ^ 62 }
-        ensures { IsLeast (λ n. IsHeld MayWrite self.now.sends n × (is_told short.now n ≡ true)) from result }
+    /// The least number of a stream that may be written to, of those in `short`.
+    pub(crate) fn next_short(&self, short: &ToldStreams) -> Option<StreamId>
+        ensures { IsLeast (λ n. IsHeld MayWrite self.now.sends n × (is_told short.now n ≡ true)) 0 result }
     {
         let _next = self.next;
         let search = Search {
             task: Task::Writable,
             is_told: true,
         };
-        next_sought(&self.types, search, short, from)
+        next_sought(&self.types, search, short, 0)
+    }
+
+    /// The least number of a stream that may be written to below its limit, of those in `short`.
+    pub(crate) fn next_short_funded(&self, short: &ToldStreams) -> Option<StreamId>
+        ensures { IsLeast (λ n. IsHeld IsFunded self.now.sends n × (is_told short.now n ≡ true)) 0 result }
+    {
+        let _next = self.next;
+        let search = Search {
+            task: Task::Funded,
+            is_told: true,
+        };
+        next_sought(&self.types, search, short, 0)
     }
 
     /// The least number of a stream whose sending half came to its end and wasn't told.

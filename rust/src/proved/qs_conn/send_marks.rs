@@ -16,6 +16,8 @@ pub(crate) enum Task {
     Again,
     /// Room for its owner to write.
     Writable,
+    /// The same, below the stream's limit.
+    Funded,
     /// Its end: Data Recvd or Reset Recvd.
     Ended,
     /// A STOP_SENDING that came.
@@ -34,6 +36,7 @@ pub(crate) struct SendMarks {
     bytes: Marks,
     again: Marks,
     writable: Marks,
+    funded: Marks,
     ended: Marks,
     stopped: Marks,
 }
@@ -45,16 +48,18 @@ impl SendMarks {
             bytes: Marks::new(alloc),
             again: Marks::new(alloc),
             writable: Marks::new(alloc),
+            funded: Marks::new(alloc),
             ended: Marks::new(alloc),
             stopped: Marks::new(alloc),
         }
     }
 
-    /// Makes room for all indexes below a count: the new ones have no mark but that they may be written to.
+    /// Makes room for all indexes below a count: the new ones have no mark but that they may be written to, below their limit or not.
     #[inline]
     pub(crate) fn open_to(&mut self, count: usize) -> Result<(), NoMemory> {
         let (bytes, again) = (self.bytes.len(), self.again.len());
-        let (writable, ended) = (self.writable.len(), self.ended.len());
+        let (writable, funded) = (self.writable.len(), self.funded.len());
+        let ended = self.ended.len();
         self.bytes.open_to(count)?;
         if let Err(refused) = self.again.open_to(count) {
             self.bytes.close_to(bytes);
@@ -65,16 +70,24 @@ impl SendMarks {
             self.again.close_to(again);
             return Err(refused);
         }
+        if let Err(refused) = self.funded.open_marked_to(count) {
+            self.bytes.close_to(bytes);
+            self.again.close_to(again);
+            self.writable.close_to(writable);
+            return Err(refused);
+        }
         if let Err(refused) = self.ended.open_to(count) {
             self.bytes.close_to(bytes);
             self.again.close_to(again);
             self.writable.close_to(writable);
+            self.funded.close_to(funded);
             return Err(refused);
         }
         if let Err(refused) = self.stopped.open_to(count) {
             self.bytes.close_to(bytes);
             self.again.close_to(again);
             self.writable.close_to(writable);
+            self.funded.close_to(funded);
             self.ended.close_to(ended);
             return Err(refused);
         }
@@ -87,6 +100,7 @@ impl SendMarks {
         self.bytes.close_to(count);
         self.again.close_to(count);
         self.writable.close_to(count);
+        self.funded.close_to(count);
         self.ended.close_to(count);
         self.stopped.close_to(count);
     }
@@ -97,6 +111,7 @@ impl SendMarks {
         self.bytes.set(index, may_send(half));
         self.again.set(index, may_send_again(half));
         self.writable.set(index, half.is_writable());
+        self.funded.set(index, is_funded(half));
         self.ended.set(index, has_ended(half));
     }
 
@@ -112,6 +127,7 @@ impl SendMarks {
     pub(crate) fn look_written(&mut self, index: usize, half: &SendHalf) {
         self.bytes.set(index, may_send(half));
         self.writable.set(index, half.is_writable());
+        self.funded.set(index, is_funded(half));
     }
 
     /// Looks again at a half of which a chunk was sent, and answers whether nothing more may go: that moves neither its room nor its end, and
@@ -130,6 +146,7 @@ impl SendMarks {
         self.bytes.set(index, may_send(half));
         look_again(&mut self.again, index, half);
         self.writable.set(index, half.is_writable());
+        self.funded.set(index, is_funded(half));
         self.ended.set(index, has_ended(half));
     }
 
@@ -178,6 +195,7 @@ impl SendMarks {
             Task::Bytes => &self.bytes,
             Task::Again => &self.again,
             Task::Writable => &self.writable,
+            Task::Funded => &self.funded,
             Task::Ended => &self.ended,
             Task::Stopped => &self.stopped,
         }
@@ -210,9 +228,15 @@ fn full_has(task: Task, half: &SendHalf) -> bool {
         Task::Bytes => may_send(half),
         Task::Again => may_send_again(half),
         Task::Writable => half.is_writable(),
+        Task::Funded => is_funded(half),
         Task::Ended => has_ended(half),
         Task::Stopped => half.stop_code().is_some(),
     }
+}
+
+// Whether its owner may write, and its limit lets what is written go.
+fn is_funded(half: &SendHalf) -> bool {
+    half.is_writable() && half.written() < half.limit()
 }
 
 // Whether bytes or the end may go: a byte below the limit is due, or the end is and every byte was sent.

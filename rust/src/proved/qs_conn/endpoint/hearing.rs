@@ -42,25 +42,33 @@ impl Endpoint {
         if !short.may_have() {
             return None;
         }
-        if self.is_window_full() {
+        if self.takes_nothing() {
             return None;
         }
-        let mut next = 0;
-        while let Some(stream) = self.core.outbox.next_short(short, next) {
-            if self.room(stream) > 0 {
-                return Some(stream);
-            }
-            next = stream.value() + 1;
+        if self.core.limits.tuning.within_credit {
+            return self.core.outbox.next_short_funded(short);
         }
-        None
+        self.core.outbox.next_short(short)
     }
 
-    // Whether all streams together keep so much that none of them takes a byte.
-    fn is_window_full(&self) -> bool {
+    // Whether no stream takes a byte, whatever its buffer and its limit let it take: of an end that closed, where the connection's credit is
+    // used up, and where all streams together keep as much as they may.
+    fn takes_nothing(&self) -> bool {
+        if self.closed.is_some() {
+            return true;
+        }
+        if self.is_credit_used_up() {
+            return true;
+        }
         match self.window_left() {
             Some(left) => left == 0,
             None => false,
         }
+    }
+
+    // Whether writes keep within credit, and all that the peer's limit on the connection lets go is sent or waits to be.
+    fn is_credit_used_up(&self) -> bool {
+        self.core.limits.tuning.within_credit && self.credit_left() <= self.unsent_sum()
     }
 
     /// The least stream that the peer stopped, of those without a mark.

@@ -168,16 +168,26 @@ impl Outbox {
         next_with(&self.types, Task::Writable, from)
     }
 
-    /// The least number from one on of a stream that may be written to, of those in `short`.
+    /// The least number of a stream that may be written to, of those in `short`.
     #[inline]
-    pub(crate) fn next_short(&self, short: &ToldStreams, from: u64) -> Option<StreamId> {
-        debug_assert!(from <= 1 << 62);
+    pub(crate) fn next_short(&self, short: &ToldStreams) -> Option<StreamId> {
         let _next = self.next;
         let search = Search {
             task: Task::Writable,
             is_told: true,
         };
-        next_sought(&self.types, search, short, from)
+        next_sought(&self.types, search, short, 0)
+    }
+
+    /// The least number of a stream that may be written to below its limit, of those in `short`.
+    #[inline]
+    pub(crate) fn next_short_funded(&self, short: &ToldStreams) -> Option<StreamId> {
+        let _next = self.next;
+        let search = Search {
+            task: Task::Funded,
+            is_told: true,
+        };
+        next_sought(&self.types, search, short, 0)
     }
 
     /// The least number of a stream whose sending half came to its end and wasn't told.

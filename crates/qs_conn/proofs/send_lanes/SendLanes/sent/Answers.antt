@@ -26,6 +26,10 @@ pub look_sent-is_done-requires-clause-room : goal.look_sent-is_done-requires-cla
 look_sent-is_done-requires-clause-room c =
     still_quiet tasks.Writable c.self.inside.halves c.self.inside.marks c.args.index c.in-Some.half.now c.sent.new.self c.self.invariant.1 (rw c.self.view_is c.requires.there) (lent_at c.self.inside.halves c.args.index c.in-Some.half.now (rw c.self.view_is c.requires.there) c.in-Some.ensures.found) (λ q. subst (IsQuiet tasks.Writable) (sym c.sent.ensures) q)
 
+pub look_sent-is_done-requires-clause-funds : goal.look_sent-is_done-requires-clause-funds
+look_sent-is_done-requires-clause-funds c =
+    still_quiet tasks.Funded c.self.inside.halves c.self.inside.marks c.args.index c.in-Some.half.now c.sent.new.self c.self.invariant.1 (rw c.self.view_is c.requires.there) (lent_at c.self.inside.halves c.args.index c.in-Some.half.now (rw c.self.view_is c.requires.there) c.in-Some.ensures.found) (λ q. subst (IsQuiet tasks.Funded) (sym c.sent.ensures) q)
+
 pub look_sent-is_done-requires-clause-end : goal.look_sent-is_done-requires-clause-end
 look_sent-is_done-requires-clause-end c =
     still_quiet tasks.Ended c.self.inside.halves c.self.inside.marks c.args.index c.in-Some.half.now c.sent.new.self c.self.invariant.1 (rw c.self.view_is c.requires.there) (lent_at c.self.inside.halves c.args.index c.in-Some.half.now (rw c.self.view_is c.requires.there) c.in-Some.ensures.found) (λ q. subst (IsQuiet tasks.Ended) (sym c.sent.ensures) q)
