@@ -12,16 +12,14 @@ use crate::transport_parameters::TransportParameters;
 use crate::{Dir, Side, StreamId, VarInt};
 
 mod counting;
+mod faults;
 mod packets;
 mod play;
 mod streams;
 mod table;
 
-<<<<<<< HEAD
 pub use counting::{counted_late, gotsavena_counted};
-=======
-use counting::{gotsavena_counted, minor_faults};
->>>>>>> 86a6673f982567b42dfddb7d41b498dd991d7b6e
+use faults::minor_faults;
 use play::{Attack, Setup, Target};
 
 struct Theirs(End);

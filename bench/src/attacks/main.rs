@@ -5,6 +5,8 @@
 mod clock;
 #[path = "../counting.rs"]
 mod counting;
+#[path = "../faults.rs"]
+mod faults;
 // It refuses memory, too, which no attack asks for.
 #[allow(dead_code)]
 #[path = "../memory/heap.rs"]
@@ -16,7 +18,8 @@ mod streams;
 mod table;
 
 use clock::time;
-use counting::{gotsavena_counted, minor_faults};
+use counting::gotsavena_counted;
+use faults::minor_faults;
 use play::Attack;
 use std::process::ExitCode;
 

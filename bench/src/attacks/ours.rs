@@ -2,7 +2,9 @@
 
 use super::play::{Attack, Play, Setup, Target, own, theirs};
 use super::table::BUSY;
-use gotsavena::{Dir, Endpoint, Frame, PeerLimits, Read, Received, Role, Settings, StreamId, Tuning};
+use gotsavena::{
+    Dir, Endpoint, Frame, PeerLimits, Read, Received, Role, Settings, StreamId, Tuning,
+};
 
 pub struct Ours(Endpoint);
 

@@ -266,7 +266,10 @@ pub fn main<T: Target>(groups: &[&[Attack<T>]], live: fn() -> usize) -> ExitCode
     if is_count {
         println!("{}", told.payloads);
     } else {
-        println!("{:.1} {} {} {}", told.time, told.heap, told.sent, told.faults);
+        println!(
+            "{:.1} {} {} {}",
+            told.time, told.heap, told.sent, told.faults
+        );
     }
     ExitCode::SUCCESS
 }
