@@ -1,4 +1,4 @@
--- Of public contracts.
+-- Trusted.
 -- What an end's owner, and the layer beneath, may ask of an end as it is; nothing changes by it.
 use Rattle.std.specs.Prelude.{◌≡◌, ℕ, ◌-◌, ◌≤◌, Bool, true, false, ◌&&◌, ◌||◌, ◌==◌, nat_lt, ◌⊎◌, Option, None, Some, is_some, is_none, option_map, if◌then◌else◌, Result, Ok, Err}
 use Rattle.std.specs.FinMap as fmap

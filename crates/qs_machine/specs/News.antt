@@ -1,4 +1,4 @@
--- Of public contracts.
+-- Trusted.
 -- Which streams wait for their owner, which have something for a packet, and which are over: questions of one stream, and the least
 -- stream that answers one (RFC 9000, sections 2.2, 2.4, 3 and 13.3, for the whole file).
 use Rattle.std.specs.Prelude.{◌≡◌, ℕ, ◌<◌, ◌≤◌, true, false, not, ◌&&◌, ◌⊎◌, Option, None, Some}

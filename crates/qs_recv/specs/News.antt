@@ -1,4 +1,4 @@
--- Of public contracts.
+-- Trusted.
 -- What a receiving lane has for its owner that the owner wasn't told (RFC 9000, sections 2.2 and 3.2).
 use Rattle.std.specs.Prelude.{Bool, true, false, not, ◌&&◌}
 use Rattle.qs_recv.specs.declared.half.Read.{Read}

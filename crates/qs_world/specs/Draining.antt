@@ -1,4 +1,4 @@
--- Of public contracts.
+-- Trusted.
 -- Plain rounds: two ends are led to rest. The whole file is ours: RFC 9000 has no rounds.
 use Rattle.std.specs.Prelude.{◌≡◌, ℕ, zero, suc, ◌+◌, ◌≤◌, Bool, true, false, List, [], ◌∷◌, Option, None, Some, Result, Ok, Err, ⊤, if◌then◌else◌}
 use Rattle.std.specs.FinMap as fmap
