@@ -70,7 +70,7 @@ pub fn a_fill_is_a_packet()
     ensures { AFillIsAPacket }
 {}
 
-/// PADDING, PING and the frames that are carried for others change nothing but whether an ACK is due.
+/// PADDING, PING and the frames that are carried for others change nothing but whether an ACK is due, wherever they stand in a payload.
 pub fn plain_frames_tell_nothing()
     ensures { PlainFramesTellNothing }
 {}

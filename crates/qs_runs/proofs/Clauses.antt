@@ -1,5 +1,6 @@
 -- What agrees in a world that meets the invariant: each clause, and the laws as they are stated.
 use Rattle.std.proofs.Common.{◌≡◌, ℕ, List, Some, Result, true, sym, subst, refl, ap, ◌∙◌, slice_get, ◌+◌, ◌<◌, ◌≤◌, ◌⊎◌, length, Option, None, is_some, option_map, Bool, false, not, arith, inl, inr, if◌then◌else◌, ◌∷◌}
+use Rattle.std.proofs.lemmas.Bool.{false≢true}
 use Rattle.std.proofs.lemmas.Option.{same_Some, none-some, slice_get-map}
 use Rattle.std.specs.List.{AllByRecursion}
 use Rattle.qs_calls.specs.declared.token.Taken.{Taken}
@@ -11,8 +12,8 @@ use Rattle.qs_machine.specs.Tables.{lookup, index_of}
 use Rattle.qs_machine.specs.Ends.{End, first_send_limit, window, is_own, is_uni}
 use Rattle.qs_machine.specs.Credit.{spent}
 use Rattle.qs_machine.specs.Receiving.{ReceiveStep}
-use Rattle.qs_machine.specs.Seen.{seen_all, Seen, Stream, Control}
-use Rattle.qs_machine.proofs.Ways.{plain_nothing}
+use Rattle.qs_machine.specs.Seen.{seen_all, Seen, Stream, Control, Plain}
+use Rattle.qs_machine.proofs.Plains.{differ_covers}
 use Rattle.qs_calls.specs.declared.event.Side.{Side}
 use Rattle.qs_calls.specs.declared.event.Side.TheVariants.{A, B}
 use Rattle.qs_calls.specs.declared.event.Act.{Act}
@@ -21,12 +22,13 @@ use Rattle.qs_calls.specs.declared.answer.Answer.{Answer}
 use Rattle.qs_calls.specs.declared.answer.Answer.TheVariants as answers
 use Rattle.qs_runs.specs.Logs.{Part, Happening, Did, CameWith, CameAlone, History, other, payload, processed, AreFramesOf, written, made}
 use Rattle.qs_runs.specs.Worlds.{World, end_of, DeliverStep, ComeWithStep, ComeAloneStep, EventStep, WorldStep}
-use Rattle.qs_runs.specs.Agree.{Agree, PrefixAgrees, WholeAgrees, FinalSizesAgree, CreditAgrees, StaysOpen, RepeatAgrees, EventAgrees, FramesAgree, StepAgrees, EveryRunAgrees, IsOld, frames_in}
+use Rattle.qs_machine.specs.Plains.{is_plain, frames_in, DifferInPlain}
+use Rattle.qs_runs.specs.Agree.{Agree, PrefixAgrees, WholeAgrees, FinalSizesAgree, CreditAgrees, StaysOpen, RepeatAgrees, EventAgrees, FramesAgree, StepAgrees, EveryRunAgrees, IsOld}
 use Rattle.qs_runs.specs.Invariant.{WorldOk, SendSlot, RecvSlot, FrameTaken, EndOk}
 use Rattle.qs_runs.proofs.Unharmed.{spent_le, Facing, lane_limit, own_sends, final_sent, data_granted}
 use Rattle.qs_runs.proofs.Agreement.{prefix_agrees, whole_agrees, received_agrees, size_agrees, reset_agrees, byte_written, gave_written, end_written, written_count}
-use Rattle.qs_runs.proofs.Receives.{repeats, spends_nothing, frames_spend, held_told}
-use Rattle.qs_runs.proofs.Histories.{parts_held, parts_same, theirs_mine, payload_seen, confirmed_taken, seen_made, among_at, at_among, mapped_some, confirmed_landed}
+use Rattle.qs_runs.proofs.Receives.{covered, differ_come, repeats, spends_nothing, frames_spend, held_told}
+use Rattle.qs_runs.proofs.Histories.{parts_held, parts_same, theirs_mine, payload_seen, faultless_at, confirmed_taken, seen_made, among_at, at_among, mapped_some, confirmed_landed}
 use Rattle.qs_runs.specs.Pasts.{past, Holds, Tells, WasConfirmed, Landed, IsNamed}
 use Rattle.qs_runs.proofs.Runs.{ends_face, is_open_end, run_keeps, opposite, step_keeps}
 use Rattle.qs_recv.specs.Lane.{RecvLane}
@@ -39,6 +41,10 @@ use Rattle.qs_runs.specs.Laws.{ArrivedWasAlwaysTaken}
 use Rattle.qs_machine.proofs.Pieces.{All_at}
 
 -- What agrees in a world that meets the invariant, and at each step from it.
+
+plain_old : (e : End) (g : Seen) → is_plain g ≡ true → IsOld e g
+plain_old e (Plain asks) is = tt
+plain_old e g is = absurd (false≢true is)
 
 module _ (a b : Settings) (h : History) (w : World) (ok : WorldOk a b h w) where
   pub prefix : (s : Side) (n : ℕ) → PrefixAgrees h s n
@@ -88,25 +94,27 @@ module _ (a b : Settings) (h : History) (w : World) (ok : WorldOk a b h w) where
   same_text A k text t x y = same_Some t text (sym x ∙ y)
   same_text B k text t x y = same_Some t text (sym x ∙ y)
 
-  -- its payload tells nothing new
-  old_news_at : (s : Side) (k : ℕ) (text : List ℕ) (result : Result Received Closing) (new : End) → payload s k h ≡ Some text → ReceiveStep (end_of w (other s)) k text result new →
+  -- it tells nothing new, nor do the plain frames that stand in what comes
+  old_news_at : (s : Side) (k : ℕ) (bytes text : List ℕ) (result : Result Received Closing) (new : End) → payload s k h ≡ Some text → DifferInPlain bytes text → ReceiveStep (end_of w (other s)) k bytes result new →
       (t : List ℕ) → payload (other (other s)) k h ≡ Some t → AllByRecursion (IsOld (end_of w (other s))) (frames_in t) → spent new ≡ spent (end_of w (other s))
-  old_news_at s k text result new is step t at all =
+  old_news_at s k bytes text result new is differ step t at all =
       let there = ap (λ x. slice_get x k) (theirs_mine s h) ∙ payload_seen s k h text is in
-      spends_nothing (past (other s) h) (end_of w (other s)) new k text result (ok.ends (other s)) there (is_open_end a b h w ok (other s)) step
-      (subst (λ x. AllByRecursion (IsOld (end_of w (other s))) (frames_in x)) (same_text s k text t at is) all)
+      let old = subst (λ x. AllByRecursion (IsOld (end_of w (other s))) (frames_in x)) (same_text s k text t at is) all in
+      spends_nothing (past (other s) h) (end_of w (other s)) new k bytes result (ok.ends (other s)) (differ_come (past (other s) h).theirs k bytes text there differ) (is_open_end a b h w ok (other s)) step
+      (covered (IsOld (end_of w (other s))) (frames_in text) (frames_in bytes) (plain_old (end_of w (other s))) old (differ_covers bytes text differ))
 
   repeat_agrees : (s : Side) (k : ℕ) (answer : Answer) (new : World) → DeliverStep h w s k answer new → RepeatAgrees h w new (other s) k
-  repeat_agrees s k (answers.Deliver result) new (text, is, step, same) = record { again = again_at s k text result (end_of new (other s)) step; old_news = old_news_at s k text result (end_of new (other s)) is step }
+  repeat_agrees s k (answers.Deliver result) new (text, is, step, same) =
+      let faultless = (faultless_at (made s h) k text (ok.texts s) is).0 in
+      record {
+        again = again_at s k text result (end_of new (other s)) step;
+        old_news = old_news_at s k text text result (end_of new (other s)) is (record { reads = faultless; reads_other = faultless; same = refl }) step;
+      }
   repeat_agrees s k answer new step = absurd step
 
   came_agrees : (s : Side) (k : ℕ) (bytes : List ℕ) (result : Result Received Closing) (new : World) → ComeWithStep h w s k bytes result new → RepeatAgrees h w new (other s) k
   came_agrees s k bytes result new (text, is, differ, step, same) =
-      let (bare, received, alike) = plain_nothing (end_of w (other s)) (end_of new (other s)) k bytes text result differ step in
-      record {
-        again = again_at s k bytes result (end_of new (other s)) step;
-        old_news = λ t at all. ap spent alike ∙ old_news_at s k text result bare is received t at all;
-      }
+      record { again = again_at s k bytes result (end_of new (other s)) step; old_news = old_news_at s k bytes text result (end_of new (other s)) is differ step }
 
   -- frames come without their packets
   frames_agree : (s : Side) (parts : List Part) (result : Result Taken TakeFault) (new : World) → ComeAloneStep h w s parts result new → FramesAgree h w new (other s) parts

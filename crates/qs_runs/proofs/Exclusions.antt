@@ -20,7 +20,7 @@ use Rattle.qs_wire.specs.Varint.{varint_at, short_len}
 use Rattle.qs_wire.specs.Reading.{reading_of, reading_from, frames_at, frame_at, number_of_type_at, body_at, number_at}
 use Rattle.qs_send.specs.declared.piece.Item.TheVariants.{MaxData}
 use Rattle.qs_machine.specs.Seen.{Seen, Stream, Control, Plain, seen, seen_all}
-use Rattle.qs_machine.specs.Plains.{IsPlain, DifferInPlain}
+use Rattle.qs_machine.specs.Plains.{but_plain, DifferInPlain, frames_in}
 use Rattle.qs_calls.specs.Settings.{limits_fault}
 use Rattle.qs_calls.specs.declared.settings.PeerLimits.{PeerLimits}
 use Rattle.qs_calls.specs.declared.settings.RaiseFault.{RaiseFault}
@@ -54,7 +54,7 @@ use Rattle.qs_machine.specs.Raising.{RaiseStep, limits_raised}
 use Rattle.qs_machine.specs.Examples.{standard, server, client_of}
 use Rattle.qs_machine.specs.SmallEnds.{server_with, abc, sent, fresh, all_came}
 use Rattle.qs_machine.proofs.Claims.{gave}
-use Rattle.qs_runs.specs.Agree.{RepeatAgrees, IsOld, frames_in}
+use Rattle.qs_runs.specs.Agree.{RepeatAgrees, IsOld}
 use Rattle.std.specs.List.{AllByRecursion}
 use Rattle.qs_runs.specs.Logs.{Part, CameAlone, History, AreFramesOf, HasLanded, is_taken, own_calls, made, payload, processed, took, ping_text}
 use Rattle.qs_runs.specs.Worlds.{World, HandedIn}
@@ -265,63 +265,30 @@ others bytes text none =
       set_closed = λ v w size shut (step, same). unset size v.a w.a shut step;
     }
 
+-- the frames that both have, once plain ones are left out
+kept : (fs gs : List Seen) → Differ fs gs → but_plain fs ≡ but_plain gs
+kept fs gs (text, other, is, is_other, d) = ap but_plain (sym is) ∙ d.same ∙ ap but_plain is_other
+
 -- the limit that the first frame tells
 abbrev told : List Seen → ℕ
 told (Control (MaxData m) ∷ fs) = m
 told fs = 0
 
--- the frames that both have, and the plain ones behind them
-parts : (fs gs : List Seen) → Differ fs gs → (front : List Seen) × (mine theirs : List Seen) × (fs ≡ front ++ mine) × (gs ≡ front ++ theirs) × AllByRecursion IsPlain mine × AllByRecursion IsPlain theirs
-parts fs gs (text, other, is, is_other, d) = (
-  seen_all (frames_of d.front),
-  seen_all (frames_of d.behind),
-  seen_all (frames_of d.others),
-  sym is ∙ ap (λ r. seen_all (frames_of r.left)) d.reads ∙ joined d.front d.behind,
-  sym is_other ∙ ap (λ r. seen_all (frames_of r.left)) d.reads_other ∙ joined d.front d.others,
-  d.plain,
-  d.plain_other,
-)
-  where
-    joined : (ps qs : List PlacedValue) → seen_all (frames_of (ps ++ qs)) ≡ seen_all (frames_of ps) ++ seen_all (frames_of qs)
-    joined ps qs = ap seen_all (map-append (λ (p : PlacedValue). p.frame) ps qs) ∙ map-append seen (frames_of ps) (frames_of qs)
-
--- a frame at its place
-abbrev placed : ℕ → FrameValue → ℕ → PlacedValue
-placed place frame type = record { place = place; frame = frame; frame_type = type }
-
-behind_max_data : DifferInPlain (0x10 ∷ 5 ∷ 1 ∷ []) (0x10 ∷ 5 ∷ [])
-unfolding reading_from frames_at frame_at number_of_type_at body_at number_at varint_at short_len
-behind_max_data =
-    record { front = placed 0 (max_data 5) 0x10 ∷ []; behind = placed 2 ping 1 ∷ []; others = []; reads = refl; reads_other = refl; plain = (tt, tt); plain_other = tt }
-
-place_of_ping : DifferInPlain (0 ∷ []) ping_text
-unfolding reading_from frames_at frame_at number_of_type_at body_at varint_at short_len
-place_of_ping = record { front = []; behind = placed 0 padding 0 ∷ []; others = placed 0 ping 1 ∷ []; reads = refl; reads_other = refl; plain = (tt, tt); plain_other = (tt, tt) }
-
 bytes_come : OtherBytesCome
+unfolding reading_from frames_at frame_at number_of_type_at body_at number_at varint_at short_len
 bytes_come =
     record {
-      not_plain = λ d. (let (front, mine, theirs, is, is_other, plain, plain_other) = parts _ _ d in more front mine theirs is is_other plain);
-      left_out = λ d. (let (front, mine, theirs, is, is_other, plain, plain_other) = parts _ _ d in out front mine theirs is is_other plain_other);
-      another = λ d. (let (front, mine, theirs, is, is_other, plain, plain_other) = parts _ _ d in other_one front mine theirs is is_other plain);
-      fault = λ text other f is d. none-some f (sym (ap (λ r. r.fault) d.reads) ∙ is);
-      fault_other = λ text other f is d. none-some f (sym (ap (λ r. r.fault) d.reads_other) ∙ is);
-      behind = behind_max_data;
-      in_place = place_of_ping;
+      not_plain = λ d. (let none : ◌≡◌ {A = List Seen} (Stream 0 0 [] true ∷ []) [] = ap (drop 1) (kept _ _ d) in cc none);
+      left_out = λ d. (let five : ◌≡◌ {A = ℕ} 0 5 = ap told (kept _ _ d) in omega arith);
+      another = λ d. (let six : ◌≡◌ {A = ℕ} 6 5 = ap told (kept _ _ d) in omega arith);
+      turned = λ d. (let six : ◌≡◌ {A = ℕ} 6 5 = ap told (kept _ _ d) in omega arith);
+      fault = λ text other f is d. none-some f (sym d.reads ∙ is);
+      fault_other = λ text other f is d. none-some f (sym d.reads_other ∙ is);
+      behind = record { reads = refl; reads_other = refl; same = refl };
+      front = record { reads = refl; reads_other = refl; same = refl };
+      between = record { reads = refl; reads_other = refl; same = refl };
+      in_place = record { reads = refl; reads_other = refl; same = refl };
     }
-  where
-    more : (front mine theirs : List Seen) → Control (MaxData 5) ∷ Stream 0 0 [] true ∷ [] ≡ front ++ mine → Control (MaxData 5) ∷ [] ≡ front ++ theirs → AllByRecursion IsPlain mine → ⊥
-    more [] mine theirs is is_other plain = (subst (AllByRecursion IsPlain) (sym is) plain).0
-    more (f ∷ []) mine theirs is is_other plain = (let same : Stream 0 0 [] true ∷ [] ≡ mine = ap (drop 1) is in (subst (AllByRecursion IsPlain) (sym same) plain).0)
-    more (f ∷ g ∷ front) mine theirs is is_other plain = (let none : [] ≡ g ∷ (front ++ theirs) = ap (drop 1) is_other in cc none)
-
-    out : (front mine theirs : List Seen) → Plain true ∷ [] ≡ front ++ mine → Control (MaxData 5) ∷ [] ≡ front ++ theirs → AllByRecursion IsPlain theirs → ⊥
-    out [] mine theirs is is_other plain = (subst (AllByRecursion IsPlain) (sym is_other) plain).0
-    out (f ∷ front) mine theirs is is_other plain = (let five : ◌≡◌ {A = ℕ} 0 5 = ap told (ap (take 1) is ∙ sym (ap (take 1) is_other)) in omega arith)
-
-    other_one : (front mine theirs : List Seen) → Control (MaxData 6) ∷ Plain true ∷ [] ≡ front ++ mine → Control (MaxData 5) ∷ [] ≡ front ++ theirs → AllByRecursion IsPlain mine → ⊥
-    other_one [] mine theirs is is_other plain = (subst (AllByRecursion IsPlain) (sym is) plain).0
-    other_one (f ∷ front) mine theirs is is_other plain = (let six : ◌≡◌ {A = ℕ} 6 5 = ap told (ap (take 1) is ∙ sym (ap (take 1) is_other)) in omega arith)
 
 limits : LimitsAreAbove
 limits =

@@ -23,7 +23,7 @@ use Rattle.qs_machine.specs.Standing.{CountsRise}
 use Rattle.qs_machine.proofs.EveryCall.{HearsPeer}
 use Rattle.qs_runs.specs.Logs.{texts_of}
 use Rattle.qs_runs.specs.Worlds.{OwnStep, AreGranted}
-use Rattle.qs_runs.specs.Agree.{frames_in}
+use Rattle.qs_machine.specs.Plains.{frames_in}
 use Rattle.qs_runs.specs.Pasts.{Packets, Past, Tells, seen_by}
 use Rattle.qs_runs.specs.Invariant.{EndOk, CountsTrue, CountsOk}
 use Rattle.qs_runs.proofs.NewEnds.{tells_nothing}

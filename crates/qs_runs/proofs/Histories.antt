@@ -33,7 +33,7 @@ use Rattle.qs_calls.specs.declared.answer.Answer.{Answer}
 use Rattle.qs_calls.specs.declared.answer.Answer.TheVariants as answers
 use Rattle.qs_runs.specs.Logs.{Part, Happening, Did, MadeAck, FilledIn, ConsumedUpTo, AckedToken, LostToken, RaisedLimits, CameWith, CameAlone, History, other, own_of, end_read, reads_of, own_calls, is_delivery, delivers, is_done, takes_in, processed, takes_frame, took, tells_acked, was_acked, texts_of, made, made_by, made_now, payload, was_told, HasSet, Forgot, AcceptedOf, IsFrameOf, AreFramesOf, same_side, HasLanded, is_in}
 use Rattle.qs_runs.specs.Worlds.{OwnStep, World, WorldStep, end_of}
-use Rattle.qs_runs.specs.Agree.{frames_in}
+use Rattle.qs_machine.specs.Plains.{frames_in}
 use Rattle.qs_runs.specs.Invariant.{HasNoFault, WorldOk}
 use Rattle.qs_runs.specs.Pasts.{seen_by, packets_of, past_of, past, HoldsAt, Packets, Holds, WasConfirmed, EachTaken, Landed}
 use Rattle.qs_runs.proofs.OwnMoves.{with_call, with_uses, with_packets}

@@ -10,7 +10,7 @@ use Rattle.qs_machine.specs.Making.{MakeStep, MakeAt, MakeAckStep, make_refusal}
 use Rattle.qs_machine.specs.Filling.{FillStep, FillAt, as_made}
 use Rattle.qs_machine.proofs.Ways.{ack_packet}
 use Rattle.qs_runs.specs.Logs.{texts_of}
-use Rattle.qs_runs.specs.Agree.{frames_in}
+use Rattle.qs_machine.specs.Plains.{frames_in}
 use Rattle.qs_runs.specs.Pasts.{Past}
 use Rattle.qs_runs.specs.Invariant.{EndOk}
 use Rattle.qs_runs.proofs.OwnMoves.{with_packets, silent, packet_moves}

@@ -19,14 +19,16 @@ use Rattle.qs_calls.specs.declared.closing.Closed.TheVariants as closings
 use Rattle.qs_calls.specs.declared.closing.Received.{Received}
 use Rattle.qs_calls.specs.declared.closing.Received.TheVariants.{Done, Duplicate, BelowFloor, PeerClosed, NoMemory}
 use Rattle.qs_machine.specs.Ends.{End, closes, first_send_limit, is_own, opens, opened_by_peer}
-use Rattle.qs_machine.specs.Seen.{Seen, Ack, Close, seen, seen_all, asks_ack, Stream, Control}
+use Rattle.qs_machine.specs.Seen.{Seen, Ack, Close, Plain, seen, seen_all, asks_ack, Stream, Control}
 use Rattle.qs_machine.specs.FrameStep.{named, frame_taken, is_named, item_taken}
 use Rattle.qs_machine.specs.Recording.{recorded, has_too_many, lowest_end, least_in}
 use Rattle.qs_machine.proofs.RunLaws.{least_above}
 use Rattle.qs_machine.proofs.EveryCall.{no_fault_there, by_open, same_either}
 use Rattle.qs_calls.specs.declared.answer.Answer.TheVariants as answers
 use Rattle.qs_runs.specs.Logs.{is_done, Part, is_among, is_taken, is_taken_at, was_told, is_in}
-use Rattle.qs_runs.specs.Agree.{frames_in, IsOld}
+use Rattle.qs_machine.specs.Plains.{is_plain, frames_in, DifferInPlain}
+use Rattle.qs_machine.proofs.Plains.{differ_covers}
+use Rattle.qs_runs.specs.Agree.{IsOld}
 use Rattle.qs_runs.proofs.Lists.{Among_right}
 use Rattle.qs_runs.proofs.Members.{insert-cases, insert-old, insert-new, cut-cases, cut-kept, run-cases, run-old, below-end, end-le}
 use Rattle.qs_runs.specs.Pasts.{Past, Tells, Packets, WasConfirmed, HoldsAt, EachTaken}
@@ -34,7 +36,7 @@ use Rattle.qs_runs.specs.Invariant.{EndOk, FrameTaken, SendSlot, standing}
 use Rattle.qs_runs.proofs.Changes.{send_alike, AllGrow, all_grow_refl, grow_trans, frame_stays, Grows, settle_ok, each_grows, raise_grows}
 use Rattle.qs_runs.proofs.Acking.{acks_ok, named_pieces_ok, WasAcked}
 use Rattle.qs_machine.proofs.Leaves.{frame_leaves, acks_leave, stops_leave, end_leaves}
-use Rattle.qs_runs.proofs.Frames.{Effect, frame_keeps, new_recvs, lane_opened}
+use Rattle.qs_runs.proofs.Frames.{Effect, MayCome, come_keeps, frame_keeps, new_recvs, lane_opened}
 use Rattle.qs_runs.proofs.OwnMoves.{ended_by}
 use Rattle.std.proofs.lemmas.Option.{none-some, same_Some}
 use Rattle.std.specs.Bool.{⊤}
@@ -61,7 +63,7 @@ use Rattle.qs_machine.proofs.TableLaws.{lookup_open, total_update, total_each}
 use Rattle.qs_runs.proofs.Taking.{or_else_none, stream_passed, fin_fits, reset_fits}
 use Rattle.qs_runs.proofs.Unharmed.{spent_opened}
 use Rattle.std.proofs.Math.Bool.{and-true}
-use Rattle.qs_machine.proofs.Pieces.{All_append, All_take, All_more}
+use Rattle.qs_machine.proofs.Pieces.{All_append, All_at, All_take, All_more}
 
 -- A payload that the peer made keeps the invariant of the end that it comes to, whatever comes of it.
 
@@ -170,16 +172,34 @@ module _ (k : ℕ) where
 closed_ok : (p : Past) (e : End) (c : Closed) → EndOk p e → EndOk p (closes c e)
 closed_ok p e c ok = record { sends = ok.sends; recvs = ok.recvs; packets = ok.packets; taken = ok.taken; credit = ok.credit; streams = ok.streams }
 
-module _ (p : Past) (k : ℕ) (all : List Seen) (is : slice_get p.theirs k ≡ Some all) where
+-- the frames of a payload that the peer made come, and plain ones
+pub differ_come : (theirs : Packets) (k : ℕ) (bytes text : List ℕ) → slice_get theirs k ≡ Some (frames_in text) → DifferInPlain bytes text → (g : Seen) → Among g (frames_in bytes) → MayCome theirs g
+differ_come theirs k bytes text is differ g a = elim (differ_covers bytes text differ g a) [ inl there ↦ inl (k, (frames_in text, is, there)) | inr plain ↦ inr plain ]
+
+-- what holds of all these and of each plain frame holds of those that are among them or plain
+pub covered : (P : Seen → Type 0) (all fs : List Seen) → ((g : Seen) → is_plain g ≡ true → P g) → AllByRecursion P all → ((g : Seen) → Among g fs → Among g all ⊎ (is_plain g ≡ true)) → AllByRecursion P fs
+covered P all [] plain holds covers = tt
+covered P all (f ∷ fs) plain holds covers = (
+  elim (covers f (inl refl)) [ inl a ↦ All_at P all f holds a | inr is ↦ plain f is ],
+  covered P all fs plain holds (λ g a. covers g (inr a)),
+)
+
+plain_taken : (t : Tables RecvLane) (g : Seen) → is_plain g ≡ true → FrameTaken t g
+plain_taken t (Plain asks) is = tt
+plain_taken t g is = absurd (false≢true is)
+
+-- The packet has these frames; those that come, all, are told by it or by others, or plain, and each of the packet's is among them or plain.
+module _ (p : Past) (k : ℕ) (frames : List Seen) (is : slice_get p.theirs k ≡ Some frames) (all : List Seen) (come : (g : Seen) → Among g all → MayCome p.theirs g) (covers : (g : Seen) → Among g frames → Among g all ⊎ (is_plain g ≡ true)) where
   at_end_ok : (asks : Bool) (fault : Option WireFault) (e : End) (result : Result Received Closing) (new : End) → EndOk p e → e.floor ≤ k → AllByRecursion (FrameTaken e.recvs) all → AtEnd k asks fault e result new → EndOk (with_received p k result) new
-  at_end_ok asks None e (Ok Done) new ok low taken h = ended_by _ _ _ h (recorded_ok k p asks e all low ok is taken)
+  at_end_ok asks None e (Ok Done) new ok low taken h = ended_by _ _ _ h (recorded_ok k p asks e frames low ok is (covered (FrameTaken e.recvs) all frames (plain_taken e.recvs) taken covers))
   at_end_ok asks None e (Ok NoMemory) new ok low taken h = unchanged p k new _ refl (ended_by p _ _ h.0 ok)
   at_end_ok asks (Some fault) e (Err closing) new ok low taken h = unchanged p k new _ refl (ended_by p _ _ h.1 (closed_ok p e _ ok))
   at_end_ok asks fault e result new ok low taken h = absurd h
 
-  stops_ok : (v : PlacedValue) (f : Seen) (e : End) (result : Result Received Closing) (new : End) → EndOk p e → Tells p.theirs f → Stops v f e result new → EndOk (with_received p k result) new
+  stops_ok : (v : PlacedValue) (f : Seen) (e : End) (result : Result Received Closing) (new : End) → EndOk p e → MayCome p.theirs f → Stops v f e result new → EndOk (with_received p k result) new
   stops_ok v (Close code) e (Ok (PeerClosed told)) new ok t h = unchanged p k new _ refl (ended_by p _ _ h.1 (closed_ok p e _ ok))
-  stops_ok v (Ack largest ranges) e (Ok NoMemory) new ok t (fine, (m, h, asks)) =
+  stops_ok v (Ack largest ranges) e (Ok NoMemory) new ok (inr plain) stops = absurd (false≢true plain)
+  stops_ok v (Ack largest ranges) e (Ok NoMemory) new ok (inl t) (fine, (m, h, asks)) =
       unchanged p k new _ refl (ended_by p _ _ h (acks_ok p (take m (named e ranges)) e (All_take _ m _ (named_pieces_ok p e ok ranges (λ j a. inl (largest, ranges, t, a)))) ok))
   stops_ok v (Close code) e result new ok t h = absurd h
   stops_ok v f e (Ok NoMemory) new ok t h = unchanged p k new _ refl (ended_by p _ _ h.1.0 ok)
@@ -192,16 +212,17 @@ module _ (p : Past) (k : ℕ) (all : List Seen) (is : slice_get p.theirs k ≡ S
   takes_ok [] before asks fault e result new split ok low taken h =
       at_end_ok asks fault e result new ok low (subst (AllByRecursion (FrameTaken e.recvs)) (sym (split ∙ append-nil before)) taken) h
   takes_ok (v ∷ left) before asks fault e result new split ok low taken (inl stops) =
-      stops_ok v (seen v.frame) e result new ok (k, (all, is, rw split (Among_right before _ _ (inl refl)))) stops
+      stops_ok v (seen v.frame) e result new ok (come (seen v.frame) (rw split (Among_right before _ _ (inl refl)))) stops
   takes_ok (v ∷ left) before asks fault e result new split ok low taken (inr (goes, rest)) =
       let f : Seen = seen v.frame in
-      let one : Effect p e (frame_taken f e) f = frame_keeps p e f ok (k, (all, is, rw split (Among_right before _ _ (inl refl)))) (no_fault_there e f goes) in
+      let one : Effect p e (frame_taken f e) f = come_keeps p e f ok (come f (rw split (Among_right before _ _ (inl refl)))) (no_fault_there e f goes) in
       takes_ok left (before ++ f ∷ []) (asks || asks_ack f) fault (frame_taken f e) result new (split ∙ sym (append_assoc before (f ∷ []) (seen_all (frames_of left)))) one.ok
       (rw (ap (λ (x : End). x.floor) (frame_leaves f e)) low)
       (All_append (FrameTaken (frame_taken f e).recvs) before (f ∷ []) (All_more (FrameTaken e.recvs) (FrameTaken (frame_taken f e).recvs) before (frame_stays e.recvs (frame_taken f e).recvs one.grow) taken) (one.taken, tt)) rest
 
-pub receives : (p : Past) (e new : End) (k : ℕ) (text : List ℕ) (result : Result Received Closing) → EndOk p e → slice_get p.theirs k ≡ Some (frames_in text) → ReceiveStep e k text result new → EndOk (with_received p k result) new
-receives p e new k text result ok is step = by_closed e.closed step
+pub receives : (p : Past) (e new : End) (k : ℕ) (text : List ℕ) (frames : List Seen) (result : Result Received Closing) → EndOk p e → slice_get p.theirs k ≡ Some frames → ((g : Seen) → Among g (frames_in text) → MayCome p.theirs g) →
+    ((g : Seen) → Among g frames → Among g (frames_in text) ⊎ (is_plain g ≡ true)) → ReceiveStep e k text result new → EndOk (with_received p k result) new
+receives p e new k text frames result ok is come covers step = by_closed e.closed step
   where
     -- what wasn't taken changes nothing
     stays : (r : Result Received Closing) → is_done (answers.Deliver r) ≡ false → result ≡ r → new ≡ e → EndOk (with_received p k result) new
@@ -217,7 +238,7 @@ receives p e new k text result ok is step = by_closed e.closed step
         never_done Peer = refl
     by_closed None h =
         by_open (EndOk (with_received p k result) new) k text e result new h (stays (Ok BelowFloor) refl) (stays (Ok Duplicate) refl) (λ high mid takes same.
-        ended_by _ _ _ same (settle_ok _ mid (takes_ok p k (frames_in text) is (reading_of text).left [] false (reading_of text).fault e result mid refl ok (ltb-false k e.floor high) tt takes)))
+        ended_by _ _ _ same (settle_ok _ mid (takes_ok p k frames is (frames_in text) come covers (reading_of text).left [] false (reading_of text).fault e result mid refl ok (ltb-false k e.floor high) tt takes)))
 
 -- Frames that come without their packet, and tokens that are acknowledged.
 
@@ -576,22 +597,22 @@ settle_spends e = total_each highest raise e.recvs (λ l. refl)
 
 -- The frames of a payload, one after the other
 
-takes_spend : (left : List PlacedValue) (p : Past) (k : ℕ) (asks : Bool) (fault : Option WireFault) (e : End) (result : Result Received Closing) (new : End) → EndOk p e → ((f : Seen) → Among f (seen_all (frames_of left)) → Tells p.theirs f) →
+takes_spend : (left : List PlacedValue) (p : Past) (k : ℕ) (asks : Bool) (fault : Option WireFault) (e : End) (result : Result Received Closing) (new : End) → EndOk p e → ((f : Seen) → Among f (seen_all (frames_of left)) → MayCome p.theirs f) →
     AllByRecursion (IsOld e) (seen_all (frames_of left)) → Takes k fault asks e left result new → spent new ≡ spent e
 takes_spend [] p k asks fault e result new ok told all h = ap (total highest) (end_leaves k asks fault e result new h)
 takes_spend (v ∷ left) p k asks fault e result new ok told all (inl stops) = ap (total highest) (stops_leave v (seen v.frame) e result new stops)
 takes_spend (v ∷ left) p k asks fault e result new ok told all (inr (goes, rest)) =
     let f : Seen = seen v.frame in
-    let one : Effect p e (frame_taken f e) f = frame_keeps p e f ok (told f (inl refl)) (no_fault_there e f goes) in
+    let one : Effect p e (frame_taken f e) f = come_keeps p e f ok (told f (inl refl)) (no_fault_there e f goes) in
     takes_spend left p k (asks || asks_ack f) fault (frame_taken f e) result new one.ok (λ g a. told g (inr a)) (All_more (IsOld e) (IsOld (frame_taken f e)) (seen_all (frames_of left)) (old_stays e (frame_taken f e) one.grow) all.1) rest
     ∙ frame_spends e f all.0 (no_fault_there e f goes)
 
 -- a payload that tells nothing new spends nothing
-pub spends_nothing : (p : Past) (e new : End) (k : ℕ) (text : List ℕ) (result : Result Received Closing) → EndOk p e → slice_get p.theirs k ≡ Some (frames_in text) → e.closed ≡ None → ReceiveStep e k text result new →
+pub spends_nothing : (p : Past) (e new : End) (k : ℕ) (text : List ℕ) (result : Result Received Closing) → EndOk p e → ((g : Seen) → Among g (frames_in text) → MayCome p.theirs g) → e.closed ≡ None → ReceiveStep e k text result new →
     AllByRecursion (IsOld e) (frames_in text) → spent new ≡ spent e
-spends_nothing p e new k text result ok is not_closed step all =
+spends_nothing p e new k text result ok come not_closed step all =
     by_open (spent new ≡ spent e) k text e result new (subst (λ o. ReceiveBy o k text e result new) not_closed step) (λ low same. ap spent same) (λ again same. ap spent same) (λ high mid takes same.
-    ap spent same ∙ settle_spends mid ∙ takes_spend (reading_of text).left p k false (reading_of text).fault e result mid ok (λ g a. (k, (frames_in text, is, a))) all takes)
+    ap spent same ∙ settle_spends mid ∙ takes_spend (reading_of text).left p k false (reading_of text).fault e result mid ok come all takes)
 
 -- Frames without their packet, one after the other
 

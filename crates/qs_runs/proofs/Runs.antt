@@ -39,14 +39,14 @@ use Rattle.qs_calls.specs.declared.token.TakeFault.{TakeFault}
 use Rattle.qs_calls.specs.declared.token.TokenFault.{TokenFault}
 use Rattle.qs_calls.specs.declared.settings.RaiseFault.{RaiseFault}
 use Rattle.qs_machine.proofs.EveryCall.{MovesStanding, hears}
-use Rattle.qs_machine.proofs.Ways.{plain_nothing}
+use Rattle.qs_machine.proofs.Plains.{differ_covers, differ_turned}
 use Rattle.qs_runs.specs.Logs.{Part, Happening, Did, MadeAck, FilledIn, ConsumedUpTo, AckedToken, LostToken, RaisedLimits, CameWith, CameAlone, History, Log, happened, other, own_calls, processed, took, was_acked, is_taken, is_delivery, reads_of, texts_of, made, made_by, payload, AreFramesOf, HasLanded, HasSet, Forgot, AcceptedOf}
 use Rattle.qs_runs.specs.Worlds.{World, AreGranted, Begins, end_of, OwnStep, TakesBytes, DeliverStep, ComeWithStep, HandedIn, ComeAloneStep, EventStep, WorldStep, Run, EventRun}
-use Rattle.qs_runs.specs.Agree.{frames_in}
+use Rattle.qs_machine.specs.Plains.{frames_in, DifferInPlain}
 use Rattle.qs_runs.specs.Pasts.{Past, packets_of, past}
 use Rattle.qs_runs.specs.Invariant.{EndOk, FrameTaken, CountsTrue, CountsOk, WorldOk, Standing, role_of, settings_of, stands_as, standing}
 use Rattle.qs_runs.proofs.Unharmed.{Facing}
-use Rattle.qs_runs.proofs.Receives.{receives, with_took, AreHeldAt, held_told, held_holds, handed_came, took_ok, token_acked_moves}
+use Rattle.qs_runs.proofs.Receives.{differ_come, receives, with_took, AreHeldAt, held_told, held_holds, handed_came, took_ok, token_acked_moves}
 use Rattle.qs_runs.proofs.OwnMoves.{accept_of_moves, own_moves, with_call, with_packets, uses_made, consume_moves, nothing_made, token_lost_moves, forget_moves, raise_moves, set_moves}
 use Rattle.qs_runs.proofs.Standing.{call_stands, certain_cases, IsRefused}
 use Rattle.qs_runs.proofs.PeerMoves.{with_theirs, peer_moves}
@@ -176,10 +176,6 @@ both_granted p q s x y =
 -- what a side is told besides leaves its end as it was, but for whether an ACK is due
 side_kept : (a b : Settings) (s : Side) (h k : History) (e : End) (due : Bool) → SideOk a b s h e → EndOk (past s k) (record e { ack_due = due }) → CountsOk (past s k) e → AreFaultless (made s k) → SideOk a b s k (record e { ack_due = due })
 side_kept a b s h k e due side ok counts texts = record { ok = ok; counts = counts; sound = side.sound; sent = side.sent; stand = side.stand; peer = side.peer; texts = texts }
-
-due_side : (a b : Settings) (s : Side) (h : History) (e : End) (due : Bool) → SideOk a b s h e → SideOk a b s h (record e { ack_due = due })
-due_side a b s h e due side =
-    side_kept a b s h h e due side (record { sends = side.ok.sends; recvs = side.ok.recvs; packets = side.ok.packets; taken = side.ok.taken; credit = side.ok.credit; streams = side.ok.streams }) side.counts side.texts
 
 came_side : (a b : Settings) (t s : Side) (k : ℕ) (bytes : List ℕ) (result : Result Received Closing) (h : History) (e : End) → SideOk a b t (did s (acts.Deliver k) (answers.Deliver result) ∷ h) e → SideOk a b t (CameWith s k bytes result ∷ h) e
 came_side a b t s k bytes result h e side =
@@ -312,37 +308,38 @@ module _ (a b : Settings) (h : History) (v w : World) (s : Side) (ok : WorldOk a
       (made_forgot s s n code result h ∙ made_own s act answer h) (made_forgot (other s) s n code result h ∙ made_peer s act answer h) tt (λ d count t. absurd (tells_nothing _ _ refl t))
       (forget_moves (past s h) (end_of v s) (end_of w s) here.ok n code result step) (StopAndForget n code) result step (λ no. no) same
 
-  -- a payload comes to the other end
-  received_side : (k : ℕ) (text : List ℕ) (result : Result Received Closing) (new : End) → payload s k h ≡ Some text → ReceiveStep (end_of v (other s)) k text result new → SideOk a b (other s) (did s (acts.Deliver k) (answers.Deliver result) ∷ h) new
-  received_side k text result new is step =
+  -- a payload comes to the other end, whatever plain frames stand in it
+  received_side : (k : ℕ) (bytes text : List ℕ) (result : Result Received Closing) (new : End) → payload s k h ≡ Some text → DifferInPlain bytes text → ReceiveStep (end_of v (other s)) k bytes result new → SideOk a b (other s) (did s (acts.Deliver k) (answers.Deliver result) ∷ h) new
+  received_side k bytes text result new is differ step =
       let x = did s (acts.Deliver k) (answers.Deliver result) in
       let seen = ap (λ ps. slice_get ps k) (theirs_mine s h) ∙ payload_seen s k h text is in
+      let come = differ_come (past (other s) h).theirs k bytes text seen differ in
       let known = known_counts a b h v ok s in
       let stays = receive_stands (past (other s) h) (past s h) (end_of v (other s)) (end_of v s) here.ok (theirs_mine s h) (mine_theirs s h) (opposite a b h v ok s) (granted_limits a b h v ok s) known.0 known.1
-      new k text result there.ok (is_open_end a b h v ok (other s)) (faultless_at (made s h) k text here.texts is).0 seen step in
-      let rise = counts_call (end_of v (other s)) there.sound there.sent (Receive k text) result new step in
+      new k bytes result there.ok (is_open_end a b h v ok (other s)) differ.reads come step in
+      let rise = counts_call (end_of v (other s)) there.sound there.sent (Receive k bytes) result new step in
       call_side a b h (other s) x (end_of v (other s)) new there [] (made_peer s (acts.Deliver k) (answers.Deliver result) h ∙ sym (append-nil (made (other s) h))) tt
-      (moved (λ p. EndOk p new) _ _ (past_receiver s k result h) (receives (past (other s) h) (end_of v (other s)) new k text result there.ok seen step))
+      (moved (λ p. EndOk p new) _ _ (past_receiver s k result h)
+      (receives (past (other s) h) (end_of v (other s)) new k bytes (frames_in text) result there.ok seen come (differ_covers text bytes (differ_turned bytes text differ)) step))
       (moved (λ p. CountsOk p new) _ _ (past_receiver s k result h) (counts_stay (past (other s) h).mine (end_of v (other s)) new there.counts (ap (λ y. y.settings) stays) rise))
-      (Receive k text) result step (stands_on a b (other s) (end_of v (other s)) new stays there.stand) (granted_on _ (end_of v (other s)) new stays there.peer)
+      (Receive k bytes) result step (stands_on a b (other s) (end_of v (other s)) new stays there.stand) (granted_on _ (end_of v (other s)) new stays there.peer)
 
   deliver_step : (k : ℕ) (answer : Answer) → DeliverStep h v s k answer w → Sides (did s (acts.Deliver k) answer)
   deliver_step k (answers.Deliver result) (text, is, step, same) =
       let x = did s (acts.Deliver k) (answers.Deliver result) in
+      let faultless = (faultless_at (made s h) k text here.texts is).0 in
       both x
       (idle_side a b h s x (end_of v s) (end_of w s) here (past_sender s k (answers.Deliver result) h) (made_own s (acts.Deliver k) (answers.Deliver result) h ∙ append-nil (made s h)) same)
-      (received_side k text result (end_of w (other s)) is step)
+      (received_side k text text result (end_of w (other s)) is (record { reads = faultless; reads_other = faultless; same = refl }) step)
   deliver_step k answer step = absurd step
 
-  -- plain frames come with it: the end is what it is without them, but for whether an ACK is due
+  -- and in other bytes than were made
   came_step : (k : ℕ) (bytes : List ℕ) (result : Result Received Closing) → ComeWithStep h v s k bytes result w → Sides (CameWith s k bytes result)
   came_step k bytes result (text, is, differ, step, same) =
       let x = CameWith s k bytes result in
-      let d = did s (acts.Deliver k) (answers.Deliver result) in
-      let (bare, received, alike) = plain_nothing (end_of v (other s)) (end_of w (other s)) k bytes text result differ step in
       both x
       (idle_side a b h s x (end_of v s) (end_of w s) here (past_came s s k bytes result h ∙ past_sender s k (answers.Deliver result) h) (made_came s s k bytes result h ∙ made_own s (acts.Deliver k) (answers.Deliver result) h ∙ append-nil (made s h)) same)
-      (moved (SideOk a b (other s) (x ∷ h)) _ _ alike (came_side a b (other s) s k bytes result h _ (due_side a b (other s) (d ∷ h) bare (end_of w (other s)).ack_due (received_side k text result bare is received))))
+      (came_side a b (other s) s k bytes result h _ (received_side k bytes text result (end_of w (other s)) is differ step))
 
   -- a token is acknowledged, whose packet landed
   token_step : (token : Token) (result : Result (Unit {0}) TokenFault) → TokenAckedStep (end_of v s) token result (end_of w s) → end_of w (other s) ≡ end_of v (other s) → Sides (AckedToken s token result)

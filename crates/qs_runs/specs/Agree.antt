@@ -4,8 +4,6 @@ use Rattle.std.specs.Prelude.{◌≡◌, ◌≢◌, ℕ, ◌+◌, ◌<◌, ◌�
 use Rattle.std.specs.List.{AllByRecursion}
 use Rattle.std.specs.FinSet as set
 use Rattle.qs_wire.specs.Layout.{FrameValue}
-use Rattle.qs_wire.specs.Grammar.{frames_of}
-use Rattle.qs_wire.specs.Reading.{reading_of}
 use Rattle.qs_recv.specs.Lane.{RecvLane}
 use Rattle.qs_send.specs.Lane.{SendLane, state, declared_size}
 use Rattle.qs_send.specs.declared.parts.SendState.TheVariants.{DataRecvd}
@@ -14,6 +12,7 @@ use Rattle.qs_calls.specs.declared.settings.Settings.{Settings}
 use Rattle.qs_machine.specs.Ends.{End, send_lane, recv_lane}
 use Rattle.qs_machine.specs.Credit.{spent, all_sent}
 use Rattle.qs_machine.specs.Seen.{Seen, Stream, Control, seen_all}
+use Rattle.qs_machine.specs.Plains.{frames_in}
 use Rattle.qs_calls.specs.declared.event.Side.{Side}
 use Rattle.qs_calls.specs.declared.event.Act.{Act}
 use Rattle.qs_calls.specs.declared.event.Act.TheVariants as acts
@@ -77,10 +76,6 @@ IsOld e (Stream n offset bytes fin) =
     ((q : ℕ) → offset ≤ q → q < offset + length bytes → HasCome e n q) × (fin ≡ true → KnowsSize e n)
 IsOld e (Control (ResetStream n code size)) = KnowsSize e n
 IsOld e f = ⊤
-
--- what an end reads in a payload
-abbrev pub frames_in : List ℕ → List Seen
-frames_in text = seen_all (frames_of (reading_of text).left)
 
 -- A repeat spends no credit: the peer's packet k comes to side s.
 pub record RepeatAgrees (h : History) (old new : World) (s : Side) (k : ℕ) : Type 0 where

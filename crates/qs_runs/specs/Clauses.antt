@@ -15,7 +15,7 @@ use Rattle.qs_machine.specs.Seen.{Seen, Stream, Control}
 use Rattle.qs_calls.specs.declared.event.Side.{Side}
 use Rattle.qs_runs.specs.Logs.{History, other, payload, processed, took, written, read}
 use Rattle.qs_runs.specs.Worlds.{World, end_of}
-use Rattle.qs_runs.specs.Agree.{frames_in}
+use Rattle.qs_machine.specs.Plains.{frames_in}
 
 -- packet k of side s carries the frame
 abbrev pub Carries : History → Side → ℕ → Seen → Type 0

@@ -36,7 +36,7 @@ use Rattle.qs_calls.specs.declared.answer.Answer.TheVariants as answers
 use Rattle.qs_machine.specs.Ends.{End, recv_lane}
 use Rattle.qs_machine.specs.Seen.{Seen, Stream, Control, Plain}
 use Rattle.qs_machine.specs.Alone.{token_of}
-use Rattle.qs_machine.specs.Plains.{DifferInPlain}
+use Rattle.qs_machine.specs.Plains.{DifferInPlain, frames_in}
 use Rattle.qs_machine.specs.Examples.{standard, server, client_of}
 use Rattle.qs_machine.specs.Setting.{Setting, ConnWindow}
 use Rattle.qs_machine.specs.SmallEnds.{client_with, server_with, abc, wrote as wrote_half, sent, fresh, all_came}
@@ -44,7 +44,7 @@ use Rattle.qs_runs.specs.Logs.{Did, MadeAck, FilledIn, ConsumedUpTo, AckedToken,
 use Rattle.qs_calls.specs.declared.settings.SetFault.{SetFault}
 use Rattle.qs_machine.specs.Setting.{Setting, SendBuffer}
 use Rattle.qs_runs.specs.Worlds.{World, AreGranted, HandedIn, WorldStep, Begins}
-use Rattle.qs_runs.specs.Agree.{PrefixAgrees, WholeAgrees, FinalSizesAgree, Agree, IsOld, StepAgrees, frames_in}
+use Rattle.qs_runs.specs.Agree.{PrefixAgrees, WholeAgrees, FinalSizesAgree, Agree, IsOld, StepAgrees}
 use Rattle.qs_runs.specs.Examples.{at, wrote, got, told_end, took_out, story, packet, came, came_with, part, came_alone}
 
 -- It doesn't agree (section 2.2) that what was read
@@ -272,11 +272,15 @@ pub record OtherBytesCome : Type 0 where
   pub left_out : Differ (Plain true ∷ []) (Control (MaxData 5) ∷ []) → ⊥
   -- where another one stands there
   pub another : Differ (Control (MaxData 6) ∷ Plain true ∷ []) (Control (MaxData 5) ∷ []) → ⊥
+  -- where they stand in another order
+  pub turned : Differ (Control (MaxData 6) ∷ Control (MaxData 5) ∷ []) (Control (MaxData 5) ∷ Control (MaxData 6) ∷ []) → ⊥
   -- where one has a fault, as an empty payload has
   pub fault : (text other : List ℕ) (f : WireFault) → (reading_of text).fault ≡ Some f → DifferInPlain text other → ⊥
   pub fault_other : (text other : List ℕ) (f : WireFault) → (reading_of other).fault ≡ Some f → DifferInPlain text other → ⊥
-  -- though a PING may stand behind a MAX_DATA
+  -- though a PING may stand behind a MAX_DATA, in front of it and between two
   pub behind : DifferInPlain (0x10 ∷ 5 ∷ 1 ∷ []) (0x10 ∷ 5 ∷ [])
+  pub front : DifferInPlain (1 ∷ 0x10 ∷ 5 ∷ []) (0x10 ∷ 5 ∷ [])
+  pub between : DifferInPlain (0x10 ∷ 5 ∷ 1 ∷ 0x10 ∷ 6 ∷ []) (0x10 ∷ 5 ∷ 0x10 ∷ 6 ∷ [])
   -- and PADDING in the place of a PING
   pub in_place : DifferInPlain (0 ∷ []) ping_text
 

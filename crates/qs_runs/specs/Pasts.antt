@@ -13,7 +13,7 @@ use Rattle.qs_calls.specs.declared.event.Side.{Side}
 use Rattle.qs_calls.specs.declared.event.Act.{Act}
 use Rattle.qs_calls.specs.declared.answer.Answer.{Answer}
 use Rattle.qs_runs.specs.Logs.{History, other, own_calls, processed, took, was_acked, wrote, gave, made_by, made_now, stopped_in, ended_in}
-use Rattle.qs_runs.specs.Agree.{frames_in}
+use Rattle.qs_machine.specs.Plains.{frames_in}
 
 -- the frames of the packets of an end, by packet number
 abbrev pub Packets : Type 0
