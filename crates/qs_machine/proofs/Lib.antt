@@ -37,3 +37,4 @@ pub mod Ways
 pub mod Plains
 pub mod AckTokens
 pub mod NewlyTold
+pub mod Foreign

@@ -115,7 +115,6 @@ abbrev pub told_by : Option Closed → ToldClose → End → End
 told_by None close e = closes (Told close) e
 told_by (Some closed) close e = e
 
--- `tell_closed`: an open end closes, and one that closed stays as it is (RFC 9000, section 10.2). No event of runs, in which neither end
--- closes.
+-- `tell_closed`: an open end closes, and one that closed stays as it is (RFC 9000, section 10.2)
 abbrev pub told_closed : ToldClose → End → End
 told_closed close e = told_by e.closed close e

@@ -22,7 +22,7 @@ use Rattle.qs_calls.specs.declared.event.Side.TheVariants.{A}
 use Rattle.qs_calls.specs.declared.event.Act.TheVariants as acts
 use Rattle.qs_calls.specs.declared.answer.Answer.TheVariants as answers
 use Rattle.qs_machine.specs.Tables.{each}
-use Rattle.qs_machine.specs.Ends.{End, new_end, wide_end_made}
+use Rattle.qs_machine.specs.Ends.{End, closes, new_end, wide_end_made}
 use Rattle.qs_machine.specs.Credit.{settle}
 use Rattle.qs_machine.specs.Seen.{Seen, Plain, seen, seen_all, asks_ack, any_asks}
 use Rattle.qs_machine.specs.Verdicts.{verdict}
@@ -60,7 +60,7 @@ begun_settled role s t p begun =
 
 call_settled : (old : End) (call : Call) (answer : CallAnswer call) (new : End) → settle old ≡ old → EndStep old call answer new → settle new ≡ new
 call_settled old call answer new h step =
-    ends_by (λ e. settle e ≡ e) old h settle_twice (λ k p e is. ap (first_lost k p) is) (ap (λ (e : End). record e { next = e.next + 1 }) h) call answer new step
+    ends_by (λ e. settle e ≡ e) old h settle_twice (λ k p e is. ap (first_lost k p) is) (ap (λ (e : End). record e { next = e.next + 1 }) h) (λ c. ap (closes c) h) call answer new step
 
 first_settled : (a b : Settings) (w : World) → Begins a b w → (s : Side) → settle (end_of w s) ≡ end_of w s
 first_settled a b w begins s =

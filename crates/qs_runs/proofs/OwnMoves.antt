@@ -44,7 +44,8 @@ use Rattle.qs_calls.specs.declared.event.Act.TheVariants as acts
 use Rattle.qs_calls.specs.declared.answer.Answer.{Answer}
 use Rattle.qs_calls.specs.declared.answer.Answer.TheVariants as answers
 use Rattle.qs_runs.specs.Logs.{texts_of, wrote_by, read_by, end_read, reads_of, is_stop, is_end}
-use Rattle.qs_runs.specs.Worlds.{OwnStep, AreTaken, TakesBytes}
+use Rattle.qs_runs.specs.Worlds.{OwnStep}
+use Rattle.qs_machine.specs.Owner.{AreTaken, TakesBytes}
 use Rattle.qs_machine.specs.Plains.{frames_in}
 use Rattle.qs_machine.proofs.TableLaws.{lookup_same, value, with_same, with_other, lookup_in, total_le}
 use Rattle.qs_runs.proofs.Changes.{Grows, Grows_refl, send_alike, send_same, recv_alike, granted_more, send_kept, settle_ok, window_ok, write_allowed, wrote_ok, with_bytes, not_at_end, end_by_fin, read_bytes_ok, read_told_ok, told_grows, stop_ok, stop_grows, recv_view, some_mapped, end_anew}

@@ -41,7 +41,8 @@ use Rattle.qs_calls.specs.declared.settings.RaiseFault.{RaiseFault}
 use Rattle.qs_machine.proofs.EveryCall.{MovesStanding, hears}
 use Rattle.qs_machine.proofs.Plains.{differ_covers, differ_turned}
 use Rattle.qs_runs.specs.Logs.{Part, Happening, Did, MadeAck, FilledIn, ConsumedUpTo, AckedToken, LostToken, RaisedLimits, CameWith, CameAlone, History, Log, happened, other, own_calls, processed, took, was_acked, is_taken, is_delivery, reads_of, texts_of, made, made_by, payload, AreFramesOf, HasLanded, HasSet, Forgot, AcceptedOf}
-use Rattle.qs_runs.specs.Worlds.{World, AreGranted, Begins, end_of, OwnStep, TakesBytes, DeliverStep, ComeWithStep, HandedIn, ComeAloneStep, EventStep, WorldStep, Run, EventRun}
+use Rattle.qs_runs.specs.Worlds.{World, AreGranted, Begins, end_of, OwnStep, DeliverStep, ComeWithStep, HandedIn, ComeAloneStep, EventStep, WorldStep, Run, EventRun}
+use Rattle.qs_machine.specs.Owner.{TakesBytes}
 use Rattle.qs_machine.specs.Plains.{frames_in, DifferInPlain}
 use Rattle.qs_runs.specs.Pasts.{Past, packets_of, past}
 use Rattle.qs_runs.specs.Invariant.{EndOk, FrameTaken, CountsTrue, CountsOk, WorldOk, Standing, role_of, settings_of, stands_as, standing}
@@ -281,14 +282,14 @@ module _ (a b : Settings) (h : History) (v w : World) (s : Side) (ok : WorldOk a
   consumed_step : (n most : ℕ) (result : Result Consumed UseFault) (bytes : Vec ℕ) → TakesBytes (end_of v s) n most result bytes.items (end_of w s) → end_of w (other s) ≡ end_of v (other s) → Sides (ConsumedUpTo s n most result bytes)
   consumed_step n most result bytes step same =
       let x = ConsumedUpTo s n most result bytes in
-      let stays = call_stands (end_of v s) (Consume n most) (λ no. no) result (end_of w s) step.0 in
-      let rise = counts_call (end_of v s) here.sound here.sent (Consume n most) result (end_of w s) step.0 in
+      let stays = call_stands (end_of v s) (Consume n most) (λ no. no) (result, bytes.items) (end_of w s) step in
+      let rise = counts_call (end_of v s) here.sound here.sent (Consume n most) (result, bytes.items) (end_of w s) step in
       let counts = counts_stay (past s h).mine (end_of v s) (end_of w s) here.counts (ap (λ y. y.settings) stays) rise in
       both x
       (call_side a b h s x (end_of v s) (end_of w s) here [] (made_none s x h refl ∙ sym (append-nil (made s h))) tt
       (moved (λ p. EndOk p (end_of w s)) _ _ (past_consumed s n most result bytes h) (consume_moves (past s h) (end_of v s) (end_of w s) here.ok n most bytes result step))
       (moved (λ p. CountsOk p (end_of w s)) _ _ (past_consumed s n most result bytes h) (subst (λ ps. CountsTrue ps (end_of w s).settings (granted_streams (end_of w s))) (sym (uses_made (past s h) (reads_of n most result bytes))) counts))
-      (Consume n most) result step.0 (stands_on a b s (end_of v s) (end_of w s) stays here.stand) (granted_on _ (end_of v s) (end_of w s) stays here.peer))
+      (Consume n most) (result, bytes.items) step (stands_on a b s (end_of v s) (end_of w s) stays here.stand) (granted_on _ (end_of v s) (end_of w s) stays here.peer))
       (idle_side a b h (other s) x (end_of v (other s)) (end_of w (other s)) there (past_peer_consumed s n most result bytes h) (made_none (other s) x h refl) same)
 
   -- limits are taken in that the peer grants

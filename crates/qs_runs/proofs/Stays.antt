@@ -39,7 +39,7 @@ module _ (T : End → End → Type 0) (same : (e : End) → T e e) (v w : World)
   each_side h (Did x answer) step = event h x.end x.act answer step
   each_side h (MadeAck s room result text) ((delay, step), stays) = here s (MakeAck delay room) (result, text) step stays
   each_side h (FilledIn s want room result text) (step, stays) = here s (FillIn want room) (result, text) step stays
-  each_side h (ConsumedUpTo s n most result bytes) ((step, taken), stays) = here s (Consume n most) result step stays
+  each_side h (ConsumedUpTo s n most result bytes) (step, stays) = here s (Consume n most) (result, bytes.items) step stays
   each_side h (LostToken s token result) (step, stays) = here s (TokenLost token) result step stays
   each_side h (AckedToken s token result) ((landed, step), stays) = here s (TokenAcked token) result step stays
   each_side h (RaisedLimits s limits result) ((granted, step), stays) = here s (RaiseLimits limits) result step stays

@@ -2,11 +2,8 @@
 -- Two ends, each of which was told limits that the other grants, and what may happen to them. The whole file is ours, but that an
 -- end is the client, the other the server, and each knows limits of the other (RFC 9000, sections 2.1, 7.4.1 and 18.2).
 use Rattle.std.specs.Prelude.{◌≡◌, ℕ, ◌≤◌, List, [], ◌∷◌, ◌⊎◌, Some, Result, Ok, Err, true}
-use Rattle.qs_recv.specs.Lane.{RecvLane, bytes_read}
 use Rattle.qs_wire.specs.declared.stream_id.Role.TheVariants.{Client, Server}
 use Rattle.qs_wire.specs.Layout.{FrameValue}
-use Rattle.qs_calls.specs.declared.reading.Consumed.{Consumed}
-use Rattle.qs_calls.specs.declared.uses.UseFault.{UseFault}
 use Rattle.qs_calls.specs.declared.token.Taken.{Taken}
 use Rattle.qs_calls.specs.declared.token.TakeFault.{TakeFault}
 use Rattle.qs_calls.specs.declared.closing.Closing.{Closing}
@@ -16,9 +13,9 @@ use Rattle.qs_calls.specs.declared.settings.Tuning.{Tuning}
 use Rattle.qs_calls.specs.declared.settings.PeerLimits.{PeerLimits}
 use Rattle.qs_calls.specs.declared.settings.SetupFault.{SetupFault}
 use Rattle.qs_calls.specs.Settings.{limits_of}
-use Rattle.qs_machine.specs.Ends.{End, recv_lane, end_made, wide_end_made}
+use Rattle.qs_machine.specs.Ends.{End, end_made, wide_end_made}
 use Rattle.qs_machine.specs.Plains.{DifferInPlain}
-use Rattle.qs_machine.specs.Owner.{OpenStep, AcceptStep, AcceptOfStep, WriteStep, FinishStep, ResetStep, StopStep, ReadStep, ConsumeStep, StopAndForgetStep}
+use Rattle.qs_machine.specs.Owner.{OpenStep, AcceptStep, AcceptOfStep, WriteStep, FinishStep, ResetStep, StopStep, ReadStep, TakesBytes, StopAndForgetStep}
 use Rattle.qs_machine.specs.Receiving.{ReceiveStep}
 use Rattle.qs_machine.specs.Making.{MakeStep, MakeAckStep, LoseStep, ClaimStep}
 use Rattle.qs_machine.specs.Filling.{FillStep}
@@ -94,16 +91,7 @@ abbrev pub EventStep : History → World → Side → Act → Answer → World �
 EventStep h old s (acts.Deliver k) answer new = DeliverStep h old s k answer new
 EventStep h old s act answer new = OwnCall old s new (OwnStep (end_of old s) act answer (end_of new s))
 
--- the bytes that are taken without a copy are those that a read of so many would have given (RFC 9000, section 2.2)
-abbrev pub AreTaken : End → (stream most : ℕ) → Result Consumed UseFault → List ℕ → Type 0
-AreTaken e n most (Ok consumed) bytes = (l : RecvLane) → recv_lane e n ≡ Some l → bytes ≡ bytes_read l most
-AreTaken e n most (Err fault) bytes = bytes ≡ []
-
--- `consume`, with the bytes that it takes (RFC 9000, section 2.2)
-abbrev pub TakesBytes : End → (stream most : ℕ) → Result Consumed UseFault → List ℕ → End → Type 0
-TakesBytes old n most r bytes new = ConsumeStep old n most r new × AreTaken old n most r bytes
-
--- a payload comes to the other end with plain frames of the layer beneath behind it, or in the place of the PING of a claimed number
+-- a payload comes to the other end with plain frames of the layer beneath among its own, or in the place of the PING of a claimed number
 -- (RFC 9000, sections 13.2.1 and 19)
 abbrev pub ComeWithStep : History → World → Side → ℕ → List ℕ → Result Received Closing → World → Type 0
 ComeWithStep h old s k bytes r new =
