@@ -14,7 +14,7 @@ use Rattle.qs_send.specs.declared.piece.Item.{Item}
 use Rattle.qs_send.specs.declared.piece.Item.TheVariants.{MaxData, MaxStreamData, MaxStreams, ResetStream, StopSending}
 use Rattle.qs_machine.specs.Tables.{lookup, updated, open_to}
 use Rattle.qs_machine.specs.Ends.{End, is_own, is_uni, opens, opened_by_peer, first_send_limit}
-use Rattle.qs_machine.specs.Seen.{Seen, Control, Ack, Close, Plain, seen, seen_all, asks_ack, Stream}
+use Rattle.qs_machine.specs.Seen.{Seen, Control, Ack, Close, seen, seen_all, asks_ack, Stream}
 use Rattle.qs_machine.specs.Verdicts.{verdict, item_verdict, state_fault_out}
 use Rattle.qs_machine.specs.FrameStep.{frame_taken, item_taken, AckedPiece, named, acks}
 use Rattle.qs_machine.proofs.TableLaws.{open_at}
@@ -25,7 +25,7 @@ use Rattle.qs_machine.proofs.EndsAfter.{after_opened, has_code}
 use Rattle.qs_runs.specs.Pasts.{Packets, Past, Tells}
 use Rattle.qs_runs.specs.Invariant.{EndOk, SendOk, SendSlot}
 use Rattle.qs_runs.proofs.Changes.{before-missing, Grows, AllGrow, all_grow_refl, grow_trans, each_grows, raise_grows}
-use Rattle.qs_runs.proofs.Frames.{named_by, opened_ok, new_sends, Effect, frame_keeps}
+use Rattle.qs_runs.proofs.Frames.{named_by, opened_ok, new_sends, Effect, MayCome, frame_keeps, come_keeps}
 use Rattle.qs_rest.specs.Invariant.{IsAllAcked, IsStopTaken, ItemTaken, AckedTrue}
 use Rattle.qs_rest.proofs.Halves.{Lasts}
 use Rattle.qs_wire.specs.Layout.{PlacedValue, FrameValue}
@@ -38,12 +38,11 @@ use Rattle.qs_calls.specs.declared.closing.Closed.{Closed}
 use Rattle.qs_calls.specs.declared.token.Taken.TheVariants.{Took, Unchanged, NotOurs}
 use Rattle.qs_machine.specs.Credit.{settle}
 use Rattle.qs_machine.specs.Recording.{recorded}
-use Rattle.qs_machine.specs.Receiving.{GoesOn, Takes, Stops, AtEnd}
+use Rattle.qs_machine.specs.Receiving.{Takes, Stops, AtEnd}
 use Rattle.qs_machine.proofs.EveryCall.{no_fault_there}
 use Rattle.qs_runs.proofs.Lists.{Among_right}
-use Rattle.qs_runs.proofs.Acking.{named_pieces_ok}
+use Rattle.qs_runs.proofs.Acking.{WasAcked, named_pieces_ok}
 use Rattle.qs_machine.proofs.Leaves.{stops_leave}
-use Rattle.qs_rest.proofs.More.{MustTell}
 use Rattle.qs_rest.proofs.Moves.{Moved, moved_same, moved_twice, frame_moved, acks_moved, AllTrue}
 use Rattle.qs_send.specs.Records.{Among}
 use Rattle.qs_calls.specs.declared.token.Taken.{Taken}
@@ -185,22 +184,20 @@ module _ (p : Past) (e : End) (ok : EndOk p e) where
       )
   item_done i t fine h = tt
 
-  pub frame_done : (f : Seen) → MustTell p.theirs f → verdict e f ≡ None → ItemTaken (frame_taken f e) f
+  pub frame_done : (f : Seen) → MayCome p.theirs f → verdict e f ≡ None → ItemTaken (frame_taken f e) f
   unfolding verdict frame_taken
-  frame_done (Control i) t fine = item_done i t fine (frame_keeps p e (Control i) ok t fine)
+  frame_done (Control i) (inl t) fine = item_done i t fine (frame_keeps p e (Control i) ok t fine)
+  frame_done (Control i) (inr plain) fine = absurd (false≢true plain)
   frame_done f t fine = tt
 
-  -- a frame that takes effect keeps the invariant, be it told or one that nobody needs to tell
-  frame_goes : (f : Seen) → MustTell p.theirs f → GoesOn e f → Effect p e (frame_taken f e) f
-  unfolding frame_taken
-  frame_goes (Plain asks) t goes = record { ok = ok; grow = all_grow_refl e.recvs; taken = tt }
-  frame_goes (Close code) t goes = absurd goes
-  frame_goes f t goes = frame_keeps p e f ok t (no_fault_there e f goes)
+  -- the pieces that an ACK takes were confirmed
+  acked_pieces : (largest : ℕ) (ranges : List (ℕ × ℕ)) → MayCome p.theirs (Ack largest ranges) → AllByRecursion (WasAcked p) (named e ranges)
+  acked_pieces largest ranges (inl t) = named_pieces_ok p e ok ranges (λ j a. inl (largest, ranges, t, a))
+  acked_pieces largest ranges (inr plain) = absurd (false≢true plain)
 
-  -- and what holds of the sending side
-  goes_moved : (f : Seen) → MustTell p.theirs f → AllTrue p e → AckedTrue p e.acked → Moved p e (frame_taken f e)
-  goes_moved f t halves acked =
-      frame_moved p f e (λ largest ranges same. named_pieces_ok p e ok ranges (λ j a. inl (largest, ranges, subst (MustTell p.theirs) same t, a))) halves acked
+  -- what a frame leaves of the sending side
+  goes_moved : (f : Seen) → MayCome p.theirs f → AllTrue p e → AckedTrue p e.acked → Moved p e (frame_taken f e)
+  goes_moved f t halves acked = frame_moved p f e (λ largest ranges same. acked_pieces largest ranges (subst (MayCome p.theirs) same t)) halves acked
 
 -- What a payload of the peer leaves: its items took effect.
 
@@ -229,18 +226,18 @@ module _ (p : Past) (k : ℕ) (all : List Seen) (old : End) where
   pub not_done : (result : Result Received Closing) (mid new : End) → (result ≡ Ok Done → ⊥) → new ≡ mid → Moved p old mid → AllGrow old.recvs new.recvs → After p all old result new
   not_done result mid new none same m g = record { moved = subst (Moved p old) (sym same) m; grow = g; done = λ d. absurd (none d) }
 
-  stops : (v : PlacedValue) (f : Seen) (e : End) (result : Result Received Closing) (new : End) → EndOk p e → MustTell p.theirs f → Moved p old e → AllGrow old.recvs e.recvs → Stops v f e result new → After p all old result new
+  stops : (v : PlacedValue) (f : Seen) (e : End) (result : Result Received Closing) (new : End) → EndOk p e → MayCome p.theirs f → Moved p old e → AllGrow old.recvs e.recvs → Stops v f e result new → After p all old result new
   stops v (Close code) e (Ok (PeerClosed told)) new ok t m g h = not_done _ _ new (λ d. absurd (cc d)) h.1 m (same_grow old e new (ap (λ x. x.recvs) h.1) g)
   stops v (Ack largest ranges) e (Ok NoMemory) new ok t m g (fine, (n, h, asks)) =
       let some : List AckedPiece = take n (named e ranges) in
-      not_done _ (acks some e) new (λ d. absurd (cc d)) h (moved_twice p old e (acks some e) m (acks_moved p some e (All_take _ n _ (named_pieces_ok p e ok ranges (λ j a. inl (largest, ranges, t, a)))) m.halves m.acked))
+      not_done _ (acks some e) new (λ d. absurd (cc d)) h (moved_twice p old e (acks some e) m (acks_moved p some e (All_take _ n _ (acked_pieces p e ok largest ranges t)) m.halves m.acked))
       (same_grow old e new (stops_leave v (Ack largest ranges) e (Ok NoMemory) new (fine, (n, h, asks))) g)
   stops v (Close code) e result new ok t m g h = absurd h
   stops v f e (Ok NoMemory) new ok t m g h = not_done _ e new (λ d. absurd (cc d)) h.1.0 m (same_grow old e new (ap (λ x. x.recvs) h.1.0) g)
   stops v f e (Err closing) new ok t m g h = not_done _ _ new (λ d. absurd (cc d)) h.2 m (same_grow old e new (ap (λ x. x.recvs) h.2) g)
   stops v f e result new ok t m g h = absurd h
 
-  pub takes : (left : List PlacedValue) (before : List Seen) (asks : Bool) (fault : Option WireFault) (e : End) (result : Result Received Closing) (new : End) → all ≡ before ++ seen_all (frames_of left) → ((f : Seen) → Among f all → MustTell p.theirs f) →
+  pub takes : (left : List PlacedValue) (before : List Seen) (asks : Bool) (fault : Option WireFault) (e : End) (result : Result Received Closing) (new : End) → all ≡ before ++ seen_all (frames_of left) → ((f : Seen) → Among f all → MayCome p.theirs f) →
       EndOk p e → Moved p old e → AllGrow old.recvs e.recvs → AllByRecursion (ItemTaken e) before → Takes k fault asks e left result new → After p all old result new
   takes [] before asks fault e result new split told ok m g taken h =
       at_end asks fault e result new m g (subst (AllByRecursion (ItemTaken e)) (sym (split ∙ append-nil before)) taken) h
@@ -248,8 +245,8 @@ module _ (p : Past) (k : ℕ) (all : List Seen) (old : End) where
       stops v (seen v.frame) e result new ok (told (seen v.frame) (rw split (Among_right before _ _ (inl refl)))) m g ends
   takes (v ∷ left) before asks fault e result new split told ok m g taken (inr (goes, rest)) =
       let f : Seen = seen v.frame in
-      let t : MustTell p.theirs f = told f (rw split (Among_right before _ _ (inl refl))) in
-      let one : Effect p e (frame_taken f e) f = frame_goes p e ok f t goes in
+      let t : MayCome p.theirs f = told f (rw split (Among_right before _ _ (inl refl))) in
+      let one : Effect p e (frame_taken f e) f = come_keeps p e f ok t (no_fault_there e f goes) in
       let m2 : Moved p e (frame_taken f e) = goes_moved p e ok f t m.halves m.acked in
       takes left (before ++ f ∷ []) (asks || asks_ack f) fault (frame_taken f e) result new (split ∙ sym (append_assoc before (f ∷ []) (seen_all (frames_of left)))) told one.ok
       (moved_twice p old e (frame_taken f e) m m2) (grow_trans old.recvs e.recvs _ g one.grow)
@@ -277,12 +274,6 @@ others_done e (Stream n offset bytes fin) other = absurd (false≢true (sym othe
 others_done e (Control i) other = absurd (false≢true (sym other))
 others_done e _ other = tt
 
--- what is an end's own was told
-ours_told : (ps : Packets) (g : Seen) → is_ours g ≡ true → Tells ps g → MustTell ps g
-ours_told ps (Stream n offset bytes fin) ours t = t
-ours_told ps (Control i) ours t = t
-ours_told ps g ours t = absurd (false≢true ours)
-
 pub later_told : (one told : Taken) (later : Result Taken TakeFault) → after_one one later ≡ Ok told → (last : Taken) × (later ≡ Ok last)
 later_told one told (Ok last) is = (last, refl)
 later_told one told (Err fault) is = absurd (cc is)
@@ -308,7 +299,7 @@ module _ (p : Past) where
       by true ours (inl (mid, one, later, takes, more, is)) goes =
           let (may, after) = took_effect e f one mid takes in
           let g : Seen = seen f in
-          let here : MustTell p.theirs g = ours_told p.theirs g ours (told g (inl refl) ours) in
+          let here : MayCome p.theirs g = inl (told g (inl refl) ours) in
           let next : End = frame_taken g e in
           let effect : Effect p e next g = frame_keeps p e g ok (told g (inl refl) ours) may.1 in
           let m : Moved p e next = goes_moved p e ok g here halves acked in

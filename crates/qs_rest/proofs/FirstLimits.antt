@@ -21,7 +21,8 @@ use Rattle.qs_runs.specs.Invariant.{WorldOk}
 use Rattle.qs_runs.proofs.Standing.{certain_cases}
 use Rattle.qs_runs.proofs.Stays.{each_side}
 use Rattle.qs_runs.proofs.NewEnds.{first_world, made_first, made_wide}
-use Rattle.qs_runs.proofs.Runs.{two_sides, run_keeps, granted_limits, event_runs, settings_stay}
+use Rattle.qs_runs.proofs.Histories.{two_sides}
+use Rattle.qs_runs.proofs.Runs.{run_keeps, granted_limits, event_runs, settings_stay}
 use Rattle.qs_rest.specs.Resting.{KnowsFirstLimits, FirstLimitsStay, TakenInIsTold, EventRunsTell}
 
 -- no limit of q is below that of p

@@ -2,11 +2,10 @@
 use Rattle.std.proofs.Common.{◌≡◌, ℕ, Bool, true, false, Option, Some, None, option_map, List, [], ◌∷◌, ◌++◌, map, Result, Ok, Err, refl, sym, ap, ◌∙◌, subst, inl, inr, append-nil, if◌then◌else◌}
 use Rattle.std.specs.Prelude.{flat_map}
 use Rattle.std.proofs.lemmas.Bool.{or_left, or_right}
-use Rattle.std.specs.Bool.{⊤}
 use Rattle.std.proofs.lemmas.Grind.{flat_map-append}
 use Rattle.std.proofs.lemmas.List.{map-append}
 use Rattle.std.proofs.lemmas.List.Folds.{list_any-append}
-use Rattle.std.specs.List.{AllByRecursion, filter, list_any}
+use Rattle.std.specs.List.{AllByRecursion, list_any}
 use Rattle.qs_send.specs.Records.{Among}
 use Rattle.qs_send.specs.declared.piece.Item.{Item}
 use Rattle.qs_send.specs.declared.piece.Piece.{Piece}
@@ -31,35 +30,16 @@ use Rattle.qs_machine.proofs.Pieces.{All_append, All_at}
 use Rattle.qs_runs.specs.Logs.{Happening, History, Effect, Acked, Ended, other, same_side, effects, effects_of, made, read_effects, took_in, sent_in, acks_in, HasMade}
 use Rattle.qs_runs.specs.Worlds.{World, IsFrom, May}
 use Rattle.qs_runs.specs.Pasts.{Past, Packets, Holds, Tells, WasConfirmed, PieceOf, packets_in, past_of, past}
-use Rattle.std.proofs.lemmas.Option.{slice_get-map}
-use Rattle.qs_runs.proofs.Past.{Holds-more, Confirmed-more}
+use Rattle.qs_runs.proofs.Frames.{MayCome}
+use Rattle.qs_runs.proofs.Histories.{effects_here, effects_there, made_told, payload_come}
+use Rattle.qs_runs.proofs.Past.{Holds-more}
 use Rattle.qs_rest.specs.Invariant.{WasTold}
 
--- Histories
-
--- the past of the end that made the call, and of its peer
-pub past_here : (x : Happening) (h : History) → past x.end (x ∷ h) ≡ past_of (effects x.end h ++ effects_of x.call x.answer) (effects (other x.end) h)
-unfolding effects
-past_here x h = go x.end
-  where
-    go : (s : Side) → past_of (effects s h ++ (if same_side s s then effects_of x.call x.answer else [])) (effects (other s) h ++ (if same_side (other s) s then effects_of x.call x.answer else [])) ≡ past_of (effects s h ++ effects_of x.call x.answer) (effects (other s) h)
-    go A = λ i. past_of (effects A h ++ effects_of x.call x.answer) (append-nil (effects B h) i)
-    go B = λ i. past_of (effects B h ++ effects_of x.call x.answer) (append-nil (effects A h) i)
-
-pub past_there : (x : Happening) (h : History) → past (other x.end) (x ∷ h) ≡ past_of (effects (other x.end) h) (effects x.end h ++ effects_of x.call x.answer)
-unfolding effects
-past_there x h = go x.end
-  where
-    go : (s : Side) → past_of (effects (other s) h ++ (if same_side (other s) s then effects_of x.call x.answer else [])) (effects (other (other s)) h ++ (if same_side (other (other s)) s then effects_of x.call x.answer else []))
-        ≡ past_of (effects (other s) h) (effects s h ++ effects_of x.call x.answer)
-    go A = λ i. past_of (append-nil (effects B h) i) (effects A h ++ effects_of x.call x.answer)
-    go B = λ i. past_of (append-nil (effects A h) i) (effects B h ++ effects_of x.call x.answer)
-
-pub past_other : (s : Side) (h : History) → past (other s) h ≡ past_of (effects (other s) h) (effects s h)
-past_other A h = refl
-past_other B h = refl
-
 -- Pasts
+
+-- the past of the end that made the call, by what was done there and at its peer
+pub past_goes : (x : Happening) (h : History) → past x.end (x ∷ h) ≡ past_of (effects x.end h ++ effects_of x.call x.answer) (effects (other x.end) h)
+past_goes x h = λ i. past_of (effects_here x h i) (effects_there x h i)
 
 module _ (xs new ys : List Effect) where
   packets_more : packets_in (xs ++ new) ≡ packets_in xs ++ packets_in new
@@ -71,14 +51,10 @@ module _ (xs new ys : List Effect) where
   tokens_more : (k : ℕ) → list_any (acks_in k) xs ≡ true → list_any (acks_in k) (xs ++ new) ≡ true
   tokens_more k is = list_any-append (acks_in k) xs new ∙ or_left _ (list_any (acks_in k) new) is
 
-  -- what was told stays told: as this end goes on, and as its peer does
+  -- what was told stays told
   pub told_here : (i : Item) → WasTold (past_of xs ys) i → WasTold (past_of (xs ++ new) ys) i
   told_here i (k, holds, inl ack) = (k, holds_more k _ holds, inl ack)
   told_here i (k, holds, inr told) = (k, holds_more k _ holds, inr (tokens_more k told))
-
-  pub told_there : (i : Item) → WasTold (past_of ys xs) i → WasTold (past_of ys (xs ++ new)) i
-  told_there i (k, holds, is) =
-      (k, holds, subst (λ ps. WasConfirmed ps (past_of ys xs).tokens k) (sym packets_more) (Confirmed-more (packets_in xs) (packets_in new) (past_of ys xs).tokens k is))
 
 -- a piece that stood in a packet
 pub piece_more : (xs new : List Effect) (k : ℕ) (piece : Piece) → PieceOf (packets_in xs) k piece → PieceOf (packets_in (xs ++ new)) k piece
@@ -91,50 +67,17 @@ token_now xs t new is k named = list_any-append (acks_in k) xs new ∙ or_right 
 
 -- What is heard of the peer
 
--- what may come to an open end: nothing needs to be told of a frame that it leaves to others, nor of one that closes it
-abbrev pub MustTell : Packets → Seen → Type 0
-MustTell ps (Close code) = ⊤
-MustTell ps (Plain asks) = ⊤
-MustTell ps f = Tells ps f
-
+-- what may come to an open end
 abbrev pub Heard : Past → Call → Type 0
-Heard p (Receive k bytes) = (f : Seen) → Among f (frames_in bytes) → MustTell p.theirs f
+Heard p (Receive k bytes) = (f : Seen) → Among f (frames_in bytes) → MayCome p.theirs f
 Heard p (TakeFrame f) = is_ours (seen f) ≡ true → Tells p.theirs (seen f)
 Heard p (TakeFrames fs) = (g : Seen) → Among g (seen_all fs) → is_ours g ≡ true → Tells p.theirs g
 Heard p call = Unit {0}
 
--- a frame that is left in stands in the list, and stays in it unless it is plain
-filtered : (p : Seen → Bool) (fs : List Seen) (f : Seen) → Among f (filter p fs) → Among f fs
-filtered p [] f a = absurd a
-filtered p (g ∷ fs) f a = go (p g) (λ more. filtered p fs f more) a
-  where
-    go : (b : Bool) → (Among f (filter p fs) → Among f fs) → Among f (if b then g ∷ filter p fs else filter p fs) → Among f (g ∷ fs)
-    go true goes (inl is) = inl is
-    go true goes (inr more) = inr (goes more)
-    go false goes more = inr (goes more)
-
-stays_in : (p : Seen → Bool) (fs : List Seen) (f : Seen) → p f ≡ true → Among f fs → Among f (filter p fs)
-stays_in p [] f is a = absurd a
-stays_in p (g ∷ fs) f is (inl same) = subst (λ b. Among f (if b then g ∷ filter p fs else filter p fs)) (sym (ap p (sym same) ∙ is)) (inl same)
-stays_in p (g ∷ fs) f is (inr a) = go (p g) (stays_in p fs f is a)
-  where
-    go : (b : Bool) → Among f (filter p fs) → Among f (if b then g ∷ filter p fs else filter p fs)
-    go true more = inr more
-    go false more = more
-
--- what one end's payload has its packets tell
-pub made_tells : (h : History) (s : Side) (f : Seen) → HasMade h s f → Tells (packets_in (effects s h)) f
-made_tells h s f (k, text, is, a) = (k, (frames_in text, slice_get-map frames_in (made s h) k ∙ ap (option_map frames_in) is, a))
-
 pub heard : (h : History) (v : World) (s : Side) (call : Call) → May h v s call → Heard (past s h) call
-heard h v s (Receive k bytes) (text, is, differ) = told
-  where
-    told : (f : Seen) → Among f (frames_in bytes) → MustTell (packets_in (effects (other s) h)) f
-    told (Plain asks) a = tt
-    told (Close code) a = tt
-    told f a = made_tells h (other s) f (k, text, is, filtered _ (frames_in text) f (subst (Among f) differ.same (stays_in _ (frames_in bytes) f refl a)))
-heard h v s (TakeFrame f) may = λ ours. made_tells h (other s) (seen f) (may ours)
-heard h v s (TakeFrames fs) may = λ g a ours. made_tells h (other s) g (All_at (IsFrom h (other s)) (seen_all fs) g may a ours)
+heard h v s (Receive k bytes) may = payload_come h s k bytes may
+heard h v s (TakeFrame f) may = λ ours. made_told h s (seen f) (may ours)
+heard h v s (TakeFrames fs) may = λ g a ours. made_told h s g (All_at (IsFrom h (other s)) (seen_all fs) g may a ours)
 heard h v s call may = tt
 
 -- Frames that took effect

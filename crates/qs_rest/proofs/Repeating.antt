@@ -1,15 +1,11 @@
 -- In every run what a frame did that was taken stays done, so it changes nothing when it comes again.
-use Rattle.std.proofs.Common.{◌≡◌, ◌<◌, ◌≤◌, ◌+◌, ◌^◌, ℕ, zero, suc, Bool, true, false, slice_get, List, [], ◌∷◌, ◌++◌, length, Option, Some, None, Result, Ok, refl, sym, ap, ◌∙◌, subst, inl, inr, append-nil, MatchBool}
-use Rattle.std.proofs.lemmas.Option.{none-some, same_Some}
-use Rattle.std.proofs.lemmas.Bool.{false≢true}
+use Rattle.std.proofs.Common.{◌≡◌, ℕ, Bool, true, false, List, [], ◌∷◌, ◌++◌, Option, Some, None, Result, Ok, refl, sym, ap, ◌∙◌, subst, inl, inr, append-nil, MatchBool}
 use Rattle.std.specs.Prelude.{flat_map}
 use Rattle.std.specs.List.{AllByRecursion}
-use Rattle.qs_wire.specs.Layout.{PlacedValue, FrameValue, reset_stream, stop_sending, stream, max_data, max_stream_data, max_streams, data_blocked, stream_data_blocked, streams_blocked}
-use Rattle.qs_wire.specs.Grammar.{Fits, frames_of}
+use Rattle.qs_wire.specs.Layout.{PlacedValue, FrameValue}
 use Rattle.qs_wire.specs.Reading.{reading_of}
 use Rattle.qs_wire.specs.declared.fault.WireFault.{WireFault}
 use Rattle.qs_send.specs.Records.{Among}
-use Rattle.qs_send.specs.declared.piece.Item.TheVariants.{MaxData, MaxStreamData, MaxStreams, ResetStream, StopSending, DataBlocked, StreamDataBlocked, StreamsBlocked}
 use Rattle.qs_calls.specs.declared.settings.Settings.{Settings}
 use Rattle.qs_calls.specs.declared.closing.Closing.{Closing}
 use Rattle.qs_calls.specs.declared.closing.Closed.{Closed}
@@ -26,7 +22,7 @@ use Rattle.qs_calls.specs.declared.event.Side.TheVariants.{A, B}
 use Rattle.qs_machine.specs.Ends.{End}
 use Rattle.qs_machine.specs.Credit.{settle}
 use Rattle.qs_machine.specs.Plains.{frames_in}
-use Rattle.qs_machine.specs.Seen.{Seen, Stream, Control, Close, seen, seen_all}
+use Rattle.qs_machine.specs.Seen.{Seen, Close, seen, seen_all}
 use Rattle.qs_machine.specs.Verdicts.{verdict}
 use Rattle.qs_machine.specs.FrameStep.{frame_taken, frames_taken}
 use Rattle.qs_machine.specs.Recording.{recorded}
@@ -40,16 +36,17 @@ use Rattle.qs_machine.proofs.Again.{seen_in, takes_prefix, all_done}
 use Rattle.qs_machine.proofs.Pieces.{All_at, All_more}
 use Rattle.qs_machine.proofs.TablesAfter.{kept_same}
 use Rattle.qs_machine.proofs.LanesAgain.{LaneAfter, lane_same}
-use Rattle.qs_runs.specs.Logs.{History, other, effects, made, taken}
+use Rattle.qs_runs.specs.Logs.{History, other, effects, taken, took_in}
 use Rattle.qs_runs.specs.Worlds.{World, end_of, WorldStep, Run}
 use Rattle.qs_runs.specs.Pasts.{past}
-use Rattle.qs_runs.specs.Invariant.{HasNoFault, WorldOk}
+use Rattle.qs_runs.specs.Invariant.{WorldOk}
 use Rattle.qs_runs.proofs.Claims.{run_settled}
-use Rattle.qs_runs.proofs.Runs.{two_sides, run_keeps, ends_face}
+use Rattle.qs_runs.proofs.Histories.{two_sides, back_again, effects_here, effects_there, frame_told}
+use Rattle.qs_runs.proofs.Runs.{run_keeps, ends_face, processed_made}
 use Rattle.qs_runs.proofs.Unharmed.{Facing, told_fine}
 use Rattle.qs_rest.specs.Invariant.{ItemTaken}
 use Rattle.qs_rest.specs.Again.{WasTaken, FramesRepeat}
-use Rattle.qs_rest.proofs.More.{past_here, past_there, past_other, made_tells, HasNews, taken_more}
+use Rattle.qs_rest.proofs.More.{HasNews, taken_more}
 use Rattle.qs_rest.proofs.Again.{StillDone, still_stays, keeps_same, call_still, settled_still, done_still, others_still, one_still, each_still, TakesNothing, taken_again, each_again}
 use Rattle.qs_rest.proofs.Runs.{every_run_keeps}
 
@@ -127,53 +124,13 @@ run_still a b [] w begins t = tt
 run_still a b (x ∷ h) w (v, before, step) t =
     let ok : WorldOk a b h v = run_keeps a b h v before in
     let s : Side = x.end in
-    two_sides (λ t. AllByRecursion (StillDone (end_of w t)) (past t (x ∷ h)).taken) s
-    (subst (λ p. AllByRecursion (StillDone (end_of w s)) p.taken) (sym (past_here x h))
+    two_sides (λ t. AllByRecursion (StillDone (end_of w t)) (taken t (x ∷ h))) s
+    (subst (AllByRecursion (StillDone (end_of w s))) (sym (ap (flat_map took_in) (effects_here x h)))
     (taken_more (StillDone (end_of w s)) (effects s h) x.call x.answer
     (All_more (StillDone (end_of v s)) (StillDone (end_of w s)) (taken s h) (call_still (end_of v s) (ok.sound s) (ok.sent s) x.call x.answer (end_of w s) step.step) (run_still a b h v before s))
     (news_still (end_of v s) (end_of w s) (ok.sound s) (ok.sent s) x.call x.answer step.step)))
-    (subst (λ p. AllByRecursion (StillDone (end_of w (other s))) p.taken) (sym (past_there x h))
+    (subst (AllByRecursion (StillDone (end_of w (other s)))) (sym (ap (flat_map took_in) (effects_there x h)))
     (subst (λ e. AllByRecursion (StillDone e) (taken (other s) h)) (sym step.still) (run_still a b h v before (other s)))) t
-
--- Values that have a text
-
--- what has one, by what an end sees of it
-abbrev SeenFits : Seen → Type 0
-SeenFits (Stream n offset bytes fin) = (n < 2 ^ 62) × (offset + length bytes < 2 ^ 62)
-SeenFits (Control (ResetStream n code size)) = (n < 2 ^ 62) × (code < 2 ^ 62) × (size < 2 ^ 62)
-SeenFits (Control (StopSending n code)) = (n < 2 ^ 62) × (code < 2 ^ 62)
-SeenFits (Control (MaxData maximum)) = maximum < 2 ^ 62
-SeenFits (Control (MaxStreamData n maximum)) = (n < 2 ^ 62) × (maximum < 2 ^ 62)
-SeenFits (Control (MaxStreams dir count)) = count ≤ 2 ^ 60
-SeenFits (Control (DataBlocked limit)) = limit < 2 ^ 62
-SeenFits (Control (StreamDataBlocked n limit)) = (n < 2 ^ 62) × (limit < 2 ^ 62)
-SeenFits (Control (StreamsBlocked dir count)) = count ≤ 2 ^ 60
-SeenFits f = Unit {0}
-
--- of what is an end's own
-ours_fit : (f : FrameValue) → is_ours (seen f) ≡ true → (SeenFits (seen f) → Fits f) × (Fits f → SeenFits (seen f))
-ours_fit (reset_stream n code size) ours = (λ h. h, λ h. h)
-ours_fit (stop_sending n code) ours = (λ h. h, λ h. h)
-ours_fit (stream n offset fin bytes) ours = (λ h. h, λ h. h)
-ours_fit (max_data maximum) ours = (λ h. h, λ h. h)
-ours_fit (max_stream_data n maximum) ours = (λ h. h, λ h. h)
-ours_fit (max_streams dir count) ours = (λ h. h, λ h. h)
-ours_fit (data_blocked limit) ours = (λ h. h, λ h. h)
-ours_fit (stream_data_blocked n limit) ours = (λ h. h, λ h. h)
-ours_fit (streams_blocked dir count) ours = (λ h. h, λ h. h)
-ours_fit f ours = absurd (false≢true ours)
-
--- a frame that stood in a payload without a fault has a text
-stood_fits : (gs : List FrameValue) (f : FrameValue) → is_ours (seen f) ≡ true → AllByRecursion Fits gs → Among (seen f) (seen_all gs) → Fits f
-stood_fits [] f ours fit a = absurd a
-stood_fits (g ∷ gs) f ours fit (inl is) = (ours_fit f ours).0 (subst SeenFits (sym is) ((ours_fit g (ap is_ours (sym is) ∙ ours)).1 fit.0))
-stood_fits (g ∷ gs) f ours fit (inr a) = stood_fits gs f ours fit.1 a
-
--- each payload that was made
-all_get : {X : Type 0} (P : X → Type 0) (xs : List X) (k : ℕ) (x : X) → AllByRecursion P xs → slice_get xs k ≡ Some x → P x
-all_get P [] k x all is = absurd (none-some x is)
-all_get P (y ∷ xs) zero x all is = subst P (same_Some y x is) all.0
-all_get P (y ∷ xs) (suc k) x all is = all_get P xs k x all.1 is
 
 -- It comes again
 
@@ -191,18 +148,12 @@ frames_repeat a b h v w s fs r run again step = by e.closed step.step
     ok : WorldOk a b h v
     ok = run_keeps a b h v run
 
-    back : (past (other s) h).theirs ≡ (past s h).mine
-    back = ap (λ p. p.theirs) (past_other s h)
-
     nothing : (f : FrameValue) → WasTaken h s (seen f) → TakesNothing e f
     nothing f was ours =
         let g : Seen = seen f in
-        let (k, text, is, among) = ok.taken s g (was ours) ours in
-        let fine : verdict e g ≡ None = told_fine (past s h) (past (other s) h) refl back e (end_of v (other s)) (faces a b h v ok s) (ok.ends s) (ok.ends (other s)) g (made_tells h (other s) g (k, text, is, among)) in
-        (
-          (stood_fits (frames_of (reading_of text).left) f ours (all_get HasNoFault (made (other s) h) k text (ok.texts (other s)) is).1 among, fine),
-          taken_again (past s h) e (ok.ends s) (ok.sound s).0 g ours fine (All_at (ItemTaken e) (taken s h) g (every_run_keeps a b h v run s).taken (was ours)) (All_at (StillDone e) (taken s h) g (run_still a b h v run s) (was ours)),
-        )
+        let (told, fits) = frame_told h s (ok.texts (other s)) f (λ is. ok.taken s g (was is) is) ours in
+        let fine : verdict e g ≡ None = told_fine (past s h) (past (other s) h) refl (back_again (λ t. (past t h).mine ≡ (past s h).mine) s refl) e (end_of v (other s)) (faces a b h v ok s) (ok.ends s) (ok.ends (other s)) (processed_made a b h v ok (other s)) g told in
+        ((fits, fine), taken_again (past s h) e (ok.ends s) (ok.sound s).0 g ours fine (All_at (ItemTaken e) (taken s h) g (every_run_keeps a b h v run s).taken (was ours)) (All_at (StillDone e) (taken s h) g (run_still a b h v run s) (was ours)))
 
     each : (gs : List FrameValue) → AllByRecursion (WasTaken h s) (seen_all gs) → AllByRecursion (TakesNothing e) gs
     each [] all = tt

@@ -52,7 +52,7 @@ use Rattle.qs_machine.proofs.Counts.{no_lane, new_ends_settled as new_counts_set
 use Rattle.qs_machine.proofs.Pieces.{All_take, all_named}
 use Rattle.qs_runs.specs.Logs.{Happening, History, Effect, Acked, other, effects, effects_of, acked_effects}
 use Rattle.qs_runs.specs.Worlds.{World, Begins, end_of, WorldStep}
-use Rattle.qs_runs.specs.Pasts.{Past, Tells, past_of, past}
+use Rattle.qs_runs.specs.Pasts.{Packets, Past, Tells, packets_in, past_of, past}
 use Rattle.qs_runs.specs.Invariant.{EndOk, StoodIn, WorldOk}
 use Rattle.qs_runs.proofs.Acking.{WasAcked}
 use Rattle.qs_runs.proofs.Changes.{AllGrow, all_grow_refl, each_grows, raise_grows}
@@ -60,12 +60,16 @@ use Rattle.qs_runs.proofs.Lasting.{call_grows}
 use Rattle.qs_runs.proofs.NewEnds.{first_world, made_first, ends_made}
 use Rattle.qs_runs.proofs.OwnMoves.{allowed_at}
 use Rattle.qs_runs.proofs.Standing.{certain_cases}
-use Rattle.qs_runs.proofs.Runs.{two_sides, run_keeps}
+use Rattle.qs_runs.proofs.Frames.{MayCome}
+use Rattle.qs_runs.proofs.Histories.{two_sides, past_there, told}
+use Rattle.qs_runs.proofs.Past.{Confirmed-more}
+use Rattle.qs_runs.proofs.PeerMoves.{with_theirs}
+use Rattle.qs_runs.proofs.Runs.{run_keeps}
 use Rattle.qs_rest.specs.Invariant.{WasTold, AckedTrue, HalfTrue, ItemTaken, RestOk}
 use Rattle.qs_rest.specs.Rest.{EveryRunKeeps}
 use Rattle.qs_rest.proofs.Halves.{Lasts, lasts_same, lasts_twice, allow_lasts}
 use Rattle.qs_rest.proofs.Moves.{AllTrue, SlotTrue, Moved, moved_same, moved_call, acks_moved}
-use Rattle.qs_rest.proofs.More.{past_here, past_there, past_other, told_here, told_there, piece_more, token_now, HasNews, taken_more, MustTell, Heard, heard}
+use Rattle.qs_rest.proofs.More.{past_goes, told_here, piece_more, token_now, HasNews, taken_more, Heard, heard}
 use Rattle.qs_rest.proofs.Effects.{items_stay, After, takes, settled, not_done, frames_came, frame_came}
 use Rattle.qs_rest.proofs.Telling.{AllTold, all_told, told_at, told_call}
 
@@ -99,14 +103,17 @@ slot_at p e all n l is = subst (SlotTrue p n (first_send_limit e n)) is (all n)
 
 -- The peer goes on
 
-pub peer_rests : (xs new ys : List Effect) (e : End) → RestOk (past_of ys xs) e → RestOk (past_of ys (xs ++ new)) e
-peer_rests xs new ys e ok =
+told_theirs : (p : Past) (packets : Packets) (i : Item) → WasTold p i → WasTold (with_theirs p packets) i
+told_theirs p packets i (k, holds, ack) = (k, holds, Confirmed-more p.theirs packets p.tokens k ack)
+
+pub peer_rests : (p : Past) (packets : Packets) (e : End) → RestOk p e → RestOk (with_theirs p packets) e
+peer_rests p packets e ok =
     record {
       conn = ok.conn;
       bidi = ok.bidi;
       uni = ok.uni;
-      sends = λ n l is. half_more (past_of ys xs) (past_of ys (xs ++ new)) (told_there xs new ys) n _ l (ok.sends n l is);
-      acked = acked_more (past_of ys xs) (past_of ys (xs ++ new)) (told_there xs new ys) e.acked ok.acked;
+      sends = λ n l is. half_more p (with_theirs p packets) (told_theirs p packets) n _ l (ok.sends n l is);
+      acked = acked_more p (with_theirs p packets) (told_theirs p packets) e.acked ok.acked;
       told = ok.told;
       taken = ok.taken;
       limits = ok.limits;
@@ -211,7 +218,7 @@ raise_rests p e new limits result sound sent ok step =
 
 -- A payload of the peer
 
-after_payload : (p : Past) (e new : End) (k : ℕ) (text : List ℕ) (result : Result Received Closing) → EndOk p e → RestOk p e → (e.closed ≡ None → (f : Seen) → Among f (frames_in text) → MustTell p.theirs f) → ReceiveStep e k text result new → After p (frames_in text) e result new
+after_payload : (p : Past) (e new : End) (k : ℕ) (text : List ℕ) (result : Result Received Closing) → EndOk p e → RestOk p e → (e.closed ≡ None → (f : Seen) → Among f (frames_in text) → MayCome p.theirs f) → ReceiveStep e k text result new → After p (frames_in text) e result new
 after_payload p e new k text result good ok told step = by_closed e.closed refl step
   where
     same : Moved p e e
@@ -331,11 +338,10 @@ first_ends a b w begins s = subst (λ x. RestOk (past s []) (end_of x s)) (sym i
 step_rests : (a b : Settings) (h : History) (v w : World) (x : Happening) → WorldOk a b h v → ((t : Side) → RestOk (past t h) (end_of v t)) → WorldStep h v x w → (t : Side) → RestOk (past t (x ∷ h)) (end_of w t)
 step_rests a b h v w x ok rests step =
     two_sides (λ t. RestOk (past t (x ∷ h)) (end_of w t)) x.end
-    (subst (λ p. RestOk p (end_of w x.end)) (sym (past_here x h))
+    (subst (λ p. RestOk p (end_of w x.end)) (sym (past_goes x h))
     (call_rests (effects x.end h) (effects (other x.end) h) (end_of v x.end) (end_of w x.end) (ok.sound x.end) (ok.sent x.end) (ok.ends x.end) (rests x.end) x.call x.answer (λ unclosed. heard h v x.end x.call (step.may unclosed)) step.step))
     (subst (λ p. RestOk p (end_of w (other x.end))) (sym (past_there x h))
-    (subst (RestOk (past_of (effects (other x.end) h) (effects x.end h ++ effects_of x.call x.answer))) (sym step.still)
-    (peer_rests (effects x.end h) (effects_of x.call x.answer) (effects (other x.end) h) (end_of v (other x.end)) (subst (λ p. RestOk p (end_of v (other x.end))) (past_other x.end h) (rests (other x.end))))))
+    (subst (RestOk (with_theirs (past (other x.end) h) (packets_in (told x h)))) (sym step.still) (peer_rests (past (other x.end) h) (packets_in (told x h)) (end_of v (other x.end)) (rests (other x.end)))))
 
 pub every_run_keeps : EveryRunKeeps
 every_run_keeps a b [] w begins = first_ends a b w begins
