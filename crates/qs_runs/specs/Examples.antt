@@ -23,6 +23,8 @@ use Rattle.qs_machine.specs.SmallEnds.{abc}
 use Rattle.qs_machine.specs.Seen.{Seen, Control, Plain}
 use Rattle.qs_machine.specs.Setting.{Setting}
 use Rattle.qs_machine.specs.EndStep.{Call, Answer, AcceptOf, Write, Stop, StopAndForget, ReadUpTo, Consume, Receive, TakeFrame, TakeFrames, TokenAcked, TokenLost, Make, MakeAck, FillIn, Claim, RaiseLimits, Set, TellClosed}
+use Rattle.qs_calls.specs.declared.settings.Settings.{Settings}
+use Rattle.qs_runs.specs.Worlds.{World, end_of, Run}
 use Rattle.qs_runs.specs.Logs.{Happening, History, written, read, read_whole, stopped, made, payload, processed, taken, was_acked, was_told_closed}
 
 -- a call of an end, with its answer
@@ -176,9 +178,14 @@ pub record TokensAreRead : Type 0 where
   pub told_closed : (close : ToldClose) → was_told_closed A (at A (TellClosed close) tt ∷ []) ≡ true
   pub not_told : (close : ToldClose) → was_told_closed B (at A (TellClosed close) tt ∷ []) ≡ false
 
+-- A PING that is handed in alone is answered NotOurs, and the run goes on in the same world (RFC 9000, section 19.2).
+abbrev pub PingComesAlone : Type 0
+PingComesAlone = (a b : Settings) (h : History) (w : World) (s : Side) → Run a b h w → (end_of w s).closed ≡ None → Run a b (at s (TakeFrame ping) (Ok NotOurs) ∷ h) w
+
 pub record Examples : Type 0 where
   pub story : (text : List ℕ) → StoryIsRead text
   pub bytes : BytesAreRead
   pub ends : EndsAreTold
   pub packets : (text : List ℕ) → PacketsAreRead text
   pub tokens : TokensAreRead
+  pub ping_alone : PingComesAlone
