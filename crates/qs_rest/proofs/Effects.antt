@@ -1,5 +1,5 @@
 -- What came of the peer took effect, for good: an item, a payload, and frames alone.
-use Rattle.std.proofs.Common.{◌≡◌, ℕ, ◌≤◌, Bool, true, false, not, ◌&&◌, ◌||◌, ◌==◌, ◌⊎◌, List, [], ◌∷◌, Option, Some, None, is_some, is_none, refl, sym, ap, ◌∙◌, subst, arith, inl, inr, ◌++◌, take, Result, Ok, Err, slice_get, append-nil, append_assoc, MatchBool}
+use Rattle.std.proofs.Common.{◌≡◌, ℕ, ◌≤◌, Bool, true, false, not, ◌&&◌, ◌||◌, ◌==◌, ◌⊎◌, List, [], ◌∷◌, Option, Some, None, is_some, is_none, refl, sym, ap, ◌∙◌, subst, arith, inl, inr, ◌++◌, take, Result, Ok, Err, append-nil, append_assoc, MatchBool}
 use Rattle.std.specs.Prelude.{cond}
 use Rattle.std.proofs.lemmas.Option.{none-some}
 use Rattle.std.proofs.lemmas.Bool.{and_parts, or_cases, eqb-true, true≢false, false≢true}
@@ -22,7 +22,7 @@ use Rattle.qs_machine.proofs.TablesAfter.{KeptIn}
 use Rattle.qs_machine.proofs.CallsSound.{no_fault}
 use Rattle.qs_machine.proofs.Again.{changed}
 use Rattle.qs_machine.proofs.EndsAfter.{after_opened, has_code}
-use Rattle.qs_runs.specs.Pasts.{Packets, Past, Tells}
+use Rattle.qs_runs.specs.Pasts.{Past, Tells}
 use Rattle.qs_runs.specs.Invariant.{EndOk, SendOk, SendSlot}
 use Rattle.qs_runs.proofs.Changes.{before-missing, Grows, AllGrow, all_grow_refl, grow_trans, each_grows, raise_grows}
 use Rattle.qs_runs.proofs.Frames.{named_by, opened_ok, new_sends, Effect, MayCome, frame_keeps, come_keeps}

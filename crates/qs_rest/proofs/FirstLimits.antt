@@ -15,7 +15,7 @@ use Rattle.qs_machine.specs.EndStep.{Call, Answer as CallAnswer, EndStep, RaiseL
 use Rattle.qs_machine.proofs.Leaves.{acks_leave, put_leaves, frame_leaves}
 use Rattle.qs_machine.proofs.EveryCall.{Change, changed, Comes, relates, Wanted, Took, Acked, Put, Raised, WasSet}
 use Rattle.qs_runs.specs.Logs.{Happening, History, other}
-use Rattle.qs_runs.specs.Events.{Log, happened, EventRun}
+use Rattle.qs_runs.specs.Events.{happened}
 use Rattle.qs_runs.specs.Worlds.{World, AreGranted, end_of, WorldStep, Run}
 use Rattle.qs_runs.specs.Invariant.{WorldOk}
 use Rattle.qs_runs.proofs.Standing.{certain_cases}

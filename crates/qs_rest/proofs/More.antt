@@ -1,5 +1,5 @@
 -- One call more: how the past of each end goes on, and which frames took effect by it.
-use Rattle.std.proofs.Common.{◌≡◌, ℕ, Bool, true, false, Option, Some, None, option_map, List, [], ◌∷◌, ◌++◌, map, Result, Ok, Err, refl, sym, ap, ◌∙◌, subst, inl, inr, append-nil, if◌then◌else◌}
+use Rattle.std.proofs.Common.{◌≡◌, ℕ, Bool, true, false, Some, None, List, [], ◌∷◌, ◌++◌, map, Ok, Err, refl, sym, ap, ◌∙◌, subst, inl, inr, append-nil, if◌then◌else◌}
 use Rattle.std.specs.Prelude.{flat_map}
 use Rattle.std.proofs.lemmas.Bool.{or_left, or_right}
 use Rattle.std.proofs.lemmas.Grind.{flat_map-append}
@@ -12,24 +12,20 @@ use Rattle.qs_send.specs.declared.piece.Piece.{Piece}
 use Rattle.qs_send.specs.declared.piece.Piece.TheVariants.{Data, Told}
 use Rattle.qs_calls.specs.declared.closing.Received.TheVariants.{Done, Duplicate, BelowFloor, PeerClosed, NoMemory}
 use Rattle.qs_calls.specs.declared.event.Side.{Side}
-use Rattle.qs_calls.specs.declared.event.Side.TheVariants.{A, B}
-use Rattle.qs_calls.specs.declared.making.Made.{Made}
-use Rattle.qs_calls.specs.declared.reading.Consumed.{Consumed}
 use Rattle.qs_calls.specs.declared.token.Taken.{Taken}
 use Rattle.qs_calls.specs.declared.token.Token.{Token}
-use Rattle.qs_calls.specs.declared.token.TokenFault.{TokenFault}
 use Rattle.qs_calls.specs.declared.token.TokenFault.TheVariants as tokens
 use Rattle.qs_recv.specs.declared.half.Read.{Read}
 use Rattle.qs_recv.specs.declared.half.Read.TheVariants as reads
 use Rattle.qs_machine.specs.Plains.{frames_in}
-use Rattle.qs_machine.specs.Seen.{Seen, Close, Plain, seen, seen_all}
+use Rattle.qs_machine.specs.Seen.{Seen, seen, seen_all}
 use Rattle.qs_machine.specs.Alone.{is_ours}
 use Rattle.qs_machine.specs.FrameStep.{is_named}
 use Rattle.qs_machine.specs.EndStep.{Call, Answer, Write, Stop, StopAndForget, ReadUpTo, Consume, Receive, TakeFrame, TakeFrames, TokenAcked, Make, MakeAck, FillIn, Claim}
 use Rattle.qs_machine.proofs.Pieces.{All_append, All_at}
-use Rattle.qs_runs.specs.Logs.{Happening, History, Effect, Acked, Ended, other, same_side, effects, effects_of, made, read_effects, took_in, sent_in, acks_in, HasMade}
+use Rattle.qs_runs.specs.Logs.{Happening, History, Effect, Acked, Ended, other, effects, effects_of, made, read_effects, took_in, sent_in, acks_in}
 use Rattle.qs_runs.specs.Worlds.{World, IsFrom, May}
-use Rattle.qs_runs.specs.Pasts.{Past, Packets, Holds, Tells, WasConfirmed, PieceOf, packets_in, past_of, past}
+use Rattle.qs_runs.specs.Pasts.{Past, Holds, Tells, PieceOf, packets_in, past_of, past}
 use Rattle.qs_runs.proofs.Frames.{MayCome}
 use Rattle.qs_runs.proofs.Histories.{effects_here, effects_there, made_told, payload_come}
 use Rattle.qs_runs.proofs.Past.{Holds-more}

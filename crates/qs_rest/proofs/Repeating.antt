@@ -13,7 +13,7 @@ use Rattle.qs_calls.specs.declared.closing.Closed.TheVariants.{ByUs, ByPeer, Tol
 use Rattle.qs_calls.specs.declared.closing.Closer.{Closer}
 use Rattle.qs_calls.specs.declared.closing.Closer.TheVariants.{Us, Peer}
 use Rattle.qs_calls.specs.declared.closing.Received.{Received}
-use Rattle.qs_calls.specs.declared.closing.Received.TheVariants.{Done, PeerClosed}
+use Rattle.qs_calls.specs.declared.closing.Received.TheVariants.{Done}
 use Rattle.qs_calls.specs.declared.token.Taken.{Taken}
 use Rattle.qs_calls.specs.declared.token.Taken.TheVariants.{NotOurs}
 use Rattle.qs_calls.specs.declared.token.TakeFault.{TakeFault}
@@ -24,9 +24,9 @@ use Rattle.qs_machine.specs.Credit.{settle}
 use Rattle.qs_machine.specs.Plains.{frames_in}
 use Rattle.qs_machine.specs.Seen.{Seen, Close, seen, seen_all}
 use Rattle.qs_machine.specs.Verdicts.{verdict}
-use Rattle.qs_machine.specs.FrameStep.{frame_taken, frames_taken}
+use Rattle.qs_machine.specs.FrameStep.{frames_taken}
 use Rattle.qs_machine.specs.Recording.{recorded}
-use Rattle.qs_machine.specs.Receiving.{ReceiveStep, ReceiveBy, TakesPayload, EndsBy, Stops, told_receive}
+use Rattle.qs_machine.specs.Receiving.{ReceiveBy, TakesPayload, EndsBy, Stops, told_receive}
 use Rattle.qs_machine.specs.Alone.{is_ours, TakesOne, TakeBy, TakeAllBy}
 use Rattle.qs_machine.specs.Standing.{IsSound}
 use Rattle.qs_machine.specs.Repeats.{SentWasWritten}
@@ -37,7 +37,7 @@ use Rattle.qs_machine.proofs.Pieces.{All_at, All_more}
 use Rattle.qs_machine.proofs.TablesAfter.{kept_same}
 use Rattle.qs_machine.proofs.LanesAgain.{LaneAfter, lane_same}
 use Rattle.qs_runs.specs.Logs.{History, other, effects, taken, took_in}
-use Rattle.qs_runs.specs.Worlds.{World, end_of, WorldStep, Run}
+use Rattle.qs_runs.specs.Worlds.{World, end_of, Run}
 use Rattle.qs_runs.specs.Pasts.{past}
 use Rattle.qs_runs.specs.Invariant.{WorldOk}
 use Rattle.qs_runs.proofs.Claims.{run_settled}

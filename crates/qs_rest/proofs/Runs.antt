@@ -1,11 +1,10 @@
 -- In every run each end keeps what holds of it beside the invariant of qs_runs.
-use Rattle.std.proofs.Common.{◌≡◌, ℕ, ◌≤◌, Bool, true, false, not, List, [], ◌∷◌, ◌++◌, map, take, ◌⊎◌, option_map, Option, Some, None, Result, Ok, Err, slice_get, refl, sym, ap, ◌∙◌, subst, arith, inl, inr, nat_cmp, if◌then◌else◌}
+use Rattle.std.proofs.Common.{◌≡◌, ℕ, ◌≤◌, Bool, true, false, List, [], ◌∷◌, ◌++◌, take, option_map, Option, Some, None, Result, Ok, Err, refl, sym, ap, ◌∙◌, subst, arith, inl, inr, nat_cmp}
 use Rattle.std.proofs.lemmas.Bool.{false≢true}
 use Rattle.std.proofs.lemmas.Option.{none-some}
-use Rattle.std.specs.List.{AllByRecursion, list_any}
+use Rattle.std.specs.List.{AllByRecursion}
 use Rattle.std.specs.FinSet as set
 use Rattle.std.specs.FinMap as fmap
-use Rattle.qs_wire.specs.Layout.{FrameValue}
 use Rattle.qs_wire.specs.Reading.{reading_of}
 use Rattle.qs_wire.specs.declared.stream_id.Role.{Role}
 use Rattle.qs_wire.specs.declared.stream_id.Role.TheVariants.{Client, Server}
@@ -29,14 +28,13 @@ use Rattle.qs_calls.specs.declared.settings.PeerLimits.{PeerLimits}
 use Rattle.qs_calls.specs.declared.settings.RaiseFault.{RaiseFault}
 use Rattle.qs_calls.specs.declared.token.Token.{Token}
 use Rattle.qs_calls.specs.declared.token.TokenFault.{TokenFault}
-use Rattle.qs_calls.specs.declared.token.TokenFault.TheVariants as tokens
 use Rattle.qs_machine.specs.Tables.{lookup}
-use Rattle.qs_machine.specs.Ends.{End, AckedItems, closes, first_send_limit, new_end, wide_end_made}
-use Rattle.qs_machine.specs.Seen.{Seen, seen, seen_all}
+use Rattle.qs_machine.specs.Ends.{End, AckedItems, first_send_limit, new_end, wide_end_made}
+use Rattle.qs_machine.specs.Seen.{Seen}
 use Rattle.qs_machine.specs.Credit.{settle}
 use Rattle.qs_machine.specs.Receiving.{told_receive, told_by, ReceiveStep, ReceiveBy}
 use Rattle.qs_machine.specs.Plains.{frames_in}
-use Rattle.qs_machine.specs.Alone.{is_ours, token_refusal, TokenAckedStep}
+use Rattle.qs_machine.specs.Alone.{token_refusal}
 use Rattle.qs_machine.specs.FrameStep.{AckedPiece, acks, named, held, is_named, frame_taken}
 use Rattle.qs_machine.specs.Raising.{RaiseStep, knows_limits, limits_raised, raise_refusal}
 use Rattle.qs_machine.specs.EndStep.{Call, Answer, EndStep, Receive, TakeFrame, TakeFrames, TokenAcked, RaiseLimits, TellClosed}
@@ -52,7 +50,7 @@ use Rattle.qs_machine.proofs.Counts.{no_lane, new_ends_settled as new_counts_set
 use Rattle.qs_machine.proofs.Pieces.{All_take, all_named}
 use Rattle.qs_runs.specs.Logs.{Happening, History, Effect, Acked, other, effects, effects_of, acked_effects}
 use Rattle.qs_runs.specs.Worlds.{World, Begins, end_of, WorldStep}
-use Rattle.qs_runs.specs.Pasts.{Packets, Past, Tells, packets_in, past_of, past}
+use Rattle.qs_runs.specs.Pasts.{Packets, Past, packets_in, past_of, past}
 use Rattle.qs_runs.specs.Invariant.{EndOk, StoodIn, WorldOk}
 use Rattle.qs_runs.proofs.Acking.{WasAcked}
 use Rattle.qs_runs.proofs.Changes.{AllGrow, all_grow_refl, each_grows, raise_grows}
@@ -159,21 +157,6 @@ rests_on p q more e taken ok =
       told = ok.told;
       taken = taken ok.taken;
       limits = ok.limits;
-      counts = ok.counts;
-    }
-
--- that an end closed doesn't matter
-closed_rests : (p : Past) (e : End) (c : Closed) → RestOk p e → RestOk p (closes c e)
-closed_rests p e c ok =
-    record {
-      conn = ok.conn;
-      bidi = ok.bidi;
-      uni = ok.uni;
-      sends = ok.sends;
-      acked = ok.acked;
-      told = ok.told;
-      taken = items_stay e (closes c e) refl (omega arith) (omega arith) (omega arith) (moved_same p e (slots p e ok) ok.acked).sends (all_grow_refl e.recvs) p.taken ok.taken;
-      limits = record { connection = ok.limits.connection; streams = ok.limits.streams };
       counts = ok.counts;
     }
 
@@ -296,11 +279,11 @@ module _ (xs ys : List Effect) (e new : End) (sound : IsSound e) (sent : SentWas
       moved_rests (TakeFrames fs) given is c.moved c.done
   call_rests (TokenAcked t) given heard is = token_rests t given is
   call_rests (RaiseLimits limits) given heard is = goes_on (RaiseLimits limits) given tt (raise_rests old e new limits given sound sent ok is)
-  call_rests (TellClosed close) given heard is = goes_on (TellClosed close) given tt (subst (RestOk old) (sym is) (by_closed e.closed))
+  call_rests (TellClosed close) given heard is = moved_rests (TellClosed close) given is (subst (Moved old e) (sym is) (by_closed e.closed)) tt
     where
-      by_closed : (o : Option Closed) → RestOk old (told_by o close e)
-      by_closed (Some closed) = ok
-      by_closed None = closed_rests old e (closings.Told close) ok
+      by_closed : (o : Option Closed) → Moved old e (told_by o close e)
+      by_closed (Some closed) = moved_same old e (slots old e ok) ok.acked
+      by_closed None = moved_same old e (slots old e ok) ok.acked
   call_rests call given heard is = moved_rests call given is (moved_call old e call (λ no. no) (slots old e ok) ok.acked given new is) tt
 
 -- Every run keeps what a rest needs, of both ends.

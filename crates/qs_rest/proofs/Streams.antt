@@ -125,7 +125,8 @@ module _ (a b : Settings) (h : History) (w : World) (ok : WorldOk a b h w) (keep
       let (code, size, told) = ((keeps s).sends n l at).reset_told known in
       let (r, found, ended) = item_taken a b h w ok keeps s (ResetStream n code size) told in
       let (k, holds, ack) = told in
-      let (t, found_too, final) = All_at (FrameTaken (end_of w (other s)).recvs) (taken_by (other s) h) (Control (ResetStream n code size)) (ok.ends (other s)).taken (confirmed_taken a b h w ok s k (Control (ResetStream n code size)) holds ack refl) in
+      let was : FrameTaken (end_of w (other s)).recvs (Control (ResetStream n code size)) = All_at (FrameTaken (end_of w (other s)).recvs) (taken_by (other s) h) (Control (ResetStream n code size)) (ok.ends (other s)).taken (confirmed_taken a b h w ok s k (Control (ResetStream n code size)) holds ack refl) in
+      let (t, found_too, final) = was in
       let same_half : t ≡ r = same_Some t r (sym found_too ∙ found) in
       let sized : r.final_size ≡ Some size = rw same_half at final in
       (known, (r, found, ap is_some sized, ended))

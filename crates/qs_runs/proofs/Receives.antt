@@ -227,7 +227,7 @@ HandedIn fs old r new = TakeFramesStep old fs r new ⊎ ((f : FrameValue) × (fs
 -- Frames, one after the other
 
 -- whether it changed something or nothing, the frame took effect
-took_effect : (e : End) (f : FrameValue) (one : Taken) (new : End) → TakesOne e f (Ok one) new → MayTake e f × (new ≡ frame_taken (seen f) e)
+pub took_effect : (e : End) (f : FrameValue) (one : Taken) (new : End) → TakesOne e f (Ok one) new → MayTake e f × (new ≡ frame_taken (seen f) e)
 took_effect e f NotOurs new h = absurd h
 took_effect e f _ new h = (h.0, h.1)
 
@@ -257,7 +257,7 @@ later_came : (one : Taken) (later : Result Taken TakeFault) → all_came (after_
 later_came one (Ok taken) is = refl
 later_came one (Err fault) is = is
 
-none_asked : (e new : End) (g : Seen) → is_ours g ≡ true → RunsOut e g new → new ≡ e
+pub none_asked : (e new : End) (g : Seen) → is_ours g ≡ true → RunsOut e g new → new ≡ e
 none_asked e new (Stream n offset bytes fin) ours h = h.0
 none_asked e new (Control i) ours h = h.0
 none_asked e new g ours h = absurd (false≢true ours)

@@ -1,9 +1,7 @@
--- The events of scripts as calls: what they make, and that none of them tells of a close.
-use Rattle.std.proofs.Common.{◌≡◌, ℕ, Bool, true, false, List, [], ◌∷◌, ◌++◌, ◌||◌, Option, None, Some, Result, Ok, Err, refl, sym, ap, ◌∙◌, if◌then◌else◌, append-nil}
+-- The events of scripts as calls: what they make.
+use Rattle.std.proofs.Common.{◌≡◌, ℕ, Bool, true, false, List, [], ◌∷◌, ◌++◌, Option, None, Some, Result, Ok, Err, refl, sym, ap, ◌∙◌, if◌then◌else◌, append-nil}
 use Rattle.std.specs.Prelude.{flat_map}
-use Rattle.std.specs.List.{list_any}
 use Rattle.std.proofs.lemmas.Grind.{flat_map-append}
-use Rattle.std.proofs.lemmas.List.Folds.{list_any-append}
 use Rattle.qs_calls.specs.declared.closing.Closing.{Closing}
 use Rattle.qs_calls.specs.declared.closing.Received.{Received}
 use Rattle.qs_calls.specs.declared.closing.Received.TheVariants.{Done, Duplicate, BelowFloor, PeerClosed, NoMemory}
@@ -12,14 +10,11 @@ use Rattle.qs_calls.specs.declared.event.Act.{Act}
 use Rattle.qs_calls.specs.declared.event.Act.TheVariants as acts
 use Rattle.qs_calls.specs.declared.answer.Answer.{Answer}
 use Rattle.qs_calls.specs.declared.answer.Answer.TheVariants as answers
-use Rattle.qs_recv.specs.declared.half.Read.{Read}
 use Rattle.qs_recv.specs.declared.half.Read.TheVariants as reads
-use Rattle.qs_runs.specs.Logs.{Happening, History, Effect, other, same_side, effects, effects_of, if_ok, came_effects, read_effects, sent_effects, sent_in, closes_in, made, payload, was_told_closed, ping_text}
+use Rattle.qs_runs.specs.Logs.{Happening, History, Effect, other, same_side, effects, effects_of, if_ok, came_effects, sent_in, made, payload, ping_text}
 use Rattle.qs_calls.specs.declared.event.Event.{Event}
 use Rattle.qs_runs.specs.Events.{Log, call_of, calls, happened}
 use Rattle.qs_machine.specs.EndStep.{Receive}
-
--- What is made
 
 -- the payload of the packet that an event made, or for which it claimed a number
 abbrev pub made_by : Act → Answer → List (List ℕ)
@@ -85,62 +80,3 @@ made_more t x log = goes (call_of (happened log) x.0.end x.0.act x.1) ∙ ap (λ
     goes (Some y) =
         flat_map-append sent_in (effects t (happened log)) (if same_side t y.end then effects_of y.call y.answer else [])
         ∙ ap (λ ts. made t (happened log) ++ ts) (picked (same_side t y.end) (effects_of y.call y.answer))
-
--- No end is told of a close
-
-abbrev closes_at : Side → Option Happening → Bool
-closes_at t None = false
-closes_at t (Some x) = list_any closes_in (if same_side t x.end then effects_of x.call x.answer else [])
-
-stays_open : (b : Bool) (xs : List Effect) → list_any closes_in xs ≡ false → list_any closes_in (if b then xs else []) ≡ false
-stays_open true xs none = none
-stays_open false xs none = refl
-
-answered : {R F : Type 0} (b : Bool) (r : Result R F) (told : R → List Effect) → ((x : R) → list_any closes_in (told x) ≡ false) → list_any closes_in (if b then if_ok r told else []) ≡ false
-answered true (Ok x) told none = none x
-answered true (Err fault) told none = refl
-answered false r told none = refl
-
-received_closes : (k : ℕ) (text : List ℕ) (r : Received) → list_any closes_in (came_effects k text r) ≡ false
-received_closes k text Done = refl
-received_closes k text Duplicate = refl
-received_closes k text BelowFloor = refl
-received_closes k text (PeerClosed code) = refl
-received_closes k text NoMemory = refl
-
-delivery_closes : (t s : Side) (k : ℕ) (r : Result Received Closing) (o : Option (List ℕ)) → closes_at t (elim o [ None ↦ None | Some text ↦ calls (other s) (Receive k text) r ]) ≡ false
-delivery_closes t s k r None = refl
-delivery_closes t s k r (Some text) = answered (same_side t (other s)) r (came_effects k text) (received_closes k text)
-
-read_closes : (n : ℕ) (bytes : List ℕ) (r : Read) → list_any closes_in (read_effects n r bytes) ≡ false
-read_closes n bytes (reads.Bytes count) = refl
-read_closes n bytes reads.End = refl
-read_closes n bytes (reads.Reset code) = refl
-read_closes n bytes reads.Wait = refl
-
-sent_closes : {M : Type 0} (text : List ℕ) (o : Option M) → list_any closes_in (sent_effects o text) ≡ false
-sent_closes text (Some made) = refl
-sent_closes text None = refl
-
-event_closes : (h : History) (t s : Side) (act : Act) (answer : Answer) → closes_at t (call_of h s act answer) ≡ false
-event_closes h t s (acts.OpenStream dir) (answers.OpenStream r) = stays_open (same_side t s) [] refl
-event_closes h t s acts.Accept (answers.Accept r) = stays_open (same_side t s) [] refl
-event_closes h t s (acts.Write n bytes) (answers.Write r) = answered (same_side t s) r _ (λ count. refl)
-event_closes h t s (acts.Finish n) (answers.Finish r) = stays_open (same_side t s) [] refl
-event_closes h t s (acts.Reset n code) (answers.Reset r) = stays_open (same_side t s) [] refl
-event_closes h t s (acts.Stop n code) (answers.Stop r) = answered (same_side t s) r _ (λ done. refl)
-event_closes h t s (acts.ReadUpTo n size) (answers.ReadUpTo r bytes) = answered (same_side t s) r _ (read_closes n bytes.items)
-event_closes h t s (acts.Make room) (answers.Make r text) = answered (same_side t s) r _ (sent_closes text.items)
-event_closes h t s (acts.Lose k) (answers.Lose r) = stays_open (same_side t s) [] refl
-event_closes h t s acts.Claim (answers.Claim r) = answered (same_side t s) r _ (λ number. refl)
-event_closes h t s (acts.Deliver k) (answers.Deliver r) = delivery_closes t s k r (payload s k h)
-event_closes h t s act answer = refl
-
-pub never_told : (t : Side) (log : Log) → was_told_closed t (happened log) ≡ false
-unfolding effects
-never_told t [] = refl
-never_told t (x ∷ log) = goes (call_of (happened log) x.0.end x.0.act x.1) (never_told t log) (event_closes (happened log) t x.0.end x.0.act x.1)
-  where
-    goes : (o : Option Happening) → was_told_closed t (happened log) ≡ false → closes_at t o ≡ false → was_told_closed t (elim o [ None ↦ happened log | Some y ↦ y ∷ happened log ]) ≡ false
-    goes None before none = before
-    goes (Some y) before none = list_any-append closes_in (effects t (happened log)) (if same_side t y.end then effects_of y.call y.answer else []) ∙ ap (λ b. b || list_any closes_in (if same_side t y.end then effects_of y.call y.answer else [])) before ∙ none

@@ -1,5 +1,5 @@
 -- What the items of each event tell, and so those of a whole log.
-use Rattle.std.proofs.Common.{◌≡◌, ℕ, Bool, true, false, not, ◌&&◌, List, [], ◌∷◌, ◌++◌, reverse, Some, Ok, Err, refl, sym, ap, ◌∙◌, append-nil, if◌then◌else◌}
+use Rattle.std.proofs.Common.{◌≡◌, ℕ, Bool, true, false, List, [], ◌∷◌, ◌++◌, reverse, Some, Ok, Err, refl, sym, ap, ◌∙◌, append-nil, if◌then◌else◌}
 use Rattle.std.specs.List.{flat_map}
 use Rattle.std.proofs.lemmas.Grind.{flat_map-append, reverse_onto}
 use Rattle.std.proofs.lemmas.List.Concat.{flat_map-cons}

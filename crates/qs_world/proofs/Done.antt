@@ -2,7 +2,7 @@
 use Rattle.qs_calls.specs.declared.event.Side.{Side}
 use Rattle.qs_calls.specs.declared.event.Side.TheVariants.{A, B}
 use Rattle.qs_runs.specs.Events.{happened}
-use Rattle.qs_runs.proofs.Scripts.{never_told}
+use Rattle.qs_world.proofs.Untold.{never_told}
 use Rattle.qs_runs.specs.Worlds.{World, Run, end_of}
 use Rattle.qs_runs.proofs.Runs.{event_runs}
 use Rattle.qs_rest.specs.Rest.{AtRest}

@@ -1,5 +1,5 @@
 -- What happens at one side happens in the world of both.
-use Rattle.std.proofs.Common.{◌≡◌, ℕ, zero, suc, false, List, [], ◌∷◌, Option, None, Some, Result, slice_get, refl, sym, ap, subst}
+use Rattle.std.proofs.Common.{◌≡◌, ℕ, zero, suc, false, List, [], ◌∷◌, None, Some, Result, slice_get, refl, ap, subst}
 use Rattle.std.specs.List.{AllByRecursion}
 use Rattle.std.proofs.lemmas.Option.{none-some, same_Some}
 use Rattle.qs_calls.specs.declared.closing.Closing.{Closing}
@@ -14,9 +14,9 @@ use Rattle.qs_calls.specs.declared.event.Act.{Act}
 use Rattle.qs_calls.specs.declared.event.Act.TheVariants as acts
 use Rattle.qs_calls.specs.declared.answer.Answer.{Answer}
 use Rattle.qs_calls.specs.declared.answer.Answer.TheVariants as answers
-use Rattle.qs_runs.specs.Logs.{Happening, History, other, payload, made}
-use Rattle.qs_runs.specs.Worlds.{World, end_of, May, IsPayload, WorldStep}
-use Rattle.qs_runs.specs.Events.{Log, call_of, calls, happened, EventStep}
+use Rattle.qs_runs.specs.Logs.{History, other, payload, made}
+use Rattle.qs_runs.specs.Worlds.{World, May, WorldStep}
+use Rattle.qs_runs.specs.Events.{Log, calls, happened, EventStep}
 use Rattle.qs_runs.specs.Invariant.{HasNoFault}
 use Rattle.qs_world.specs.Owners.{is_delivery, OwnStep}
 use Rattle.qs_world.specs.Plays.{HasAgreed, world_by}
