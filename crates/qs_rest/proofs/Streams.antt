@@ -47,6 +47,9 @@ missing_is t k all below = sym (missing_from-of t 0 k (record { from = omega ari
     go true is = (let lt : k < k = below k is in absurd (omega arith))
     go false is = is
 
+known_size : (o : Option RecvLane) (size : ℕ) (r : RecvLane) → (t : RecvLane) × (o ≡ Some t) × (t.final_size ≡ Some size) → o ≡ Some r → r.final_size ≡ Some size
+known_size o size r (t, there, final) at = (let same : t ≡ r = same_Some t r (sym there ∙ at) in rw same at final)
+
 module _ (a b : Settings) (h : History) (w : World) (ok : WorldOk a b h w) (keeps : (s : Side) → RestOk (past s h) (end_of w s)) (rest : (s : Side) → AtRest (end_of w s)) (s : Side) (n : ℕ) where
   pub lawful : (r : RecvLane) → receiving w s n ≡ Some r → IsLawful r
   lawful r is = (subst (HasLawfulLane (end_of w (other s)).role (end_of w (other s)).settings n) is ((ok.sound (other s)).0.lanes n)).0
@@ -125,10 +128,7 @@ module _ (a b : Settings) (h : History) (w : World) (ok : WorldOk a b h w) (keep
       let (code, size, told) = ((keeps s).sends n l at).reset_told known in
       let (r, found, ended) = item_taken a b h w ok keeps s (ResetStream n code size) told in
       let (k, holds, ack) = told in
-      let was : FrameTaken (end_of w (other s)).recvs (Control (ResetStream n code size)) = All_at (FrameTaken (end_of w (other s)).recvs) (taken_by (other s) h) (Control (ResetStream n code size)) (ok.ends (other s)).taken (confirmed_taken a b h w ok s k (Control (ResetStream n code size)) holds ack refl) in
-      let (t, found_too, final) = was in
-      let same_half : t ≡ r = same_Some t r (sym found_too ∙ found) in
-      let sized : r.final_size ≡ Some size = rw same_half at final in
+      let sized = known_size (receiving w s n) size r (All_at (FrameTaken (end_of w (other s)).recvs) (taken_by (other s) h) (Control (ResetStream n code size)) (ok.ends (other s)).taken (confirmed_taken a b h w ok s k (Control (ResetStream n code size)) holds ack refl)) found in
       (known, (r, found, ap is_some sized, ended))
 
   -- the highest offset is the sent end
