@@ -12,7 +12,8 @@ use Rattle.qs_world.proofs.PlayedCopies.{split_at}
 use Rattle.qs_world.specs.declared.report.Report.{Report}
 use Rattle.qs_world.specs.declared.report.PlayFault.{PlayFault}
 use Rattle.qs_world.specs.declared.report.PlayFault.TheVariants as faults
-use Rattle.qs_runs.specs.Worlds.{World, world_made}
+use Rattle.qs_runs.specs.Events.{world_made}
+use Rattle.qs_runs.specs.Worlds.{World}
 use Rattle.qs_world.specs.Copies.{IsReportOf}
 use Rattle.qs_world.specs.Plays.{AgreeingRun, Played, begun}
 use Rattle.qs_world.specs.PlayText.{play_text}
