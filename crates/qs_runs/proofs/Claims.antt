@@ -1,12 +1,11 @@
 -- What comes of a packet of a claimed number.
-use Rattle.std.proofs.Common.{◌≡◌, ℕ, ◌+◌, Bool, true, false, ◌||◌, List, [], ◌∷◌, ◌++◌, ◌⊎◌, length, Option, Some, None, Result, Ok, Err, slice_get, refl, sym, ap, ◌∙◌, subst, inl, inr}
+use Rattle.std.proofs.Common.{◌≡◌, ℕ, ◌+◌, Bool, true, false, ◌||◌, List, [], ◌∷◌, ◌++◌, ◌⊎◌, length, Some, None, Result, Ok, Err, slice_get, refl, sym, ap, ◌∙◌, subst, inl, inr}
 use Rattle.std.proofs.Math.Bool.{or_assoc}
 use Rattle.std.proofs.lemmas.Option.{none-some, same_Some}
 use Rattle.std.proofs.lemmas.List.{length-map}
 use Rattle.qs_wire.specs.Layout.{PlacedValue}
 use Rattle.qs_wire.specs.Grammar.{frames_of}
 use Rattle.qs_wire.specs.Reading.{reading_of}
-use Rattle.qs_wire.specs.declared.fault.WireFault.{WireFault}
 use Rattle.qs_wire.specs.declared.stream_id.Role.{Role}
 use Rattle.qs_wire.specs.declared.stream_id.Role.TheVariants.{Client, Server}
 use Rattle.qs_wire.specs.declared.stream_id.Dir.TheVariants.{Bidi, Uni}
@@ -15,7 +14,7 @@ use Rattle.qs_calls.specs.declared.settings.Tuning.{Tuning}
 use Rattle.qs_calls.specs.declared.settings.PeerLimits.{PeerLimits}
 use Rattle.qs_calls.specs.declared.closing.Closing.{Closing}
 use Rattle.qs_calls.specs.declared.closing.Received.{Received}
-use Rattle.qs_calls.specs.declared.closing.Received.TheVariants.{Done, Duplicate, BelowFloor, PeerClosed, NoMemory}
+use Rattle.qs_calls.specs.declared.closing.Received.TheVariants.{Done, Duplicate, BelowFloor, NoMemory}
 use Rattle.qs_calls.specs.declared.making.MakeFault.{MakeFault}
 use Rattle.qs_calls.specs.declared.event.Side.{Side}
 use Rattle.qs_calls.specs.declared.event.Side.TheVariants.{A}
@@ -35,13 +34,13 @@ use Rattle.qs_machine.proofs.EveryCall.{ends_by, by_open}
 use Rattle.qs_machine.proofs.Again.{settle_twice}
 use Rattle.qs_machine.proofs.SettledLimits.{new_ends_settled}
 use Rattle.qs_runs.specs.Logs.{History, other, made, payload, ping_text}
-use Rattle.qs_runs.specs.Worlds.{World, end_of, Begins, IsPayload, WorldStep, Run}
+use Rattle.qs_runs.specs.Worlds.{World, end_of, Begins, IsPayload, Run}
 use Rattle.qs_machine.specs.Plains.{frames_in, but_plain}
 use Rattle.qs_runs.specs.Invariant.{WorldOk}
-use Rattle.qs_runs.specs.Claims.{claimed, came, ClaimsAlwaysTellNothing}
+use Rattle.qs_runs.specs.Claims.{claimed, ClaimsAlwaysTellNothing}
 use Rattle.qs_runs.proofs.Lists.{slice_get-last}
 use Rattle.qs_runs.proofs.Standing.{certain_cases}
-use Rattle.qs_runs.proofs.Wire.{ping_seen, ping_faultless}
+use Rattle.qs_runs.proofs.Wire.{ping_seen}
 use Rattle.qs_runs.proofs.Stays.{each_side}
 use Rattle.qs_runs.proofs.Histories.{two_sides, back_again, made_here}
 use Rattle.qs_runs.proofs.NewEnds.{first_world, made_first, ends_made}

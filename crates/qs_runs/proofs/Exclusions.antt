@@ -1,5 +1,5 @@
 -- Each clause of what agrees excludes something; and what the premises of a run leave out, and what they let in.
-use Rattle.std.proofs.Common.{◌≡◌, ℕ, zero, suc, ◌+◌, ◌≤◌, List, [], ◌∷◌, ◌++◌, ◌⊎◌, inl, inr, length, take, drop, Bool, true, false, cond, ◌&&◌, ◌==◌, Option, Some, None, is_some, Ok, Err, slice_index_or, refl, sym, ap, ◌∙◌, arith, subst}
+use Rattle.std.proofs.Common.{◌≡◌, ℕ, zero, suc, ◌+◌, ◌≤◌, List, [], ◌∷◌, ◌++◌, ◌⊎◌, inl, inr, length, drop, Bool, true, false, cond, ◌&&◌, ◌==◌, Some, is_some, Ok, Err, slice_index_or, refl, sym, ap, ◌∙◌, arith, subst}
 use Rattle.std.specs.Prelude.{MatchBool}
 use Rattle.std.specs.FinSet as set
 use Rattle.std.specs.List.{AllByRecursion}
@@ -8,9 +8,9 @@ use Rattle.std.proofs.lemmas.Bool.{both_ways, false≢true}
 use Rattle.std.proofs.lemmas.Bool.Decides.{nat_tests}
 use Rattle.qs_ranges.specs.Numbers.{contains-numbers, numbers}
 use Rattle.qs_ranges.proofs.Sets.{end_of-empty, missing_from-of}
-use Rattle.qs_wire.specs.Layout.{ping, max_data, stream_data_blocked}
+use Rattle.qs_wire.specs.Layout.{ping, max_data}
 use Rattle.qs_wire.specs.Varint.{varint_at, short_len}
-use Rattle.qs_wire.specs.Reading.{reading_of, reading_from, frames_at, frame_at, number_of_type_at, body_at, number_at, counted_at, plain_at}
+use Rattle.qs_wire.specs.Reading.{reading_from, frames_at, frame_at, number_of_type_at, body_at, number_at, counted_at, plain_at}
 use Rattle.qs_wire.specs.declared.stream_id.Dir.TheVariants.{Bidi}
 use Rattle.qs_recv.specs.Lane.{RecvLane}
 use Rattle.qs_send.specs.Lane.{SendLane, state, unacked_from, declared_size}
@@ -27,13 +27,13 @@ use Rattle.qs_machine.specs.Tables.{lookup, total}
 use Rattle.qs_machine.specs.Ends.{End}
 use Rattle.qs_machine.specs.Credit.{spent}
 use Rattle.qs_machine.specs.Seen.{Seen, Stream, Control, Plain}
-use Rattle.qs_machine.specs.Plains.{frames_in, but_plain, DifferInPlain}
+use Rattle.qs_machine.specs.Plains.{frames_in, but_plain}
 use Rattle.qs_machine.specs.Owner.{GivesNone, AcceptOpen}
-use Rattle.qs_machine.specs.Examples.{standard, server, client_of}
+use Rattle.qs_machine.specs.Examples.{standard}
 use Rattle.qs_machine.specs.SmallEnds.{server_with, abc, sent, fresh, all_came}
 use Rattle.qs_machine.specs.EndStep.{Receive, TakeFrames}
 use Rattle.qs_machine.proofs.Claims.{gave}
-use Rattle.qs_runs.specs.Logs.{History, effects, payload, taken, must_land, HasMade, HasLanded, ping_text}
+use Rattle.qs_runs.specs.Logs.{History, effects, payload, taken, must_land, HasMade, HasLanded}
 use Rattle.qs_runs.specs.Worlds.{World, May}
 use Rattle.qs_runs.specs.Agree.{IsOld}
 use Rattle.qs_runs.specs.Exclusions.{ReadIsNoPrefix, WholeIsMissing, SizesDiffer, WorldsDiffer, NewsIsNotOld, StepsSpend, two_frames, sent_two, took, came_as, PayloadsThatCome, FramesThatCome, TokensThatAreAcked, OtherSteps, blocked, BlockedFramesLand, Differ, OtherBytesCome, LimitsAreAbove, NoneBegin, Exclusions, both, acknowledged, first_of_three}

@@ -79,11 +79,7 @@ module _ (mine : Packets) (e new : End) (ok : CountsTrue mine e.settings (grante
   first_stays : (d : Dir) → first_grant new.settings d ≤ granted_streams new d
   first_stays d = subst (λ (s : Settings). first_grant s d ≤ granted_streams new d) (sym settings) (omega (arith, ok.first_granted d, rise d))
 
-  -- a call that tells nothing
-  pub counts_stay : CountsTrue mine new.settings (granted_streams new)
-  counts_stay = record { first_granted = first_stays; told = λ d count t. omega (arith, ok.told d count t, rise d) }
-
-  -- and one that may
+  -- a call that may tell some
   pub counts_told : (packets : Packets) → TellCounts e packets → CountsTrue (mine ++ packets) new.settings (granted_streams new)
   counts_told packets tells =
       record {

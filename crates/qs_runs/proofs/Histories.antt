@@ -6,7 +6,7 @@ use Rattle.std.proofs.lemmas.Grind.{flat_map-append}
 use Rattle.std.proofs.lemmas.List.{map-append}
 use Rattle.std.proofs.lemmas.List.Folds.{list_any-append}
 use Rattle.std.proofs.lemmas.Option.{none-some, same_Some, slice_get-map}
-use Rattle.std.proofs.lemmas.Bool.{false≢true, true≢false, and_parts, eqb-true}
+use Rattle.std.proofs.lemmas.Bool.{false≢true, true≢false, eqb-true}
 use Rattle.qs_wire.specs.Layout.{FrameValue, reset_stream, stop_sending, stream, max_data, max_stream_data, max_streams, data_blocked, stream_data_blocked, streams_blocked, ping}
 use Rattle.qs_wire.specs.Grammar.{Fits, frames_of}
 use Rattle.qs_wire.specs.Reading.{reading_of}
@@ -26,7 +26,7 @@ use Rattle.qs_calls.specs.declared.event.Side.{Side}
 use Rattle.qs_calls.specs.declared.event.Side.TheVariants.{A, B}
 use Rattle.qs_machine.specs.Ends.{End}
 use Rattle.qs_machine.specs.Seen.{Seen, Stream, Control, seen, seen_all}
-use Rattle.qs_machine.specs.Plains.{is_plain, frames_in, DifferInPlain}
+use Rattle.qs_machine.specs.Plains.{is_plain, frames_in}
 use Rattle.qs_machine.specs.Making.{MakeStep, MakeAt, make_refusal}
 use Rattle.qs_machine.specs.Owner.{Certain, first_refusal, refuse_if}
 use Rattle.qs_machine.specs.Alone.{is_ours, TakeBy, TakeAllBy}
@@ -38,15 +38,15 @@ use Rattle.qs_calls.specs.declared.closing.Closer.TheVariants.{Us, Peer}
 use Rattle.qs_machine.specs.EndStep.{Call, Answer, EndStep, Write, Stop, StopAndForget, ReadUpTo, Consume, Receive, TakeFrame, TakeFrames, TokenAcked, Make, MakeAck, FillIn, Claim, TellClosed}
 use Rattle.qs_machine.proofs.Pieces.{All_at, All_append}
 use Rattle.qs_machine.proofs.Plains.{differ_covers, differ_turned}
-use Rattle.qs_runs.specs.Logs.{Happening, History, Effect, Wrote, Gave, Ended, Stopped, Sent, Came, CameAlone, Acked, ToldClosed, other, same_side, if_ok, read_effects, sent_effects, came_effects, acked_effects, effects_of, effects_at, effects, wrote_in, gave_in, stops_in, ends_first, sent_in, comes_in, took_in, acks_in, is_in, made, payload, processed, taken, was_acked, must_land, HasMade, HasLanded}
-use Rattle.qs_runs.specs.Worlds.{World, end_of, IsFrom, IsPayload, WorldStep, May}
+use Rattle.qs_runs.specs.Logs.{Happening, History, Effect, Wrote, Gave, Ended, Stopped, Sent, Came, CameAlone, Acked, ToldClosed, other, same_side, if_ok, read_effects, sent_effects, came_effects, acked_effects, effects_of, effects, wrote_in, gave_in, stops_in, ends_first, sent_in, comes_in, took_in, acks_in, is_in, made, payload, processed, taken, must_land, HasMade, HasLanded}
+use Rattle.qs_runs.specs.Worlds.{World, end_of, IsFrom, IsPayload, May}
 use Rattle.qs_runs.specs.Invariant.{HasNoFault, WorldOk}
-use Rattle.qs_runs.specs.Pasts.{Past, past_of, past, packets_in, Packets, Holds, Tells, WasConfirmed, Landed}
+use Rattle.qs_runs.specs.Pasts.{Past, past_of, past, packets_in, Holds, Tells, WasConfirmed, Landed}
 use Rattle.qs_runs.proofs.Past.{with_effect, with_effects}
 use Rattle.qs_runs.proofs.PeerMoves.{with_theirs}
 use Rattle.qs_runs.proofs.OwnMoves.{Hears, Sends}
 use Rattle.qs_runs.proofs.Frames.{MayCome}
-use Rattle.qs_runs.proofs.Lists.{slice_get-append, Among_right, Among_left}
+use Rattle.qs_runs.proofs.Lists.{slice_get-append, Among_left}
 use Rattle.qs_runs.proofs.Wire.{text_faultless, text_fits}
 
 -- What an end lived through, as its history tells.
@@ -175,16 +175,16 @@ not_same A = refl
 not_same B = refl
 
 module _ (x : Happening) (h : History) where
-  abbrev pub told : List Effect
-  told = effects_of x.call x.answer
+  abbrev pub did : List Effect
+  did = effects_of x.call x.answer
 
-  pub effects_here : effects x.end (x ∷ h) ≡ effects x.end h ++ told
+  pub effects_here : effects x.end (x ∷ h) ≡ effects x.end h ++ did
   unfolding effects
-  effects_here = ap (λ b. effects x.end h ++ (if b then told else [])) (same x.end)
+  effects_here = ap (λ b. effects x.end h ++ (if b then did else [])) (same x.end)
 
   pub effects_there : effects (other x.end) (x ∷ h) ≡ effects (other x.end) h
   unfolding effects
-  effects_there = ap (λ b. effects (other x.end) h ++ (if b then told else [])) (not_same x.end) ∙ append-nil (effects (other x.end) h)
+  effects_there = ap (λ b. effects (other x.end) h ++ (if b then did else [])) (not_same x.end) ∙ append-nil (effects (other x.end) h)
 
   others_other : (s : Side) → effects (other (other s)) (x ∷ h) ≡ effects s (x ∷ h)
   others_other A = refl
@@ -194,23 +194,23 @@ module _ (x : Happening) (h : History) where
   other_before A = refl
   other_before B = refl
 
-  pub past_here : past x.end (x ∷ h) ≡ with_effects told (past x.end h)
-  past_here = (λ i. past_of (effects_here i) (effects_there i)) ∙ past_more told (effects x.end h) (effects (other x.end) h)
+  pub past_here : past x.end (x ∷ h) ≡ with_effects did (past x.end h)
+  past_here = (λ i. past_of (effects_here i) (effects_there i)) ∙ past_more did (effects x.end h) (effects (other x.end) h)
 
-  pub past_there : past (other x.end) (x ∷ h) ≡ with_theirs (past (other x.end) h) (packets_in told)
+  pub past_there : past (other x.end) (x ∷ h) ≡ with_theirs (past (other x.end) h) (packets_in did)
   past_there =
       (λ i. past_of (effects_there i) ((others_other x.end ∙ effects_here) i))
-      ∙ ap (λ ps. record (past_of (effects (other x.end) h) []) { theirs = ps }) (ap (map frames_in) (flat_map-append sent_in (effects x.end h) told) ∙ map-append frames_in (flat_map sent_in (effects x.end h)) (flat_map sent_in told))
-      ∙ ap (λ p. with_theirs p (packets_in told)) (other_before x.end)
+      ∙ ap (λ ps. record (past_of (effects (other x.end) h) []) { theirs = ps }) (ap (map frames_in) (flat_map-append sent_in (effects x.end h) did) ∙ map-append frames_in (flat_map sent_in (effects x.end h)) (flat_map sent_in did))
+      ∙ ap (λ p. with_theirs p (packets_in did)) (other_before x.end)
 
-  pub made_here : made x.end (x ∷ h) ≡ made x.end h ++ flat_map sent_in told
-  made_here = ap (flat_map sent_in) effects_here ∙ flat_map-append sent_in (effects x.end h) told
+  pub made_here : made x.end (x ∷ h) ≡ made x.end h ++ flat_map sent_in did
+  made_here = ap (flat_map sent_in) effects_here ∙ flat_map-append sent_in (effects x.end h) did
 
   pub made_there : made (other x.end) (x ∷ h) ≡ made (other x.end) h
   made_there = ap (flat_map sent_in) effects_there
 
-  pub taken_here : taken x.end (x ∷ h) ≡ taken x.end h ++ flat_map took_in told
-  taken_here = ap (flat_map took_in) effects_here ∙ flat_map-append took_in (effects x.end h) told
+  pub taken_here : taken x.end (x ∷ h) ≡ taken x.end h ++ flat_map took_in did
+  taken_here = ap (flat_map took_in) effects_here ∙ flat_map-append took_in (effects x.end h) did
 
 -- Payloads
 
@@ -342,12 +342,12 @@ lands_ours g land = land
 
 pub still_made : (x : Happening) (h : History) (s : Side) (k : ℕ) (text : List ℕ) → payload s k h ≡ Some text → payload s k (x ∷ h) ≡ Some text
 still_made x h s k text = two_sides (λ t. payload t k h ≡ Some text → payload t k (x ∷ h) ≡ Some text) x.end
-    (λ is. subst (λ ts. slice_get ts k ≡ Some text) (sym (made_here x h)) (slice_get-append (made x.end h) (flat_map sent_in (told x h)) k text is))
+    (λ is. subst (λ ts. slice_get ts k ≡ Some text) (sym (made_here x h)) (slice_get-append (made x.end h) (flat_map sent_in (did x h)) k text is))
     (λ is. subst (λ ts. slice_get ts k ≡ Some text) (sym (made_there x h)) is) s
 
 still_taken : (x : Happening) (h : History) (s : Side) (f : Seen) → Among f (taken s h) → Among f (taken s (x ∷ h))
 still_taken x h s f = two_sides (λ t. Among f (taken t h) → Among f (taken t (x ∷ h))) x.end
-    (λ a. subst (Among f) (sym (taken_here x h)) (Among_left (taken x.end h) (flat_map took_in (told x h)) f a))
+    (λ a. subst (Among f) (sym (taken_here x h)) (Among_left (taken x.end h) (flat_map took_in (did x h)) f a))
     (λ a. subst (Among f) (sym (ap (flat_map took_in) (effects_there x h))) a) s
 
 pub still_has_made : (x : Happening) (h : History) (s : Side) (f : Seen) → HasMade h s f → HasMade (x ∷ h) s f
@@ -538,15 +538,15 @@ module _ (h : History) (w : World) (s : Side) (new : End) where
   acked_landed call answer step may k is = absurd (false≢true (sym (none_any (acks_in k) (none_acks k) (effects_of call answer) (deaf_effects call answer (λ no. no))) ∙ is))
 
 -- what is told by an effect of the end was so before, or is so by it
-pub any_here : (f : Effect → Bool) (x : Happening) (h : History) → list_any f (effects x.end (x ∷ h)) ≡ true → (list_any f (effects x.end h) ≡ true) ⊎ (list_any f (told x h) ≡ true)
-any_here f x h is = by (list_any f (effects x.end h)) refl (sym (ap (list_any f) (effects_here x h) ∙ list_any-append f (effects x.end h) (told x h)) ∙ is)
+pub any_here : (f : Effect → Bool) (x : Happening) (h : History) → list_any f (effects x.end (x ∷ h)) ≡ true → (list_any f (effects x.end h) ≡ true) ⊎ (list_any f (did x h) ≡ true)
+any_here f x h is = by (list_any f (effects x.end h)) refl (sym (ap (list_any f) (effects_here x h) ∙ list_any-append f (effects x.end h) (did x h)) ∙ is)
   where
-    by : (b : Bool) → list_any f (effects x.end h) ≡ b → (b || list_any f (told x h)) ≡ true → (list_any f (effects x.end h) ≡ true) ⊎ (list_any f (told x h) ≡ true)
+    by : (b : Bool) → list_any f (effects x.end h) ≡ b → (b || list_any f (did x h)) ≡ true → (list_any f (effects x.end h) ≡ true) ⊎ (list_any f (did x h) ≡ true)
     by true was now = inl was
     by false was now = inr now
 
-pub none_here : (f : Effect → Bool) (x : Happening) (h : History) → list_any f (effects x.end (x ∷ h)) ≡ false → (list_any f (effects x.end h) ≡ false) × (list_any f (told x h) ≡ false)
-none_here f x h is = by (list_any f (effects x.end h)) (list_any f (told x h)) (sym (ap (list_any f) (effects_here x h) ∙ list_any-append f (effects x.end h) (told x h)) ∙ is)
+pub none_here : (f : Effect → Bool) (x : Happening) (h : History) → list_any f (effects x.end (x ∷ h)) ≡ false → (list_any f (effects x.end h) ≡ false) × (list_any f (did x h) ≡ false)
+none_here f x h is = by (list_any f (effects x.end h)) (list_any f (did x h)) (sym (ap (list_any f) (effects_here x h) ∙ list_any-append f (effects x.end h) (did x h)) ∙ is)
   where
     by : (b c : Bool) → (b || c) ≡ false → (b ≡ false) × (c ≡ false)
     by true c none = absurd (true≢false none)

@@ -1,5 +1,5 @@
 -- Each call of its owner keeps the invariant of an end, and so do limits that are taken in.
-use Rattle.std.proofs.Common.{◌≡◌, ℕ, Bool, true, false, List, [], ◌∷◌, ◌++◌, length, Option, Some, None, refl, sym, subst, inl, inr, leb, if◌then◌else◌, ◌≢◌, ◌+◌, ◌*◌, not, ◌&&◌, ◌||◌, map, take, Result, Ok, Err, is_some, ap, ◌∙◌, ◌==◌, append-nil, MatchBool, nat_le, zero, suc, ◌-◌, arith, ◌/◌, ◌%◌, ◌≤◌, max, ◌⊎◌, option_map}
+use Rattle.std.proofs.Common.{◌≡◌, ℕ, Bool, true, false, List, [], ◌∷◌, ◌++◌, length, Option, Some, None, refl, sym, subst, inl, inr, leb, if◌then◌else◌, ◌≢◌, ◌+◌, ◌*◌, not, ◌&&◌, ◌||◌, take, Result, Ok, Err, is_some, ap, ◌∙◌, ◌==◌, append-nil, MatchBool, nat_le, zero, suc, ◌-◌, arith, ◌/◌, ◌%◌, ◌≤◌, max, ◌⊎◌, option_map}
 use Rattle.std.specs.Prelude.{⊤}
 use Rattle.std.specs.FinMap as fmap
 use Rattle.qs_send.specs.Records.{Among, without_first}
@@ -47,9 +47,8 @@ use Rattle.qs_machine.specs.EndStep.{Call, Answer, EndStep, Open, Accept, Accept
 use Rattle.qs_runs.specs.Logs.{Stopped, Ended, Sent, if_ok, read_effects, effects_of}
 use Rattle.qs_runs.proofs.Past.{with_effect, with_effects, effects_joined}
 use Rattle.qs_machine.specs.Owner.{AreTaken, TakesBytes}
-use Rattle.qs_machine.specs.Plains.{frames_in}
 use Rattle.qs_machine.proofs.TableLaws.{lookup_same, value, with_same, with_other, lookup_in, total_le}
-use Rattle.qs_runs.proofs.Changes.{Grows, Grows_refl, send_alike, send_same, recv_alike, granted_more, send_kept, settle_ok, window_ok, write_allowed, wrote_ok, with_bytes, not_at_end, end_by_fin, read_bytes_ok, read_told_ok, told_grows, stop_ok, stop_grows, recv_view, some_mapped, end_anew}
+use Rattle.qs_runs.proofs.Changes.{Grows, Grows_refl, send_alike, send_same, recv_alike, granted_more, send_kept, settle_ok, window_ok, write_allowed, wrote_ok, not_at_end, end_by_fin, read_bytes_ok, read_told_ok, told_grows, stop_ok, stop_grows, recv_view, some_mapped, end_anew}
 use Rattle.qs_runs.proofs.Making.{made_ok, claimed_ok}
 use Rattle.qs_runs.proofs.Standing.{certain_cases, uncertain_cases}
 use Rattle.qs_runs.proofs.Wire.{text_seen, ping_seen}

@@ -1,5 +1,5 @@
 -- An ACK alone and what is filled in are packets of `make_packet`, or nothing happens; and what each call of an owner leaves.
-use Rattle.std.proofs.Common.{◌≡◌, ℕ, List, [], ◌∷◌, map, length, ◌⊎◌, inl, inr, Option, None, Some, Result, Ok, Err, sym, subst, refl, ap}
+use Rattle.std.proofs.Common.{◌≡◌, ℕ, List, [], map, length, inl, inr, Option, None, Some, Result, Ok, Err, sym, subst, refl, ap}
 use Rattle.std.specs.Prelude.{flat_map}
 use Rattle.qs_calls.specs.declared.filling.Fill.{Fill}
 use Rattle.qs_calls.specs.declared.filling.Filled.{Filled}
@@ -17,7 +17,7 @@ use Rattle.qs_runs.specs.Pasts.{Past, packets_in}
 use Rattle.qs_runs.specs.Invariant.{EndOk}
 use Rattle.qs_runs.proofs.Past.{with_effects}
 use Rattle.qs_runs.proofs.Wire.{ping_faultless, ping_fits}
-use Rattle.qs_runs.proofs.OwnMoves.{Hears, Sends, ended_by, packet_moves, claim_moves, own_moves}
+use Rattle.qs_runs.proofs.OwnMoves.{Hears, ended_by, packet_moves, claim_moves, own_moves}
 use Rattle.qs_runs.proofs.NewEnds.{tells_nothing}
 use Rattle.qs_runs.proofs.Granting.{TellCounts, packet_counts, claim_counts}
 use Rattle.qs_runs.proofs.Histories.{AreFaultless, packet_faultless, none_sent}

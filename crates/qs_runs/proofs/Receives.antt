@@ -1,6 +1,6 @@
 -- What the peer made keeps the invariant of the end that it comes to, as a payload or as frames alone, and spends nothing when it comes again.
-use Rattle.std.proofs.Common.{◌≡◌, ℕ, ◌≤◌, ◌<◌, Bool, List, [], ◌∷◌, ◌++◌, ◌⊎◌, take, Option, Some, None, Result, Ok, Err, slice_get, true, false, if◌then◌else◌, ◌&&◌, ◌||◌, ◌==◌, refl, sym, ap, ◌∙◌, subst, arith, inl, inr, append-nil, append_assoc, zero, suc, MatchBool, ◌≢◌, ◌+◌, length, unwrap_or, is_some, nat_lt, le_antisymm}
-use Rattle.std.proofs.lemmas.Bool.{cases_lt, eqb-true, ltb-false, eq-eqb, and_right, false≢true, or_cases, and_parts, lt-ltb, true≢false, or_right}
+use Rattle.std.proofs.Common.{◌≡◌, ℕ, ◌≤◌, ◌<◌, Bool, List, [], ◌∷◌, ◌++◌, ◌⊎◌, take, Option, Some, None, Result, Ok, Err, true, false, if◌then◌else◌, ◌||◌, ◌==◌, refl, sym, ap, ◌∙◌, subst, arith, inl, inr, append-nil, append_assoc, MatchBool, ◌≢◌, ◌+◌, length, unwrap_or, is_some, nat_lt, le_antisymm}
+use Rattle.std.proofs.lemmas.Bool.{cases_lt, eqb-true, ltb-false, eq-eqb, false≢true, or_cases, lt-ltb, true≢false}
 use Rattle.std.specs.FinSet as set
 use Rattle.std.specs.List.{AllByRecursion}
 use Rattle.qs_ranges.specs.Numbers.{NumberSet, numbers, missing_from, end_of}
@@ -19,7 +19,7 @@ use Rattle.qs_calls.specs.declared.closing.Closed.TheVariants as closings
 use Rattle.qs_calls.specs.declared.closing.Received.{Received}
 use Rattle.qs_calls.specs.declared.closing.Received.TheVariants.{Done, Duplicate, BelowFloor, PeerClosed, NoMemory}
 use Rattle.qs_machine.specs.Ends.{End, on_recv, closes, first_send_limit, is_own, opens, opened_by_peer}
-use Rattle.qs_machine.specs.Seen.{Seen, Ack, Close, Plain, seen, seen_all, asks_ack, Stream, Control}
+use Rattle.qs_machine.specs.Seen.{Seen, Ack, Close, seen, seen_all, asks_ack, Stream, Control}
 use Rattle.qs_machine.specs.FrameStep.{acks, named, frame_taken, is_named, item_taken}
 use Rattle.qs_machine.specs.Recording.{recorded, has_too_many, lowest_end, least_in}
 use Rattle.qs_machine.proofs.RunLaws.{least_above}
@@ -32,12 +32,11 @@ use Rattle.qs_recv.specs.declared.half.Read.{Read}
 use Rattle.qs_recv.specs.declared.half.Read.TheVariants as reads
 use Rattle.qs_runs.proofs.Past.{with_effect, with_effects}
 use Rattle.qs_calls.specs.declared.token.TokenFault.TheVariants as tokens
-use Rattle.qs_machine.specs.Plains.{is_plain, frames_in, DifferInPlain}
-use Rattle.qs_machine.proofs.Plains.{differ_covers}
+use Rattle.qs_machine.specs.Plains.{frames_in}
 use Rattle.qs_runs.specs.Agree.{IsOld}
 use Rattle.qs_runs.proofs.Lists.{Among_right}
 use Rattle.qs_runs.proofs.Members.{insert-cases, insert-old, insert-new, cut-cases, cut-kept, run-cases, run-old, below-end, end-le}
-use Rattle.qs_runs.specs.Pasts.{Past, Tells, Packets, WasConfirmed}
+use Rattle.qs_runs.specs.Pasts.{Past, Tells, WasConfirmed}
 use Rattle.qs_runs.specs.Invariant.{EndOk, FrameTaken, SendSlot}
 use Rattle.qs_runs.proofs.Changes.{send_alike, AllGrow, all_grow_refl, grow_trans, frame_stays, Grows, settle_ok, each_grows, raise_grows}
 use Rattle.qs_runs.proofs.Acking.{acks_ok, named_pieces_ok, WasAcked}
@@ -67,8 +66,7 @@ use Rattle.qs_send.specs.declared.piece.Item.TheVariants.{MaxStreamData, MaxStre
 use Rattle.qs_machine.proofs.TableLaws.{lookup_open, total_update, total_each}
 use Rattle.qs_runs.proofs.Taking.{or_else_none, stream_passed, fin_fits, reset_fits}
 use Rattle.qs_runs.proofs.Unharmed.{spent_opened}
-use Rattle.std.proofs.Math.Bool.{and-true}
-use Rattle.qs_machine.proofs.Pieces.{All_append, All_at, All_take, All_more}
+use Rattle.qs_machine.proofs.Pieces.{All_append, All_take, All_more}
 
 -- A payload that the peer made keeps the invariant of the end that it comes to, whatever comes of it.
 
@@ -155,10 +153,6 @@ module _ (k : ℕ) where
 
 closed_ok : (p : Past) (e : End) (c : Closed) → EndOk p e → EndOk p (closes c e)
 closed_ok p e c ok = record { sends = ok.sends; recvs = ok.recvs; packets = ok.packets; taken = ok.taken; credit = ok.credit; streams = ok.streams }
-
--- the frames of a payload that the peer made come, and plain ones
-pub differ_come : (theirs : Packets) (k : ℕ) (bytes text : List ℕ) → slice_get theirs k ≡ Some (frames_in text) → DifferInPlain bytes text → (g : Seen) → Among g (frames_in bytes) → MayCome theirs g
-differ_come theirs k bytes text is differ g a = elim (differ_covers bytes text differ g a) [ inl there ↦ inl (k, (frames_in text, is, there)) | inr plain ↦ inr plain ]
 
 -- Those that come are told by the peer, or plain.
 module _ (p : Past) (k : ℕ) (bytes : List ℕ) (come : (g : Seen) → Among g (frames_in bytes) → MayCome p.theirs g) where

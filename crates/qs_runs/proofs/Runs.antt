@@ -1,5 +1,5 @@
 -- Every run keeps the invariant of both ends.
-use Rattle.std.proofs.Common.{◌≡◌, ◌≤◌, ℕ, Bool, true, List, [], ◌∷◌, ◌++◌, ◌⊎◌, inl, inr, Option, None, Some, is_some, Result, Ok, false, not, arith, sym, subst, refl, ap, ◌∙◌, slice_get}
+use Rattle.std.proofs.Common.{◌≡◌, ◌≤◌, ℕ, true, List, [], ◌∷◌, inl, inr, Option, None, Some, is_some, Result, Ok, false, not, arith, sym, subst, refl, ap, ◌∙◌, slice_get}
 use Rattle.std.specs.Prelude.{flat_map}
 use Rattle.std.specs.List.{AllByRecursion, list_any}
 use Rattle.std.proofs.lemmas.Bool.{false≢true, true≢false}
@@ -41,7 +41,7 @@ use Rattle.qs_machine.proofs.Pieces.{All_append}
 use Rattle.qs_runs.specs.Logs.{Happening, History, Effect, ToldClosed, other, effects, effects_of, sent_in, took_in, comes_in, acks_in, closes_in, processed, taken, was_acked, was_told_closed, made, HasMade, HasLanded}
 use Rattle.qs_runs.specs.Worlds.{World, AreGranted, Begins, IsPayload, IsFrom, May, end_of, WorldStep, Run}
 use Rattle.qs_runs.specs.Events.{Log, happened, EventRun}
-use Rattle.qs_runs.specs.Pasts.{Past, packets_in, past}
+use Rattle.qs_runs.specs.Pasts.{packets_in, past}
 use Rattle.qs_runs.specs.Invariant.{EndOk, CountsTrue, CountsOk, WorldOk, role_of, settings_of, stands_as, standing}
 use Rattle.qs_runs.proofs.Past.{effects_made}
 use Rattle.qs_runs.proofs.Lists.{Among_either, Among_right}
@@ -51,7 +51,7 @@ use Rattle.qs_runs.proofs.OwnMoves.{Hears, heard_or, heard_same}
 use Rattle.qs_runs.proofs.Standing.{fixed, call_stands, certain_cases}
 use Rattle.qs_runs.proofs.PeerMoves.{peer_moves}
 use Rattle.qs_runs.proofs.Facing.{facing, opposite_roles, receive_stands, fine_now}
-use Rattle.qs_runs.proofs.Histories.{two_sides, told, effects_there, past_here, past_there, made_here, made_there, taken_here, theirs_mine, payload_seen, AreFaultless, none_sent, frames_told, payload_come, still_has_made, still_landed, any_here, none_here, still_made, back_again, closed_hears, came_made, came_landed, acked_landed}
+use Rattle.qs_runs.proofs.Histories.{two_sides, did, effects_there, past_here, past_there, made_here, made_there, taken_here, theirs_mine, payload_seen, AreFaultless, none_sent, frames_told, payload_come, still_has_made, still_landed, any_here, none_here, still_made, back_again, closed_hears, came_made, came_landed, acked_landed}
 use Rattle.qs_runs.proofs.Packing.{Leaves, none_leaves, nothing_leaves, own_leaves}
 use Rattle.qs_runs.proofs.NewEnds.{first_world, made_first, ends_made, begins_true, tells_nothing, new_ok}
 use Rattle.qs_runs.proofs.Granting.{counts_told, known_within}
@@ -303,7 +303,7 @@ module _ (a b : Settings) (h : History) (v w : World) (s : Side) (ok : WorldOk a
 
 -- One step keeps what holds of each side.
 module _ (a b : Settings) (h : History) (v w : World) (x : Happening) (ok : WorldOk a b h v) (step : WorldStep h v x w) where
-  after : LeavesAll a b h v w x.end ok (told x h)
+  after : LeavesAll a b h v w x.end ok (did x h)
   after = leaves_all a b h v w x.end ok x.call x.answer step.may step.step
 
   here_side : SideOk a b x.end (x ∷ h) (end_of w x.end)
@@ -313,12 +313,12 @@ module _ (a b : Settings) (h : History) (v w : World) (x : Happening) (ok : Worl
       let rise = counts_call (end_of v x.end) own.sound own.sent x.call x.answer (end_of w x.end) step.step in
       record {
         ok = moved (λ p. EndOk p (end_of w x.end)) _ _ (past_here x h) leaves.ok;
-        counts = moved (λ p. CountsOk p (end_of w x.end)) _ _ (past_here x h) (subst (λ ps. CountsTrue ps (end_of w x.end).settings (granted_streams (end_of w x.end))) (sym (effects_made (told x h) (past x.end h))) (counts_told (past x.end h).mine (end_of v x.end) (end_of w x.end) own.counts stays.settings rise (packets_in (told x h)) leaves.counts));
+        counts = moved (λ p. CountsOk p (end_of w x.end)) _ _ (past_here x h) (subst (λ ps. CountsTrue ps (end_of w x.end).settings (granted_streams (end_of w x.end))) (sym (effects_made (did x h) (past x.end h))) (counts_told (past x.end h).mine (end_of v x.end) (end_of w x.end) own.counts stays.settings rise (packets_in (did x h)) leaves.counts));
         sound = sound_end (end_of v x.end) x.call x.answer (end_of w x.end) own.sound step.step;
         sent = keeps_call (end_of v x.end) x.call x.answer (end_of w x.end) step.step own.sent;
         stand = λ i. record { role = (stays.role ∙ ap (λ y. y.role) own.stand) i; settings = (stays.settings ∙ ap (λ y. y.settings) own.stand) i; peer = (end_of w x.end).peer };
         peer = stays.peer;
-        texts = moved AreFaultless _ _ (made_here x h) (All_append _ (made x.end h) (flat_map sent_in (told x h)) own.texts leaves.faultless);
+        texts = moved AreFaultless _ _ (made_here x h) (All_append _ (made x.end h) (flat_map sent_in (did x h)) own.texts leaves.faultless);
       }
 
   -- the other end stays, and its peer may have made packets
@@ -327,7 +327,7 @@ module _ (a b : Settings) (h : History) (v w : World) (x : Happening) (ok : Worl
       let its = side_of a b h v ok (other x.end) in
       moved (SideOk a b (other x.end) (x ∷ h)) _ _ step.still
       (record {
-        ok = moved (λ p. EndOk p (end_of v (other x.end))) _ _ (past_there x h) (peer_moves (past (other x.end) h) (packets_in (told x h)) (end_of v (other x.end)) its.ok);
+        ok = moved (λ p. EndOk p (end_of v (other x.end))) _ _ (past_there x h) (peer_moves (past (other x.end) h) (packets_in (did x h)) (end_of v (other x.end)) its.ok);
         counts = moved (λ p. CountsOk p (end_of v (other x.end))) _ _ (past_there x h) its.counts;
         sound = its.sound;
         sent = its.sent;
@@ -337,7 +337,7 @@ module _ (a b : Settings) (h : History) (v w : World) (x : Happening) (ok : Worl
       })
 
   -- where something was heard the end was open
-  may_hear : (told x h ≡ [] → ⊥) → Hears x.call → May h v x.end x.call
+  may_hear : (did x h ≡ [] → ⊥) → Hears x.call → May h v x.end x.call
   may_hear some heard = by (end_of v x.end).closed refl
     where
       by : (o : Option Closed) → (end_of v x.end).closed ≡ o → May h v x.end x.call
@@ -346,7 +346,7 @@ module _ (a b : Settings) (h : History) (v w : World) (x : Happening) (ok : Worl
 
   taken_here_made : (f : Seen) → Among f (taken x.end (x ∷ h)) → is_ours f ≡ true → HasMade (x ∷ h) (other x.end) f
   taken_here_made f a ours =
-      elim (Among_either (taken x.end h) (flat_map took_in (told x h)) f (subst (Among f) (taken_here x h) a)) [
+      elim (Among_either (taken x.end h) (flat_map took_in (did x h)) f (subst (Among f) (taken_here x h) a)) [
         | inl was ↦ still_has_made x h (other x.end) f (ok.taken x.end f was ours)
         | inr now ↦ still_has_made x h (other x.end) f (came_made h v x.end (end_of w x.end) x.call x.answer (may_hear (λ none. subst (λ xs. Among f (flat_map took_in xs)) none now)) f now ours)
       ]
@@ -363,7 +363,7 @@ module _ (a b : Settings) (h : History) (v w : World) (x : Happening) (ok : Worl
             let (text, at, covers) = came_landed h v x.end (end_of w x.end) x.call x.answer (may_hear (λ none. false≢true (sym (ap (list_any (comes_in k)) none) ∙ now))) k now in (
               text,
               still_made x h (other x.end) k text at,
-              λ f a land. back_again (λ t. Among f (taken t (x ∷ h))) x.end (subst (Among f) (sym (taken_here x h)) (Among_right (taken x.end h) (flat_map took_in (told x h)) f (covers f a land))),
+              λ f a land. back_again (λ t. Among f (taken t (x ∷ h))) x.end (subst (Among f) (sym (taken_here x h)) (Among_right (taken x.end h) (flat_map took_in (did x h)) f (covers f a land))),
             )
             )
       ]

@@ -31,8 +31,7 @@ pub record PrefixAgrees (h : History) (s : Side) (n : ℕ) : Type 0 where
 abbrev pub WholeAgrees : History → World → Side → ℕ → Type 0
 WholeAgrees h w s n =
     (l : SendLane) → send_lane (end_of w s) n ≡ Some l → state l ≡ DataRecvd →
-    (r : RecvLane) × (recv_lane (end_of w (other s)) n ≡ Some r)
-    × (r.final_size ≡ Some (length (written s n h)))
+    (r : RecvLane) × (recv_lane (end_of w (other s)) n ≡ Some r) × (r.final_size ≡ Some (length (written s n h)))
     × ((q : ℕ) → q < length (written s n h) → set.contains r.arrived.received q ≡ true)
 
 -- a final size that is known is the declared one, and the code of a known reset is the sender's (RFC 9000, section 4.5)

@@ -1,7 +1,7 @@
 -- Of laws.
 -- What is read off small histories.
 use Rattle.std.specs.Prelude.{◌≡◌, ℕ, Bool, true, false, List, [], ◌∷◌, Option, None, Some, Ok, Err}
-use Rattle.qs_wire.specs.Layout.{FrameValue, ping, max_data}
+use Rattle.qs_wire.specs.Layout.{ping, max_data}
 use Rattle.qs_wire.specs.declared.stream_id.Dir.{Dir}
 use Rattle.qs_recv.specs.declared.half.Read.TheVariants.{Bytes, End}
 use Rattle.qs_send.specs.declared.piece.Item.TheVariants.{MaxData}
@@ -20,7 +20,7 @@ use Rattle.qs_calls.specs.declared.uses.UseFault.TheVariants.{NoSuchStream}
 use Rattle.qs_calls.specs.declared.event.Side.{Side}
 use Rattle.qs_calls.specs.declared.event.Side.TheVariants.{A, B}
 use Rattle.qs_machine.specs.SmallEnds.{abc}
-use Rattle.qs_machine.specs.Seen.{Seen, Control, Plain}
+use Rattle.qs_machine.specs.Seen.{Control, Plain}
 use Rattle.qs_machine.specs.Setting.{Setting}
 use Rattle.qs_machine.specs.EndStep.{Call, Answer, AcceptOf, Write, Stop, StopAndForget, ReadUpTo, Consume, Receive, TakeFrame, TakeFrames, TokenAcked, TokenLost, Make, MakeAck, FillIn, Claim, RaiseLimits, Set, TellClosed}
 use Rattle.qs_calls.specs.declared.settings.Settings.{Settings}

@@ -3,7 +3,7 @@
 -- (RFC 9000, sections 2.2, 3, 4, 10.2, 12.4, 13.1 and 13.3).
 use Rattle.std.specs.Prelude.{◌≡◌, ℕ, ◌+◌, true, false, List, [], ◌∷◌, ◌++◌, None, Some, Ok, Err}
 use Rattle.qs_ranges.specs.Numbers.{numbers}
-use Rattle.qs_wire.specs.Layout.{FrameValue, ping, ack, crypto, max_data, data_blocked, streams_blocked, stream_data_blocked, connection_close}
+use Rattle.qs_wire.specs.Layout.{FrameValue, ping, ack, crypto, max_data, stream_data_blocked, connection_close}
 use Rattle.qs_wire.specs.Reading.{reading_of}
 use Rattle.qs_wire.specs.declared.fault.WireFault.{WireFault}
 use Rattle.qs_recv.specs.Lane.{RecvLane}

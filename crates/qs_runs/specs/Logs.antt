@@ -124,14 +124,10 @@ effects_of Spent answer = []
 effects_of (GrantedStreams d) answer = []
 effects_of (Report n) answer = []
 
--- what a happening did at one end
-abbrev pub effects_at : Side → Happening → List Effect
-effects_at s x = if same_side s x.end then effects_of x.call x.answer else []
-
 -- all that was done at one end, the oldest first
 unfoldable pub effects : Side → History → List Effect
 effects s [] = []
-effects s (x ∷ h) = effects s h ++ effects_at s x
+effects s (x ∷ h) = effects s h ++ (if same_side s x.end then effects_of x.call x.answer else [])
 
 -- Read off that
 
