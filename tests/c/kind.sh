@@ -73,7 +73,7 @@ plain() {
   try "$name over the archive" "$C" "${strict[@]}" "$@" "$archive" -o "$room/$name-a"
   try "$name over the shared library" "$C" "${strict[@]}" "$@" "-L$libs" -lgotsavena "-Wl,-rpath,$libs" -o "$room/$name-so"
 }
-sed -n '/^```c$/,/^```$/p' "$root/docs/C.md" | sed '/^```/d' >"$room/hello.c"
+awk '/^```$/ { shown = 0 } shown; /^```c$/ && !count++ { shown = 1 }' "$root/docs/C.md" >"$room/hello.c"
 plain hello "$room/hello.c"
 plain pipe "$root/c/examples/pipe.c"
 plain arguments "$tests/arguments.c"
