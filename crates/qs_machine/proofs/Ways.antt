@@ -1,17 +1,17 @@
 -- A payload that is processed is its frames, and one with an ACK is tokens and frames; and an ACK alone is a packet.
-use Rattle.std.proofs.Common.{◌≡◌, ℕ, Bool, true, false, List, [], ◌∷◌, ◌++◌, inl, Option, None, Some, Ok, refl, sym, ap, ◌∙◌, subst, append-nil, ◌≤◌, ◌||◌, ◌⊎◌, length, Err, arith, inr, ◌&&◌, cond, map, is_some, nat_lt}
+use Rattle.std.proofs.Common.{◌≡◌, ℕ, Bool, true, false, List, [], ◌∷◌, ◌++◌, inl, Option, None, Some, Ok, refl, sym, ap, ◌∙◌, subst, append-nil, ◌≤◌, ◌||◌, ◌⊎◌, length, Err, arith, inr, ◌&&◌, cond, map, is_some}
 use Rattle.std.specs.Prelude.{MatchBool, Result, flat_map, ◌==◌, max}
 use Rattle.std.specs.List.{AllByRecursion}
 use Rattle.std.proofs.lemmas.Bool.{false≢true, and_right, both_ways, or_parts}
 use Rattle.qs_wire.specs.Layout.{FrameValue, PlacedValue, ack}
-use Rattle.qs_wire.specs.Grammar.{Fits, AreBytes, frames_of}
-use Rattle.qs_wire.specs.Reading.{reading_of, Reading}
+use Rattle.qs_wire.specs.Grammar.{Fits, AreBytes}
+use Rattle.qs_wire.specs.Reading.{reading_of}
 use Rattle.qs_wire.specs.declared.fault.WireFault.{WireFault}
 use Rattle.qs_wire.proofs.FaultAgain.{bytes_fit}
 use Rattle.qs_wire.proofs.FitLaws.{frames_fit}
 use Rattle.qs_calls.specs.declared.closing.Closing.{Closing}
 use Rattle.qs_calls.specs.declared.closing.Received.{Received}
-use Rattle.qs_calls.specs.declared.closing.Received.TheVariants.{Done, Duplicate, BelowFloor, NoMemory}
+use Rattle.qs_calls.specs.declared.closing.Received.TheVariants.{Done, NoMemory}
 use Rattle.qs_calls.specs.declared.token.Taken.{Taken}
 use Rattle.qs_calls.specs.declared.token.Taken.TheVariants.{Took, Unchanged, NotOurs}
 use Rattle.qs_calls.specs.declared.token.TakeFault.{TakeFault}
@@ -21,7 +21,7 @@ use Rattle.qs_machine.specs.Seen.{Seen, Ack, Stream, Control, Close, Plain, seen
 use Rattle.qs_machine.specs.Verdicts.{verdict, item_verdict, state_fault_in, state_fault_out, or_else}
 use Rattle.qs_machine.specs.FrameStep.{NoFault, frame_taken, frames_taken, AckedPiece, acked_at, pieces_of, is_named, named_in, named, acks, item_taken}
 use Rattle.qs_machine.specs.Recording.{recorded}
-use Rattle.qs_machine.specs.Receiving.{ReceiveStep, ReceiveBy, Stops, EndsBy, GoesOn, Takes, AtEnd}
+use Rattle.qs_machine.specs.Receiving.{ReceiveStep, ReceiveBy, Stops, EndsBy, GoesOn}
 use Rattle.qs_machine.specs.Alone.{is_ours, TakesOne, TakesEach, TakeBy, TakeFrameStep, TakeFramesStep, TakeAllBy, of_both, after_one}
 use Rattle.qs_machine.specs.Changes.{changes}
 use Rattle.qs_machine.specs.Ways.{frames_in, IsNew, is_ack, HaveNoAck, AreOthers, APayloadIsTokensAndFrames}
@@ -66,7 +66,6 @@ use Rattle.qs_machine.proofs.CallsSound.{sound_acks}
 use Rattle.qs_machine.proofs.Counts.{ended_grows}
 use Rattle.qs_machine.proofs.EndsAfter.{IsAfter, after_acks, named_written, sent_stays, lanes_stay, halves_stay}
 use Rattle.qs_machine.proofs.AckTokens.{same_tables, acks_moved, later_count, an_ack_may_be_told}
-use Rattle.qs_calls.specs.declared.closing.Closed.{Closed}
 
 -- A payload that is processed is its frames, and then its number.
 

@@ -1,12 +1,11 @@
 -- What comes of a packet of a claimed number.
-use Rattle.std.proofs.Common.{◌≡◌, ℕ, ◌+◌, Bool, true, false, ◌||◌, List, [], ◌∷◌, ◌++◌, ◌⊎◌, length, Option, Some, None, Result, Ok, Err, slice_get, refl, sym, ap, ◌∙◌, subst, inl, inr}
+use Rattle.std.proofs.Common.{◌≡◌, ℕ, ◌+◌, Bool, true, false, ◌||◌, List, [], ◌∷◌, ◌++◌, ◌⊎◌, length, Some, None, Result, Ok, Err, slice_get, refl, sym, ap, ◌∙◌, subst, inl, inr}
 use Rattle.std.proofs.Math.Bool.{or_assoc}
 use Rattle.std.proofs.lemmas.Option.{none-some, same_Some}
 use Rattle.std.proofs.lemmas.List.{length-map}
 use Rattle.qs_wire.specs.Layout.{PlacedValue}
 use Rattle.qs_wire.specs.Grammar.{frames_of}
 use Rattle.qs_wire.specs.Reading.{reading_of}
-use Rattle.qs_wire.specs.declared.fault.WireFault.{WireFault}
 use Rattle.qs_wire.specs.declared.stream_id.Role.{Role}
 use Rattle.qs_wire.specs.declared.stream_id.Role.TheVariants.{Client, Server}
 use Rattle.qs_wire.specs.declared.stream_id.Dir.TheVariants.{Bidi, Uni}
@@ -15,12 +14,10 @@ use Rattle.qs_calls.specs.declared.settings.Tuning.{Tuning}
 use Rattle.qs_calls.specs.declared.settings.PeerLimits.{PeerLimits}
 use Rattle.qs_calls.specs.declared.closing.Closing.{Closing}
 use Rattle.qs_calls.specs.declared.closing.Received.{Received}
-use Rattle.qs_calls.specs.declared.closing.Received.TheVariants.{Done, Duplicate, BelowFloor, PeerClosed, NoMemory}
+use Rattle.qs_calls.specs.declared.closing.Received.TheVariants.{Done, Duplicate, BelowFloor, NoMemory}
 use Rattle.qs_calls.specs.declared.making.MakeFault.{MakeFault}
 use Rattle.qs_calls.specs.declared.event.Side.{Side}
 use Rattle.qs_calls.specs.declared.event.Side.TheVariants.{A}
-use Rattle.qs_calls.specs.declared.event.Act.TheVariants as acts
-use Rattle.qs_calls.specs.declared.answer.Answer.TheVariants as answers
 use Rattle.qs_machine.specs.Tables.{each}
 use Rattle.qs_machine.specs.Ends.{End, closes, new_end, wide_end_made}
 use Rattle.qs_machine.specs.Credit.{settle}
@@ -36,18 +33,18 @@ use Rattle.qs_machine.proofs.Counts.{new_ends_settled as new_counts_settled}
 use Rattle.qs_machine.proofs.EveryCall.{ends_by, by_open}
 use Rattle.qs_machine.proofs.Again.{settle_twice}
 use Rattle.qs_machine.proofs.SettledLimits.{new_ends_settled}
-use Rattle.qs_runs.specs.Logs.{CameWith, History, other, made, payload, ping_text}
-use Rattle.qs_runs.specs.Worlds.{World, end_of, Begins, WorldStep, Run}
-use Rattle.qs_machine.specs.Plains.{frames_in, but_plain, DifferInPlain}
+use Rattle.qs_runs.specs.Logs.{History, other, made, payload, ping_text}
+use Rattle.qs_runs.specs.Worlds.{World, end_of, Begins, IsPayload, Run}
+use Rattle.qs_machine.specs.Plains.{frames_in, but_plain}
 use Rattle.qs_runs.specs.Invariant.{WorldOk}
-use Rattle.qs_runs.specs.Claims.{claimed, came, ChangesNumbers, ClaimsAlwaysTellNothing}
+use Rattle.qs_runs.specs.Claims.{claimed, ClaimsAlwaysTellNothing}
 use Rattle.qs_runs.proofs.Lists.{slice_get-last}
 use Rattle.qs_runs.proofs.Standing.{certain_cases}
-use Rattle.qs_runs.proofs.Wire.{ping_seen, ping_faultless}
+use Rattle.qs_runs.proofs.Wire.{ping_seen}
 use Rattle.qs_runs.proofs.Stays.{each_side}
-use Rattle.qs_runs.proofs.Histories.{seen_made, made_own}
+use Rattle.qs_runs.proofs.Histories.{two_sides, back_again, made_here}
 use Rattle.qs_runs.proofs.NewEnds.{first_world, made_first, ends_made}
-use Rattle.qs_runs.proofs.Runs.{two_sides, run_keeps, is_open_end}
+use Rattle.qs_runs.proofs.Runs.{run_keeps}
 
 -- In every run each end stands as its last call left it.
 
@@ -112,12 +109,6 @@ plain_received k bytes e new result not_closed same faultless none step =
 ping_plain : but_plain (frames_in ping_text) ≡ []
 ping_plain = ap but_plain ping_seen
 
-records_numbers : (k : ℕ) (asks : Bool) (result : Result Received Closing) (old new : End) → OnlyRecords k asks result old new → ChangesNumbers old new
-records_numbers k asks (Ok (PeerClosed code)) old new is = absurd is
-records_numbers k asks (Ok Done) old new is = subst (ChangesNumbers old) (sym is) refl
-records_numbers k asks (Ok received) old new is = subst (ChangesNumbers old) (sym is) refl
-records_numbers k asks (Err closing) old new is = absurd is
-
 -- A number is claimed
 
 abbrev number_in : Result ℕ MakeFault → ℕ
@@ -130,35 +121,24 @@ module _ (a b : Settings) (h : History) (v : World) (s : Side) (ok : WorldOk a b
   claimed_is number new step =
       elim (certain_cases (claim_refusal (end_of v s)) (end_of v s) (Ok number) new _ step) [
         | inl (fault, is, same) ↦ absurd (cc is)
-        | inr (allowed, (is, same)) ↦ ap number_in is ∙ ((ok.ends s).packets.count ∙ ap length (seen_made s h) ∙ length-map (made s h) frames_in)
+        | inr (allowed, (is, same)) ↦ ap number_in is ∙ (ok.ends s).packets.count ∙ length-map (made s h) frames_in
       ]
 
   claimed_ping : (number : ℕ) (new : End) → ClaimStep (end_of v s) (Ok number) new → payload s number (claimed s number ∷ h) ≡ Some ping_text
   claimed_ping number new step =
-      ap (λ ts. slice_get ts number) (made_own s acts.Claim (answers.Claim (Ok number)) h)
+      ap (λ ts. slice_get ts number) (made_here (claimed s number) h)
       ∙ ap (slice_get (made s h ++ ping_text ∷ [])) (claimed_is number new step)
       ∙ slice_get-last (made s h) ping_text
 
 pub claims_tell_nothing : ClaimsAlwaysTellNothing
 claims_tell_nothing a b h v w s number run =
     record {
-      ping = λ step. claimed_ping a b h v s (run_keeps a b h v run) number (end_of w s) step.0;
-      recorded = λ result ping step. records result ping step;
-      rest = λ result ping step. records_numbers number true result (end_of v (other s)) (end_of w (other s)) (records result ping step);
-      others = λ bytes result ping step. others bytes result ping step;
+      ping = λ step. claimed_ping a b h v s (run_keeps a b h v run) number (end_of w s) step.step;
+      recorded = λ bytes result ping open_end step. recorded bytes result ping open_end step.step (step.may open_end);
     }
   where
-    bytes_recorded : (new : End) (bytes text : List ℕ) (result : Result Received Closing) → payload s number h ≡ Some ping_text → payload s number h ≡ Some text → DifferInPlain bytes text → ReceiveStep (end_of v (other s)) number bytes result new →
-        OnlyRecords number (any_asks (frames_in bytes)) result (end_of v (other s)) new
-    bytes_recorded new bytes text result ping is differ step =
-        plain_received number bytes (end_of v (other s)) new result (is_open_end a b h v (run_keeps a b h v run) (other s)) (run_settled a b h v run (other s)) differ.reads
-        (differ.same ∙ ap (λ t. but_plain (frames_in t)) (same_Some text ping_text (sym is ∙ ping)) ∙ ping_plain) step
-
-    records : (result : Result Received Closing) → payload s number h ≡ Some ping_text → WorldStep h v (came s number result) w → OnlyRecords number true result (end_of v (other s)) (end_of w (other s))
-    records result ping (text, is, step, same) =
-        subst (λ b. OnlyRecords number b result (end_of v (other s)) (end_of w (other s))) (ap any_asks ping_seen)
-        (bytes_recorded (end_of w (other s)) ping_text ping_text result ping ping (record { reads = ping_faultless; reads_other = ping_faultless; same = refl }) (subst (λ t. ReceiveStep (end_of v (other s)) number t result (end_of w (other s))) (same_Some text ping_text (sym is ∙ ping)) step))
-
-    others : (bytes : List ℕ) (result : Result Received Closing) → payload s number h ≡ Some ping_text → WorldStep h v (CameWith s number bytes result) w → ChangesNumbers (end_of v (other s)) (end_of w (other s))
-    others bytes result ping (text, is, differ, step, same) =
-        records_numbers number (any_asks (frames_in bytes)) result (end_of v (other s)) (end_of w (other s)) (bytes_recorded (end_of w (other s)) bytes text result ping is differ step)
+    recorded : (bytes : List ℕ) (result : Result Received Closing) → payload s number h ≡ Some ping_text → (end_of v (other s)).closed ≡ None → ReceiveStep (end_of v (other s)) number bytes result (end_of w (other s)) → IsPayload h (other (other s)) number bytes →
+        OnlyRecords number (any_asks (frames_in bytes)) result (end_of v (other s)) (end_of w (other s))
+    recorded bytes result ping open_end step (text, is, differ) =
+        plain_received number bytes (end_of v (other s)) (end_of w (other s)) result open_end (run_settled a b h v run (other s)) differ.reads
+        (differ.same ∙ ap (λ t. but_plain (frames_in t)) (same_Some text ping_text (sym is ∙ back_again (λ t. payload t number h ≡ Some ping_text) s ping)) ∙ ping_plain) step

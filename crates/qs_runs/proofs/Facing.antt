@@ -22,10 +22,10 @@ use Rattle.qs_machine.proofs.EveryCall.{no_fault_there, by_open}
 use Rattle.qs_runs.specs.Worlds.{AreGranted}
 use Rattle.qs_machine.specs.Plains.{is_plain, frames_in}
 use Rattle.qs_runs.specs.Pasts.{Past, Tells}
-use Rattle.qs_runs.specs.Invariant.{EndOk, standing}
-use Rattle.qs_runs.proofs.Unharmed.{Facing, told_fine}
+use Rattle.qs_runs.specs.Invariant.{EndOk}
+use Rattle.qs_runs.proofs.Unharmed.{Facing, ProcessedWasMade, told_fine}
 use Rattle.qs_machine.proofs.Leaves.{acks_leave, frame_leaves}
-use Rattle.qs_runs.proofs.Standing.{standing_at}
+use Rattle.qs_runs.proofs.Standing.{fixed, standing_at}
 use Rattle.qs_runs.proofs.Frames.{Effect, MayCome, come_keeps}
 
 -- two roles that face each other
@@ -56,19 +56,19 @@ facing e f opposite peer bidi uni =
 
 -- at every moment of a call the end stands as it did, and grants as many streams
 abbrev pub IsThere : End → End → Type 0
-IsThere e mid = (standing mid ≡ standing e) × (mid.granted_bidi ≡ e.granted_bidi) × (mid.granted_uni ≡ e.granted_uni)
+IsThere e mid = (fixed mid ≡ fixed e) × (mid.granted_bidi ≡ e.granted_bidi) × (mid.granted_uni ≡ e.granted_uni)
 
 -- a frame takes effect
 pub there_taken : (e mid : End) (g : Seen) → IsThere e mid → IsThere e (frame_taken g mid)
 there_taken e mid g same = (let still = ap standing_at (frame_leaves g mid) in (ap (λ x. x.0) still ∙ same.0, ap (λ x. x.2) still ∙ same.1, ap (λ x. x.3) still ∙ same.2))
 
 module _ (p q : Past) (e f : End) (their : EndOk q f) (from : p.theirs ≡ q.mine) (back : q.theirs ≡ p.mine)
-    (opposite : (n : ℕ) → is_own_by f.role n ≡ not (is_own_by e.role n)) (peer : AreGranted f.peer e.settings) (bidi : f.known_bidi ≤ e.granted_bidi) (uni : f.known_uni ≤ e.granted_uni) where
+    (opposite : (n : ℕ) → is_own_by f.role n ≡ not (is_own_by e.role n)) (peer : AreGranted f.peer e.settings) (bidi : f.known_bidi ≤ e.granted_bidi) (uni : f.known_uni ≤ e.granted_uni) (was_made : ProcessedWasMade q) where
   -- the two ends face each other at each moment
   pub fine_now : (mid : End) → EndOk p mid → IsThere e mid → (g : Seen) → Tells p.theirs g → verdict mid g ≡ None
   fine_now mid ok same g t =
-      let faces : Facing mid f = facing mid f (λ n. opposite n ∙ ap (λ x. not (is_own_by x.role n)) (sym same.0)) (subst (λ x. AreGranted f.peer x.settings) (sym same.0) peer) (omega (arith, bidi, same.1)) (omega (arith, uni, same.2)) in
-      told_fine p q from back mid f faces ok their g (subst (λ x. Tells x g) from t)
+      let faces : Facing mid f = facing mid f (λ n. opposite n ∙ ap (λ x. not (is_own_by x.0.role n)) (sym same.0)) (subst (λ x. AreGranted f.peer x.0.settings) (sym same.0) peer) (omega (arith, bidi, same.1)) (omega (arith, uni, same.2)) in
+      told_fine p q from back mid f faces ok their was_made g (subst (λ x. Tells x g) from t)
 
   -- a plain frame has no fault
   plain_fine : (mid : End) (g : Seen) → is_plain g ≡ true → verdict mid g ≡ None
@@ -80,23 +80,23 @@ module _ (p q : Past) (e f : End) (their : EndOk q f) (from : p.theirs ≡ q.min
   come_fine mid ok same g (inl t) = fine_now mid ok same g t
   come_fine mid ok same g (inr plain) = plain_fine mid g plain
 
-  stops_stand : (v : PlacedValue) (g : Seen) (mid : End) (result : Result Received Closing) (new : End) → EndOk p mid → IsThere e mid → MayCome p.theirs g → Stops v g mid result new → standing new ≡ standing e
+  stops_stand : (v : PlacedValue) (g : Seen) (mid : End) (result : Result Received Closing) (new : End) → EndOk p mid → IsThere e mid → MayCome p.theirs g → Stops v g mid result new → fixed new ≡ fixed e
   stops_stand v (Close code) mid (Ok (PeerClosed told)) new ok same (inl t) h = absurd (their.packets.kinds (Close code) (subst (λ x. Tells x (Close code)) from t))
   stops_stand v (Close code) mid (Ok (PeerClosed told)) new ok same (inr plain) h = absurd (false≢true plain)
-  stops_stand v (Ack largest ranges) mid (Ok NoMemory) new ok same t (fine, (m, h, asks)) = ap standing h ∙ ap standing (acks_leave (take m (named mid ranges)) mid) ∙ same.0
+  stops_stand v (Ack largest ranges) mid (Ok NoMemory) new ok same t (fine, (m, h, asks)) = ap fixed h ∙ ap fixed (acks_leave (take m (named mid ranges)) mid) ∙ same.0
   stops_stand v (Close code) mid result new ok same t h = absurd h
-  stops_stand v g mid (Ok NoMemory) new ok same t h = ap standing h.1.0 ∙ same.0
+  stops_stand v g mid (Ok NoMemory) new ok same t h = ap fixed h.1.0 ∙ same.0
   stops_stand v g mid (Err closing) new ok same t h = absurd (none-some closing.code (sym (come_fine mid ok same g t) ∙ h.0))
   stops_stand v g mid result new ok same t h = absurd h
 
-  at_end_stands : (k : ℕ) (asks : Bool) (fault : Option WireFault) (mid : End) (result : Result Received Closing) (new : End) → fault ≡ None → standing mid ≡ standing e → AtEnd k asks fault mid result new → standing new ≡ standing e
-  at_end_stands k asks None mid (Ok Done) new none same h = ap standing h ∙ same
-  at_end_stands k asks None mid (Ok NoMemory) new none same h = ap standing h.0 ∙ same
+  at_end_stands : (k : ℕ) (asks : Bool) (fault : Option WireFault) (mid : End) (result : Result Received Closing) (new : End) → fault ≡ None → fixed mid ≡ fixed e → AtEnd k asks fault mid result new → fixed new ≡ fixed e
+  at_end_stands k asks None mid (Ok Done) new none same h = ap fixed h ∙ same
+  at_end_stands k asks None mid (Ok NoMemory) new none same h = ap fixed h.0 ∙ same
   at_end_stands k asks (Some fault) mid (Err closing) new none same h = absurd (none-some fault (sym none))
   at_end_stands k asks fault mid result new none same h = absurd h
 
   takes_stand : (left : List PlacedValue) (k : ℕ) (asks : Bool) (fault : Option WireFault) (mid : End) (result : Result Received Closing) (new : End) → fault ≡ None → EndOk p mid → IsThere e mid →
-      ((g : Seen) → Among g (seen_all (frames_of left)) → MayCome p.theirs g) → Takes k fault asks mid left result new → standing new ≡ standing e
+      ((g : Seen) → Among g (seen_all (frames_of left)) → MayCome p.theirs g) → Takes k fault asks mid left result new → fixed new ≡ fixed e
   takes_stand [] k asks fault mid result new none ok same told h = at_end_stands k asks fault mid result new none same.0 h
   takes_stand (v ∷ left) k asks fault mid result new none ok same told (inl stops) = stops_stand v (seen v.frame) mid result new ok same (told (seen v.frame) (inl refl)) stops
   takes_stand (v ∷ left) k asks fault mid result new none ok same told (inr (goes, rest)) =
@@ -105,7 +105,7 @@ module _ (p q : Past) (e f : End) (their : EndOk q f) (from : p.theirs ≡ q.min
       takes_stand left k (asks || asks_ack g) fault (frame_taken g mid) result new none one.ok (there_taken e mid g same) (λ x a. told x (inr a)) rest
 
   -- a payload that the peer made, without a fault, leaves the end open, whatever plain frames stand in it
-  pub receive_stands : (new : End) (k : ℕ) (text : List ℕ) (result : Result Received Closing) → EndOk p e → e.closed ≡ None → (reading_of text).fault ≡ None → ((g : Seen) → Among g (frames_in text) → MayCome p.theirs g) → ReceiveStep e k text result new → standing new ≡ standing e
+  pub receive_stands : (new : End) (k : ℕ) (text : List ℕ) (result : Result Received Closing) → EndOk p e → e.closed ≡ None → (reading_of text).fault ≡ None → ((g : Seen) → Among g (frames_in text) → MayCome p.theirs g) → ReceiveStep e k text result new → fixed new ≡ fixed e
   receive_stands new k text result ok not_closed faultless told step =
-      by_open (standing new ≡ standing e) k text e result new (subst (λ o. ReceiveBy o k text e result new) not_closed step) (λ low same. ap standing same) (λ again same. ap standing same) (λ high mid takes same.
-      ap standing same ∙ takes_stand (reading_of text).left k false (reading_of text).fault e result mid faultless ok (refl, refl, refl) told takes)
+      by_open (fixed new ≡ fixed e) k text e result new (subst (λ o. ReceiveBy o k text e result new) not_closed step) (λ low same. ap fixed same) (λ again same. ap fixed same) (λ high mid takes same.
+      ap fixed same ∙ takes_stand (reading_of text).left k false (reading_of text).fault e result mid faultless ok (refl, refl, refl) told takes)
