@@ -19,7 +19,7 @@ use Rattle.qs_machine.specs.Laws.{StaysOnceClosed}
 use Rattle.qs_machine.specs.EndStep.{Call, Answer, EndStep, Receive, TakeFrame, TakeFrames}
 use Rattle.qs_machine.proofs.EveryCall.{closed_stays}
 use Rattle.qs_machine.proofs.Pieces.{All_at}
-use Rattle.qs_runs.specs.Logs.{Happening, History, other, payload, processed, written}
+use Rattle.qs_runs.specs.Logs.{Happening, History, other, processed, written}
 use Rattle.qs_runs.specs.Worlds.{World, end_of, May, WorldStep}
 use Rattle.qs_runs.specs.Agree.{Agree, PrefixAgrees, WholeAgrees, FinalSizesAgree, CreditAgrees, StaysOpen, StepAgrees, EveryRunAgrees, IsOld, handed_in}
 use Rattle.qs_runs.specs.Invariant.{WorldOk, SendSlot, RecvSlot, FrameTaken, EndOk}

@@ -36,7 +36,7 @@ use Rattle.qs_machine.proofs.Claims.{gave}
 use Rattle.qs_runs.specs.Logs.{History, effects, payload, taken, must_land, HasMade, HasLanded}
 use Rattle.qs_runs.specs.Worlds.{World, May}
 use Rattle.qs_runs.specs.Agree.{IsOld}
-use Rattle.qs_runs.specs.Exclusions.{ReadIsNoPrefix, WholeIsMissing, SizesDiffer, WorldsDiffer, NewsIsNotOld, StepsSpend, two_frames, sent_two, took, came_as, PayloadsThatCome, FramesThatCome, TokensThatAreAcked, OtherSteps, blocked, BlockedFramesLand, Differ, OtherBytesCome, LimitsAreAbove, NoneBegin, Exclusions, both, acknowledged, first_of_three}
+use Rattle.qs_runs.specs.Exclusions.{ReadIsNoPrefix, WholeIsMissing, SizesDiffer, WorldsDiffer, NewsIsNotOld, StepsSpend, two_frames, sent_two, took, came_as, PayloadsThatCome, FramesThatCome, TokensThatAreAcked, OtherSteps, blocked, BlockedFramesLand, Differ, OtherBytesCome, LimitsAreAbove, NoneBegin, Exclusions, acknowledged, first_of_three}
 use Rattle.qs_runs.proofs.NewEnds.{made_first}
 use Rattle.qs_runs.proofs.Wire.{ping_seen}
 

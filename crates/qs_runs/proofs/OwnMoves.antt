@@ -7,7 +7,7 @@ use Rattle.qs_send.specs.LostRecords.{MOST_LOST, with_piece, with_number, withou
 use Rattle.qs_send.specs.declared.piece.Piece.{Piece}
 use Rattle.qs_machine.specs.Ends.{End, Records, LostPackets, lost_with, on_send, on_recv, send_lane, first_send_limit, window, is_uni, is_own}
 use Rattle.qs_machine.specs.Making.{first_lost, losses, MakeStep, MakeAt, make_refusal, IsMade, LoseStep, lose_refusal, ClaimStep, claim_refusal}
-use Rattle.qs_runs.specs.Pasts.{Past, PieceOf, Packets, TellsEnd, Tells}
+use Rattle.qs_runs.specs.Pasts.{Past, PieceOf, TellsEnd, Tells}
 use Rattle.qs_runs.specs.Invariant.{EndOk, StoodIn, RecvTrue, RecvSlot, RecvOk, SendOk, SendSlot, OpenOk, is_open}
 use Rattle.qs_runs.proofs.Lists.{Among_push, Among_take}
 use Rattle.qs_runs.proofs.Members.{get-inserted, get-removed}
