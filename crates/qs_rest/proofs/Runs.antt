@@ -35,7 +35,7 @@ use Rattle.qs_machine.specs.Credit.{settle}
 use Rattle.qs_machine.specs.Receiving.{told_receive, told_by, ReceiveStep, ReceiveBy}
 use Rattle.qs_machine.specs.Plains.{frames_in}
 use Rattle.qs_machine.specs.Alone.{token_refusal}
-use Rattle.qs_machine.specs.FrameStep.{AckedPiece, acks, named, held, is_named, frame_taken}
+use Rattle.qs_machine.specs.FrameStep.{AckedPiece, acks, named, held, frame_taken}
 use Rattle.qs_machine.specs.Raising.{RaiseStep, knows_limits, limits_raised, raise_refusal}
 use Rattle.qs_machine.specs.EndStep.{Call, Answer, EndStep, Receive, TakeFrame, TakeFrames, TokenAcked, RaiseLimits, TellClosed}
 use Rattle.qs_machine.specs.SettledLimits.{LimitsAreSettled}
