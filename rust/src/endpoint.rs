@@ -40,6 +40,9 @@ pub const MAX_PAYLOAD: usize = 65_535;
 /// assert_eq!(server.read(stream, &mut bytes)?, Read::End);
 /// # Ok::<(), Box<dyn std::error::Error>>(())
 /// ```
+///
+/// In the examples of the calls `client` and `server` are such endpoints, and `deliver` hands each packet that the first one
+/// makes to the second.
 pub struct Endpoint {
     inner: conn::Endpoint,
     // It stands beside the end, which has no state for it.

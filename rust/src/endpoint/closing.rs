@@ -3,8 +3,23 @@
 use super::Endpoint;
 use crate::answers::{Closing, ToldClose};
 
+/// # Closing
 impl Endpoint {
     /// Why this end closed; `None` where it is open or saw its peer close (RFC 9000, section 10.2).
+    ///
+    /// ```
+    /// # use gotsavena::{Endpoint, Role, Settings};
+    /// # let settings = Settings::default();
+    /// # let mut client = Endpoint::new(Role::Client, settings, settings.limits())?;
+    /// # let mut server = Endpoint::new(Role::Server, settings, settings.limits())?;
+    /// # let mut payload = [0; 1200];
+    /// assert_eq!(server.closing(), None);
+    /// // No frame has the type 0x1f: FRAME_ENCODING_ERROR (section 12.4).
+    /// server.receive(0, &[0x1f]).unwrap_err();
+    /// assert_eq!(server.closing().map(|closing| closing.code), Some(0x07));
+    /// # Ok::<(), Box<dyn std::error::Error>>(())
+    /// ```
+    #[must_use]
     pub fn closing(&self) -> Option<Closing> {
         self.inner.closing().map(Closing::of)
     }
@@ -12,12 +27,40 @@ impl Endpoint {
     /// Writes the payload that tells of this end's own closing: a CONNECTION_CLOSE with an empty reason (RFC 9000,
     /// section 10.2). Answers its length in bytes. `None` where this end didn't close, or where it doesn't fit; then
     /// nothing is written.
+    ///
+    /// ```
+    /// # use gotsavena::{Endpoint, Received, Role, Settings};
+    /// # let settings = Settings::default();
+    /// # let mut client = Endpoint::new(Role::Client, settings, settings.limits())?;
+    /// # let mut server = Endpoint::new(Role::Server, settings, settings.limits())?;
+    /// # let mut payload = [0; 1200];
+    /// // No frame has the type 0x1f: FRAME_ENCODING_ERROR (section 12.4).
+    /// server.receive(0, &[0x1f]).unwrap_err();
+    /// let len = server.close_payload(&mut payload).expect("it closed");
+    /// assert_eq!(client.receive(0, &payload[..len])?, Received::PeerClosed(0x07));
+    /// # Ok::<(), Box<dyn std::error::Error>>(())
+    /// ```
     pub fn close_payload(&self, out: &mut [u8]) -> Option<usize> {
         self.inner.close_payload(out)
     }
 
     /// The code with which the peer closed by a frame that came to this end, `None` where it didn't (RFC 9000, section
     /// 10.2).
+    ///
+    /// ```
+    /// # use gotsavena::{Endpoint, Role, Settings};
+    /// # let settings = Settings::default();
+    /// # let mut client = Endpoint::new(Role::Client, settings, settings.limits())?;
+    /// # let mut server = Endpoint::new(Role::Server, settings, settings.limits())?;
+    /// # let mut payload = [0; 1200];
+    /// // No frame has the type 0x1f: FRAME_ENCODING_ERROR (section 12.4).
+    /// server.receive(0, &[0x1f]).unwrap_err();
+    /// let len = server.close_payload(&mut payload).expect("it closed");
+    /// client.receive(0, &payload[..len])?;
+    /// assert_eq!((client.peer_closed(), server.peer_closed()), (Some(0x07), None));
+    /// # Ok::<(), Box<dyn std::error::Error>>(())
+    /// ```
+    #[must_use]
     pub fn peer_closed(&self) -> Option<u64> {
         self.inner.peer_closed()
     }
@@ -46,6 +89,19 @@ impl Endpoint {
 
     /// The close that the end was told of by [`tell_closed`](Endpoint::tell_closed), `None` where it closed otherwise or is
     /// open.
+    ///
+    /// ```
+    /// # use gotsavena::{CloseKind, Closer, Endpoint, Role, Settings, ToldClose};
+    /// # let settings = Settings::default();
+    /// # let mut client = Endpoint::new(Role::Client, settings, settings.limits())?;
+    /// # let mut payload = [0; 1200];
+    /// assert_eq!(client.told_close(), None);
+    /// let close = ToldClose { by: Closer::Us, kind: CloseKind::Transport, code: 0 };
+    /// client.tell_closed(close);
+    /// assert_eq!(client.told_close(), Some(close));
+    /// # Ok::<(), Box<dyn std::error::Error>>(())
+    /// ```
+    #[must_use]
     pub fn told_close(&self) -> Option<ToldClose> {
         self.inner.told_close().map(ToldClose::of)
     }

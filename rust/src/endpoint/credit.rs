@@ -6,11 +6,23 @@ use crate::faults::{RaiseFault, SetFault};
 use crate::ids::{Dir, StreamId};
 use crate::settings::PeerLimits;
 
+/// # Credit
 impl Endpoint {
     /// Takes in limits of the peer that weren't known as the end was made: a client that began with those that it
     /// remembered, for 0-RTT, hands in those of the handshake (RFC 9000, section 7.4.1). Each limit becomes the greater
     /// one of what stands and what comes, of open streams too, and streams that open later begin with it; none falls.
     /// That the server lowered a limit, which that section forbids, the caller sees itself.
+    ///
+    /// ```
+    /// # use gotsavena::{Dir, Endpoint, PeerLimits, Role, Settings};
+    /// # let settings = Settings::default();
+    /// let remembered = PeerLimits { streams_uni: 1, ..PeerLimits::default() };
+    /// let mut client = Endpoint::new(Role::Client, settings, remembered)?;
+    /// assert_eq!(client.open_left(Dir::Uni), 1);
+    /// client.raise_limits(settings.limits())?; // of the handshake
+    /// assert_eq!(client.open_left(Dir::Uni), 100);
+    /// # Ok::<(), Box<dyn std::error::Error>>(())
+    /// ```
     ///
     /// # Errors
     ///
@@ -106,18 +118,73 @@ impl Endpoint {
     }
 
     /// The connection's limit in bytes that the peer was granted (RFC 9000, section 4.1).
+    ///
+    /// ```
+    /// # use gotsavena::{Endpoint, Role, Settings};
+    /// # let settings = Settings::default();
+    /// # let mut client = Endpoint::new(Role::Client, settings, settings.limits())?;
+    /// # let mut server = Endpoint::new(Role::Server, settings, settings.limits())?;
+    /// # let mut payload = [0; 1200];
+    /// assert_eq!(server.granted(), settings.limits().max_data);
+    /// # Ok::<(), Box<dyn std::error::Error>>(())
+    /// ```
+    #[must_use]
     pub fn granted(&self) -> u64 {
         self.inner.granted()
     }
 
     /// How many bytes of that limit the peer used up: the sum of the highest offsets of all streams (RFC 9000, section
     /// 4.1).
+    ///
+    /// ```
+    /// # use gotsavena::{Dir, Endpoint, Role, Settings};
+    /// # let settings = Settings::default();
+    /// # let mut client = Endpoint::new(Role::Client, settings, settings.limits())?;
+    /// # let mut server = Endpoint::new(Role::Server, settings, settings.limits())?;
+    /// # let mut payload = [0; 1200];
+    /// # let deliver = |from: &mut Endpoint, to: &mut Endpoint| -> Result<(), Box<dyn std::error::Error>> {
+    /// #     let mut payload = [0; 1200];
+    /// #     while let Some(made) = from.make_packet(&mut payload)? {
+    /// #         to.receive(made.number, &payload[..made.len])?;
+    /// #     }
+    /// #     Ok(())
+    /// # };
+    /// let stream = client.open(Dir::Uni)?;
+    /// client.write(stream, b"hello")?;
+    /// deliver(&mut client, &mut server)?;
+    /// assert_eq!(server.spent(), 5);
+    /// # Ok::<(), Box<dyn std::error::Error>>(())
+    /// ```
+    #[must_use]
     pub fn spent(&self) -> u64 {
         self.inner.spent()
     }
 
     /// How many bytes wait to be read: at most what was granted and isn't taken, and that is at most the connection's
     /// window (RFC 9000, section 4.1).
+    ///
+    /// ```
+    /// # use gotsavena::{Dir, Endpoint, Role, Settings};
+    /// # let settings = Settings::default();
+    /// # let mut client = Endpoint::new(Role::Client, settings, settings.limits())?;
+    /// # let mut server = Endpoint::new(Role::Server, settings, settings.limits())?;
+    /// # let mut payload = [0; 1200];
+    /// # let deliver = |from: &mut Endpoint, to: &mut Endpoint| -> Result<(), Box<dyn std::error::Error>> {
+    /// #     let mut payload = [0; 1200];
+    /// #     while let Some(made) = from.make_packet(&mut payload)? {
+    /// #         to.receive(made.number, &payload[..made.len])?;
+    /// #     }
+    /// #     Ok(())
+    /// # };
+    /// let stream = client.open(Dir::Uni)?;
+    /// client.write(stream, b"hello")?;
+    /// deliver(&mut client, &mut server)?;
+    /// assert_eq!(server.stored(), 5);
+    /// server.read(stream, &mut [0; 3])?;
+    /// assert_eq!(server.stored(), 2);
+    /// # Ok::<(), Box<dyn std::error::Error>>(())
+    /// ```
+    #[must_use]
     pub fn stored(&self) -> u64 {
         self.inner.stored()
     }
@@ -146,12 +213,35 @@ impl Endpoint {
     /// assert_eq!((server.taken(stream), server.taken_sum()), (Some(3), 3));
     /// # Ok::<(), Box<dyn std::error::Error>>(())
     /// ```
+    #[must_use]
     pub fn taken(&self, stream: StreamId) -> Option<u64> {
         self.inner.taken(stream.inner())
     }
 
     /// How many bytes of all streams count as taken: the sum of what [`taken`](Endpoint::taken) tells of each, which the
     /// connection's limit follows (RFC 9000, section 4.2). It takes constant time.
+    ///
+    /// ```
+    /// # use gotsavena::{Dir, Endpoint, Role, Settings};
+    /// # let settings = Settings::default();
+    /// # let mut client = Endpoint::new(Role::Client, settings, settings.limits())?;
+    /// # let mut server = Endpoint::new(Role::Server, settings, settings.limits())?;
+    /// # let mut payload = [0; 1200];
+    /// # let deliver = |from: &mut Endpoint, to: &mut Endpoint| -> Result<(), Box<dyn std::error::Error>> {
+    /// #     let mut payload = [0; 1200];
+    /// #     while let Some(made) = from.make_packet(&mut payload)? {
+    /// #         to.receive(made.number, &payload[..made.len])?;
+    /// #     }
+    /// #     Ok(())
+    /// # };
+    /// let stream = client.open(Dir::Uni)?;
+    /// client.write(stream, b"hello")?;
+    /// deliver(&mut client, &mut server)?;
+    /// server.consume(stream, 3)?;
+    /// assert_eq!(server.taken_sum(), 3);
+    /// # Ok::<(), Box<dyn std::error::Error>>(())
+    /// ```
+    #[must_use]
     pub fn taken_sum(&self) -> u64 {
         self.inner.taken_sum()
     }
@@ -175,6 +265,7 @@ impl Endpoint {
     /// assert_eq!(server.noted(), 3);
     /// # Ok::<(), Box<dyn std::error::Error>>(())
     /// ```
+    #[must_use]
     pub fn noted(&self) -> u64 {
         self.inner.noted()
     }
@@ -200,6 +291,7 @@ impl Endpoint {
     /// assert!(end.held().sending >= 5);
     /// # Ok::<(), Box<dyn std::error::Error>>(())
     /// ```
+    #[must_use]
     pub fn held(&self) -> Held {
         Held::of(self.inner.held())
     }
@@ -207,24 +299,95 @@ impl Endpoint {
     /// How many streams of a direction the peer may open: the grant, and one more for each of its streams that came to
     /// its end, up to the settings' count of all, and no fewer than before (RFC 9000, section 4.6). Where counts move by steps
     /// ([`count_step`](crate::Tuning::count_step)) whole steps of those count alone.
+    ///
+    /// ```
+    /// # use gotsavena::{Dir, Endpoint, Read, Role, Settings};
+    /// # let settings = Settings::default();
+    /// # let mut client = Endpoint::new(Role::Client, settings, settings.limits())?;
+    /// # let mut server = Endpoint::new(Role::Server, settings, settings.limits())?;
+    /// # let mut payload = [0; 1200];
+    /// # let deliver = |from: &mut Endpoint, to: &mut Endpoint| -> Result<(), Box<dyn std::error::Error>> {
+    /// #     let mut payload = [0; 1200];
+    /// #     while let Some(made) = from.make_packet(&mut payload)? {
+    /// #         to.receive(made.number, &payload[..made.len])?;
+    /// #     }
+    /// #     Ok(())
+    /// # };
+    /// assert_eq!(server.granted_streams(Dir::Uni), 100);
+    /// let stream = client.open(Dir::Uni)?;
+    /// client.finish(stream)?;
+    /// deliver(&mut client, &mut server)?;
+    /// assert_eq!(server.read(stream, &mut payload)?, Read::End);
+    /// assert_eq!(server.granted_streams(Dir::Uni), 101);
+    /// # Ok::<(), Box<dyn std::error::Error>>(())
+    /// ```
+    #[must_use]
     pub fn granted_streams(&self, dir: Dir) -> u64 {
         self.inner.granted_streams(dir.inner())
     }
 
     /// How many streams of a direction the peer may open in all time to come: the settings' count of all, without those
     /// that it opened. Where none is left, a new connection is needed (RFC 9000, section 4.6).
+    ///
+    /// ```
+    /// # use gotsavena::{Dir, Endpoint, Role, Settings};
+    /// # let settings = Settings::default();
+    /// # let mut client = Endpoint::new(Role::Client, settings, settings.limits())?;
+    /// # let mut server = Endpoint::new(Role::Server, settings, settings.limits())?;
+    /// # let mut payload = [0; 1200];
+    /// # let deliver = |from: &mut Endpoint, to: &mut Endpoint| -> Result<(), Box<dyn std::error::Error>> {
+    /// #     let mut payload = [0; 1200];
+    /// #     while let Some(made) = from.make_packet(&mut payload)? {
+    /// #         to.receive(made.number, &payload[..made.len])?;
+    /// #     }
+    /// #     Ok(())
+    /// # };
+    /// assert_eq!(server.streams_left(Dir::Uni), 1 << 21);
+    /// let stream = client.open(Dir::Uni)?;
+    /// client.write(stream, b"hello")?;
+    /// deliver(&mut client, &mut server)?;
+    /// assert_eq!(server.streams_left(Dir::Uni), (1 << 21) - 1);
+    /// # Ok::<(), Box<dyn std::error::Error>>(())
+    /// ```
+    #[must_use]
     pub fn streams_left(&self, dir: Dir) -> u64 {
         self.inner.streams_left(dir.inner())
     }
 
     /// How many streams of a direction [`open`](Endpoint::open) may open by the count that the peer told last (RFC 9000,
     /// section 4.6). What the peer grants later, this end can't know.
+    ///
+    /// ```
+    /// # use gotsavena::{Dir, Endpoint, Role, Settings};
+    /// # let settings = Settings::default();
+    /// # let mut client = Endpoint::new(Role::Client, settings, settings.limits())?;
+    /// # let mut payload = [0; 1200];
+    /// assert_eq!(client.open_left(Dir::Uni), 100);
+    /// client.open(Dir::Uni)?;
+    /// assert_eq!(client.open_left(Dir::Uni), 99);
+    /// # Ok::<(), Box<dyn std::error::Error>>(())
+    /// ```
+    #[must_use]
     pub fn open_left(&self, dir: Dir) -> u64 {
         self.inner.open_left(dir.inner())
     }
 
     /// How many bytes beyond all that were sent the peer's limit on the connection lets go (RFC 9000, section 4.1). Bytes
     /// that were lost need no credit, and written ones use it up as they are sent: see [`unsent`](Endpoint::unsent).
+    ///
+    /// ```
+    /// # use gotsavena::{Dir, Endpoint, Role, Settings};
+    /// # let settings = Settings::default();
+    /// # let mut client = Endpoint::new(Role::Client, settings, settings.limits())?;
+    /// # let mut payload = [0; 1200];
+    /// let before = client.credit_left();
+    /// let stream = client.open(Dir::Uni)?;
+    /// client.write(stream, b"hello")?;
+    /// client.make_packet(&mut payload)?;
+    /// assert_eq!(client.credit_left(), before - 5);
+    /// # Ok::<(), Box<dyn std::error::Error>>(())
+    /// ```
+    #[must_use]
     pub fn credit_left(&self) -> u64 {
         self.inner.credit_left()
     }
@@ -244,6 +407,7 @@ impl Endpoint {
     /// end.reset(one, 7).expect("open");
     /// assert_eq!(end.unsent_sum(), 2);
     /// ```
+    #[must_use]
     pub fn unsent_sum(&self) -> u64 {
         self.inner.unsent_sum()
     }
@@ -268,6 +432,7 @@ impl Endpoint {
     /// end.reset(one, 7).expect("open");
     /// assert_eq!(end.kept_sum(), 2);
     /// ```
+    #[must_use]
     pub fn kept_sum(&self) -> u64 {
         self.inner.kept_sum()
     }

@@ -5,6 +5,9 @@ use crate::event::Event;
 use crate::faults::EventFault;
 use crate::proved::qs_ranges::NoMemory;
 
+/// # Events
+///
+/// What an endpoint tells by itself, so that the application asks no stream in vain.
 impl Endpoint {
     /// Tells the next piece of news, each once; `None` only where there is none. What an owner waits for comes so, without a
     /// search of its own and without a queue: what is told is a function of how the end stands and of what was told before (RFC

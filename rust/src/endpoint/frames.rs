@@ -13,6 +13,9 @@ use core::{array, slice};
 // So many frames are handed over together without memory.
 const FEW_FRAMES: usize = 16;
 
+/// # Frames and tokens
+///
+/// For a stack that owns its packet numbers and its ACKs: it hands frames in, and has what is pending written as frames.
 impl Endpoint {
     /// Takes in a frame that comes without its packet, for a stack that owns its packet numbers and its ACKs (RFC 9000,
     /// section 13.1). A frame of streams or of flow control takes effect as in a payload, and then the limits move; one of
@@ -186,8 +189,22 @@ impl Endpoint {
         }
     }
 
-    /// The token of a packet that [`make_packet`](Endpoint::make_packet) made, by the number of [`Made`](crate::Made), for a stack that
-    /// tells its packets by tokens.
+    /// The token of a packet that [`make_packet`](Endpoint::make_packet) made, by the number of [`Made`](crate::Made), for a
+    /// stack that tells its packets by tokens.
+    ///
+    /// ```
+    /// # use gotsavena::{Dir, Endpoint, Role, Settings};
+    /// # let settings = Settings::default();
+    /// # let mut client = Endpoint::new(Role::Client, settings, settings.limits())?;
+    /// # let mut payload = [0; 1200];
+    /// let stream = client.open(Dir::Uni)?;
+    /// client.write(stream, b"hello")?;
+    /// let made = client.make_packet(&mut payload)?.expect("bytes are pending");
+    /// client.lost(client.token_of(made.number))?;
+    /// assert!(client.make_packet(&mut payload)?.is_some(), "the bytes are retransmitted");
+    /// # Ok::<(), Box<dyn std::error::Error>>(())
+    /// ```
+    #[must_use]
     pub fn token_of(&self, number: u64) -> Token {
         Token::of(self.inner.token_of(number))
     }
@@ -224,6 +241,20 @@ impl Endpoint {
     /// The packet of a token is lost, as [`Endpoint::declare_lost`] tells it: what it carried and is still of use is due
     /// again, and an `acked` that comes late still counts (RFC 9000, section 13.3). Of a packet that is done it changes
     /// nothing. Of several tokens that were joined each is lost.
+    ///
+    /// ```
+    /// # use gotsavena::{Dir, Endpoint, Fill, Role, Settings};
+    /// # let settings = Settings::default();
+    /// # let mut client = Endpoint::new(Role::Client, settings, settings.limits())?;
+    /// # let mut payload = [0; 1200];
+    /// let stream = client.open(Dir::Uni)?;
+    /// client.write(stream, b"hello")?;
+    /// let filled = client.fill(&mut payload, &Fill::all())?.expect("bytes are pending");
+    /// client.lost(filled.token)?;
+    /// let again = client.fill(&mut payload, &Fill::all())?.expect("they are retransmitted");
+    /// client.acked(again.token)?;
+    /// # Ok::<(), Box<dyn std::error::Error>>(())
+    /// ```
     ///
     /// # Errors
     ///

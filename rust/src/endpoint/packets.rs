@@ -8,6 +8,9 @@ use crate::frame::MAX_VARINT;
 use crate::ids::StreamId;
 use crate::proved::{qs_conn as conn, qs_wire as wire};
 
+/// # Packets
+///
+/// Payloads come in and are made. A stack that owns its packet numbers and its ACKs uses frames and tokens in their place.
 impl Endpoint {
     /// Takes in the payload of a packet: its frames take effect, one after the other (RFC 9000, sections 12.3, 12.4 and
     /// 13.1). `number` is the packet's number, below 2^62; `payload` is all bytes of its frames, at most 65,535
@@ -15,6 +18,20 @@ impl Endpoint {
     ///
     /// It may come in any order, again and after it was declared lost. An end that is closed answers as it did when it
     /// closed.
+    ///
+    /// ```
+    /// # use gotsavena::{Dir, Endpoint, Received, Role, Settings};
+    /// # let settings = Settings::default();
+    /// # let mut client = Endpoint::new(Role::Client, settings, settings.limits())?;
+    /// # let mut server = Endpoint::new(Role::Server, settings, settings.limits())?;
+    /// # let mut payload = [0; 1200];
+    /// let stream = client.open(Dir::Uni)?;
+    /// client.write(stream, b"hello")?;
+    /// let made = client.make_packet(&mut payload)?.expect("bytes are pending");
+    /// assert_eq!(server.receive(made.number, &payload[..made.len])?, Received::Done);
+    /// assert_eq!(server.receive(made.number, &payload[..made.len])?, Received::Duplicate);
+    /// # Ok::<(), Box<dyn std::error::Error>>(())
+    /// ```
     ///
     /// # Errors
     ///
@@ -104,6 +121,21 @@ impl Endpoint {
     /// The packet's number is used up: it is to be sent, or to be declared lost. One that holds an ACK alone asks for
     /// no ACK, and needn't be declared lost. `out` has 128 to 16,383 bytes ([`MIN_ROOM`], [`MAX_ROOM`]).
     ///
+    /// ```
+    /// # use gotsavena::{Dir, Endpoint, Role, Settings};
+    /// # let settings = Settings::default();
+    /// # let mut client = Endpoint::new(Role::Client, settings, settings.limits())?;
+    /// # let mut server = Endpoint::new(Role::Server, settings, settings.limits())?;
+    /// # let mut payload = [0; 1200];
+    /// assert_eq!(client.make_packet(&mut payload)?, None);
+    /// let stream = client.open(Dir::Uni)?;
+    /// client.write(stream, b"hello")?;
+    /// let made = client.make_packet(&mut payload)?.expect("bytes are pending");
+    /// assert_eq!((made.number, made.is_ack_eliciting), (0, true));
+    /// server.receive(made.number, &payload[..made.len])?; // the network
+    /// # Ok::<(), Box<dyn std::error::Error>>(())
+    /// ```
+    ///
     /// # Errors
     ///
     /// `Invalid` where the room isn't so; `Closed`; `Exhausted` where the last packet number was used (section 12.3);
@@ -166,6 +198,29 @@ impl Endpoint {
     /// was told (RFC 9000, sections 13.2 and 19.3). Such a packet isn't in flight, so it may go where the congestion window
     /// is full (RFC 9002, sections 2 and 7), and it can't be declared lost. What else is due stays due. It takes no memory.
     ///
+    /// ```
+    /// # use gotsavena::{Dir, Endpoint, Role, Settings};
+    /// # let settings = Settings::default();
+    /// # let mut client = Endpoint::new(Role::Client, settings, settings.limits())?;
+    /// # let mut server = Endpoint::new(Role::Server, settings, settings.limits())?;
+    /// # let mut payload = [0; 1200];
+    /// # let deliver = |from: &mut Endpoint, to: &mut Endpoint| -> Result<(), Box<dyn std::error::Error>> {
+    /// #     let mut payload = [0; 1200];
+    /// #     while let Some(made) = from.make_packet(&mut payload)? {
+    /// #         to.receive(made.number, &payload[..made.len])?;
+    /// #     }
+    /// #     Ok(())
+    /// # };
+    /// let stream = client.open(Dir::Uni)?;
+    /// client.write(stream, b"hello")?;
+    /// deliver(&mut client, &mut server)?;
+    /// let ack = server.make_ack(0, &mut payload)?.expect("an ACK is pending");
+    /// assert!(!ack.is_ack_eliciting);
+    /// client.receive(ack.number, &payload[..ack.len])?;
+    /// assert_eq!(client.next_outstanding(0), None);
+    /// # Ok::<(), Box<dyn std::error::Error>>(())
+    /// ```
+    ///
     /// # Errors
     ///
     /// `Invalid` where the room isn't of 128 to 16,383 bytes, or the delay is 2^62 or more; `Closed`; and `Exhausted` where
@@ -182,12 +237,48 @@ impl Endpoint {
 
     /// Whether an ACK is due: from the first packet that came and asks for one on, until one was made (RFC 9000, section
     /// 13.2).
+    ///
+    /// ```
+    /// # use gotsavena::{Dir, Endpoint, Role, Settings};
+    /// # let settings = Settings::default();
+    /// # let mut client = Endpoint::new(Role::Client, settings, settings.limits())?;
+    /// # let mut server = Endpoint::new(Role::Server, settings, settings.limits())?;
+    /// # let mut payload = [0; 1200];
+    /// # let deliver = |from: &mut Endpoint, to: &mut Endpoint| -> Result<(), Box<dyn std::error::Error>> {
+    /// #     let mut payload = [0; 1200];
+    /// #     while let Some(made) = from.make_packet(&mut payload)? {
+    /// #         to.receive(made.number, &payload[..made.len])?;
+    /// #     }
+    /// #     Ok(())
+    /// # };
+    /// let stream = client.open(Dir::Uni)?;
+    /// client.write(stream, b"hello")?;
+    /// deliver(&mut client, &mut server)?;
+    /// assert!(server.ack_is_due());
+    /// server.make_packet(&mut payload)?;
+    /// assert!(!server.ack_is_due());
+    /// # Ok::<(), Box<dyn std::error::Error>>(())
+    /// ```
+    #[must_use]
     pub fn ack_is_due(&self) -> bool {
         self.inner.ack_is_due()
     }
 
     /// Whether a packet would carry more than an ACK: a control item is due, or bytes or the end of a stream that no
     /// limit holds back (RFC 9000, sections 4.1 and 13.3). Of an end that closed nothing goes.
+    ///
+    /// ```
+    /// # use gotsavena::{Dir, Endpoint, Role, Settings};
+    /// # let settings = Settings::default();
+    /// # let mut client = Endpoint::new(Role::Client, settings, settings.limits())?;
+    /// # let mut payload = [0; 1200];
+    /// assert!(!client.is_sendable());
+    /// let stream = client.open(Dir::Uni)?;
+    /// client.write(stream, b"hello")?;
+    /// assert!(client.is_sendable());
+    /// # Ok::<(), Box<dyn std::error::Error>>(())
+    /// ```
+    #[must_use]
     pub fn is_sendable(&self) -> bool {
         self.inner.is_sendable()
     }
@@ -195,6 +286,18 @@ impl Endpoint {
     /// Uses up the next packet number for a packet that the layer beneath makes by itself, and answers it (RFC 9000,
     /// section 12.3). To this end it is a packet without content: an ACK may name it, and it can't be declared lost.
     /// It works on a closed end, too.
+    ///
+    /// ```
+    /// # use gotsavena::{Endpoint, Received, Role, Settings};
+    /// # let settings = Settings::default();
+    /// # let mut client = Endpoint::new(Role::Client, settings, settings.limits())?;
+    /// # let mut server = Endpoint::new(Role::Server, settings, settings.limits())?;
+    /// # let mut payload = [0; 1200];
+    /// // A PING of the transport.
+    /// let number = client.claim_number()?;
+    /// assert_eq!(server.receive(number, &[0x01])?, Received::Done);
+    /// # Ok::<(), Box<dyn std::error::Error>>(())
+    /// ```
     ///
     /// # Errors
     ///
@@ -205,12 +308,38 @@ impl Endpoint {
 
     /// The number that the next packet will have: one more than the last that was used, 0 at first (RFC 9000, section
     /// 12.3).
+    ///
+    /// ```
+    /// # use gotsavena::{Endpoint, Role, Settings};
+    /// # let settings = Settings::default();
+    /// # let mut client = Endpoint::new(Role::Client, settings, settings.limits())?;
+    /// # let mut payload = [0; 1200];
+    /// assert_eq!(client.next_number(), 0);
+    /// client.claim_number()?;
+    /// assert_eq!(client.next_number(), 1);
+    /// # Ok::<(), Box<dyn std::error::Error>>(())
+    /// ```
+    #[must_use]
     pub fn next_number(&self) -> u64 {
         self.inner.next_number()
     }
 
     /// Declares the packet of a number lost: what it carried and is still of use is due again (RFC 9000, section 13.3).
     /// An acknowledgement that comes late still counts, of the 256 packets that were declared lost last.
+    ///
+    /// ```
+    /// # use gotsavena::{Dir, Endpoint, Role, Settings};
+    /// # let settings = Settings::default();
+    /// # let mut client = Endpoint::new(Role::Client, settings, settings.limits())?;
+    /// # let mut payload = [0; 1200];
+    /// let stream = client.open(Dir::Uni)?;
+    /// client.write(stream, b"hello")?;
+    /// let lost = client.make_packet(&mut payload)?.expect("bytes are pending");
+    /// client.declare_lost(lost.number)?;
+    /// let made = client.make_packet(&mut payload)?.expect("they are retransmitted");
+    /// assert_eq!(made.number, lost.number + 1);
+    /// # Ok::<(), Box<dyn std::error::Error>>(())
+    /// ```
     ///
     /// # Errors
     ///
@@ -223,6 +352,21 @@ impl Endpoint {
     /// The least number from one on of a packet that is outstanding: it was made, asks for an ACK, and is neither
     /// acknowledged nor declared lost (RFC 9000, section 13.3). It looks at each number on the way there, from the least
     /// outstanding one on.
+    ///
+    /// ```
+    /// # use gotsavena::{Dir, Endpoint, Role, Settings};
+    /// # let settings = Settings::default();
+    /// # let mut client = Endpoint::new(Role::Client, settings, settings.limits())?;
+    /// # let mut payload = [0; 1200];
+    /// let stream = client.open(Dir::Uni)?;
+    /// client.write(stream, b"hello")?;
+    /// let made = client.make_packet(&mut payload)?.expect("bytes are pending");
+    /// assert_eq!(client.next_outstanding(0), Some(made.number));
+    /// client.declare_lost(made.number)?;
+    /// assert_eq!(client.next_outstanding(0), None);
+    /// # Ok::<(), Box<dyn std::error::Error>>(())
+    /// ```
+    #[must_use]
     pub fn next_outstanding(&self, from: u64) -> Option<u64> {
         self.inner.next_outstanding(from)
     }
@@ -236,6 +380,22 @@ impl Endpoint {
     /// asks nothing else of the payload: not whether its number was processed before, nor whether a frame breaks a rule.
     ///
     /// Each answer reads the payload once, and once more for each gap between the ranges that it passes over.
+    ///
+    /// ```
+    /// # use gotsavena::{Dir, Endpoint, Role, Settings};
+    /// # let settings = Settings::default();
+    /// # let mut client = Endpoint::new(Role::Client, settings, settings.limits())?;
+    /// # let mut server = Endpoint::new(Role::Server, settings, settings.limits())?;
+    /// # let mut payload = [0; 1200];
+    /// let stream = client.open(Dir::Uni)?;
+    /// client.write(stream, b"hello")?;
+    /// let made = client.make_packet(&mut payload)?.expect("bytes are pending");
+    /// server.receive(made.number, &payload[..made.len])?;
+    /// let ack = server.make_packet(&mut payload)?.expect("an ACK is pending");
+    /// assert_eq!(client.next_newly_acked(&payload[..ack.len], 0), Some(made.number));
+    /// # Ok::<(), Box<dyn std::error::Error>>(())
+    /// ```
+    #[must_use]
     pub fn next_newly_acked(&self, payload: &[u8], from: u64) -> Option<u64> {
         self.inner.next_newly_acked(payload, from)
     }

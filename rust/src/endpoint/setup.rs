@@ -9,9 +9,19 @@ use crate::settings::{PeerLimits, Settings};
 use crate::shim::alloc::Global;
 use crate::tuning::Tuning;
 
+/// # An endpoint
 impl Endpoint {
     /// A new end. `settings` are its own; `peer` is what the other end grants: its transport parameters (RFC 9000,
     /// section 18.2). It takes no memory.
+    ///
+    /// ```
+    /// # use gotsavena::{Dir, Endpoint, PeerLimits, Role, Settings};
+    /// // The handshake tells the peer's limits.
+    /// let peer = PeerLimits { max_data: 1 << 20, streams_bidi: 10, ..PeerLimits::default() };
+    /// let client = Endpoint::new(Role::Client, Settings::default(), peer)?;
+    /// assert_eq!((client.open_left(Dir::Bidi), client.credit_left()), (10, 1 << 20));
+    /// # Ok::<(), Box<dyn std::error::Error>>(())
+    /// ```
     ///
     /// # Errors
     ///

@@ -7,9 +7,21 @@ use crate::frame::MAX_VARINT;
 use crate::ids::{Dir, StreamId};
 use crate::streams::{RecvStream, SendStream};
 
+/// # Streams
 impl Endpoint {
     /// Opens the next stream of that direction, and answers its number (RFC 9000, sections 2.1 and 4.6). The peer learns
     /// of it with its first byte, its end or its reset.
+    ///
+    /// ```
+    /// # use gotsavena::{Dir, Endpoint, Role, Settings};
+    /// # let settings = Settings::default();
+    /// # let mut client = Endpoint::new(Role::Client, settings, settings.limits())?;
+    /// # let mut payload = [0; 1200];
+    /// let first = client.open(Dir::Bidi)?;
+    /// let second = client.open(Dir::Bidi)?;
+    /// assert_eq!((first.value(), second.value()), (0, 4));
+    /// # Ok::<(), Box<dyn std::error::Error>>(())
+    /// ```
     ///
     /// # Errors
     ///
@@ -25,6 +37,27 @@ impl Endpoint {
 
     /// Gives out each stream that the peer opened, once: bidirectional ones first, lower numbers first. `None` where
     /// there is none, or the connection is closed.
+    ///
+    /// ```
+    /// # use gotsavena::{Dir, Endpoint, Role, Settings};
+    /// # let settings = Settings::default();
+    /// # let mut client = Endpoint::new(Role::Client, settings, settings.limits())?;
+    /// # let mut server = Endpoint::new(Role::Server, settings, settings.limits())?;
+    /// # let mut payload = [0; 1200];
+    /// # let deliver = |from: &mut Endpoint, to: &mut Endpoint| -> Result<(), Box<dyn std::error::Error>> {
+    /// #     let mut payload = [0; 1200];
+    /// #     while let Some(made) = from.make_packet(&mut payload)? {
+    /// #         to.receive(made.number, &payload[..made.len])?;
+    /// #     }
+    /// #     Ok(())
+    /// # };
+    /// let stream = client.open(Dir::Uni)?;
+    /// client.write(stream, b"hello")?;
+    /// deliver(&mut client, &mut server)?;
+    /// assert_eq!(server.accept(), Some(stream));
+    /// assert_eq!(server.accept(), None);
+    /// # Ok::<(), Box<dyn std::error::Error>>(())
+    /// ```
     pub fn accept(&mut self) -> Option<StreamId> {
         self.inner.accept().map(StreamId::of)
     }
@@ -32,6 +65,27 @@ impl Endpoint {
     /// Gives out each stream of one direction that the peer opened, once: lower numbers first. What this call gave out
     /// [`accept`](Endpoint::accept) doesn't, and the other way round. `None` where there is none, or the connection is
     /// closed (RFC 9000, section 2.1).
+    ///
+    /// ```
+    /// # use gotsavena::{Dir, Endpoint, Role, Settings};
+    /// # let settings = Settings::default();
+    /// # let mut client = Endpoint::new(Role::Client, settings, settings.limits())?;
+    /// # let mut server = Endpoint::new(Role::Server, settings, settings.limits())?;
+    /// # let mut payload = [0; 1200];
+    /// # let deliver = |from: &mut Endpoint, to: &mut Endpoint| -> Result<(), Box<dyn std::error::Error>> {
+    /// #     let mut payload = [0; 1200];
+    /// #     while let Some(made) = from.make_packet(&mut payload)? {
+    /// #         to.receive(made.number, &payload[..made.len])?;
+    /// #     }
+    /// #     Ok(())
+    /// # };
+    /// let stream = client.open(Dir::Uni)?;
+    /// client.write(stream, b"hello")?;
+    /// deliver(&mut client, &mut server)?;
+    /// assert_eq!(server.accept_of(Dir::Bidi), None);
+    /// assert_eq!(server.accept_of(Dir::Uni), Some(stream));
+    /// # Ok::<(), Box<dyn std::error::Error>>(())
+    /// ```
     pub fn accept_of(&mut self, dir: Dir) -> Option<StreamId> {
         self.inner.accept_of(dir.inner()).map(StreamId::of)
     }
@@ -43,6 +97,17 @@ impl Endpoint {
     /// STREAM_DATA_BLOCKED or DATA_BLOCKED is due: the answer tells that the write was cut short. Where all streams together
     /// are bounded ([`send_window`](crate::Tuning::send_window)) it takes no more than that leaves beside all that they keep
     /// ([`kept_sum`](Endpoint::kept_sum)).
+    ///
+    /// ```
+    /// # use gotsavena::{Dir, Endpoint, Role, Settings};
+    /// # let settings = Settings::default().send_buffer(8);
+    /// # let mut client = Endpoint::new(Role::Client, settings, settings.limits())?;
+    /// // Its buffer has room for 8 bytes.
+    /// let stream = client.open(Dir::Uni)?;
+    /// assert_eq!(client.write(stream, b"hello")?, 5);
+    /// assert_eq!(client.write(stream, b", world")?, 3);
+    /// # Ok::<(), Box<dyn std::error::Error>>(())
+    /// ```
     ///
     /// # Errors
     ///
@@ -98,6 +163,18 @@ impl Endpoint {
 
     /// Asks for the end of the stream after the bytes written so far.
     ///
+    /// ```
+    /// # use gotsavena::{Dir, Endpoint, Role, Settings, UseFault};
+    /// # let settings = Settings::default();
+    /// # let mut client = Endpoint::new(Role::Client, settings, settings.limits())?;
+    /// # let mut payload = [0; 1200];
+    /// let stream = client.open(Dir::Uni)?;
+    /// client.write(stream, b"hello")?;
+    /// client.finish(stream)?;
+    /// assert_eq!(client.write(stream, b"more"), Err(UseFault::Finished));
+    /// # Ok::<(), Box<dyn std::error::Error>>(())
+    /// ```
+    ///
     /// # Errors
     ///
     /// As of [`Endpoint::write`], but never for want of memory.
@@ -106,6 +183,27 @@ impl Endpoint {
     }
 
     /// Breaks the stream's sending half off with the application's code, below 2^62 (RFC 9000, sections 3.1 and 20.2).
+    ///
+    /// ```
+    /// # use gotsavena::{Dir, Endpoint, Read, Role, Settings};
+    /// # let settings = Settings::default();
+    /// # let mut client = Endpoint::new(Role::Client, settings, settings.limits())?;
+    /// # let mut server = Endpoint::new(Role::Server, settings, settings.limits())?;
+    /// # let mut payload = [0; 1200];
+    /// # let deliver = |from: &mut Endpoint, to: &mut Endpoint| -> Result<(), Box<dyn std::error::Error>> {
+    /// #     let mut payload = [0; 1200];
+    /// #     while let Some(made) = from.make_packet(&mut payload)? {
+    /// #         to.receive(made.number, &payload[..made.len])?;
+    /// #     }
+    /// #     Ok(())
+    /// # };
+    /// let stream = client.open(Dir::Uni)?;
+    /// client.write(stream, b"hello")?;
+    /// client.reset(stream, 7)?;
+    /// deliver(&mut client, &mut server)?;
+    /// assert_eq!(server.read(stream, &mut payload)?, Read::Reset(7));
+    /// # Ok::<(), Box<dyn std::error::Error>>(())
+    /// ```
     ///
     /// # Errors
     ///
@@ -122,6 +220,29 @@ impl Endpoint {
     /// A stream of the peer gives its place to a new one once it was read to `End` or `Reset` (section 4.6), one that
     /// was stopped too: read on until then. Where both ends send, its sending half here has to be over as well: finished
     /// or reset, or stopped by the peer, and that acknowledged.
+    ///
+    /// ```
+    /// # use gotsavena::{Dir, Endpoint, Read, Role, Settings};
+    /// # let settings = Settings::default();
+    /// # let mut client = Endpoint::new(Role::Client, settings, settings.limits())?;
+    /// # let mut server = Endpoint::new(Role::Server, settings, settings.limits())?;
+    /// # let mut payload = [0; 1200];
+    /// # let deliver = |from: &mut Endpoint, to: &mut Endpoint| -> Result<(), Box<dyn std::error::Error>> {
+    /// #     let mut payload = [0; 1200];
+    /// #     while let Some(made) = from.make_packet(&mut payload)? {
+    /// #         to.receive(made.number, &payload[..made.len])?;
+    /// #     }
+    /// #     Ok(())
+    /// # };
+    /// let stream = client.open(Dir::Uni)?;
+    /// client.write(stream, b"hello")?;
+    /// client.finish(stream)?;
+    /// deliver(&mut client, &mut server)?;
+    /// let mut bytes = [0; 16];
+    /// assert_eq!(server.read(stream, &mut bytes)?, Read::Bytes(5));
+    /// assert_eq!(server.read(stream, &mut bytes)?, Read::End);
+    /// # Ok::<(), Box<dyn std::error::Error>>(())
+    /// ```
     ///
     /// # Errors
     ///
@@ -213,6 +334,28 @@ impl Endpoint {
     /// application's code, below 2^62 (RFC 9000, sections 3.5 and 20.2). The first code stays. From then on
     /// [`Endpoint::read`] answers `Wait`, and `End` or `Reset` once all the bytes or the reset came.
     ///
+    /// ```
+    /// # use gotsavena::{Dir, Endpoint, Role, Settings};
+    /// # let settings = Settings::default();
+    /// # let mut client = Endpoint::new(Role::Client, settings, settings.limits())?;
+    /// # let mut server = Endpoint::new(Role::Server, settings, settings.limits())?;
+    /// # let mut payload = [0; 1200];
+    /// # let deliver = |from: &mut Endpoint, to: &mut Endpoint| -> Result<(), Box<dyn std::error::Error>> {
+    /// #     let mut payload = [0; 1200];
+    /// #     while let Some(made) = from.make_packet(&mut payload)? {
+    /// #         to.receive(made.number, &payload[..made.len])?;
+    /// #     }
+    /// #     Ok(())
+    /// # };
+    /// let stream = client.open(Dir::Uni)?;
+    /// client.write(stream, b"hello")?;
+    /// deliver(&mut client, &mut server)?;
+    /// server.stop(stream, 7)?;
+    /// deliver(&mut server, &mut client)?;
+    /// assert_eq!(client.stopped_with(stream), Some(7));
+    /// # Ok::<(), Box<dyn std::error::Error>>(())
+    /// ```
+    ///
     /// # Errors
     ///
     /// As of [`Endpoint::read`]; `Invalid` for a code of 2^62 or more.
@@ -301,6 +444,7 @@ impl Endpoint {
     /// assert_eq!(server.next_readable(stream), None);
     /// # Ok::<(), Box<dyn std::error::Error>>(())
     /// ```
+    #[must_use]
     pub fn next_readable(&self, from: StreamId) -> Option<StreamId> {
         self.inner.next_readable(from.inner()).map(StreamId::of)
     }
@@ -310,6 +454,19 @@ impl Endpoint {
     /// and of a closed end. It asks neither for credit nor for what other streams keep: where writes keep within credit, or
     /// all streams together are bounded ([`send_window`](crate::Tuning::send_window)), [`room`](Endpoint::room) tells whether
     /// such a stream takes a byte.
+    ///
+    /// ```
+    /// # use gotsavena::{Dir, Endpoint, Role, Settings};
+    /// # let settings = Settings::default();
+    /// # let mut client = Endpoint::new(Role::Client, settings, settings.limits())?;
+    /// # let mut payload = [0; 1200];
+    /// let stream = client.open(Dir::Uni)?;
+    /// assert_eq!(client.next_writable(stream), Some(stream));
+    /// client.finish(stream)?;
+    /// assert_eq!(client.next_writable(stream), None);
+    /// # Ok::<(), Box<dyn std::error::Error>>(())
+    /// ```
+    #[must_use]
     pub fn next_writable(&self, from: StreamId) -> Option<StreamId> {
         self.inner.next_writable(from.inner()).map(StreamId::of)
     }
@@ -317,17 +474,66 @@ impl Endpoint {
     /// The least stream at or above `from` of which bytes or the end are due, which the stream's own limit lets go; whether
     /// the connection's credit does isn't asked (RFC 9000, sections 4.1 and 13.3). `None` where there is none, and of a
     /// closed end.
+    ///
+    /// ```
+    /// # use gotsavena::{Dir, Endpoint, Role, Settings};
+    /// # let settings = Settings::default();
+    /// # let mut client = Endpoint::new(Role::Client, settings, settings.limits())?;
+    /// # let mut payload = [0; 1200];
+    /// let stream = client.open(Dir::Uni)?;
+    /// assert_eq!(client.next_sendable(stream), None);
+    /// client.write(stream, b"hello")?;
+    /// assert_eq!(client.next_sendable(stream), Some(stream));
+    /// # Ok::<(), Box<dyn std::error::Error>>(())
+    /// ```
+    #[must_use]
     pub fn next_sendable(&self, from: StreamId) -> Option<StreamId> {
         self.inner.next_sendable(from.inner()).map(StreamId::of)
     }
 
     /// The least stream at or above `from` whose every half here came to its end: the end or the reset was told to the
     /// reader, and all that was sent is acknowledged, or the reset (RFC 9000, section 3). `None` where there is none.
+    ///
+    /// ```
+    /// # use gotsavena::{Dir, Endpoint, Role, Settings};
+    /// # let settings = Settings::default();
+    /// # let mut client = Endpoint::new(Role::Client, settings, settings.limits())?;
+    /// # let mut server = Endpoint::new(Role::Server, settings, settings.limits())?;
+    /// # let mut payload = [0; 1200];
+    /// # let deliver = |from: &mut Endpoint, to: &mut Endpoint| -> Result<(), Box<dyn std::error::Error>> {
+    /// #     let mut payload = [0; 1200];
+    /// #     while let Some(made) = from.make_packet(&mut payload)? {
+    /// #         to.receive(made.number, &payload[..made.len])?;
+    /// #     }
+    /// #     Ok(())
+    /// # };
+    /// let stream = client.open(Dir::Uni)?;
+    /// client.finish(stream)?;
+    /// deliver(&mut client, &mut server)?;
+    /// assert_eq!(client.next_ended(stream), None);
+    /// deliver(&mut server, &mut client)?; // an ACK
+    /// assert_eq!(client.next_ended(stream), Some(stream));
+    /// # Ok::<(), Box<dyn std::error::Error>>(())
+    /// ```
+    #[must_use]
     pub fn next_ended(&self, from: StreamId) -> Option<StreamId> {
         self.inner.next_ended(from.inner()).map(StreamId::of)
     }
 
     /// How the halves of a stream stand at this end; `None` where it was never opened (RFC 9000, section 3).
+    ///
+    /// ```
+    /// # use gotsavena::{Dir, Endpoint, Role, SendState, Settings};
+    /// # let settings = Settings::default();
+    /// # let mut client = Endpoint::new(Role::Client, settings, settings.limits())?;
+    /// # let mut payload = [0; 1200];
+    /// let stream = client.open(Dir::Uni)?;
+    /// client.write(stream, b"hello")?;
+    /// let send = client.report(stream).and_then(|report| report.send).expect("it sends");
+    /// assert_eq!((send.state, send.written), (SendState::Ready, 5));
+    /// # Ok::<(), Box<dyn std::error::Error>>(())
+    /// ```
+    #[must_use]
     pub fn report(&self, stream: StreamId) -> Option<StreamReport> {
         self.inner.lane_report(stream.inner()).map(StreamReport::of)
     }
@@ -350,12 +556,27 @@ impl Endpoint {
     /// end.finish(stream).expect("open");
     /// assert_eq!(end.room(stream), 0);
     /// ```
+    #[must_use]
     pub fn room(&self, stream: StreamId) -> u64 {
         self.inner.room(stream.inner())
     }
 
     /// How many bytes were written to a stream that are still to be sent for the first time: 0 after a reset, since none
     /// are sent then (RFC 9000, sections 2.2 and 3.1), and where the stream has no sending half here.
+    ///
+    /// ```
+    /// # use gotsavena::{Dir, Endpoint, Role, Settings};
+    /// # let settings = Settings::default();
+    /// # let mut client = Endpoint::new(Role::Client, settings, settings.limits())?;
+    /// # let mut payload = [0; 1200];
+    /// let stream = client.open(Dir::Uni)?;
+    /// client.write(stream, b"hello")?;
+    /// assert_eq!(client.unsent(stream), 5);
+    /// client.make_packet(&mut payload)?;
+    /// assert_eq!(client.unsent(stream), 0);
+    /// # Ok::<(), Box<dyn std::error::Error>>(())
+    /// ```
+    #[must_use]
     pub fn unsent(&self, stream: StreamId) -> u64 {
         self.inner.unsent(stream.inner())
     }
@@ -363,6 +584,29 @@ impl Endpoint {
     /// The lowest offset of a stream that isn't acknowledged, in bytes from its start: all below it are (RFC 9000, section
     /// 13.3). Where it is the count written, every byte is. An acknowledgement that comes after a reset moves it still. `None`
     /// where the stream has no sending half here.
+    ///
+    /// ```
+    /// # use gotsavena::{Dir, Endpoint, Role, Settings};
+    /// # let settings = Settings::default();
+    /// # let mut client = Endpoint::new(Role::Client, settings, settings.limits())?;
+    /// # let mut server = Endpoint::new(Role::Server, settings, settings.limits())?;
+    /// # let mut payload = [0; 1200];
+    /// # let deliver = |from: &mut Endpoint, to: &mut Endpoint| -> Result<(), Box<dyn std::error::Error>> {
+    /// #     let mut payload = [0; 1200];
+    /// #     while let Some(made) = from.make_packet(&mut payload)? {
+    /// #         to.receive(made.number, &payload[..made.len])?;
+    /// #     }
+    /// #     Ok(())
+    /// # };
+    /// let stream = client.open(Dir::Uni)?;
+    /// client.write(stream, b"hello")?;
+    /// deliver(&mut client, &mut server)?;
+    /// assert_eq!(client.acked_below(stream), Some(0));
+    /// deliver(&mut server, &mut client)?; // an ACK
+    /// assert_eq!(client.acked_below(stream), Some(5));
+    /// # Ok::<(), Box<dyn std::error::Error>>(())
+    /// ```
+    #[must_use]
     pub fn acked_below(&self, stream: StreamId) -> Option<u64> {
         self.inner.acked_below(stream.inner())
     }
@@ -370,6 +614,21 @@ impl Endpoint {
     /// Whether bytes were written to the stream that weren't sent, and credit alone holds them back: the stream's limit
     /// is reached, or the connection's credit is used up (RFC 9000, section 4.1). Bytes that were lost need no credit. Of
     /// an end that closed nothing waits.
+    ///
+    /// ```
+    /// # use gotsavena::{Dir, Endpoint, Role, Settings};
+    /// # let settings = Settings::default();
+    /// # let mut payload = [0; 1200];
+    /// // The peer allows 4 bytes of each stream.
+    /// let limits = settings.stream_windows(4).limits();
+    /// let mut client = Endpoint::new(Role::Client, settings, limits)?;
+    /// let stream = client.open(Dir::Uni)?;
+    /// client.write(stream, b"hello")?;
+    /// client.make_packet(&mut payload)?;
+    /// assert!(client.is_blocked(stream));
+    /// # Ok::<(), Box<dyn std::error::Error>>(())
+    /// ```
+    #[must_use]
     pub fn is_blocked(&self, stream: StreamId) -> bool {
         self.inner.is_blocked(stream.inner())
     }
@@ -377,16 +636,73 @@ impl Endpoint {
     /// The code of the peer's STOP_SENDING for a stream, of the first one that came while the sending half could be reset;
     /// `None` where none did. It stays, whatever becomes of the half: reset by the STOP_SENDING itself or by its owner, or
     /// acknowledged whole (RFC 9000, section 3.5).
+    ///
+    /// ```
+    /// # use gotsavena::{Dir, Endpoint, Role, Settings};
+    /// # let settings = Settings::default();
+    /// # let mut client = Endpoint::new(Role::Client, settings, settings.limits())?;
+    /// # let mut server = Endpoint::new(Role::Server, settings, settings.limits())?;
+    /// # let mut payload = [0; 1200];
+    /// # let deliver = |from: &mut Endpoint, to: &mut Endpoint| -> Result<(), Box<dyn std::error::Error>> {
+    /// #     let mut payload = [0; 1200];
+    /// #     while let Some(made) = from.make_packet(&mut payload)? {
+    /// #         to.receive(made.number, &payload[..made.len])?;
+    /// #     }
+    /// #     Ok(())
+    /// # };
+    /// let stream = client.open(Dir::Uni)?;
+    /// client.write(stream, b"hello")?;
+    /// deliver(&mut client, &mut server)?;
+    /// assert_eq!(client.stopped_with(stream), None);
+    /// server.stop(stream, 7)?;
+    /// deliver(&mut server, &mut client)?;
+    /// assert_eq!(client.stopped_with(stream), Some(7));
+    /// # Ok::<(), Box<dyn std::error::Error>>(())
+    /// ```
+    #[must_use]
     pub fn stopped_with(&self, stream: StreamId) -> Option<u64> {
         self.inner.stopped_with(stream.inner())
     }
 
     /// The sending half of a stream, to write to. Whether it is one is told as it is used.
+    ///
+    /// ```
+    /// # use gotsavena::{Dir, Endpoint, Role, Settings};
+    /// # let settings = Settings::default();
+    /// # let mut client = Endpoint::new(Role::Client, settings, settings.limits())?;
+    /// # let mut payload = [0; 1200];
+    /// let stream = client.open(Dir::Uni)?;
+    /// let mut sender = client.send_stream(stream);
+    /// assert_eq!(sender.try_write(b"hello")?, 5);
+    /// sender.finish()?;
+    /// # Ok::<(), Box<dyn std::error::Error>>(())
+    /// ```
     pub fn send_stream(&mut self, stream: StreamId) -> SendStream<'_> {
         SendStream::new(self, stream)
     }
 
     /// The receiving half of a stream, to read from. Whether it is one is told as it is used.
+    ///
+    /// ```
+    /// # use gotsavena::{Dir, Endpoint, Read, Role, Settings};
+    /// # let settings = Settings::default();
+    /// # let mut client = Endpoint::new(Role::Client, settings, settings.limits())?;
+    /// # let mut server = Endpoint::new(Role::Server, settings, settings.limits())?;
+    /// # let mut payload = [0; 1200];
+    /// # let deliver = |from: &mut Endpoint, to: &mut Endpoint| -> Result<(), Box<dyn std::error::Error>> {
+    /// #     let mut payload = [0; 1200];
+    /// #     while let Some(made) = from.make_packet(&mut payload)? {
+    /// #         to.receive(made.number, &payload[..made.len])?;
+    /// #     }
+    /// #     Ok(())
+    /// # };
+    /// let stream = client.open(Dir::Uni)?;
+    /// client.write(stream, b"hello")?;
+    /// deliver(&mut client, &mut server)?;
+    /// let mut receiver = server.recv_stream(stream);
+    /// assert_eq!(receiver.try_read(&mut payload)?, Read::Bytes(5));
+    /// # Ok::<(), Box<dyn std::error::Error>>(())
+    /// ```
     pub fn recv_stream(&mut self, stream: StreamId) -> RecvStream<'_> {
         RecvStream::new(self, stream)
     }
