@@ -143,7 +143,7 @@ pub struct Made {
 /// ([`Endpoint::acked`](crate::Endpoint::acked), [`Endpoint::lost`](crate::Endpoint::lost)). It is the number under which
 /// the end keeps what the packet carries (RFC 9000, section 13.3), or several that follow one another, beside the epoch of
 /// the end, which takes no token of another one.
-#[derive(Clone, Copy, Debug, PartialEq, Eq)]
+#[derive(Clone, Copy, Debug, PartialEq, Eq, Hash)]
 pub struct Token {
     /// That of the end ([`Tuning::epoch`](crate::Tuning::epoch)).
     pub epoch: u64,
@@ -174,6 +174,7 @@ impl Token {
     /// assert!(client.fill(&mut packet, &Fill::all())?.is_none(), "all is acknowledged");
     /// # Ok::<(), Box<dyn std::error::Error>>(())
     /// ```
+    #[must_use]
     pub fn and(self, next: Token) -> Option<Token> {
         self.inner().and(next.inner()).map(Token::of)
     }

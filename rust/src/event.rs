@@ -2,9 +2,10 @@
 
 use crate::ids::{Dir, StreamId};
 use crate::proved::qs_conn as conn;
+use core::fmt;
 
 /// A piece of news, as [`Endpoint::next_event`](crate::Endpoint::next_event) tells it.
-#[derive(Clone, Copy, Debug, PartialEq, Eq)]
+#[derive(Clone, Copy, Debug, PartialEq, Eq, Hash)]
 #[non_exhaustive]
 pub enum Event {
     /// The peer opened the stream, by a frame on it or on a higher one of its type (RFC 9000, section 2.1). It comes before
@@ -63,6 +64,28 @@ impl Event {
             conn::News::DataBlocked => Event::DataBlocked,
             conn::News::StreamDataBlocked(stream) => Event::StreamDataBlocked(StreamId::of(stream)),
             conn::News::StreamsBlocked(dir) => Event::StreamsBlocked(Dir::of(dir)),
+        }
+    }
+}
+
+impl fmt::Display for Event {
+    fn fmt(&self, f: &mut fmt::Formatter<'_>) -> fmt::Result {
+        match *self {
+            Event::Opened(stream) => write!(f, "the peer opened stream {stream}"),
+            Event::Readable(stream) => write!(f, "stream {stream} is readable"),
+            Event::Writable(stream) => write!(f, "stream {stream} is writable"),
+            Event::Stopped(stream, code) => {
+                write!(f, "the peer stopped stream {stream} with code {code:#04x}")
+            }
+            Event::Finished(stream) => write!(f, "all of stream {stream} is acknowledged"),
+            Event::ResetAcked(stream) => write!(f, "the reset of stream {stream} is acknowledged"),
+            Event::Ended(stream) => write!(f, "stream {stream} ended"),
+            Event::Available(dir) => write!(f, "a {dir} stream may be opened"),
+            Event::DataBlocked => f.write_str("the connection's limit blocks the peer"),
+            Event::StreamDataBlocked(stream) => {
+                write!(f, "the limit of stream {stream} blocks the peer")
+            }
+            Event::StreamsBlocked(dir) => write!(f, "the limit on {dir} streams blocks the peer"),
         }
     }
 }

@@ -18,6 +18,7 @@ pub struct Fill {
 
 impl Fill {
     /// All that is due, from stream 0 on.
+    #[must_use]
     pub fn all() -> Fill {
         Fill {
             inner: calls::Fill::all(),
@@ -25,6 +26,7 @@ impl Fill {
     }
 
     /// Control items alone: limits, resets, STOP_SENDING and what is blocked (RFC 9000, section 13.3).
+    #[must_use]
     pub fn control() -> Fill {
         Fill {
             inner: calls::Fill::control(),
@@ -32,6 +34,7 @@ impl Fill {
     }
 
     /// Bytes and ends of streams alone, from stream 0 on.
+    #[must_use]
     pub fn data() -> Fill {
         Fill {
             inner: calls::Fill::data(),

@@ -212,8 +212,37 @@ pub struct WireFault {
 /// The frames of a payload, one after the other. [`frames`] makes it.
 #[derive(Debug)]
 pub struct Frames<'a> {
+    payload: &'a [u8],
+    // Where the reading of `rest` began.
+    base: usize,
+    // Where the frame stands that was given last.
+    last: Option<usize>,
     rest: wire::Frames<'a>,
     faulty: bool,
+}
+
+impl<'a> Frames<'a> {
+    fn from(payload: &'a [u8], base: usize) -> Frames<'a> {
+        Frames {
+            payload,
+            base,
+            last: None,
+            rest: wire::Frames::new(&payload[base..]),
+            faulty: false,
+        }
+    }
+}
+
+impl Clone for Frames<'_> {
+    // The frame that was given last is read again.
+    fn clone(&self) -> Self {
+        let mut clone = Frames::from(self.payload, self.last.unwrap_or(self.base));
+        if self.last.is_some() {
+            clone.next();
+        }
+        clone.faulty = self.faulty;
+        clone
+    }
 }
 
 /// The frames of a payload in order, each with its place; then the fault that stands in place of a frame, if there is
@@ -239,11 +268,9 @@ pub struct Frames<'a> {
 /// assert_eq!(fault.code, 0x0a);
 /// # Ok::<(), gotsavena::WireFault>(())
 /// ```
+#[must_use]
 pub fn frames(payload: &[u8]) -> Frames<'_> {
-    Frames {
-        rest: wire::Frames::new(payload),
-        faulty: false,
-    }
+    Frames::from(payload, 0)
 }
 
 /// The ranges of an ACK as smallest and largest packet number, the highest first (RFC 9000, section 19.3.1).
@@ -261,17 +288,36 @@ pub fn frames(payload: &[u8]) -> Frames<'_> {
 /// ```
 #[derive(Debug)]
 pub struct AckRanges<'a> {
+    largest: u64,
+    ranges: &'a [u8],
+    // How many were given.
+    given: usize,
     rest: wire::AckRanges<'a>,
+}
+
+impl Clone for AckRanges<'_> {
+    // The ranges that were given are read again.
+    fn clone(&self) -> Self {
+        let mut rest = wire::AckRanges::new(self.largest, self.ranges);
+        for _ in 0..self.given {
+            rest.next();
+        }
+        AckRanges { rest, ..*self }
+    }
 }
 
 impl<'a> AckRanges<'a> {
     /// The ranges below a frame's largest number; `None` where that is 2^62 or more. Of bytes that no frame has that was
     /// read, a range that falls below zero begins at 0.
+    #[must_use]
     pub fn new(largest: u64, ranges: &'a [u8]) -> Option<AckRanges<'a>> {
         if largest > MAX_VARINT {
             return None;
         }
         Some(AckRanges {
+            largest,
+            ranges,
+            given: 0,
             rest: wire::AckRanges::new(largest, ranges),
         })
     }
@@ -281,7 +327,9 @@ impl Iterator for AckRanges<'_> {
     type Item = (u64, u64);
 
     fn next(&mut self) -> Option<(u64, u64)> {
-        self.rest.next()
+        let range = self.rest.next()?;
+        self.given += 1;
+        Some(range)
     }
 }
 
@@ -296,10 +344,17 @@ impl<'a> Iterator for Frames<'a> {
             return None;
         }
         match self.rest.next() {
-            Ok(placed) => Some(Ok(Placed::of(placed?))),
+            Ok(placed) => {
+                let mut placed = Placed::of(placed?);
+                placed.place += self.base;
+                self.last = Some(placed.place);
+                Some(Ok(placed))
+            }
             Err(fault) => {
                 self.faulty = true;
-                Some(Err(WireFault::of(fault)))
+                let mut fault = WireFault::of(fault);
+                fault.place += self.base;
+                Some(Err(fault))
             }
         }
     }
@@ -370,12 +425,14 @@ pub fn put_ack(ranges: &[Range<u64>], out: &mut [u8]) -> Result<(usize, usize), 
 /// The stream of the last STREAM frame that is read in a payload, up to its end or to the first fault; `None` where there
 /// is none. An owner whose streams send by turns goes on behind it
 /// ([`Endpoint::make_packet_from`](crate::Endpoint::make_packet_from)).
+#[must_use]
 pub fn last_stream(payload: &[u8]) -> Option<StreamId> {
     wire::last_stream(payload).map(StreamId::of)
 }
 
 /// The number at the front of the bytes, and how many bytes it takes; `None` where the bytes end before it does
 /// (RFC 9000, section 16).
+#[must_use]
 pub fn read_varint(bytes: &[u8]) -> Option<(u64, usize)> {
     wire::read_varint(bytes)
 }

@@ -40,31 +40,37 @@ pub struct StreamId(wire::StreamId);
 
 impl StreamId {
     /// The stream of that number; `None` where it is 2^62 or more.
+    #[must_use]
     pub fn new(value: u64) -> Option<StreamId> {
         wire::StreamId::new(value).map(StreamId)
     }
 
     /// The stream of that type with that index, counted from 0; `None` where the index is 2^60 or more.
+    #[must_use]
     pub fn from_parts(initiator: Role, dir: Dir, index: u64) -> Option<StreamId> {
         wire::StreamId::from_parts(initiator.inner(), dir.inner(), index).map(StreamId)
     }
 
     /// The number.
+    #[must_use]
     pub fn value(self) -> u64 {
         self.0.value()
     }
 
     /// The end that opens the stream.
+    #[must_use]
     pub fn initiator(self) -> Role {
         Role::of(self.0.initiator())
     }
 
     /// Whether both ends send on it.
+    #[must_use]
     pub fn dir(self) -> Dir {
         Dir::of(self.0.dir())
     }
 
     /// How many streams of its type have a lower number.
+    #[must_use]
     pub fn index(self) -> u64 {
         self.0.index()
     }
@@ -114,8 +120,27 @@ impl From<StreamId> for u64 {
     }
 }
 
+impl fmt::Display for Role {
+    fn fmt(&self, f: &mut fmt::Formatter<'_>) -> fmt::Result {
+        f.pad(match self {
+            Role::Client => "client",
+            Role::Server => "server",
+        })
+    }
+}
+
+impl fmt::Display for Dir {
+    fn fmt(&self, f: &mut fmt::Formatter<'_>) -> fmt::Result {
+        f.pad(match self {
+            Dir::Bidi => "bidirectional",
+            Dir::Uni => "unidirectional",
+        })
+    }
+}
+
 impl Role {
     /// The other end.
+    #[must_use]
     pub fn peer(self) -> Role {
         match self {
             Role::Client => Role::Server,

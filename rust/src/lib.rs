@@ -5,11 +5,43 @@
 //! own end and its own abort. Payloads of packets go in and come out. Handshake, packet protection, loss detection,
 //! congestion control and timers lie beneath and are not here; nor is a socket, a clock or a thread.
 //!
-//! # The loop of a server
-//!
-//! ```no_run
-#![doc = include_str!("../examples/loop.rs")]
 //! ```
+//! use gotsavena::{Dir, Endpoint, Read, Role, Settings};
+//! fn main() -> Result<(), Box<dyn std::error::Error>> {
+//!     let settings = Settings::default(); // 100 streams of each direction, 256 KiB of each in flight
+//!     let mut client = Endpoint::new(Role::Client, settings, settings.limits())?; // own, peer's
+//!     let mut server = Endpoint::new(Role::Server, settings, settings.limits())?;
+//!     let stream = client.open(Dir::Bidi)?;
+//!     assert_eq!(client.write(stream, b"hello")?, 5);
+//!     client.finish(stream)?;
+//!     let (mut payload, mut bytes) = ([0; 1200], [0; 16]);
+//!     let lost = client.make_packet(&mut payload)?.expect("bytes are pending"); // never sent
+//!     client.declare_lost(lost.number)?;
+//!     while let Some(made) = client.make_packet(&mut payload)? {
+//!         server.receive(made.number, &payload[..made.len])?; // the network
+//!     }
+//!     assert_eq!(server.accept(), Some(stream));
+//!     assert_eq!(server.read(stream, &mut bytes)?, Read::Bytes(5));
+//!     assert_eq!(server.read(stream, &mut bytes)?, Read::End);
+//!     Ok(())
+//! }
+//! ```
+//!
+//! | Types | What they are |
+//! |---|---|
+//! | [`Endpoint`] | an endpoint of a connection, with all its calls |
+//! | [`Settings`], [`PeerLimits`], [`Tuning`], [`Share`] | what an endpoint grants its peer, what its peer grants, and what the application may choose beside |
+//! | [`StreamId`], [`Dir`], [`Role`] | the number of a stream, its direction, and who opened it |
+//! | [`SendStream`], [`RecvStream`] | the halves of a stream, with std's `Write` and `Read` |
+//! | [`Read`], [`Peek`], [`Consumed`] | what reading returns |
+//! | [`StreamReport`], [`SendReport`], [`RecvReport`], [`SendState`], [`RecvState`] | the states of a stream's halves |
+//! | [`Event`] | what happened, as `next_event` tells it |
+//! | [`Made`], [`Received`] | a packet that was made, and what came of a payload |
+//! | [`Fill`], [`Filled`], [`Token`], [`Taken`] | frames and tokens, for a stack that owns its packet numbers and its ACKs |
+//! | [`Frame`], [`Frames`], [`Placed`], [`AckRanges`], [`EcnCounts`], [`WireFault`], [`FaultKind`] | the frames of a payload, which `frames`, `put` and `put_ack` read and write without an endpoint |
+//! | [`Closing`], [`ToldClose`], [`Closer`], [`CloseKind`] | why a connection is closed |
+//! | [`Held`] | how much memory an endpoint takes for bytes of streams |
+//! | [`SetupFault`], [`OpenFault`], [`UseFault`], [`MakeFault`], [`ReceiveFault`], [`LostFault`], [`TakeFault`], [`TokenFault`], [`EventFault`], [`SetFault`], [`RaiseFault`], [`PutFault`] | why a call was refused: each is an `Error`, and takes no memory |
 //!
 //! An [`Endpoint`] is one end. [`Endpoint::receive`] takes a payload in, [`Endpoint::make_packet`] makes the next one,
 //! [`Endpoint::declare_lost`] tells that one was lost. The owner [opens](Endpoint::open) and
@@ -17,6 +49,12 @@
 //! [resets](Endpoint::reset), [reads](Endpoint::read) and [stops](Endpoint::stop) them, and [`Endpoint::next_event`] tells
 //! it what became of them; [`SendStream`] and [`RecvStream`] are one stream's halves, and std's `Write` and `Read`.
 //! [`frames`], [`put`] and [`put_ack`] read and write payloads without an end.
+//!
+//! # The loop of a server
+//!
+//! ```no_run
+#![doc = include_str!("../examples/loop.rs")]
+//! ```
 //!
 //! # What the layer beneath brings
 //!

@@ -63,6 +63,7 @@ impl Settings {
     /// The standard settings of scripts, for trying: a connection window of 4,096 bytes, windows of 1,024 bytes for each
     /// stream, a sending buffer of 2,048 bytes for each stream, and eight streams of each direction, in all: once a peer
     /// opened eight, its `open` answers `Blocked` for good.
+    #[must_use]
     pub fn small() -> Settings {
         Settings(calls::Settings {
             conn_window: 4096,
@@ -79,30 +80,35 @@ impl Settings {
 
     /// How far the bytes received on all streams may run ahead of those taken: 1 to 2^40 bytes (RFC 9000, section 4.1).
     /// At most so many bytes are stored.
+    #[must_use]
     pub fn conn_window(mut self, bytes: u64) -> Settings {
         self.0.conn_window = bytes;
         self
     }
 
     /// The same for each bidirectional stream that this end opens: 1 to 2^30 bytes.
+    #[must_use]
     pub fn bidi_local_window(mut self, bytes: u64) -> Settings {
         self.0.bidi_local = bytes;
         self
     }
 
     /// The same for each bidirectional stream that the peer opens: 1 to 2^30 bytes.
+    #[must_use]
     pub fn bidi_remote_window(mut self, bytes: u64) -> Settings {
         self.0.bidi_remote = bytes;
         self
     }
 
     /// The same for each unidirectional stream that the peer opens: 1 to 2^30 bytes.
+    #[must_use]
     pub fn uni_window(mut self, bytes: u64) -> Settings {
         self.0.uni = bytes;
         self
     }
 
     /// The three windows of streams at once: 1 to 2^30 bytes.
+    #[must_use]
     pub fn stream_windows(self, bytes: u64) -> Settings {
         self.bidi_local_window(bytes)
             .bidi_remote_window(bytes)
@@ -110,6 +116,7 @@ impl Settings {
     }
 
     /// How many bytes that aren't acknowledged each sending half keeps: 1 to 2^30.
+    #[must_use]
     pub fn send_buffer(mut self, bytes: usize) -> Settings {
         self.0.send_buffer = bytes;
         self
@@ -117,12 +124,14 @@ impl Settings {
 
     /// How many streams of each direction the peer may open at first (0 to 2^17), and in all, as those that it opened
     /// come to their end (the first number to 2^21; RFC 9000, section 4.6).
+    #[must_use]
     pub fn streams(self, at_first: u64, in_all: u64) -> Settings {
         self.bidi_streams(at_first, in_all)
             .uni_streams(at_first, in_all)
     }
 
     /// The same of bidirectional streams.
+    #[must_use]
     pub fn bidi_streams(mut self, at_first: u64, in_all: u64) -> Settings {
         self.0.grant_bidi = at_first;
         self.0.lifetime_bidi = in_all;
@@ -130,6 +139,7 @@ impl Settings {
     }
 
     /// The same of unidirectional streams.
+    #[must_use]
     pub fn uni_streams(mut self, at_first: u64, in_all: u64) -> Settings {
         self.0.grant_uni = at_first;
         self.0.lifetime_uni = in_all;
@@ -137,6 +147,7 @@ impl Settings {
     }
 
     /// What the other end is told of these settings (RFC 9000, section 18.2).
+    #[must_use]
     pub fn limits(&self) -> PeerLimits {
         let limits = self.0.limits();
         PeerLimits {

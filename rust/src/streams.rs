@@ -75,6 +75,7 @@ impl<'a> SendStream<'a> {
     }
 
     /// The stream's number.
+    #[must_use]
     pub fn id(&self) -> StreamId {
         self.stream
     }
@@ -107,6 +108,7 @@ impl<'a> SendStream<'a> {
     }
 
     /// How the half stands; `None` where there is none.
+    #[must_use]
     pub fn report(&self) -> Option<SendReport> {
         self.end.report(self.stream)?.send
     }
@@ -118,6 +120,7 @@ impl<'a> RecvStream<'a> {
     }
 
     /// The stream's number.
+    #[must_use]
     pub fn id(&self) -> StreamId {
         self.stream
     }
@@ -150,6 +153,7 @@ impl<'a> RecvStream<'a> {
     }
 
     /// How the half stands; `None` where there is none.
+    #[must_use]
     pub fn report(&self) -> Option<RecvReport> {
         self.end.report(self.stream)?.recv
     }

@@ -40,6 +40,7 @@ impl Default for Tuning {
 impl Tuning {
     /// How much of its window, as it is set at the time, has to be taken until a limit on bytes moves (RFC 9000, section 4.2):
     /// a half by default. A smaller share tells the peer of new credit earlier and more often, so that a fast and long path stays full.
+    #[must_use]
     pub fn credit_step(mut self, share: Share) -> Tuning {
         self.0.credit_step = share.inner();
         self
@@ -59,6 +60,7 @@ impl Tuning {
     /// let end = Endpoint::new_wide(Role::Server, settings, tuning, settings.limits()).unwrap();
     /// assert_eq!(end.granted_streams(Dir::Bidi), 100);
     /// ```
+    #[must_use]
     pub fn count_step(mut self, share: Option<Share>) -> Tuning {
         self.0.count_step = share.map(Share::inner);
         self
@@ -67,6 +69,7 @@ impl Tuning {
     /// Whether a write takes no more bytes than may be sent at once, by the stream's limit and the connection's (RFC 9000,
     /// section 4.1), so that none waits for credit: then [`room`](crate::Endpoint::room) tells how many it takes. Not by
     /// default.
+    #[must_use]
     pub fn within_credit(mut self, is_chosen: bool) -> Tuning {
         self.0.within_credit = is_chosen;
         self
@@ -75,6 +78,7 @@ impl Tuning {
     /// Whether the owner answers a STOP_SENDING (RFC 9000, section 3.5): the event [`Stopped`](crate::Event::Stopped) tells it, and the
     /// stream goes on until its owner resets it, with a code of its own, or finishes it. Else, and by default, the end resets the
     /// stream at once with the peer's code. Where no owner answers, a peer that stopped reading waits for good.
+    #[must_use]
     pub fn answers_stops(mut self, is_chosen: bool) -> Tuning {
         self.0.answers_stops = is_chosen;
         self
@@ -85,6 +89,7 @@ impl Tuning {
     /// [`next_readable`](crate::Endpoint::next_readable) answer then as before the closing, and
     /// [`next_event`](crate::Endpoint::next_event) tells [`Readable`](crate::Event::Readable). Nothing else does. Not by
     /// default.
+    #[must_use]
     pub fn reads_when_closed(mut self, is_chosen: bool) -> Tuning {
         self.0.reads_when_closed = is_chosen;
         self
@@ -92,6 +97,7 @@ impl Tuning {
 
     /// A number that stands in each token that the end gives: it takes none of another epoch. 0 by default. An end that
     /// takes the place of one whose 0-RTT was refused gets another one.
+    #[must_use]
     pub fn epoch(mut self, epoch: u64) -> Tuning {
         self.0.epoch = epoch;
         self
@@ -112,6 +118,7 @@ impl Tuning {
     /// assert_eq!((end.write(one, b"abc"), end.write(other, b"def")), (Ok(3), Ok(2)));
     /// assert_eq!((end.room(one), end.write(one, b"g")), (0, Ok(0)));
     /// ```
+    #[must_use]
     pub fn send_window(mut self, bytes: Option<u64>) -> Tuning {
         self.0.send_window = bytes;
         self

@@ -1,0 +1,108 @@
+//! Closing.
+
+use super::Endpoint;
+use crate::answers::{Closing, ToldClose};
+
+/// # Closing
+impl Endpoint {
+    /// Why this end closed; `None` where it is open or saw its peer close (RFC 9000, section 10.2).
+    ///
+    /// ```
+    /// # use gotsavena::{Endpoint, Role, Settings};
+    /// # let settings = Settings::default();
+    /// # let mut client = Endpoint::new(Role::Client, settings, settings.limits())?;
+    /// # let mut server = Endpoint::new(Role::Server, settings, settings.limits())?;
+    /// # let mut payload = [0; 1200];
+    /// assert_eq!(server.closing(), None);
+    /// // No frame has the type 0x1f: FRAME_ENCODING_ERROR (section 12.4).
+    /// server.receive(0, &[0x1f]).unwrap_err();
+    /// assert_eq!(server.closing().map(|closing| closing.code), Some(0x07));
+    /// # Ok::<(), Box<dyn std::error::Error>>(())
+    /// ```
+    #[must_use]
+    pub fn closing(&self) -> Option<Closing> {
+        self.inner.closing().map(Closing::of)
+    }
+
+    /// Writes the payload that tells of this end's own closing: a CONNECTION_CLOSE with an empty reason (RFC 9000,
+    /// section 10.2). Answers its length in bytes. `None` where this end didn't close, or where it doesn't fit; then
+    /// nothing is written.
+    ///
+    /// ```
+    /// # use gotsavena::{Endpoint, Received, Role, Settings};
+    /// # let settings = Settings::default();
+    /// # let mut client = Endpoint::new(Role::Client, settings, settings.limits())?;
+    /// # let mut server = Endpoint::new(Role::Server, settings, settings.limits())?;
+    /// # let mut payload = [0; 1200];
+    /// // No frame has the type 0x1f: FRAME_ENCODING_ERROR (section 12.4).
+    /// server.receive(0, &[0x1f]).unwrap_err();
+    /// let len = server.close_payload(&mut payload).expect("it closed");
+    /// assert_eq!(client.receive(0, &payload[..len])?, Received::PeerClosed(0x07));
+    /// # Ok::<(), Box<dyn std::error::Error>>(())
+    /// ```
+    pub fn close_payload(&self, out: &mut [u8]) -> Option<usize> {
+        self.inner.close_payload(out)
+    }
+
+    /// The code with which the peer closed by a frame that came to this end, `None` where it didn't (RFC 9000, section
+    /// 10.2).
+    ///
+    /// ```
+    /// # use gotsavena::{Endpoint, Role, Settings};
+    /// # let settings = Settings::default();
+    /// # let mut client = Endpoint::new(Role::Client, settings, settings.limits())?;
+    /// # let mut server = Endpoint::new(Role::Server, settings, settings.limits())?;
+    /// # let mut payload = [0; 1200];
+    /// // No frame has the type 0x1f: FRAME_ENCODING_ERROR (section 12.4).
+    /// server.receive(0, &[0x1f]).unwrap_err();
+    /// let len = server.close_payload(&mut payload).expect("it closed");
+    /// client.receive(0, &payload[..len])?;
+    /// assert_eq!((client.peer_closed(), server.peer_closed()), (Some(0x07), None));
+    /// # Ok::<(), Box<dyn std::error::Error>>(())
+    /// ```
+    #[must_use]
+    pub fn peer_closed(&self) -> Option<u64> {
+        self.inner.peer_closed()
+    }
+
+    /// Tells the end of a close that the stack above the packets saw or made itself, either side's, by the transport or by
+    /// the application (RFC 9000, sections 10.2 and 19.19). The end is closed from then on, as after any close, and
+    /// [`told_close`](Endpoint::told_close) tells with what. It has no [`close_payload`](Endpoint::close_payload): such a
+    /// stack tells its peer itself. `receive` and `take_frame` say so again: the peer's close by its code, its own as a
+    /// [`Closing`](crate::Closing) of frame type 0 at place 0. An end that closed before stays as it is.
+    ///
+    /// ```
+    /// use gotsavena::{CloseKind, Closer, Endpoint, Role, Settings, ToldClose, UseFault, Dir, OpenFault};
+    ///
+    /// let own = Settings::small();
+    /// let mut end = Endpoint::new(Role::Client, own, own.limits())?;
+    /// // H3_NO_ERROR, not a TLS alert.
+    /// let close = ToldClose { by: Closer::Peer, kind: CloseKind::Application, code: 0x100 };
+    /// end.tell_closed(close);
+    /// assert_eq!((end.told_close(), end.peer_closed()), (Some(close), None));
+    /// assert_eq!(end.open(Dir::Uni), Err(OpenFault::Closed));
+    /// # Ok::<(), gotsavena::SetupFault>(())
+    /// ```
+    pub fn tell_closed(&mut self, close: ToldClose) {
+        self.inner.tell_closed(close.inner());
+    }
+
+    /// The close that the end was told of by [`tell_closed`](Endpoint::tell_closed), `None` where it closed otherwise or is
+    /// open.
+    ///
+    /// ```
+    /// # use gotsavena::{CloseKind, Closer, Endpoint, Role, Settings, ToldClose};
+    /// # let settings = Settings::default();
+    /// # let mut client = Endpoint::new(Role::Client, settings, settings.limits())?;
+    /// # let mut payload = [0; 1200];
+    /// assert_eq!(client.told_close(), None);
+    /// let close = ToldClose { by: Closer::Us, kind: CloseKind::Transport, code: 0 };
+    /// client.tell_closed(close);
+    /// assert_eq!(client.told_close(), Some(close));
+    /// # Ok::<(), Box<dyn std::error::Error>>(())
+    /// ```
+    #[must_use]
+    pub fn told_close(&self) -> Option<ToldClose> {
+        self.inner.told_close().map(ToldClose::of)
+    }
+}

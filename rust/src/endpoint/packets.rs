@@ -1,0 +1,429 @@
+//! Packets: payloads come in and are made.
+
+use super::frames::says_blocked;
+use super::{Endpoint, MAX_PAYLOAD, MAX_ROOM, MIN_ROOM};
+use crate::answers::{Closing, Made, Received};
+use crate::faults::{LostFault, MakeFault, ReceiveFault};
+use crate::frame::MAX_VARINT;
+use crate::ids::StreamId;
+use crate::proved::{qs_conn as conn, qs_wire as wire};
+
+/// # Packets
+///
+/// Payloads come in and are made. A stack that owns its packet numbers and its ACKs uses frames and tokens in their place.
+impl Endpoint {
+    /// Takes in the payload of a packet: its frames take effect, one after the other (RFC 9000, sections 12.3, 12.4 and
+    /// 13.1). `number` is the packet's number, below 2^62; `payload` is all bytes of its frames, at most 65,535
+    /// ([`MAX_PAYLOAD`]).
+    ///
+    /// It may come in any order, again and after it was declared lost. An end that is closed answers as it did when it
+    /// closed.
+    ///
+    /// ```
+    /// # use gotsavena::{Dir, Endpoint, Received, Role, Settings};
+    /// # let settings = Settings::default();
+    /// # let mut client = Endpoint::new(Role::Client, settings, settings.limits())?;
+    /// # let mut server = Endpoint::new(Role::Server, settings, settings.limits())?;
+    /// # let mut payload = [0; 1200];
+    /// let stream = client.open(Dir::Uni)?;
+    /// client.write(stream, b"hello")?;
+    /// let made = client.make_packet(&mut payload)?.expect("bytes are pending");
+    /// assert_eq!(server.receive(made.number, &payload[..made.len])?, Received::Done);
+    /// assert_eq!(server.receive(made.number, &payload[..made.len])?, Received::Duplicate);
+    /// # Ok::<(), Box<dyn std::error::Error>>(())
+    /// ```
+    ///
+    /// # Errors
+    ///
+    /// `Closing` where the bytes are no frames (section 12.4) or a frame breaks a rule (sections 4, 13.1, 19 and 20.1).
+    /// The frames before it took effect; the end is closed from now on, and [`Endpoint::close_payload`] tells the peer
+    /// so (section 10.2). `Invalid` where the number or the payload's length isn't so; then nothing changed.
+    pub fn receive(&mut self, number: u64, payload: &[u8]) -> Result<Received, ReceiveFault> {
+        if number > MAX_VARINT || payload.len() > MAX_PAYLOAD {
+            return Err(ReceiveFault::Invalid);
+        }
+        self.hearing_through(payload, |end| answer_of(end.receive(number, payload)))
+    }
+
+    /// As [`Endpoint::receive`], and `told` is told each packet that the payload newly acknowledges, once: one that was
+    /// outstanding, that an ACK of the payload names, and that isn't outstanding any more (RFC 9000, section 13.3). They are
+    /// told in the order of the ACKs, of each ACK the highest number first; congestion control goes on from there (RFC 9002,
+    /// section 7). The payload is read once.
+    ///
+    /// After [`Received::NoMemory`] none was told that is outstanding still: the same payload may come again, and tells the
+    /// others.
+    ///
+    /// # Errors
+    ///
+    /// As of [`Endpoint::receive`]. Whatever was told was taken as acknowledged.
+    ///
+    /// # Example
+    ///
+    /// ```
+    /// use gotsavena::{Dir, Endpoint, Role, Settings};
+    ///
+    /// let settings = Settings::default();
+    /// let mut client = Endpoint::new(Role::Client, settings, settings.limits())?;
+    /// let mut server = Endpoint::new(Role::Server, settings, settings.limits())?;
+    /// let stream = client.open(Dir::Bidi)?;
+    /// client.write(stream, b"hello")?;
+    ///
+    /// let mut payload = [0; 1200];
+    /// let made = client.make_packet(&mut payload)?.expect("bytes are due");
+    /// server.receive(made.number, &payload[..made.len])?;
+    /// let ack = server.make_packet(&mut payload)?.expect("an ACK is due");
+    ///
+    /// let mut acked = Vec::new();
+    /// client.receive_telling(ack.number, &payload[..ack.len], |number| acked.push(number))?;
+    /// assert_eq!(acked, [made.number]);
+    /// # Ok::<(), Box<dyn std::error::Error>>(())
+    /// ```
+    pub fn receive_telling(
+        &mut self,
+        number: u64,
+        payload: &[u8],
+        mut told: impl FnMut(u64),
+    ) -> Result<Received, ReceiveFault> {
+        if number > MAX_VARINT || payload.len() > MAX_PAYLOAD {
+            return Err(ReceiveFault::Invalid);
+        }
+        let mut telling = Telling(&mut told);
+        self.hearing_through(payload, |end| {
+            answer_of(end.receive_telling(number, payload, &mut telling))
+        })
+    }
+
+    // Takes a payload in, and looks it through where that is chosen: before, so that there is room for each note, and behind.
+    #[inline]
+    fn hearing_through(
+        &mut self,
+        payload: &[u8],
+        receive: impl FnOnce(&mut conn::Endpoint) -> Result<Received, ReceiveFault>,
+    ) -> Result<Received, ReceiveFault> {
+        let mut count = 0;
+        if self.hearing.is_looking() && self.ask_open().is_ok() {
+            each_blocked(payload, |_frame| count += 1);
+            if self.hearing.expect(&self.inner, count).is_err() {
+                return Ok(Received::NoMemory);
+            }
+        }
+        let answer = receive(&mut self.inner);
+        if count > 0 && answer == Ok(Received::Done) {
+            each_blocked(payload, |frame| self.hearing.was_told(&self.inner, frame));
+        }
+        answer
+    }
+
+    /// Makes the next packet: writes its payload at the slice's front. `None` where nothing is to be sent that the
+    /// limits allow. What is due goes in as far as there is room: an ACK, control items, bytes of streams (RFC 9000,
+    /// sections 4, 13.2 and 13.3).
+    ///
+    /// The packet's number is used up: it is to be sent, or to be declared lost. One that holds an ACK alone asks for
+    /// no ACK, and needn't be declared lost. `out` has 128 to 16,383 bytes ([`MIN_ROOM`], [`MAX_ROOM`]).
+    ///
+    /// ```
+    /// # use gotsavena::{Dir, Endpoint, Role, Settings};
+    /// # let settings = Settings::default();
+    /// # let mut client = Endpoint::new(Role::Client, settings, settings.limits())?;
+    /// # let mut server = Endpoint::new(Role::Server, settings, settings.limits())?;
+    /// # let mut payload = [0; 1200];
+    /// assert_eq!(client.make_packet(&mut payload)?, None);
+    /// let stream = client.open(Dir::Uni)?;
+    /// client.write(stream, b"hello")?;
+    /// let made = client.make_packet(&mut payload)?.expect("bytes are pending");
+    /// assert_eq!((made.number, made.is_ack_eliciting), (0, true));
+    /// server.receive(made.number, &payload[..made.len])?; // the network
+    /// # Ok::<(), Box<dyn std::error::Error>>(())
+    /// ```
+    ///
+    /// # Errors
+    ///
+    /// `Invalid` where the room isn't so; `Closed`; `Exhausted` where the last packet number was used (section 12.3);
+    /// and `NoMemory`. Then nothing changed.
+    pub fn make_packet(&mut self, out: &mut [u8]) -> Result<Option<Made>, MakeFault> {
+        if out.len() < MIN_ROOM || out.len() > MAX_ROOM {
+            return Err(MakeFault::Invalid);
+        }
+        match self.inner.make_packet(out) {
+            Ok(made) => Ok(made.map(Made::of)),
+            Err(fault) => Err(MakeFault::of(fault)),
+        }
+    }
+
+    /// Makes the next packet, as [`Endpoint::make_packet`] does, but for two things. Bytes go in from stream `first` on,
+    /// lower streams first, and then those of the streams below it; which of them goes first is the owner's to say (RFC
+    /// 9000, section 2.3). And an ACK tells this delay, below 2^62, in the unit of the ack_delay_exponent that the peer
+    /// was told (sections 18.2 and 19.3).
+    ///
+    /// An owner whose streams send by turns moves `first` on behind the [`last_stream`](crate::last_stream) of which a
+    /// packet carried bytes.
+    ///
+    /// ```
+    /// use gotsavena::{Dir, Endpoint, Role, Settings, last_stream};
+    ///
+    /// let settings = Settings::default();
+    /// let mut client = Endpoint::new(Role::Client, settings, settings.limits())?;
+    /// let low = client.open(Dir::Uni)?;
+    /// let high = client.open(Dir::Uni)?;
+    /// client.write(low, b"low")?;
+    /// client.write(high, b"high")?;
+    ///
+    /// let mut payload = [0; 1200];
+    /// let made = client.make_packet_from(high, 0, &mut payload)?.expect("bytes are due");
+    /// // The bytes of `high` stand before those of `low`.
+    /// assert_eq!(last_stream(&payload[..made.len]), Some(low));
+    /// # Ok::<(), Box<dyn std::error::Error>>(())
+    /// ```
+    ///
+    /// # Errors
+    ///
+    /// As of [`Endpoint::make_packet`]; `Invalid` for a delay of 2^62 or more, too.
+    pub fn make_packet_from(
+        &mut self,
+        first: StreamId,
+        delay: u64,
+        out: &mut [u8],
+    ) -> Result<Option<Made>, MakeFault> {
+        if out.len() < MIN_ROOM || out.len() > MAX_ROOM || delay > MAX_VARINT {
+            return Err(MakeFault::Invalid);
+        }
+        match self.inner.make_packet_from(first.inner(), delay, out) {
+            Ok(made) => Ok(made.map(Made::of)),
+            Err(fault) => Err(MakeFault::of(fault)),
+        }
+    }
+
+    /// Makes the next packet, of an ACK alone; `None` where none is due. It names the highest numbers that came, as many
+    /// ranges as there is room for, and tells this delay, below 2^62, in the unit of the ack_delay_exponent that the peer
+    /// was told (RFC 9000, sections 13.2 and 19.3). Such a packet isn't in flight, so it may go where the congestion window
+    /// is full (RFC 9002, sections 2 and 7), and it can't be declared lost. What else is due stays due. It takes no memory.
+    ///
+    /// ```
+    /// # use gotsavena::{Dir, Endpoint, Role, Settings};
+    /// # let settings = Settings::default();
+    /// # let mut client = Endpoint::new(Role::Client, settings, settings.limits())?;
+    /// # let mut server = Endpoint::new(Role::Server, settings, settings.limits())?;
+    /// # let mut payload = [0; 1200];
+    /// # let deliver = |from: &mut Endpoint, to: &mut Endpoint| -> Result<(), Box<dyn std::error::Error>> {
+    /// #     let mut payload = [0; 1200];
+    /// #     while let Some(made) = from.make_packet(&mut payload)? {
+    /// #         to.receive(made.number, &payload[..made.len])?;
+    /// #     }
+    /// #     Ok(())
+    /// # };
+    /// let stream = client.open(Dir::Uni)?;
+    /// client.write(stream, b"hello")?;
+    /// deliver(&mut client, &mut server)?;
+    /// let ack = server.make_ack(0, &mut payload)?.expect("an ACK is pending");
+    /// assert!(!ack.is_ack_eliciting);
+    /// client.receive(ack.number, &payload[..ack.len])?;
+    /// assert_eq!(client.next_outstanding(0), None);
+    /// # Ok::<(), Box<dyn std::error::Error>>(())
+    /// ```
+    ///
+    /// # Errors
+    ///
+    /// `Invalid` where the room isn't of 128 to 16,383 bytes, or the delay is 2^62 or more; `Closed`; and `Exhausted` where
+    /// the last packet number was used (section 12.3). Then nothing changed.
+    pub fn make_ack(&mut self, delay: u64, out: &mut [u8]) -> Result<Option<Made>, MakeFault> {
+        if out.len() < MIN_ROOM || out.len() > MAX_ROOM || delay > MAX_VARINT {
+            return Err(MakeFault::Invalid);
+        }
+        match self.inner.make_ack(delay, out) {
+            Ok(made) => Ok(made.map(Made::of)),
+            Err(fault) => Err(MakeFault::of(fault)),
+        }
+    }
+
+    /// Whether an ACK is due: from the first packet that came and asks for one on, until one was made (RFC 9000, section
+    /// 13.2).
+    ///
+    /// ```
+    /// # use gotsavena::{Dir, Endpoint, Role, Settings};
+    /// # let settings = Settings::default();
+    /// # let mut client = Endpoint::new(Role::Client, settings, settings.limits())?;
+    /// # let mut server = Endpoint::new(Role::Server, settings, settings.limits())?;
+    /// # let mut payload = [0; 1200];
+    /// # let deliver = |from: &mut Endpoint, to: &mut Endpoint| -> Result<(), Box<dyn std::error::Error>> {
+    /// #     let mut payload = [0; 1200];
+    /// #     while let Some(made) = from.make_packet(&mut payload)? {
+    /// #         to.receive(made.number, &payload[..made.len])?;
+    /// #     }
+    /// #     Ok(())
+    /// # };
+    /// let stream = client.open(Dir::Uni)?;
+    /// client.write(stream, b"hello")?;
+    /// deliver(&mut client, &mut server)?;
+    /// assert!(server.ack_is_due());
+    /// server.make_packet(&mut payload)?;
+    /// assert!(!server.ack_is_due());
+    /// # Ok::<(), Box<dyn std::error::Error>>(())
+    /// ```
+    #[must_use]
+    pub fn ack_is_due(&self) -> bool {
+        self.inner.ack_is_due()
+    }
+
+    /// Whether a packet would carry more than an ACK: a control item is due, or bytes or the end of a stream that no
+    /// limit holds back (RFC 9000, sections 4.1 and 13.3). Of an end that closed nothing goes.
+    ///
+    /// ```
+    /// # use gotsavena::{Dir, Endpoint, Role, Settings};
+    /// # let settings = Settings::default();
+    /// # let mut client = Endpoint::new(Role::Client, settings, settings.limits())?;
+    /// # let mut payload = [0; 1200];
+    /// assert!(!client.is_sendable());
+    /// let stream = client.open(Dir::Uni)?;
+    /// client.write(stream, b"hello")?;
+    /// assert!(client.is_sendable());
+    /// # Ok::<(), Box<dyn std::error::Error>>(())
+    /// ```
+    #[must_use]
+    pub fn is_sendable(&self) -> bool {
+        self.inner.is_sendable()
+    }
+
+    /// Uses up the next packet number for a packet that the layer beneath makes by itself, and answers it (RFC 9000,
+    /// section 12.3). To this end it is a packet without content: an ACK may name it, and it can't be declared lost.
+    /// It works on a closed end, too.
+    ///
+    /// ```
+    /// # use gotsavena::{Endpoint, Received, Role, Settings};
+    /// # let settings = Settings::default();
+    /// # let mut client = Endpoint::new(Role::Client, settings, settings.limits())?;
+    /// # let mut server = Endpoint::new(Role::Server, settings, settings.limits())?;
+    /// # let mut payload = [0; 1200];
+    /// // A PING of the transport.
+    /// let number = client.claim_number()?;
+    /// assert_eq!(server.receive(number, &[0x01])?, Received::Done);
+    /// # Ok::<(), Box<dyn std::error::Error>>(())
+    /// ```
+    ///
+    /// # Errors
+    ///
+    /// `Exhausted` where the last packet number was used. Then nothing changed.
+    pub fn claim_number(&mut self) -> Result<u64, MakeFault> {
+        self.inner.claim_number().map_err(MakeFault::of)
+    }
+
+    /// The number that the next packet will have: one more than the last that was used, 0 at first (RFC 9000, section
+    /// 12.3).
+    ///
+    /// ```
+    /// # use gotsavena::{Endpoint, Role, Settings};
+    /// # let settings = Settings::default();
+    /// # let mut client = Endpoint::new(Role::Client, settings, settings.limits())?;
+    /// # let mut payload = [0; 1200];
+    /// assert_eq!(client.next_number(), 0);
+    /// client.claim_number()?;
+    /// assert_eq!(client.next_number(), 1);
+    /// # Ok::<(), Box<dyn std::error::Error>>(())
+    /// ```
+    #[must_use]
+    pub fn next_number(&self) -> u64 {
+        self.inner.next_number()
+    }
+
+    /// Declares the packet of a number lost: what it carried and is still of use is due again (RFC 9000, section 13.3).
+    /// An acknowledgement that comes late still counts, of the 256 packets that were declared lost last.
+    ///
+    /// ```
+    /// # use gotsavena::{Dir, Endpoint, Role, Settings};
+    /// # let settings = Settings::default();
+    /// # let mut client = Endpoint::new(Role::Client, settings, settings.limits())?;
+    /// # let mut payload = [0; 1200];
+    /// let stream = client.open(Dir::Uni)?;
+    /// client.write(stream, b"hello")?;
+    /// let lost = client.make_packet(&mut payload)?.expect("bytes are pending");
+    /// client.declare_lost(lost.number)?;
+    /// let made = client.make_packet(&mut payload)?.expect("they are retransmitted");
+    /// assert_eq!(made.number, lost.number + 1);
+    /// # Ok::<(), Box<dyn std::error::Error>>(())
+    /// ```
+    ///
+    /// # Errors
+    ///
+    /// `Closed`; `NotOutstanding` where no such packet is outstanding; and `NoMemory`: then some first pieces of the
+    /// packet may be due again already, and the call may be made again.
+    pub fn declare_lost(&mut self, number: u64) -> Result<(), LostFault> {
+        self.inner.declare_lost(number).map_err(LostFault::of)
+    }
+
+    /// The least number from one on of a packet that is outstanding: it was made, asks for an ACK, and is neither
+    /// acknowledged nor declared lost (RFC 9000, section 13.3). It looks at each number on the way there, from the least
+    /// outstanding one on.
+    ///
+    /// ```
+    /// # use gotsavena::{Dir, Endpoint, Role, Settings};
+    /// # let settings = Settings::default();
+    /// # let mut client = Endpoint::new(Role::Client, settings, settings.limits())?;
+    /// # let mut payload = [0; 1200];
+    /// let stream = client.open(Dir::Uni)?;
+    /// client.write(stream, b"hello")?;
+    /// let made = client.make_packet(&mut payload)?.expect("bytes are pending");
+    /// assert_eq!(client.next_outstanding(0), Some(made.number));
+    /// client.declare_lost(made.number)?;
+    /// assert_eq!(client.next_outstanding(0), None);
+    /// # Ok::<(), Box<dyn std::error::Error>>(())
+    /// ```
+    #[must_use]
+    pub fn next_outstanding(&self, from: u64) -> Option<u64> {
+        self.inner.next_outstanding(from)
+    }
+
+    /// The least number at or above `from` of a packet that is outstanding and that an ACK of the payload names, by a reading
+    /// of the whole payload for each answer: [`Endpoint::receive_telling`] tells all of them in one. [`Endpoint::receive`] of
+    /// that payload takes it as acknowledged (RFC 9000, section 13.3). `None` where there is none. It is asked before
+    /// `receive`, which may end earlier.
+    ///
+    /// The reading ends at the first bytes that are no frame, and at a CONNECTION_CLOSE, as that of `receive` does. It
+    /// asks nothing else of the payload: not whether its number was processed before, nor whether a frame breaks a rule.
+    ///
+    /// Each answer reads the payload once, and once more for each gap between the ranges that it passes over.
+    ///
+    /// ```
+    /// # use gotsavena::{Dir, Endpoint, Role, Settings};
+    /// # let settings = Settings::default();
+    /// # let mut client = Endpoint::new(Role::Client, settings, settings.limits())?;
+    /// # let mut server = Endpoint::new(Role::Server, settings, settings.limits())?;
+    /// # let mut payload = [0; 1200];
+    /// let stream = client.open(Dir::Uni)?;
+    /// client.write(stream, b"hello")?;
+    /// let made = client.make_packet(&mut payload)?.expect("bytes are pending");
+    /// server.receive(made.number, &payload[..made.len])?;
+    /// let ack = server.make_packet(&mut payload)?.expect("an ACK is pending");
+    /// assert_eq!(client.next_newly_acked(&payload[..ack.len], 0), Some(made.number));
+    /// # Ok::<(), Box<dyn std::error::Error>>(())
+    /// ```
+    #[must_use]
+    pub fn next_newly_acked(&self, payload: &[u8], from: u64) -> Option<u64> {
+        self.inner.next_newly_acked(payload, from)
+    }
+}
+
+// What is told goes to a closure. It is of one type, so that the crate has one copy of what takes a payload in.
+struct Telling<'a>(&'a mut dyn FnMut(u64));
+
+impl conn::Told for Telling<'_> {
+    fn tell(&mut self, number: u64) {
+        (self.0)(number);
+    }
+}
+
+// Each such frame of a payload, up to its first fault.
+#[cold]
+fn each_blocked(payload: &[u8], mut act: impl FnMut(&wire::Frame<'_>)) {
+    let mut frames = wire::Frames::new(payload);
+    while let Ok(Some(placed)) = frames.next() {
+        if says_blocked(&placed.frame) {
+            act(&placed.frame);
+        }
+    }
+}
+
+fn answer_of(taken: Result<conn::Received, conn::Closing>) -> Result<Received, ReceiveFault> {
+    match taken {
+        Ok(received) => Ok(Received::of(received)),
+        Err(closing) => Err(ReceiveFault::Closing(Closing::of(closing))),
+    }
+}

@@ -1,0 +1,64 @@
+//! An endpoint is made.
+
+use super::Endpoint;
+use super::hearing::Hearing;
+use crate::faults::SetupFault;
+use crate::ids::Role;
+use crate::proved::qs_conn as conn;
+use crate::settings::{PeerLimits, Settings};
+use crate::shim::alloc::Global;
+use crate::tuning::Tuning;
+
+/// # An endpoint
+impl Endpoint {
+    /// A new end. `settings` are its own; `peer` is what the other end grants: its transport parameters (RFC 9000,
+    /// section 18.2). It takes no memory.
+    ///
+    /// ```
+    /// # use gotsavena::{Dir, Endpoint, PeerLimits, Role, Settings};
+    /// // The handshake tells the peer's limits.
+    /// let peer = PeerLimits { max_data: 1 << 20, streams_bidi: 10, ..PeerLimits::default() };
+    /// let client = Endpoint::new(Role::Client, Settings::default(), peer)?;
+    /// assert_eq!((client.open_left(Dir::Bidi), client.credit_left()), (10, 1 << 20));
+    /// # Ok::<(), Box<dyn std::error::Error>>(())
+    /// ```
+    ///
+    /// # Errors
+    ///
+    /// `OutOfRange` where a setting or a limit of the peer lies outside its range, and `TooManyStreams` where the peer
+    /// grants more than 2^60 streams of a direction (section 4.6).
+    pub fn new(role: Role, settings: Settings, peer: PeerLimits) -> Result<Endpoint, SetupFault> {
+        Endpoint::new_wide(role, settings, Tuning::default(), peer)
+    }
+
+    /// The same of an end that is tuned as its owner likes. Tuning changes when limits move and what calls take, and no
+    /// rule of the standard.
+    ///
+    /// ```
+    /// use gotsavena::{Endpoint, Role, Settings, Share, Tuning};
+    ///
+    /// let settings = Settings::default().stream_windows(1 << 24).conn_window(1 << 24);
+    /// let tuning = Tuning::default().credit_step(Share::Eighth);
+    /// let end = Endpoint::new_wide(Role::Server, settings, tuning, settings.limits()).unwrap();
+    /// assert_eq!(end.granted(), 1 << 24);
+    /// ```
+    ///
+    /// # Errors
+    ///
+    /// Those of [`new`](Endpoint::new).
+    pub fn new_wide(
+        role: Role,
+        settings: Settings,
+        tuning: Tuning,
+        peer: PeerLimits,
+    ) -> Result<Endpoint, SetupFault> {
+        let (settings, peer) = (settings.inner(), peer.inner());
+        match conn::Endpoint::new_wide(Global, role.inner(), settings, tuning.inner(), peer) {
+            Ok(inner) => Ok(Endpoint {
+                inner,
+                hearing: Hearing::new(),
+            }),
+            Err(fault) => Err(SetupFault::of(fault)),
+        }
+    }
+}
