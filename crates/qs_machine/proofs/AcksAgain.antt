@@ -28,7 +28,7 @@ among_any k (x ∷ xs) h =
       | inr later ↦ inr (among_any k xs later)
     ]
 
-pub among_filter : (f : ℕ → Bool) (k : ℕ) (xs : List ℕ) → Among k xs → f k ≡ true → Among k (filter f xs)
+pub among_filter : {X : Type 0} (f : X → Bool) (k : X) (xs : List X) → Among k xs → f k ≡ true → Among k (filter f xs)
 among_filter f k [] a is = absurd a
 among_filter f k (x ∷ xs) (inl e) is = subst (λ b. Among k (cond b (x ∷ filter f xs) (filter f xs))) (sym (ap f (sym e) ∙ is)) (inl e)
 among_filter f k (x ∷ xs) (inr a) is = either (f x) (among_filter f k xs a is)
@@ -37,14 +37,14 @@ among_filter f k (x ∷ xs) (inr a) is = either (f x) (among_filter f k xs a is)
     either true h = inr h
     either false h = h
 
-pub filter_among : (f : ℕ → Bool) (k : ℕ) (xs : List ℕ) → Among k (filter f xs) → f k ≡ true
+pub filter_among : {X : Type 0} (f : X → Bool) (k : X) (xs : List X) → Among k (filter f xs) → Among k xs × (f k ≡ true)
 filter_among f k [] a = absurd a
-filter_among f k (x ∷ xs) a = go (filter_among f k xs) (f x) refl a
+filter_among {X} f k (x ∷ xs) a = go (filter_among f k xs) (f x) refl a
   where
-    go : (Among k (filter f xs) → f k ≡ true) → (b : Bool) → f x ≡ b → Among k (cond b (x ∷ filter f xs) (filter f xs)) → f k ≡ true
-    go rest true is (inl e) = ap f e ∙ is
-    go rest true is (inr later) = rest later
-    go rest false is later = rest later
+    go : (Among k (filter f xs) → Among k xs × (f k ≡ true)) → (b : Bool) → f x ≡ b → Among k (cond b (x ∷ filter f xs) (filter f xs)) → (◌≡◌ {A = X} k x ⊎ Among k xs) × (f k ≡ true)
+    go rest true is (inl e) = (inl e, ap f e ∙ is)
+    go rest true is (inr later) = (let (a, holds) = rest later in (inr a, holds))
+    go rest false is later = (let (a, holds) = rest later in (inr a, holds))
 
 among_last : (k x : ℕ) (xs : List ℕ) → Among k xs ⊎ (k ≡ x) → Among k (xs ++ x ∷ [])
 among_last k x [] (inl a) = absurd a
@@ -205,7 +205,7 @@ none_flat f (k ∷ ks) h = ap (λ xs. xs ++ flat_map f ks) (h k (inl refl)) ∙ 
 in_nothing : (late : Bool) (m : Records) (ranges : List (ℕ × ℕ)) → ((k : ℕ) → is_named ranges k ≡ true → IsBare (fmap.get m k)) → named_in late m ranges ≡ []
 in_nothing late m ranges bare =
     none_flat (pieces_of late m) (acked_numbers m ranges) (λ k a.
-    bare_none late m k (bare k (filter_among (is_named ranges) k (fmap.keys m) (reverse_among k _ a))))
+    bare_none late m k (bare k (filter_among (is_named ranges) k (fmap.keys m) (reverse_among k _ a)).1))
 
 pub named_nothing : (e : End) (ranges : List (ℕ × ℕ)) → ((late : Bool) (k : ℕ) → is_named ranges k ≡ true → IsBare (fmap.get (held late e) k)) → named e ranges ≡ []
 named_nothing e ranges bare = ap (λ ps. ps ++ named_in true e.lost.pieces ranges) (in_nothing false e.outstanding ranges (bare false)) ∙ in_nothing true e.lost.pieces ranges (bare true)

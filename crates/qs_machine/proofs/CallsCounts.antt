@@ -4,7 +4,9 @@ use Rattle.std.proofs.lemmas.Bool.{cond_both}
 use Rattle.qs_wire.specs.declared.stream_id.Dir.TheVariants.{Bidi, Uni}
 use Rattle.qs_recv.specs.Lane.{RecvLane, new_lane as new_recv_lane, after_read, stop, raise, stop_and_forget, set_window}
 use Rattle.qs_send.specs.declared.piece.Piece.{Piece}
-use Rattle.qs_machine.specs.Ends.{End, on_recv, is_own, is_uni, opens, window}
+use Rattle.qs_calls.specs.declared.closing.Closed.{Closed}
+use Rattle.qs_calls.specs.declared.closing.Closed.TheVariants.{Told}
+use Rattle.qs_machine.specs.Ends.{End, on_recv, is_own, is_uni, opens, closes, window}
 use Rattle.qs_machine.specs.FrameStep.{frame_taken, acks, named}
 use Rattle.qs_machine.specs.Lawful.{frame_put}
 use Rattle.qs_machine.specs.Making.{first_lost}
@@ -13,7 +15,7 @@ use Rattle.qs_machine.specs.Setting.{Setting, ConnWindow, Grant, with_setting, S
 use Rattle.qs_machine.proofs.Leaves.{put_leaves}
 use Rattle.qs_machine.specs.Standing.{IsSound, IsInCredit, CountsAreSettled, CountsRise}
 use Rattle.qs_machine.specs.Repeats.{SentWasWritten, WasWritten}
-use Rattle.qs_machine.proofs.EveryCall.{Change, changed, Comes, each_call, ends_by, Wanted, Opened, Stopped, WasRead, WasSet, Took, Acked, Put, Settled, Forgotten, Lost, Numbered}
+use Rattle.qs_machine.proofs.EveryCall.{Change, changed, Comes, each_call, ends_by, Wanted, Opened, Stopped, WasRead, WasSet, Took, Acked, Put, Settled, Forgotten, Lost, Numbered, Shut}
 use Rattle.qs_machine.proofs.TablesAfter.{KeptIn, kept_same, kept_twice, kept_updated, kept_open, kept_each}
 use Rattle.qs_machine.proofs.Counts.{counts_settle, counts_rise}
 use Rattle.qs_machine.proofs.CallsSound.{sound_call, sound_change, stand_call, grant_grows}
@@ -24,7 +26,7 @@ use Rattle.qs_machine.specs.Credit.{ended, settle}
 use Rattle.qs_machine.proofs.Pieces.{All_take}
 use Rattle.qs_machine.proofs.EndsAfter.{IsAfter, lawful_in, after_frame, after_acks, named_written}
 
--- A packet that is lost changes no count, and a number that is claimed none either.
+-- A packet that is lost changes no count, nor does a number that is claimed or a close that is told.
 
 settled_lost : (k : ℕ) (p : Piece) (e : End) → CountsAreSettled e → CountsAreSettled (first_lost k p e)
 settled_lost k p e h Bidi = h Bidi
@@ -34,10 +36,14 @@ settled_claimed : (e : End) → CountsAreSettled e → CountsAreSettled (record 
 settled_claimed e h Bidi = h Bidi
 settled_claimed e h Uni = h Uni
 
+settled_shut : (c : Closed) (e : End) → CountsAreSettled e → CountsAreSettled (closes c e)
+settled_shut c e h Bidi = h Bidi
+settled_shut c e h Uni = h Uni
+
 -- After every call the counts are settled.
 pub settled_call : (old : End) (call : Call) (answer : Answer call) (new : End) → CountsAreSettled old → EndStep old call answer new → CountsAreSettled new
 settled_call old call answer new h step =
-    ends_by CountsAreSettled old h counts_settle settled_lost (settled_claimed old h) call answer new step
+    ends_by CountsAreSettled old h counts_settle settled_lost (settled_claimed old h) (λ c. settled_shut c old h) call answer new step
 
 -- Every call leaves a sound end sound.
 pub sound_end : (old : End) (call : Call) (answer : Answer call) (new : End) → IsSound old → EndStep old call answer new → IsSound new
@@ -116,7 +122,7 @@ module _ (T : End → End → Type 0) (same : (e : End) → T e e) (twice : (a b
 
   pub relates_sound : (answer : Answer call) (new : End) → EndStep old call answer new → T old new
   relates_sound answer new step =
-      (each_call old call IsReached IsReached (record { begins = at_first; goes = reached; stays = at_first; settles = λ e. reached Settled e tt; loses = λ k p e is. reached (Lost k p) e is; claims = reached (Numbered (old.next + 1)) old refl at_first }) answer new step).2
+      (each_call old call IsReached IsReached (record { begins = at_first; goes = reached; stays = at_first; settles = λ e. reached Settled e tt; loses = λ k p e is. reached (Lost k p) e is; claims = reached (Numbered (old.next + 1)) old refl at_first; shuts = λ comes close. reached (Shut (Told close)) old comes at_first }) answer new step).2
 
 keeps_all : (old : End) → IsSound old → SentWasWritten old → (call : Call) (answer : Answer call) (new : End) → EndStep old call answer new → Moves old new
 keeps_all old sound sent call answer new step = relates_sound Moves moves_same moves_twice old sound sent call (moves_change old call) answer new step

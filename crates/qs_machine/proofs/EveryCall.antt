@@ -26,6 +26,8 @@ use Rattle.qs_send.proofs.Carrying.{rest_of, get_same-without_first}
 use Rattle.qs_calls.specs.declared.closing.Closing.{Closing}
 use Rattle.qs_calls.specs.declared.closing.Closed.{Closed}
 use Rattle.qs_calls.specs.declared.closing.Closed.TheVariants.{ByUs, ByPeer}
+use Rattle.qs_calls.specs.declared.closing.Closed.TheVariants as closings
+use Rattle.qs_calls.specs.declared.closing.ToldClose.{ToldClose}
 use Rattle.qs_calls.specs.declared.closing.Received.{Received}
 use Rattle.qs_calls.specs.declared.closing.Received.TheVariants as received
 use Rattle.qs_calls.specs.declared.filling.Fill.{Fill}
@@ -33,6 +35,7 @@ use Rattle.qs_calls.specs.declared.filling.Filled.{Filled}
 use Rattle.qs_calls.specs.declared.making.Made.{Made}
 use Rattle.qs_calls.specs.declared.making.MakeFault.{MakeFault}
 use Rattle.qs_calls.specs.declared.making.MakeFault.TheVariants as making
+use Rattle.qs_calls.specs.declared.reading.Consumed.{Consumed}
 use Rattle.qs_calls.specs.declared.settings.PeerLimits.{PeerLimits}
 use Rattle.qs_calls.specs.declared.token.Taken.{Taken}
 use Rattle.qs_calls.specs.declared.token.Taken.TheVariants as taken
@@ -50,13 +53,13 @@ use Rattle.qs_machine.specs.Verdicts.{verdict}
 use Rattle.qs_machine.specs.FrameStep.{frame_taken, acks, named}
 use Rattle.qs_machine.specs.Recording.{recorded}
 use Rattle.qs_machine.specs.Lawful.{MayPut, Fills, frame_put}
-use Rattle.qs_machine.specs.Receiving.{ClosedReceive, AtEnd, RunsOut, Stops, GoesOn, Takes, ReceiveBy, TakesPayload, OpenReceive}
+use Rattle.qs_machine.specs.Receiving.{told_by, told_closed, ClosedReceive, AtEnd, RunsOut, Stops, GoesOn, Takes, ReceiveBy, TakesPayload, OpenReceive}
 use Rattle.qs_machine.specs.Making.{MakeAt, MakeAckAt, make_refusal, claim_refusal, LoseStep, lose_refusal, first_lost, losses}
 use Rattle.qs_machine.specs.Filling.{FillAt}
 use Rattle.qs_machine.specs.Alone.{is_ours, TakesOne, TakeBy, TakesEach, TakeAllBy, token_refusal, only, LosesEach, TokenAckedStep, TokenLostStep}
 use Rattle.qs_machine.specs.Raising.{limits_raised, raise_refusal}
 use Rattle.qs_machine.specs.Setting.{Setting, SetStep, set_refusal, with_setting}
-use Rattle.qs_machine.specs.EndStep.{Call, Answer, EndStep, Open, Accept, AcceptOf, Write, Finish, Reset, Stop, ReadUpTo, Consume, Receive, TakeFrame, TakeFrames, TokenAcked, TokenLost, Make, MakeAck, FillIn, Lose, Claim, RaiseLimits, Set, StopAndForget}
+use Rattle.qs_machine.specs.EndStep.{Call, Answer, EndStep, Open, Accept, AcceptOf, Write, Finish, Reset, Stop, ReadUpTo, Consume, Receive, TakeFrame, TakeFrames, TokenAcked, TokenLost, Make, MakeAck, FillIn, Lose, Claim, RaiseLimits, Set, StopAndForget, TellClosed}
 use Rattle.qs_machine.specs.Tables.{Tables}
 use Rattle.qs_machine.specs.Laws.{StaysOnceClosed, StaysButRead}
 
@@ -153,12 +156,13 @@ changed (Numbered next) e = record e { next = next }
 changed (Lost k p) e = first_lost k p e
 changed Settled e = settle e
 
--- only a payload or a frame that comes closes an end, and only limits that rise move those that its peer began with
+-- only a payload or a frame that comes closes an end, or that it is told of a close, and only limits that rise move those that its peer began with
 abbrev pub MovesStanding : Call → Type 0
 MovesStanding (Receive k payload) = ⊤
 MovesStanding (TakeFrame f) = ⊤
 MovesStanding (TakeFrames fs) = ⊤
 MovesStanding (RaiseLimits p) = ⊤
+MovesStanding (TellClosed close) = ⊤
 MovesStanding call = ⊥
 
 -- and beside these only a token that was acknowledged tells an end what its peer did
@@ -179,7 +183,8 @@ Comes old call e (Shut c) = MovesStanding call
 Comes old call e (Lost k p) = IsCarried e.outstanding p
 Comes old call e c = ⊤
 
--- While a call lasts Q holds, and once it ended P does. As most calls end the limits move; a loss and a claimed number leave them.
+-- While a call lasts Q holds, and once it ended P does. As most calls end the limits move; a loss, a claimed number and a close that is told
+-- leave them.
 pub record Cases (old : End) (call : Call) (Q P : End → Type 0) : Type 0 where
   pub begins : Q old
   pub goes : (c : Change) (e : End) → Comes old call e c → Q e → Q (changed c e)
@@ -187,6 +192,7 @@ pub record Cases (old : End) (call : Call) (Q P : End → Type 0) : Type 0 where
   pub settles : (e : End) → Q e → P (settle e)
   pub loses : (k : ℕ) (p : Piece) (e : End) → IsCarried e.outstanding p → P e → P (first_lost k p e)
   pub claims : P (record old { next = old.next + 1 })
+  pub shuts : MovesStanding call → (close : ToldClose) → P (closes (closings.Told close) old)
 
 -- a frame ends the processing: the end closes, or there is no memory
 pub stops_by : (P : Type 0) (p : PlacedValue) (f : Seen) (e : End) (result : Result Received Closing) (new : End) → Stops p f e result new
@@ -429,7 +435,14 @@ module _ (old : End) (call : Call) (Q P : End → Type 0) (c : Cases old call Q 
   read_by (Some fault) n size answer bytes new step = same new step.2
   read_by None n size answer bytes new (l, is, told, given, after) = edited (WasRead n size) new tt after
 
-  consume_by : (n most : ℕ) (answer : Answer (Consume n most)) (new : End) → ConsumeStep old n most answer new → P new
+  shut_by : MovesStanding call → (close : ToldClose) (new : End) → new ≡ told_closed close old → P new
+  shut_by comes close new is = subst P (sym is) (by old.closed)
+    where
+      by : (o : Option Closed) → P (told_by o close old)
+      by None = c.shuts comes close
+      by (Some closed) = c.stays
+
+  consume_by : (n most : ℕ) (answer : Result Consumed UseFault) (new : End) → ConsumeStep old n most answer new → P new
   consume_by n most answer new step =
       by_refusal (P new) (recv_refusal (is_read_no_more old) old n) old answer new _ step (same new)
       (λ (l, is, told, after). settled _ new after (c.goes (WasRead n 0) (changed (WasRead n most) old) tt (c.goes (WasRead n most) old tt c.begins)))
@@ -447,7 +460,7 @@ each_call old (Stop n code) Q P c answer new step = use_by old (Stop n code) Q P
 each_call old (StopAndForget n code) Q P c answer new step =
     use_by old (StopAndForget n code) Q P c _ (recv_refusal (is_some old.closed) old n) (Forgotten n code) answer new tt step
 each_call old (ReadUpTo n size) Q P c answer new step = read_by old (ReadUpTo n size) Q P c (recv_refusal (is_read_no_more old) old n) n size answer.0 answer.1 new step
-each_call old (Consume n most) Q P c answer new step = consume_by old (Consume n most) Q P c n most answer new step
+each_call old (Consume n most) Q P c answer new step = consume_by old (Consume n most) Q P c n most answer.0 new step.0
 each_call old (Receive k payload) Q P c answer new step = receive_by old (Receive k payload) Q P c tt old.closed k payload answer new step
 each_call old (TakeFrame f) Q P c answer new step = take_by old (TakeFrame f) Q P c tt old.closed f answer new step
 each_call old (TakeFrames fs) Q P c answer new step = take_all_by old (TakeFrames fs) Q P c tt old.closed fs answer new step
@@ -460,6 +473,7 @@ each_call old (Lose k) Q P c answer new step = lose_by old (Lose k) Q P c k old 
 each_call old Claim Q P c answer new step = claim_by old Claim Q P c answer new step
 each_call old (RaiseLimits p) Q P c answer new step = use_by old (RaiseLimits p) Q P c _ (raise_refusal old p) (Raised p) answer new tt step
 each_call old (Set x) Q P c answer new step = set_by old (Set x) Q P c x answer new step
+each_call old (TellClosed close) Q P c answer new step = shut_by old (TellClosed close) Q P c tt close new step
 each_call old call Q P c answer new step = same old call Q P c new step.1
 
 -- A relation that holds across each change, and across two where it does across each, holds across every call.
@@ -473,16 +487,17 @@ module _ (R : End → End → Type 0) (same : (e : End) → R e e) (twice : (a b
         settles = λ e h. twice old e (settle e) h (one Settled e tt);
         loses = λ k p e is h. twice old e (first_lost k p e) h (one (Lost k p) e is);
         claims = one (Numbered (old.next + 1)) old refl;
+        shuts = λ comes close. one (Shut (closings.Told close)) old comes;
       }
 
   pub relates : (answer : Answer call) (new : End) → EndStep old call answer new → R old new
   relates answer new step = each_call old call (R old) (R old) cases answer new step
 
--- What holds wherever the limits moved holds after every call, if a loss and a claimed number keep it.
-module _ (P : End → Type 0) (old : End) (kept : P old) (settles : (e : End) → P (settle e)) (loses : (k : ℕ) (p : Piece) (e : End) → P e → P (first_lost k p e)) (claims : P (record old { next = old.next + 1 })) where
+-- What holds wherever the limits moved holds after every call, if a loss, a claimed number and a close keep it.
+module _ (P : End → Type 0) (old : End) (kept : P old) (settles : (e : End) → P (settle e)) (loses : (k : ℕ) (p : Piece) (e : End) → P e → P (first_lost k p e)) (claims : P (record old { next = old.next + 1 })) (shuts : (c : Closed) → P (closes c old)) where
   pub ends_by : (call : Call) (answer : Answer call) (new : End) → EndStep old call answer new → P new
   ends_by call answer new step =
-      each_call old call (λ e. ⊤) P (record { begins = tt; goes = λ c e comes h. tt; stays = kept; settles = λ e h. settles e; loses = λ k p e is h. loses k p e h; claims = claims }) answer new step
+      each_call old call (λ e. ⊤) P (record { begins = tt; goes = λ c e comes h. tt; stays = kept; settles = λ e h. settles e; loses = λ k p e is h. loses k p e h; claims = claims; shuts = λ comes close. shuts (closings.Told close) }) answer new step
 
 -- After a closing nothing changes but the number of the next packet, and what is read on.
 
@@ -502,7 +517,7 @@ read_on true false r old n size answer new is h = h.2
 read_on true true (Some fault) old n size answer new is h = unread true old new h.2
 read_on true true None old n size answer new is (l, at, told, given, after) = but_read old new _ _ _ _ after
 
-consumed_on : (b chosen : Bool) (r : Option UseFault) (old : End) (n most : ℕ) (answer : Answer (Consume n most)) (new : End) (A B : RecvLane → Type 0) → b ≡ true
+consumed_on : (b chosen : Bool) (r : Option UseFault) (old : End) (n most : ℕ) (answer : Result Consumed UseFault) (new : End) (A B : RecvLane → Type 0) → b ≡ true
     → Certain (first_refusal (refuse_if (b && not chosen) uses.Closed) r) old answer new ((l : RecvLane) × A l × B l × (new ≡ settle (on_recv n (λ m. after_read m 0) (on_recv n (λ m. after_read m most) old)))) → StaysButRead chosen old new
 consumed_on false chosen r old n most answer new A B is h = absurd (false≢true is)
 consumed_on true false r old n most answer new A B is h = h.1
@@ -522,6 +537,10 @@ take_all_again : (c : Option Closed) (fs : List FrameValue) (old : End) (answer 
 take_all_again None fs old answer new is h = absurd (false≢true is)
 take_all_again (Some closed) fs old answer new is h = h.1
 
+told_again : (c : Option Closed) (close : ToldClose) (old new : End) → is_some c ≡ true → new ≡ told_by c close old → new ≡ old
+told_again None close old new is h = absurd (false≢true is)
+told_again (Some closed) close old new is h = h
+
 -- a number that was claimed
 but_number : (old new : End) (n : ℕ) → new ≡ record old { next = n } → new ≡ record old { next = new.next }
 but_number old new n same = same ∙ ap (λ (e : End). record old { next = e.next }) (sym same)
@@ -536,7 +555,7 @@ closed_stays old (Reset n code) answer new is h = (rw is at h).1
 closed_stays old (Stop n code) answer new is h = (rw is at h).1
 closed_stays old (StopAndForget n code) answer new is h = (rw is at h).1
 closed_stays old (ReadUpTo n size) answer new is h = read_on (is_some old.closed) old.tuning.reads_when_closed _ old n size answer new is h
-closed_stays old (Consume n most) answer new is h = consumed_on (is_some old.closed) old.tuning.reads_when_closed _ old n most answer new _ _ is h
+closed_stays old (Consume n most) answer new is h = consumed_on (is_some old.closed) old.tuning.reads_when_closed _ old n most answer.0 new _ _ is h.0
 closed_stays old (Receive k payload) answer new is h = receive_again old.closed k payload old answer new is h
 closed_stays old (TakeFrame f) answer new is h = take_again old.closed f old answer new is h
 closed_stays old (TakeFrames fs) answer new is h = take_all_again old.closed fs old answer new is h
@@ -549,4 +568,5 @@ closed_stays old (Lose k) answer new is h = (rw is at h).1
 closed_stays old Claim answer new is h = by_refusal (new ≡ record old { next = new.next }) (claim_refusal old) old answer new _ h (but_number old new old.next) (λ done. but_number old new (old.next + 1) done.1)
 closed_stays old (RaiseLimits p) answer new is h = (rw is at h).1
 closed_stays old (Set x) answer new is h = (rw is at h).1
+closed_stays old (TellClosed close) answer new is h = told_again old.closed close old new is h
 closed_stays old call answer new is h = h.1

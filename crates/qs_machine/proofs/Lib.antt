@@ -34,5 +34,7 @@ pub mod SettledLimits
 pub mod OffsetParts
 pub mod Claims
 pub mod Ways
+pub mod Plains
 pub mod AckTokens
 pub mod NewlyTold
+pub mod Foreign

@@ -176,7 +176,7 @@ module _ {X : Type 0} (m n : fmap.FinMap nat_cmp X) (within : (j : ℕ) → is_s
   keys_within : filter (λ j. is_some (fmap.get n j)) (fmap.keys m) ≡ fmap.keys n
   keys_within =
       one_list 0 (filter (λ j. is_some (fmap.get n j)) (fmap.keys m)) (fmap.keys n) (rises_filter (λ j. is_some (fmap.get n j)) 0 (fmap.keys m) (keys_rise m)) (keys_rise n)
-      (λ j a. held n j (filter_among (λ i. is_some (fmap.get n i)) j (fmap.keys m) a))
+      (λ j a. held n j (filter_among (λ i. is_some (fmap.get n i)) j (fmap.keys m) a).1)
       (λ j a. among_filter (λ i. is_some (fmap.get n i)) j (fmap.keys m) (held m j (within j (is_held n j a))) (is_held n j a))
 
   -- A filter of its keys, and one of all keys of which some are filtered out.

@@ -53,4 +53,4 @@ settles e =
     }
 
 pub calls_settle : (old : End) (call : Call) (answer : Answer call) (new : End) → LimitsAreSettled old → EndStep old call answer new → LimitsAreSettled new
-calls_settle old call answer new h step = ends_by LimitsAreSettled old h settles (λ k p e is. record { connection = is.connection; streams = is.streams }) (record { connection = h.connection; streams = h.streams }) call answer new step
+calls_settle old call answer new h step = ends_by LimitsAreSettled old h settles (λ k p e is. record { connection = is.connection; streams = is.streams }) (record { connection = h.connection; streams = h.streams }) (λ c. record { connection = h.connection; streams = h.streams }) call answer new step

@@ -1,8 +1,9 @@
 -- Of laws.
 -- Laws on ends and their calls.
 use Rattle.std.specs.Prelude.{◌≡◌, ℕ, ◌≤◌, Bool, true, false, List, [], ◌++◌, length, ◌⊎◌, Option, None, Some, is_some, Result, Ok, Err}
+use Rattle.std.specs.List.{AllByRecursion}
 use Rattle.std.specs.FinMap as fmap
-use Rattle.qs_wire.specs.Layout.{PlacedValue}
+use Rattle.qs_wire.specs.Layout.{FrameValue, PlacedValue}
 use Rattle.qs_wire.specs.Grammar.{frames_of}
 use Rattle.qs_wire.specs.Reading.{reading_of}
 use Rattle.qs_wire.specs.declared.stream_id.Role.{Role}
@@ -27,13 +28,15 @@ use Rattle.qs_calls.specs.declared.making.LostFault.{LostFault}
 use Rattle.qs_calls.specs.declared.making.LostFault.TheVariants.{NotOutstanding}
 use Rattle.qs_machine.specs.Ends.{End, end_made, wide_end_made}
 use Rattle.qs_machine.specs.Credit.{settle, recv_ended, send_ended}
-use Rattle.qs_machine.specs.Seen.{Seen, Ack, seen_all, any_asks}
+use Rattle.qs_machine.specs.Seen.{Seen, Ack, seen, seen_all, any_asks}
 use Rattle.qs_machine.specs.Verdicts.{verdict}
 use Rattle.qs_machine.specs.FrameStep.{NoFault, frames_taken}
 use Rattle.qs_machine.specs.Receiving.{TakesPayload, EndsBy, ReceiveStep}
 use Rattle.qs_machine.specs.Making.{MakeStep, MakeAckStep, ClaimStep, LoseStep}
 use Rattle.qs_machine.specs.Filling.{FillStep, as_made}
-use Rattle.qs_machine.specs.EndStep.{Call, Answer, EndStep, Claim, ReadUpTo, Consume}
+use Rattle.qs_machine.specs.EndStep.{Call, Answer, EndStep, Claim, ReadUpTo, Consume, TakeFrame, TakeFrames}
+use Rattle.qs_machine.specs.Alone.{is_ours}
+use Rattle.qs_calls.specs.declared.token.Taken.TheVariants.{NotOurs}
 use Rattle.qs_machine.specs.Standing.{IsSound, IsWithinCredit, CountsAreSettled, LimitsRise, CountsRise}
 use Rattle.qs_machine.specs.Repeats.{SentWasWritten, AreAmong, Resumes, OnlyRecords}
 use Rattle.qs_calls.specs.Settings.{default_tuning}
@@ -173,3 +176,21 @@ abbrev pub ProcessedPayloadsRepeat : Type 0
 ProcessedPayloadsRepeat =
     (number again : ℕ) (payload : List ℕ) (old new later : End) (answer : Result Received Closing) → IsSound old → SentWasWritten old → ReceiveStep old number payload (Ok Done) new → ReceiveStep new again payload answer later →
     OnlyRecords again (any_asks (seen_all (frames_of (reading_of payload).left))) answer new later
+
+-- Frames of a stack's own
+
+-- a frame of a kind that isn't the end's own: PADDING, PING, ACK, CRYPTO, CONNECTION_CLOSE and the like (RFC 9000, section 12.4)
+abbrev pub IsForeign : Seen → Type 0
+IsForeign f = is_ours f ≡ false
+
+-- handed in alone, such a frame is answered NotOurs, and leaves an open end as it was (RFC 9000, section 12.4)
+abbrev pub ForeignFramesTellNothing : Type 0
+ForeignFramesTellNothing =
+    (old new : End) (f : FrameValue) (answer : Answer (TakeFrame f)) → old.closed ≡ None → IsForeign (seen f) → EndStep old (TakeFrame f) answer new →
+    (answer ≡ Ok NotOurs) × (new ≡ old)
+
+-- and several of them, but that limits settle
+abbrev pub ForeignFramesSettle : Type 0
+ForeignFramesSettle =
+    (old new : End) (fs : List FrameValue) (answer : Answer (TakeFrames fs)) → old.closed ≡ None → AllByRecursion IsForeign (seen_all fs) → EndStep old (TakeFrames fs) answer new →
+    (answer ≡ Ok NotOurs) × (new ≡ settle old)

@@ -203,3 +203,12 @@ ConsumeStep old n most answer new =
     ((l : RecvLane) × (recv_lane old n ≡ Some l)
     × (answer ≡ Ok (consumed l most))
     × (new ≡ settle (on_recv n (λ m. after_read m 0) (on_recv n (λ m. after_read m most) old))))
+
+-- the bytes that are taken without a copy are those that a read of so many would have given (RFC 9000, section 2.2)
+abbrev pub AreTaken : End → (stream most : ℕ) → Result Consumed UseFault → List ℕ → Type 0
+AreTaken e n most (Ok consumed) bytes = (l : RecvLane) → recv_lane e n ≡ Some l → bytes ≡ bytes_read l most
+AreTaken e n most (Err fault) bytes = bytes ≡ []
+
+-- `consume`, with the bytes that it takes (RFC 9000, section 2.2)
+abbrev pub TakesBytes : End → (stream most : ℕ) → Result Consumed UseFault → List ℕ → End → Type 0
+TakesBytes old n most r bytes new = ConsumeStep old n most r new × AreTaken old n most r bytes

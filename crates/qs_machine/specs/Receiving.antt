@@ -109,13 +109,12 @@ ReceiveBy None number payload old result new = OpenReceive number payload old re
 abbrev pub ReceiveStep : End → ℕ → List ℕ → Result Received Closing → End → Type 0
 ReceiveStep old number payload result new = ReceiveBy old.closed number payload old result new
 
--- A close that the owner saw or made itself
+-- A close that the owner saw or made itself (RFC 9000, section 10.2)
 
 abbrev pub told_by : Option Closed → ToldClose → End → End
 told_by None close e = closes (Told close) e
 told_by (Some closed) close e = e
 
--- `tell_closed`: an open end closes, and one that closed stays as it is (RFC 9000, section 10.2). No event of runs, in which neither end
--- closes.
+-- `tell_closed`: an open end closes, and one that closed stays as it is (RFC 9000, section 10.2)
 abbrev pub told_closed : ToldClose → End → End
 told_closed close e = told_by e.closed close e

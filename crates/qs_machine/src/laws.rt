@@ -1,6 +1,6 @@
 //! Laws on ends and their calls, each the contract of a function.
 
-ghost use Rattle.qs_machine.specs.Laws.{NewEndsAreSound, NewEndsAreWide, CallsKeepEndsSound, StoredBytesWereGranted, EndedIsLastState, NewEndsSettleCounts, CallsSettleCounts, CountsNeverFall, LimitsNeverFall, ClosedEndsStay, AnAckIsAPacket, AFillIsAPacket, ClaimedNumbersAreKnown, PayloadsAreTakenInOrder, EffectsRepeat, PayloadsRepeat, ProcessedPayloadsRepeat, NewEndsSentNothing, CallsSendWhatWasWritten};
+ghost use Rattle.qs_machine.specs.Laws.{NewEndsAreSound, NewEndsAreWide, CallsKeepEndsSound, StoredBytesWereGranted, EndedIsLastState, NewEndsSettleCounts, CallsSettleCounts, CountsNeverFall, LimitsNeverFall, ClosedEndsStay, AnAckIsAPacket, AFillIsAPacket, ClaimedNumbersAreKnown, PayloadsAreTakenInOrder, EffectsRepeat, PayloadsRepeat, ProcessedPayloadsRepeat, NewEndsSentNothing, CallsSendWhatWasWritten, ForeignFramesTellNothing, ForeignFramesSettle};
 ghost use Rattle.qs_machine.specs.Plains.{PlainFramesTellNothing};
 ghost use Rattle.qs_machine.specs.Ways.{APayloadIsItsFrames, APayloadIsTakeFrames, AFrameIsItsPayload, AnAckIsItsToken, AnAckIsItsTokens, AnAckMayBeTold, ItsRangesAreTokens, AJoinedTokenIsItsParts, APayloadIsTokensAndFrames};
 ghost use Rattle.qs_machine.specs.AckOrders.{AStopIsntMoved};
@@ -70,9 +70,15 @@ pub fn a_fill_is_a_packet()
     ensures { AFillIsAPacket }
 {}
 
-/// PADDING, PING and the frames that are carried for others change nothing but whether an ACK is due.
+/// PADDING, PING and the frames that are carried for others change nothing but whether an ACK is due, wherever they stand in a payload.
 pub fn plain_frames_tell_nothing()
     ensures { PlainFramesTellNothing }
+{}
+
+/// Frames of kinds that aren't an end's own are answered NotOurs, and leave an open end as it was; several settle its limits.
+pub fn foreign_frames_tell_nothing()
+    ensures alone { ForeignFramesTellNothing }
+    ensures several { ForeignFramesSettle }
 {}
 
 /// An ACK that names a claimed number doesn't close the end, and no packet of that number is outstanding.

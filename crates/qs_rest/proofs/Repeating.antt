@@ -36,7 +36,7 @@ use Rattle.qs_machine.proofs.TablesAfter.{kept_same}
 use Rattle.qs_machine.proofs.LanesAgain.{LaneAfter, lane_same}
 use Rattle.qs_runs.specs.Logs.{Part, Happening, Did, MadeAck, FilledIn, ConsumedUpTo, AckedToken, LostToken, RaisedLimits, CameWith, CameAlone, History, other, is_delivery, reads_of, is_done, is_taken, texts_of, payload, processed, took, own_calls, HasSet, Forgot, AcceptedOf}
 use Rattle.qs_runs.specs.Worlds.{World, end_of, OwnStep, EventStep, ComeAloneStep, WorldStep, Run}
-use Rattle.qs_runs.specs.Agree.{frames_in}
+use Rattle.qs_machine.specs.Plains.{frames_in}
 use Rattle.qs_runs.specs.Pasts.{Past, Packets, Tells, packets_of, past, seen_by, EachTaken}
 use Rattle.qs_runs.specs.Clauses.{HasArrived}
 use Rattle.qs_runs.specs.Invariant.{WorldOk}

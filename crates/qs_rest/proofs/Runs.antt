@@ -44,8 +44,9 @@ use Rattle.qs_machine.proofs.EveryCall.{by_open, HearsPeer}
 use Rattle.qs_machine.proofs.SettledLimits.{calls_settle, new_ends_settled}
 use Rattle.qs_machine.proofs.CallsCounts.{settled_call}
 use Rattle.qs_runs.specs.Logs.{Part, is_done, was_told, is_in, Happening, Did, MadeAck, FilledIn, ConsumedUpTo, AckedToken, LostToken, RaisedLimits, CameWith, CameAlone, History, other, is_delivery, reads_of, texts_of, payload, processed, took, own_calls, HasSet, Forgot, AcceptedOf}
-use Rattle.qs_runs.specs.Agree.{frames_in}
-use Rattle.qs_runs.specs.Worlds.{OwnStep, HandedIn, World, Begins, end_of, TakesBytes, DeliverStep, ComeWithStep, ComeAloneStep, EventStep, WorldStep}
+use Rattle.qs_machine.specs.Plains.{frames_in}
+use Rattle.qs_runs.specs.Worlds.{OwnStep, HandedIn, World, Begins, end_of, DeliverStep, ComeWithStep, ComeAloneStep, EventStep, WorldStep}
+use Rattle.qs_machine.specs.Owner.{TakesBytes}
 use Rattle.qs_runs.specs.Pasts.{Packets, Past, seen_by, packets_of, past, EachTaken}
 use Rattle.qs_runs.specs.Invariant.{EndOk, WorldOk}
 use Rattle.qs_runs.proofs.Acking.{WasAcked}

@@ -9,11 +9,11 @@ use Rattle.qs_send.specs.declared.parts.Reset.{Reset}
 use Rattle.qs_send.specs.declared.parts.SendState.TheVariants.{Ready, Send, DataSent, DataRecvd}
 use Rattle.qs_machine.specs.Ends.{End, recv_lane}
 use Rattle.qs_machine.specs.Seen.{Seen, Stream}
-use Rattle.qs_machine.specs.Alone.{is_ours}
 use Rattle.qs_runs.specs.Agree.{IsPrefixOf}
 use Rattle.qs_runs.proofs.Lists.{prefix_by_place, same_length_prefix}
 use Rattle.qs_runs.proofs.Changes.{before-missing}
 use Rattle.qs_runs.specs.Pasts.{Past, Holds, TellsByte, TellsEnd, TellsReset, WasConfirmed}
+use Rattle.qs_runs.specs.Logs.{must_land}
 use Rattle.qs_runs.specs.Invariant.{SendOk, SendSlot, RecvOk, RecvSlot, FrameTaken}
 
 module _ (p q : Past) (n limit window : ℕ) (from : q.theirs ≡ p.mine) where
@@ -99,7 +99,7 @@ acked_state l e = go l.reset_acked l.was_reset (is_whole l) refl refl refl
     go false None false ea eo ec = absurd (not_acked_state _ _ (rw (ea, eo, ec) at e))
 
 module _ (p q : Past) (n limit window : ℕ) (from : q.theirs ≡ p.mine) (f : End) (recvs : RecvSlot q n window (recv_lane f n))
-    (acked_taken : (k : ℕ) (g : Seen) → Holds p.mine k g → WasConfirmed p.theirs p.tokens k → is_ours g ≡ true → FrameTaken f.recvs g) where
+    (acked_taken : (k : ℕ) (g : Seen) → Holds p.mine k g → WasConfirmed p.theirs p.tokens k → must_land g ≡ true → FrameTaken f.recvs g) where
   -- without a reset at the sender there is none at the receiver
   no_reset_known : (l : SendLane) (r : RecvLane) → SendOk p n limit l → l.was_reset ≡ None → recv_lane f n ≡ Some r → r.reset_code ≡ None
   no_reset_known l r h none is = go r.reset_code refl

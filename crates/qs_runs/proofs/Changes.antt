@@ -13,7 +13,7 @@ use Rattle.qs_machine.specs.Tables.{Tables, lookup, update, updated, each}
 use Rattle.qs_machine.specs.Ends.{End, first_send_limit, window, on_send, on_recv, End as Endpoint, Present}
 use Rattle.qs_machine.specs.Seen.{Seen, Stream, Control}
 use Rattle.qs_runs.specs.Pasts.{Past, Packets, Tells, TellsEnd, WasConfirmed, TellsByte}
-use Rattle.qs_runs.proofs.Past.{each_taken}
+use Rattle.qs_machine.proofs.Pieces.{All_more}
 use Rattle.qs_runs.specs.Invariant.{EndOk, EndHas, CreditTrue, SendOk, SendSlot, RecvOk, RecvSlot, FrameTaken, TakenOk, OpenOk, is_open, RecvTrue, SendTrue}
 use Rattle.qs_machine.proofs.TableLaws.{lookup_same, lookup_other, slots_updated, total_update, lookup_each, slots_each}
 use Rattle.qs_recv.specs.declared.credit.Share.{Share}
@@ -109,7 +109,7 @@ frame_stays t u grow (Control (ResetStream n code size)) (l, is, final) = (let (
 frame_stays t u grow f h = tt
 
 pub taken_stays : (p : Past) (t u : Tables RecvLane) → AllGrow t u → TakenOk p t → TakenOk p u
-taken_stays p t u grow ok = each_taken p.theirs p.processed p.took (FrameTaken t) (FrameTaken u) (frame_stays t u grow) ok
+taken_stays p t u grow ok = All_more (FrameTaken t) (FrameTaken u) p.taken (frame_stays t u grow) ok
 
 -- a change of a lane opens nothing
 pub open_update : {X : Type 0} (t : Tables X) (n : ℕ) (x y : X) → lookup t n ≡ Some x → is_open (update t n y) ≡ is_open t

@@ -1,11 +1,11 @@
 -- What comes of a packet of a claimed number.
-use Rattle.std.proofs.Common.{◌≡◌, ℕ, ◌+◌, true, false, List, [], ◌∷◌, ◌++◌, ◌⊎◌, length, Option, Some, None, Result, Ok, Err, slice_get, refl, sym, ap, ◌∙◌, subst, inl, inr}
-use Rattle.std.proofs.lemmas.Option.{none-some}
+use Rattle.std.proofs.Common.{◌≡◌, ℕ, ◌+◌, Bool, true, false, ◌||◌, List, [], ◌∷◌, ◌++◌, ◌⊎◌, length, Some, None, Result, Ok, Err, slice_get, refl, sym, ap, ◌∙◌, subst, inl, inr}
+use Rattle.std.proofs.Math.Bool.{or_assoc}
+use Rattle.std.proofs.lemmas.Option.{none-some, same_Some}
 use Rattle.std.proofs.lemmas.List.{length-map}
 use Rattle.qs_wire.specs.Layout.{PlacedValue}
 use Rattle.qs_wire.specs.Grammar.{frames_of}
 use Rattle.qs_wire.specs.Reading.{reading_of}
-use Rattle.qs_wire.specs.declared.fault.WireFault.{WireFault}
 use Rattle.qs_wire.specs.declared.stream_id.Role.{Role}
 use Rattle.qs_wire.specs.declared.stream_id.Role.TheVariants.{Client, Server}
 use Rattle.qs_wire.specs.declared.stream_id.Dir.TheVariants.{Bidi, Uni}
@@ -14,16 +14,14 @@ use Rattle.qs_calls.specs.declared.settings.Tuning.{Tuning}
 use Rattle.qs_calls.specs.declared.settings.PeerLimits.{PeerLimits}
 use Rattle.qs_calls.specs.declared.closing.Closing.{Closing}
 use Rattle.qs_calls.specs.declared.closing.Received.{Received}
-use Rattle.qs_calls.specs.declared.closing.Received.TheVariants.{Done, Duplicate, BelowFloor, PeerClosed, NoMemory}
+use Rattle.qs_calls.specs.declared.closing.Received.TheVariants.{Done, Duplicate, BelowFloor, NoMemory}
 use Rattle.qs_calls.specs.declared.making.MakeFault.{MakeFault}
 use Rattle.qs_calls.specs.declared.event.Side.{Side}
 use Rattle.qs_calls.specs.declared.event.Side.TheVariants.{A}
-use Rattle.qs_calls.specs.declared.event.Act.TheVariants as acts
-use Rattle.qs_calls.specs.declared.answer.Answer.TheVariants as answers
 use Rattle.qs_machine.specs.Tables.{each}
-use Rattle.qs_machine.specs.Ends.{End, new_end, wide_end_made}
+use Rattle.qs_machine.specs.Ends.{End, closes, new_end, wide_end_made}
 use Rattle.qs_machine.specs.Credit.{settle}
-use Rattle.qs_machine.specs.Seen.{Seen, Plain, seen, seen_all, asks_ack}
+use Rattle.qs_machine.specs.Seen.{Seen, Plain, seen, seen_all, asks_ack, any_asks}
 use Rattle.qs_machine.specs.Verdicts.{verdict}
 use Rattle.qs_machine.specs.FrameStep.{frame_taken}
 use Rattle.qs_machine.specs.Recording.{recorded}
@@ -35,19 +33,18 @@ use Rattle.qs_machine.proofs.Counts.{new_ends_settled as new_counts_settled}
 use Rattle.qs_machine.proofs.EveryCall.{ends_by, by_open}
 use Rattle.qs_machine.proofs.Again.{settle_twice}
 use Rattle.qs_machine.proofs.SettledLimits.{new_ends_settled}
-use Rattle.qs_machine.proofs.Ways.{plain_nothing}
-use Rattle.qs_runs.specs.Logs.{CameWith, History, other, made, payload, ping_text}
-use Rattle.qs_runs.specs.Worlds.{World, end_of, Begins, WorldStep, Run}
-use Rattle.qs_runs.specs.Agree.{frames_in}
+use Rattle.qs_runs.specs.Logs.{History, other, made, payload, ping_text}
+use Rattle.qs_runs.specs.Worlds.{World, end_of, Begins, IsPayload, Run}
+use Rattle.qs_machine.specs.Plains.{frames_in, but_plain}
 use Rattle.qs_runs.specs.Invariant.{WorldOk}
-use Rattle.qs_runs.specs.Claims.{claimed, came, ChangesNumbers, ClaimsAlwaysTellNothing}
+use Rattle.qs_runs.specs.Claims.{claimed, ClaimsAlwaysTellNothing}
 use Rattle.qs_runs.proofs.Lists.{slice_get-last}
 use Rattle.qs_runs.proofs.Standing.{certain_cases}
-use Rattle.qs_runs.proofs.Wire.{ping_seen, ping_faultless}
+use Rattle.qs_runs.proofs.Wire.{ping_seen}
 use Rattle.qs_runs.proofs.Stays.{each_side}
-use Rattle.qs_runs.proofs.Histories.{seen_made, made_own}
+use Rattle.qs_runs.proofs.Histories.{two_sides, back_again, made_here}
 use Rattle.qs_runs.proofs.NewEnds.{first_world, made_first, ends_made}
-use Rattle.qs_runs.proofs.Runs.{two_sides, run_keeps, is_open_end}
+use Rattle.qs_runs.proofs.Runs.{run_keeps}
 
 -- In every run each end stands as its last call left it.
 
@@ -60,7 +57,7 @@ begun_settled role s t p begun =
 
 call_settled : (old : End) (call : Call) (answer : CallAnswer call) (new : End) → settle old ≡ old → EndStep old call answer new → settle new ≡ new
 call_settled old call answer new h step =
-    ends_by (λ e. settle e ≡ e) old h settle_twice (λ k p e is. ap (first_lost k p) is) (ap (λ (e : End). record e { next = e.next + 1 }) h) call answer new step
+    ends_by (λ e. settle e ≡ e) old h settle_twice (λ k p e is. ap (first_lost k p) is) (ap (λ (e : End). record e { next = e.next + 1 }) h) (λ c. ap (closes c) h) call answer new step
 
 first_settled : (a b : Settings) (w : World) → Begins a b w → (s : Side) → settle (end_of w s) ≡ end_of w s
 first_settled a b w begins s =
@@ -73,42 +70,44 @@ run_settled a b [] w begins s = first_settled a b w begins s
 run_settled a b (x ∷ h) w (v, before, step) s =
     each_side (λ e f. settle e ≡ e → settle f ≡ f) (λ e is. is) v w (λ t call answer made is. call_settled (end_of v t) call answer (end_of w t) is made) h x step s (run_settled a b h v before s)
 
--- A PING comes
+-- Plain frames come
 
--- it has no fault, and takes no memory of its own
-ping_goes : (v : PlacedValue) (f : Seen) (k : ℕ) (e mid : End) (result : Result Received Closing) → f ≡ Plain true → Stops v f e result mid ⊎ (GoesOn e f × AtEnd k (asks_ack f) None (frame_taken f e) result mid) → AtEnd k true None e result mid
+-- the first has no fault and takes no memory of its own, and what is left of them is plain too
+plain_goes : (v : PlacedValue) (f : Seen) (gs : List Seen) (k : ℕ) (asks : Bool) (e mid : End) (left : List PlacedValue) (result : Result Received Closing) → but_plain (f ∷ gs) ≡ [] →
+    Stops v f e result mid ⊎ (GoesOn e f × Takes k None (asks || asks_ack f) (frame_taken f e) left result mid) →
+    ((b : Bool) → but_plain gs ≡ [] → Takes k None b e left result mid → AtEnd k (b || any_asks gs) None e result mid) → AtEnd k (asks || (asks_ack f || any_asks gs)) None e result mid
 unfolding verdict frame_taken
-ping_goes v f k e mid result is h = by result (subst (λ g. Stops v g e result mid ⊎ (GoesOn e g × AtEnd k (asks_ack g) None (frame_taken g e) result mid)) is h)
+plain_goes v (Plain more) gs k asks e mid left result none (inr (goes, takes)) rest = subst (λ b. AtEnd k b None e result mid) (or_assoc asks more (any_asks gs)) (rest (asks || more) none takes)
+plain_goes v (Plain more) gs k asks e mid left (Ok NoMemory) none (inl stops) rest = absurd stops.1.1
+plain_goes v (Plain more) gs k asks e mid left (Err closing) none (inl stops) rest = absurd (none-some closing.code stops.0)
+plain_goes v (Plain more) gs k asks e mid left (Ok received) none (inl stops) rest = absurd stops
+plain_goes v f gs k asks e mid left result none h rest = absurd (cc none)
+
+plain_taken : (left : List PlacedValue) (k : ℕ) (asks : Bool) (e mid : End) (result : Result Received Closing) → but_plain (seen_all (frames_of left)) ≡ [] → Takes k None asks e left result mid → AtEnd k (asks || any_asks (seen_all (frames_of left))) None e result mid
+plain_taken [] k asks e mid result none h = subst (λ b. AtEnd k b None e result mid) (sym (or_false asks)) h
   where
-    by : (r : Result Received Closing) → Stops v (Plain true) e r mid ⊎ (GoesOn e (Plain true) × AtEnd k true None (frame_taken (Plain true) e) r mid) → AtEnd k true None e r mid
-    by r (inr goes) = goes.1
-    by (Ok NoMemory) (inl stops) = absurd stops.1.1
-    by (Err closing) (inl stops) = absurd (none-some closing.code stops.0)
-    by (Ok received) (inl stops) = absurd stops
+    or_false : (b : Bool) → (b || false) ≡ b
+    or_false true = refl
+    or_false false = refl
+plain_taken (v ∷ left) k asks e mid result none h =
+    plain_goes v (seen v.frame) (seen_all (frames_of left)) k asks e mid left result none h (λ b others takes. plain_taken left k b e mid result others takes)
 
--- all that is read in it
-ping_taken : (left : List PlacedValue) (fault : Option WireFault) (k : ℕ) (e mid : End) (result : Result Received Closing) → seen_all (frames_of left) ≡ Plain true ∷ [] → fault ≡ None → Takes k fault false e left result mid → AtEnd k true None e result mid
-ping_taken (v ∷ []) fault k e mid result is none h =
-    ping_goes v (seen v.frame) k e mid result (cc is)
-    (subst (λ o. Stops v (seen v.frame) e result mid ⊎ (GoesOn e (seen v.frame) × AtEnd k (asks_ack (seen v.frame)) o (frame_taken (seen v.frame) e) result mid)) none h)
-ping_taken _ fault k e mid result is none h = absurd (cc is)
+plain_ends : (k : ℕ) (asks : Bool) (e mid new : End) (result : Result Received Closing) → settle e ≡ e → AtEnd k asks None e result mid → new ≡ settle mid → OnlyRecords k asks result e new
+plain_ends k asks e mid new (Ok Done) same end is = is ∙ ap settle end ∙ ap (recorded k asks) same
+plain_ends k asks e mid new (Ok NoMemory) same end is = is ∙ ap settle end.0 ∙ same
+plain_ends k asks e mid new result same end is = absurd end
 
-ping_ends : (k : ℕ) (e mid new : End) (result : Result Received Closing) → settle e ≡ e → AtEnd k true None e result mid → new ≡ settle mid → OnlyRecords k true result e new
-ping_ends k e mid new (Ok Done) same end is = is ∙ ap settle end ∙ ap (recorded k true) same
-ping_ends k e mid new (Ok NoMemory) same end is = is ∙ ap settle end.0 ∙ same
-ping_ends k e mid new result same end is = absurd end
+plain_received : (k : ℕ) (bytes : List ℕ) (e new : End) (result : Result Received Closing) → e.closed ≡ None → settle e ≡ e → (reading_of bytes).fault ≡ None → but_plain (frames_in bytes) ≡ [] → ReceiveStep e k bytes result new →
+    OnlyRecords k (any_asks (frames_in bytes)) result e new
+plain_received k bytes e new result not_closed same faultless none step =
+    let stays : (r : Result Received Closing) → result ≡ r → OnlyRecords k (any_asks (frames_in bytes)) r e new → OnlyRecords k (any_asks (frames_in bytes)) result e new = λ r at h. subst (λ x. OnlyRecords k (any_asks (frames_in bytes)) x e new) (sym at) h in
+    by_open (OnlyRecords k (any_asks (frames_in bytes)) result e new) k bytes e result new (subst (λ o. ReceiveBy o k bytes e result new) not_closed step) (stays (Ok BelowFloor)) (stays (Ok Duplicate)) (λ high mid takes is.
+    plain_ends k (any_asks (frames_in bytes)) e mid new result same
+    (plain_taken (reading_of bytes).left k false e mid result none (subst (λ f. Takes k f false e (reading_of bytes).left result mid) faultless takes)) is)
 
-ping_received : (k : ℕ) (e new : End) (result : Result Received Closing) → e.closed ≡ None → settle e ≡ e → ReceiveStep e k ping_text result new → OnlyRecords k true result e new
-ping_received k e new result not_closed same step =
-    let stays : (r : Result Received Closing) → result ≡ r → OnlyRecords k true r e new → OnlyRecords k true result e new = λ r at h. subst (λ x. OnlyRecords k true x e new) (sym at) h in
-    by_open (OnlyRecords k true result e new) k ping_text e result new (subst (λ o. ReceiveBy o k ping_text e result new) not_closed step) (stays (Ok BelowFloor)) (stays (Ok Duplicate)) (λ high mid takes is.
-    ping_ends k e mid new result same (ping_taken (reading_of ping_text).left (reading_of ping_text).fault k e mid result ping_seen ping_faultless takes) is)
-
-records_numbers : (k : ℕ) (result : Result Received Closing) (old new : End) → OnlyRecords k true result old new → ChangesNumbers old new
-records_numbers k (Ok (PeerClosed code)) old new is = absurd is
-records_numbers k (Ok Done) old new is = subst (ChangesNumbers old) (sym is) refl
-records_numbers k (Ok received) old new is = subst (ChangesNumbers old) (sym is) refl
-records_numbers k (Err closing) old new is = absurd is
+-- a PING is plain, and so is what differs from it in plain frames alone
+ping_plain : but_plain (frames_in ping_text) ≡ []
+ping_plain = ap but_plain ping_seen
 
 -- A number is claimed
 
@@ -122,33 +121,24 @@ module _ (a b : Settings) (h : History) (v : World) (s : Side) (ok : WorldOk a b
   claimed_is number new step =
       elim (certain_cases (claim_refusal (end_of v s)) (end_of v s) (Ok number) new _ step) [
         | inl (fault, is, same) ↦ absurd (cc is)
-        | inr (allowed, (is, same)) ↦ ap number_in is ∙ ((ok.ends s).packets.count ∙ ap length (seen_made s h) ∙ length-map (made s h) frames_in)
+        | inr (allowed, (is, same)) ↦ ap number_in is ∙ (ok.ends s).packets.count ∙ length-map (made s h) frames_in
       ]
 
   claimed_ping : (number : ℕ) (new : End) → ClaimStep (end_of v s) (Ok number) new → payload s number (claimed s number ∷ h) ≡ Some ping_text
   claimed_ping number new step =
-      ap (λ ts. slice_get ts number) (made_own s acts.Claim (answers.Claim (Ok number)) h)
+      ap (λ ts. slice_get ts number) (made_here (claimed s number) h)
       ∙ ap (slice_get (made s h ++ ping_text ∷ [])) (claimed_is number new step)
       ∙ slice_get-last (made s h) ping_text
 
 pub claims_tell_nothing : ClaimsAlwaysTellNothing
 claims_tell_nothing a b h v w s number run =
     record {
-      ping = λ step. claimed_ping a b h v s (run_keeps a b h v run) number (end_of w s) step.0;
-      recorded = λ result ping step. records result ping step;
-      rest = λ result ping step. records_numbers number result (end_of v (other s)) (end_of w (other s)) (records result ping step);
-      others = λ bytes result ping step. others bytes result ping step;
+      ping = λ step. claimed_ping a b h v s (run_keeps a b h v run) number (end_of w s) step.step;
+      recorded = λ bytes result ping open_end step. recorded bytes result ping open_end step.step (step.may open_end);
     }
   where
-    ping_recorded : (new : End) (text : List ℕ) (result : Result Received Closing) → payload s number h ≡ Some ping_text → payload s number h ≡ Some text → ReceiveStep (end_of v (other s)) number text result new → OnlyRecords number true result (end_of v (other s)) new
-    ping_recorded new text result ping is step =
-        ping_received number (end_of v (other s)) new result (is_open_end a b h v (run_keeps a b h v run) (other s)) (run_settled a b h v run (other s))
-        (subst (λ t. ReceiveStep (end_of v (other s)) number t result new) (cc (sym is ∙ ping)) step)
-
-    records : (result : Result Received Closing) → payload s number h ≡ Some ping_text → WorldStep h v (came s number result) w → OnlyRecords number true result (end_of v (other s)) (end_of w (other s))
-    records result ping (text, is, step, same) = ping_recorded (end_of w (other s)) text result ping is step
-
-    others : (bytes : List ℕ) (result : Result Received Closing) → payload s number h ≡ Some ping_text → WorldStep h v (CameWith s number bytes result) w → ChangesNumbers (end_of v (other s)) (end_of w (other s))
-    others bytes result ping (text, is, differ, step, same) =
-        let (bare, received, alike) = plain_nothing (end_of v (other s)) (end_of w (other s)) number bytes text result differ step in
-        subst (ChangesNumbers (end_of v (other s))) (sym alike) (ap (λ (e : End). record e { ack_due = (end_of w (other s)).ack_due }) (records_numbers number result (end_of v (other s)) bare (ping_recorded bare text result ping is received)))
+    recorded : (bytes : List ℕ) (result : Result Received Closing) → payload s number h ≡ Some ping_text → (end_of v (other s)).closed ≡ None → ReceiveStep (end_of v (other s)) number bytes result (end_of w (other s)) → IsPayload h (other (other s)) number bytes →
+        OnlyRecords number (any_asks (frames_in bytes)) result (end_of v (other s)) (end_of w (other s))
+    recorded bytes result ping open_end step (text, is, differ) =
+        plain_received number bytes (end_of v (other s)) (end_of w (other s)) result open_end (run_settled a b h v run (other s)) differ.reads
+        (differ.same ∙ ap (λ t. but_plain (frames_in t)) (same_Some text ping_text (sym is ∙ back_again (λ t. payload t number h ≡ Some ping_text) s ping)) ∙ ping_plain) step

@@ -1,44 +1,60 @@
 -- What agrees in a world that meets the invariant: each clause, and the laws as they are stated.
-use Rattle.std.proofs.Common.{◌≡◌, ℕ, List, Some, Result, true, sym, subst, refl, ap, ◌∙◌, slice_get, ◌+◌, ◌<◌, ◌≤◌, ◌⊎◌, length, Option, None, is_some, option_map, Bool, false, not, arith, inl, inr, if◌then◌else◌, ◌∷◌}
-use Rattle.std.proofs.lemmas.Option.{same_Some, none-some, slice_get-map}
+use Rattle.std.proofs.Common.{◌≡◌, ℕ, List, [], ◌∷◌, Some, true, sym, subst, refl, ap, ◌∙◌, slice_get, ◌+◌, ◌<◌, ◌≤◌, ◌⊎◌, length, Option, None, is_some, Bool, false, not, arith, inl, inr, if◌then◌else◌}
+use Rattle.std.proofs.lemmas.Bool.{false≢true}
+use Rattle.std.proofs.lemmas.Option.{none-some}
 use Rattle.std.specs.List.{AllByRecursion}
-use Rattle.qs_calls.specs.declared.token.Taken.{Taken}
-use Rattle.qs_calls.specs.declared.token.TakeFault.{TakeFault}
-use Rattle.qs_calls.specs.declared.settings.Settings.{Settings}
-use Rattle.qs_calls.specs.declared.closing.Closing.{Closing}
-use Rattle.qs_calls.specs.declared.closing.Received.{Received}
-use Rattle.qs_machine.specs.Tables.{lookup, index_of}
-use Rattle.qs_machine.specs.Ends.{End, first_send_limit, window, is_own, is_uni}
-use Rattle.qs_machine.specs.Credit.{spent}
-use Rattle.qs_machine.specs.Receiving.{ReceiveStep}
-use Rattle.qs_machine.specs.Seen.{seen_all, Seen, Stream, Control}
-use Rattle.qs_machine.proofs.Ways.{plain_nothing}
-use Rattle.qs_calls.specs.declared.event.Side.{Side}
-use Rattle.qs_calls.specs.declared.event.Side.TheVariants.{A, B}
-use Rattle.qs_calls.specs.declared.event.Act.{Act}
-use Rattle.qs_calls.specs.declared.event.Act.TheVariants as acts
-use Rattle.qs_calls.specs.declared.answer.Answer.{Answer}
-use Rattle.qs_calls.specs.declared.answer.Answer.TheVariants as answers
-use Rattle.qs_runs.specs.Logs.{Part, Happening, Did, CameWith, CameAlone, History, other, payload, processed, AreFramesOf, written, made}
-use Rattle.qs_runs.specs.Worlds.{World, end_of, DeliverStep, ComeWithStep, ComeAloneStep, EventStep, WorldStep}
-use Rattle.qs_runs.specs.Agree.{Agree, PrefixAgrees, WholeAgrees, FinalSizesAgree, CreditAgrees, StaysOpen, RepeatAgrees, EventAgrees, FramesAgree, StepAgrees, EveryRunAgrees, IsOld, frames_in}
-use Rattle.qs_runs.specs.Invariant.{WorldOk, SendSlot, RecvSlot, FrameTaken, EndOk}
-use Rattle.qs_runs.proofs.Unharmed.{spent_le, Facing, lane_limit, own_sends, final_sent, data_granted}
-use Rattle.qs_runs.proofs.Agreement.{prefix_agrees, whole_agrees, received_agrees, size_agrees, reset_agrees, byte_written, gave_written, end_written, written_count}
-use Rattle.qs_runs.proofs.Receives.{repeats, spends_nothing, frames_spend, held_told}
-use Rattle.qs_runs.proofs.Histories.{parts_held, parts_same, theirs_mine, payload_seen, confirmed_taken, seen_made, among_at, at_among, mapped_some, confirmed_landed}
-use Rattle.qs_runs.specs.Pasts.{past, Holds, Tells, WasConfirmed, Landed, IsNamed}
-use Rattle.qs_runs.proofs.Runs.{ends_face, is_open_end, run_keeps, opposite, step_keeps}
 use Rattle.qs_recv.specs.Lane.{RecvLane}
 use Rattle.qs_send.specs.Lane.{SendLane}
 use Rattle.qs_send.specs.declared.piece.Item.TheVariants.{ResetStream}
-use Rattle.qs_send.specs.Records.{Among}
-use Rattle.qs_machine.specs.Alone.{is_ours}
-use Rattle.qs_runs.specs.Clauses.{Carries, CarriesAt, HasArrived, sending, receiving, PiecesAreWritten, ReceivedIsBelowSent, StoredIsWritten, ReadIsWritten, ArrivedWasTaken, ArrivedResetWasTaken, AckedHasArrived, FinalSizeIsDeclared, ResetCodeIsTheSenders, SentIsWithinKnown, KnownIsWithinGranted, IsOpen, IsOpenAtInitiator, known_for, OpenedIsBelowKnown}
-use Rattle.qs_runs.specs.Laws.{ArrivedWasAlwaysTaken}
+use Rattle.qs_calls.specs.declared.closing.Closed.{Closed}
+use Rattle.qs_calls.specs.declared.settings.Settings.{Settings}
+use Rattle.qs_calls.specs.declared.event.Side.{Side}
+use Rattle.qs_calls.specs.declared.event.Side.TheVariants.{A, B}
+use Rattle.qs_machine.specs.Tables.{lookup, index_of}
+use Rattle.qs_machine.specs.Ends.{End, first_send_limit, window, is_own, is_uni}
+use Rattle.qs_machine.specs.Credit.{spent}
+use Rattle.qs_machine.specs.Seen.{Seen, Stream, Control}
+use Rattle.qs_machine.specs.Plains.{frames_in}
+use Rattle.qs_machine.specs.Laws.{StaysOnceClosed}
+use Rattle.qs_machine.specs.EndStep.{Call, Answer, EndStep, Receive, TakeFrame, TakeFrames}
+use Rattle.qs_machine.proofs.EveryCall.{closed_stays}
 use Rattle.qs_machine.proofs.Pieces.{All_at}
+use Rattle.qs_runs.specs.Logs.{Happening, History, other, processed, written}
+use Rattle.qs_runs.specs.Worlds.{World, end_of, May, WorldStep}
+use Rattle.qs_runs.specs.Agree.{Agree, PrefixAgrees, WholeAgrees, FinalSizesAgree, CreditAgrees, StaysOpen, StepAgrees, EveryRunAgrees, IsOld, handed_in}
+use Rattle.qs_runs.specs.Invariant.{WorldOk, SendSlot, RecvSlot, FrameTaken, EndOk}
+use Rattle.qs_runs.specs.Pasts.{past, Holds, Tells, IsNamed}
+use Rattle.qs_runs.specs.Clauses.{Carries, HasArrived, sending, receiving, PiecesAreWritten, ReceivedIsBelowSent, StoredIsWritten, ReadIsWritten, ArrivedWasTaken, ArrivedResetWasTaken, AckedHasArrived, FinalSizeIsDeclared, ResetCodeIsTheSenders, SentIsWithinKnown, KnownIsWithinGranted, IsOpen, IsOpenAtInitiator, known_for, OpenedIsBelowKnown}
+use Rattle.qs_runs.specs.Laws.{ArrivedWasAlwaysTaken}
+use Rattle.qs_runs.proofs.Unharmed.{spent_le, Facing, lane_limit, own_sends, final_sent, data_granted}
+use Rattle.qs_runs.proofs.Agreement.{prefix_agrees, whole_agrees, received_agrees, size_agrees, reset_agrees, byte_written, gave_written, end_written, written_count}
+use Rattle.qs_runs.proofs.Receives.{Hands, repeats, spends_nothing, frames_spend, none_spent}
+use Rattle.qs_runs.proofs.Histories.{theirs_mine, payload_seen, confirmed_taken, frames_told, payload_come}
+use Rattle.qs_runs.proofs.Runs.{ends_face, run_keeps, opposite, step_keeps}
 
 -- What agrees in a world that meets the invariant, and at each step from it.
+
+-- the number of a payload
+abbrev number_of : Call → ℕ
+number_of (Receive k bytes) = k
+number_of call = 0
+
+abbrev is_receive : Call → Bool
+is_receive (Receive k bytes) = true
+is_receive call = false
+
+hands_or : (call : Call) → Hands call ⊎ (Hands call → ⊥)
+hands_or (Receive k bytes) = inl tt
+hands_or (TakeFrame f) = inl tt
+hands_or (TakeFrames fs) = inl tt
+hands_or call = inr (λ no. no)
+
+-- of an end that closed nothing changes
+hands_same : (old new : End) (call : Call) → Hands call → StaysOnceClosed old call new → new ≡ old
+hands_same old new (Receive k bytes) hands same = same
+hands_same old new (TakeFrame f) hands same = same
+hands_same old new (TakeFrames fs) hands same = same
+hands_same old new call hands same = absurd hands
 
 module _ (a b : Settings) (h : History) (w : World) (ok : WorldOk a b h w) where
   pub prefix : (s : Side) (n : ℕ) → PrefixAgrees h s n
@@ -54,7 +70,7 @@ module _ (a b : Settings) (h : History) (w : World) (ok : WorldOk a b h w) where
   whole s n l there =
       let sender : End = end_of w s in
       let receiver : End = end_of w (other s) in
-      received_agrees (past s h) (past (other s) h) n (first_send_limit sender n) (window receiver n) (theirs_mine s h) receiver ((ok.ends (other s)).recvs n) (confirmed_taken a b h w ok s (FrameTaken receiver.recvs) (ok.ends (other s)).taken) l
+      received_agrees (past s h) (past (other s) h) n (first_send_limit sender n) (window receiver n) (theirs_mine s h) receiver ((ok.ends (other s)).recvs n) (λ k g holds ack land. All_at (FrameTaken receiver.recvs) (past (other s) h).taken g (ok.ends (other s)).taken (confirmed_taken a b h w ok s k g holds ack land)) l
       (subst (SendSlot (past s h) n (first_send_limit sender n)) there ((ok.ends s).sends n))
 
   pub final_sizes : (s : Side) (n : ℕ) → FinalSizesAgree w s n
@@ -73,61 +89,48 @@ module _ (a b : Settings) (h : History) (w : World) (ok : WorldOk a b h w) where
   credit A = spent_le (past A h) (past B h) refl refl w.a w.b (ends_face a b h w ok B) (ok.ends A) (ok.ends B)
   credit B = spent_le (past B h) (past A h) refl refl w.b w.a (ends_face a b h w ok A) (ok.ends B) (ok.ends A)
 
-  pub stays_open : (s : Side) → StaysOpen w s
-  stays_open s = is_open_end a b h w ok s
+  pub stays_open : (s : Side) → StaysOpen h w s
+  stays_open s = ok.unclosed s
 
   pub agrees : Agree h w
   agrees = record { prefix = prefix; credit = credit; whole = whole; final_sizes = final_sizes; stays_open = stays_open }
 
-  -- a packet that was processed comes again, with whatever bytes
-  again_at : (s : Side) (k : ℕ) (bytes : List ℕ) (result : Result Received Closing) (new : End) → ReceiveStep (end_of w (other s)) k bytes result new → processed (other s) k h ≡ true → new ≡ end_of w (other s)
-  again_at s k bytes result new step done = repeats (past (other s) h) (end_of w (other s)) new k bytes result (ok.ends (other s)) (is_open_end a b h w ok (other s)) step done
+  -- One call of a side
 
-  -- a packet has one payload
-  same_text : (s : Side) (k : ℕ) (text t : List ℕ) → payload (other (other s)) k h ≡ Some t → payload s k h ≡ Some text → t ≡ text
-  same_text A k text t x y = same_Some t text (sym x ∙ y)
-  same_text B k text t x y = same_Some t text (sym x ∙ y)
+  module _ (s : Side) (new : End) where
+    abbrev old : End
+    old = end_of w s
 
-  -- its payload tells nothing new
-  old_news_at : (s : Side) (k : ℕ) (text : List ℕ) (result : Result Received Closing) (new : End) → payload s k h ≡ Some text → ReceiveStep (end_of w (other s)) k text result new →
-      (t : List ℕ) → payload (other (other s)) k h ≡ Some t → AllByRecursion (IsOld (end_of w (other s))) (frames_in t) → spent new ≡ spent (end_of w (other s))
-  old_news_at s k text result new is step t at all =
-      let there = ap (λ x. slice_get x k) (theirs_mine s h) ∙ payload_seen s k h text is in
-      spends_nothing (past (other s) h) (end_of w (other s)) new k text result (ok.ends (other s)) there (is_open_end a b h w ok (other s)) step
-      (subst (λ x. AllByRecursion (IsOld (end_of w (other s))) (frames_in x)) (same_text s k text t at is) all)
+    -- a packet that was processed comes again, in whatever bytes
+    again : (call : Call) (answer : Answer call) → EndStep old call answer new → (k : ℕ) (bytes : List ℕ) → call ≡ Receive k bytes → processed s k h ≡ true → new ≡ old
+    again (Receive j text) answer step k bytes is done = by old.closed refl
+      where
+        by : (o : Option Closed) → old.closed ≡ o → new ≡ old
+        by None open_end = repeats (past s h) old new j text answer (ok.ends s) open_end step (subst (λ i. processed s i h ≡ true) (sym (ap number_of is)) done)
+        by (Some closed) shut = closed_stays old (Receive j text) answer new (ap is_some shut) step
+    again call answer step k bytes is done = absurd (false≢true (ap is_receive is))
 
-  repeat_agrees : (s : Side) (k : ℕ) (answer : Answer) (new : World) → DeliverStep h w s k answer new → RepeatAgrees h w new (other s) k
-  repeat_agrees s k (answers.Deliver result) new (text, is, step, same) = record { again = again_at s k text result (end_of new (other s)) step; old_news = old_news_at s k text result (end_of new (other s)) is step }
-  repeat_agrees s k answer new step = absurd step
+    -- what comes to an open end
+    heard_spends : old.closed ≡ None → (call : Call) (answer : Answer call) → Hands call → May h w s call → EndStep old call answer new → AllByRecursion (IsOld old) (handed_in call) → spent new ≡ spent old
+    heard_spends open_end (Receive k bytes) answer hands may step all = spends_nothing (past s h) old new k bytes answer (ok.ends s) (payload_come h s k bytes may) open_end step all
+    heard_spends open_end (TakeFrames fs) answer hands may step all = frames_spend (past s h) old new fs answer (ok.ends s) open_end (frames_told h s (ok.texts (other s)) fs may) all (inl step)
+    heard_spends open_end (TakeFrame f) answer hands may step all = frames_spend (past s h) old new (f ∷ []) answer (ok.ends s) open_end (frames_told h s (ok.texts (other s)) (f ∷ []) (may, tt)) all (inr (f, refl, step))
+    heard_spends open_end call answer hands may step all = absurd hands
 
-  came_agrees : (s : Side) (k : ℕ) (bytes : List ℕ) (result : Result Received Closing) (new : World) → ComeWithStep h w s k bytes result new → RepeatAgrees h w new (other s) k
-  came_agrees s k bytes result new (text, is, differ, step, same) =
-      let (bare, received, alike) = plain_nothing (end_of w (other s)) (end_of new (other s)) k bytes text result differ step in
-      record {
-        again = again_at s k bytes result (end_of new (other s)) step;
-        old_news = λ t at all. ap spent alike ∙ old_news_at s k text result bare is received t at all;
-      }
-
-  -- frames come without their packets
-  frames_agree : (s : Side) (parts : List Part) (result : Result Taken TakeFault) (new : World) → ComeAloneStep h w s parts result new → FramesAgree h w new (other s) parts
-  frames_agree s parts result new (fs, are, came, same) gs those all =
-      frames_spend (past (other s) h) (end_of w (other s)) (end_of new (other s)) fs result (ok.ends (other s)) (is_open_end a b h w ok (other s))
-      (held_told (past (other s) h).theirs parts fs (parts_held h s parts fs are))
-      (subst (λ xs. AllByRecursion (IsOld (end_of w (other s))) (seen_all xs)) (alike s those are) all) came
-    where
-      alike : (s : Side) → AreFramesOf h (other (other s)) parts gs → AreFramesOf h s parts fs → gs ≡ fs
-      alike A x y = parts_same h A parts gs fs x y
-      alike B x y = parts_same h B parts gs fs x y
-
-  event_agrees : (s : Side) (act : Act) (answer : Answer) (new : World) → EventStep h w s act answer new → EventAgrees h w s act new
-  event_agrees s (acts.Deliver k) answer new step = repeat_agrees s k answer new step
-  event_agrees s act answer new step = tt
+    -- it tells nothing new
+    old_news : (call : Call) (answer : Answer call) → (old.closed ≡ None → May h w s call) → EndStep old call answer new → AllByRecursion (IsOld old) (handed_in call) → spent new ≡ spent old
+    old_news call answer may step all =
+        elim (hands_or call) [
+          | inl hands ↦ by hands old.closed refl
+          | inr idle ↦ none_spent old new call answer idle step
+        ]
+      where
+        by : Hands call → (o : Option Closed) → old.closed ≡ o → spent new ≡ spent old
+        by hands None open_end = heard_spends open_end call answer hands (may open_end) step all
+        by hands (Some closed) shut = ap spent (hands_same old new call hands (closed_stays old call answer new (ap is_some shut) step))
 
   pub step_agrees : (x : Happening) (new : World) → WorldStep h w x new → StepAgrees h w x new
-  step_agrees (Did event answer) new step = event_agrees event.end event.act answer new step
-  step_agrees (CameWith s k bytes result) new step = came_agrees s k bytes result new step
-  step_agrees (CameAlone s parts result) new step = frames_agree s parts result new step
-  step_agrees x new step = tt
+  step_agrees x new step = record { again = again x.end (end_of new x.end) x.call x.answer step.step; old_news = old_news x.end (end_of new x.end) x.call x.answer step.may step.step }
 
 pub every_run_agrees : EveryRunAgrees
 every_run_agrees a b h w run =
@@ -139,12 +142,6 @@ every_run_agrees a b h w run =
 -- a packet carries what it holds
 carries_holds : (s : Side) (h : History) (k : ℕ) (f : Seen) → Carries h s k f → Holds (past s h).mine k f
 carries_holds s h k f (text, is, a) = (frames_in text, payload_seen s k h text is, a)
-
-holds_carries : (s : Side) (h : History) (k : ℕ) (f : Seen) → Holds (past s h).mine k f → Carries h s k f
-holds_carries s h k f (fs, is, a) =
-    let seen : option_map frames_in (slice_get (made s h) k) ≡ Some fs = sym (ap (λ x. slice_get x k) (seen_made s h) ∙ slice_get-map frames_in (made s h) k) ∙ is in
-    let (text, there, same) = mapped_some frames_in (slice_get (made s h) k) fs seen in
-    (text, there, subst (Among f) (sym same) a)
 
 module _ (a b : Settings) (h : History) (w : World) (ok : WorldOk a b h w) (s : Side) where
   abbrev sender : End
@@ -193,24 +190,13 @@ module _ (a b : Settings) (h : History) (w : World) (ok : WorldOk a b h w) (s : 
     pub read_is_written : ReadIsWritten h s n
     read_is_written q b has_it = gave_written (past s h) (past (other s) h) n (first_send_limit sender n) (window receiver n) (theirs_mine s h) (sending w s n) (receiving w s n) send_slot (recvs_ok.recvs n) q b has_it
 
-    -- what a past of the receiver tells of the packet
-    there_seen : (k : ℕ) (text : List ℕ) → payload s k h ≡ Some text → slice_get (past (other s) h).theirs k ≡ Some (frames_in text)
-    there_seen k text is = ap (λ x. slice_get x k) (theirs_mine s h) ∙ payload_seen s k h text is
-
     -- a frame that arrived took effect
-    frame_taken_by : (k i : ℕ) (f : Seen) → HasArrived h s k i → CarriesAt h s k i f → FrameTaken receiver.recvs f
-    frame_taken_by k i f (inl done) (text, is, at) =
-        let (fs, there, all) = recvs_ok.taken.packets k done in
-        let same : fs ≡ frames_in text = same_Some fs (frames_in text) (sym there ∙ there_seen k text is) in
-        All_at (FrameTaken receiver.recvs) (frames_in text) f (subst (AllByRecursion (FrameTaken receiver.recvs)) same all) (at_among (frames_in text) i f at)
-    frame_taken_by k i f (inr alone) (text, is, at) =
-        let (g, (fs, there, has_it), taken) = recvs_ok.taken.frames k i alone in
-        let same : fs ≡ frames_in text = same_Some fs (frames_in text) (sym there ∙ there_seen k text is) in
-        subst (FrameTaken receiver.recvs) (same_Some g f (sym (subst (λ xs. slice_get xs i ≡ Some g) same has_it) ∙ at)) taken
+    frame_taken_by : (f : Seen) → HasArrived h s f → FrameTaken receiver.recvs f
+    frame_taken_by f came = All_at (FrameTaken receiver.recvs) (past (other s) h).taken f recvs_ok.taken came
 
     pub arrived_was_taken : ArrivedWasTaken h w s n
-    arrived_was_taken k i offset bytes fin came c =
-        let (r, is, taken) = frame_taken_by k i (Stream n offset bytes fin) came c in
+    arrived_was_taken offset bytes fin came =
+        let (r, is, taken) = frame_taken_by (Stream n offset bytes fin) came in
         (r, is, by r.reset_code refl (λ none. taken.offsets none), taken.end)
       where
         by : {P : Type 0} (o : Option ℕ) {x : Option ℕ} → x ≡ o → (x ≡ None → P) → P ⊎ (is_some x ≡ true)
@@ -218,30 +204,17 @@ module _ (a b : Settings) (h : History) (w : World) (ok : WorldOk a b h w) (s : 
         by (Some code) e f = inr (ap is_some e)
 
     pub arrived_reset_was_taken : ArrivedResetWasTaken h w s n
-    arrived_reset_was_taken k i code size came c = frame_taken_by k i (Control (ResetStream n code size)) came c
-
-    -- a frame of a packet that was confirmed arrived
-    confirmed_arrived : (k : ℕ) (f : Seen) → is_ours f ≡ true → Holds (past s h).mine k f → WasConfirmed (past s h).theirs (past s h).tokens k → (i : ℕ) × CarriesAt h s k i f × HasArrived h s k i
-    confirmed_arrived k f ours holds confirmed = by (holds_carries s h k f holds) (confirmed_landed a b h w ok s k confirmed)
-      where
-        by : Carries h s k f → Landed (past (other s) h).theirs (past (other s) h).processed (past (other s) h).took k → (i : ℕ) × CarriesAt h s k i f × HasArrived h s k i
-        by (text, is, a) (inl done) = (let (i, at) = among_at (frames_in text) f a in (i, (text, is, at), inl done))
-        by (text, is, a) (inr (fs, there, all)) =
-            let (i, at) = among_at (frames_in text) f a in
-            let same : fs ≡ frames_in text = same_Some fs (frames_in text) (sym there ∙ there_seen k text is) in
-            (i, (text, is, at), inr (all i f (subst (λ xs. slice_get xs i ≡ Some f) (sym same) at) ours))
+    arrived_reset_was_taken code size came = frame_taken_by (Control (ResetStream n code size)) came
 
     pub acked_has_arrived : AckedHasArrived h w s n
     acked_has_arrived =
         record {
           offsets = λ l q is has_it.
               let (k, offset, bytes, fin, holds, low, high, confirmed) = (send_at l is).acked q has_it in
-              let (i, carries, arrived) = confirmed_arrived k (Stream n offset bytes fin) refl holds confirmed in
-              (k, i, offset, bytes, fin, carries, low, high, arrived);
+              (offset, bytes, fin, confirmed_taken a b h w ok s k (Stream n offset bytes fin) holds confirmed refl, low, high);
           end = λ l is set.
               let (k, offset, bytes, holds, confirmed) = (send_at l is).end_acked set in
-              let (i, carries, arrived) = confirmed_arrived k (Stream n offset bytes true) refl holds confirmed in
-              (k, i, offset, bytes, carries, arrived);
+              (offset, bytes, confirmed_taken a b h w ok s k (Stream n offset bytes true) holds confirmed refl);
         }
 
     pub final_size_is_declared : FinalSizeIsDeclared h w s n

@@ -1,18 +1,21 @@
--- The readers of a log compute.
-use Rattle.std.proofs.Common.{◌≡◌, ℕ, List, ◌++◌, [], take, refl, ap}
-use Rattle.std.specs.Global.{Vec}
-use Rattle.qs_machine.specs.SmallEnds.{abc}
-use Rattle.qs_runs.specs.Logs.{own_calls, made, processed, took, was_acked}
-use Rattle.qs_runs.specs.Examples.{StoryIsRead, LogsAreRead, TakenIsRead, OthersAreRead, TokensAreRead, Examples}
+-- The readers of a history compute, and a PING may come alone.
+use Rattle.std.proofs.Common.{ℕ, List, Ok, refl, sym, subst}
+use Rattle.std.proofs.lemmas.Bool.{false≢true}
+use Rattle.qs_wire.specs.Layout.{ping}
+use Rattle.qs_calls.specs.declared.token.Taken.TheVariants.{NotOurs}
+use Rattle.qs_machine.specs.Alone.{TakeBy}
+use Rattle.qs_runs.specs.Logs.{effects}
+use Rattle.qs_runs.specs.Worlds.{end_of}
+use Rattle.qs_runs.specs.Examples.{StoryIsRead, BytesAreRead, EndsAreTold, PacketsAreRead, TokensAreRead, PingComesAlone, Examples}
 
-story : (bytes text none : Vec ℕ) → bytes.items ≡ abc → StoryIsRead bytes text none
-unfolding own_calls made processed
-story bytes text none is =
+story : (text : List ℕ) → StoryIsRead text
+unfolding effects
+story text =
     record {
-      written_there = ap (λ bs. take 3 bs ++ []) is;
+      written_there = refl;
       not_here = refl;
       not_on_another = refl;
-      read_here = ap (λ bs. bs ++ []) is;
+      read_here = refl;
       not_there = refl;
       made_there = refl;
       by_number = refl;
@@ -25,71 +28,84 @@ story bytes text none is =
       not_another_whole = refl;
     }
 
-logs : (bytes none : Vec ℕ) → bytes.items ≡ abc → LogsAreRead bytes none
-unfolding own_calls made processed
-logs bytes none is =
+bytes : BytesAreRead
+unfolding effects
+bytes =
     record {
-      in_part = ap (take 2) is;
-      in_order = ap (λ bs. take 3 bs ++ take 1 bs) is;
-      read_in_order = ap (λ bs. bs ++ [] ++ bs) is;
-      claimed = refl;
-      none_claimed = refl;
-      twice = refl;
-      no_end = refl;
-      stopped_before = refl;
-      forgotten_before = refl;
-      stopped_after = refl;
-    }
-
-takes : (bytes none : Vec ℕ) → bytes.items ≡ abc → TakenIsRead bytes none
-unfolding own_calls made processed
-takes bytes none is =
-    record {
-      taken = is;
+      in_part = refl;
+      in_order = refl;
+      read_in_order = refl;
+      once = refl;
       not_on_another = refl;
       not_there = refl;
-      once = ap (λ bs. bs ++ []) is;
-      in_order = ap (λ bs. bs ++ bs) is;
       refused = refl;
-      whole = refl;
-      ended = refl;
-      no_end = refl;
-      stopped_before = refl;
-      none_made = refl;
-      none_processed = refl;
     }
 
-others : (text : List ℕ) → OthersAreRead text
-unfolding made processed
-others text =
-    record { ack = refl; ack_not_there = refl; no_ack = refl; fill = λ want filled. refl; fill_not_there = λ want filled. refl; no_fill = λ want. refl; with_more = refl; not_another = refl; twice = refl; not_there = refl; none_made = refl; none_lost = λ token. refl; none_raised = λ limits. refl; none_set = λ setting. refl; none_forgot = refl; none_given = λ d result. refl }
+ends : EndsAreTold
+unfolding effects
+ends =
+    record {
+      no_end = refl;
+      taken = refl;
+      none_taken = refl;
+      stopped_before = refl;
+      taken_then = refl;
+      forgotten_before = refl;
+      other_stopped = refl;
+      stopped_after = refl;
+      forgotten = refl;
+      refused = refl;
+    }
+
+packets : (text : List ℕ) → PacketsAreRead text
+unfolding effects
+packets text =
+    record {
+      claimed = refl;
+      none_claimed = refl;
+      ack = refl;
+      ack_not_there = refl;
+      no_ack = refl;
+      fill = λ want filled. refl;
+      no_fill = λ want. refl;
+      twice = refl;
+      none_made = refl;
+      none_lost = λ token. refl;
+      none_raised = λ limits. refl;
+      none_set = λ setting. refl;
+      none_forgot = refl;
+      none_given = λ d result. refl;
+    }
 
 tokens : TokensAreRead
-unfolding made processed took was_acked
+unfolding effects
 tokens =
     record {
-      taken = refl;
+      one = refl;
       unchanged = refl;
       several = refl;
-      joined = refl;
-      joined_later = refl;
-      not_crossed = refl;
-      not_crossed_later = refl;
-      not_another = refl;
-      not_of_another = refl;
       not_there = refl;
       no_memory = refl;
-      not_ours = refl;
       not_processed = refl;
       none_made = refl;
       acked = refl;
-      not_another_token = refl;
+      not_another = refl;
       of_several = refl;
       not_below = refl;
       not_refused = refl;
+      in_part = refl;
       not_at_the_peer = refl;
       none_made_by_it = refl;
+      told_closed = λ close. refl;
+      not_told = λ close. refl;
     }
 
+ping_alone : PingComesAlone
+ping_alone a b h w s run open_end = (
+  w,
+  run,
+  record { step = subst (λ o. TakeBy o ping (end_of w s) (Ok NotOurs) (end_of w s)) (sym open_end) (refl, refl); still = refl; may = λ still_open ours. absurd (false≢true ours) },
+)
+
 pub examples_hold : Examples
-examples_hold = record { story = story; logs = logs; takes = takes; others = others; tokens = tokens }
+examples_hold = record { story = story; bytes = bytes; ends = ends; packets = packets; tokens = tokens; ping_alone = ping_alone }

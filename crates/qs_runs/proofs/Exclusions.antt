@@ -1,77 +1,54 @@
--- Each clause of what agrees excludes something.
-use Rattle.std.proofs.Common.{◌≡◌, ℕ, zero, suc, ◌+◌, ◌≤◌, List, [], ◌∷◌, ◌++◌, ◌⊎◌, inl, inr, length, take, drop, nat_le, Bool, true, false, cond, ◌&&◌, ◌==◌, Option, Some, None, is_some, option_map, Result, Ok, Err, slice_get, slice_index_or, refl, sym, ap, ◌∙◌, arith, subst, not, nat_eq, nat_lt}
-use Rattle.std.specs.Global.{Vec}
+-- Each clause of what agrees excludes something; and what the premises of a run leave out, and what they let in.
+use Rattle.std.proofs.Common.{◌≡◌, ℕ, zero, suc, ◌+◌, ◌≤◌, List, [], ◌∷◌, ◌++◌, ◌⊎◌, inl, inr, length, drop, Bool, true, false, cond, ◌&&◌, ◌==◌, Some, is_some, Ok, Err, slice_index_or, refl, sym, ap, ◌∙◌, arith, subst}
 use Rattle.std.specs.Prelude.{MatchBool}
 use Rattle.std.specs.FinSet as set
+use Rattle.std.specs.List.{AllByRecursion}
 use Rattle.std.proofs.lemmas.Option.{same_Some, none-some}
 use Rattle.std.proofs.lemmas.Bool.{both_ways, false≢true}
 use Rattle.std.proofs.lemmas.Bool.Decides.{nat_tests}
 use Rattle.qs_ranges.specs.Numbers.{contains-numbers, numbers}
 use Rattle.qs_ranges.proofs.Sets.{end_of-empty, missing_from-of}
-use Rattle.qs_wire.specs.declared.stream_id.Dir.{Dir}
-use Rattle.qs_recv.specs.Lane.{RecvLane, stop_and_forget}
+use Rattle.qs_wire.specs.Layout.{ping, max_data}
+use Rattle.qs_wire.specs.Varint.{varint_at, short_len}
+use Rattle.qs_wire.specs.Reading.{reading_from, frames_at, frame_at, number_of_type_at, body_at, number_at, counted_at, plain_at}
+use Rattle.qs_wire.specs.declared.stream_id.Dir.TheVariants.{Bidi}
+use Rattle.qs_recv.specs.Lane.{RecvLane}
 use Rattle.qs_send.specs.Lane.{SendLane, state, unacked_from, declared_size}
+use Rattle.qs_send.specs.Records.{Among}
 use Rattle.qs_send.specs.declared.parts.Reset.{Reset}
 use Rattle.qs_send.specs.declared.parts.SendState.TheVariants.{DataRecvd, DataSent}
-use Rattle.std.proofs.lemmas.List.{map-append}
-use Rattle.qs_wire.specs.Layout.{FrameValue, PlacedValue, padding, ping, max_data}
-use Rattle.qs_wire.specs.Grammar.{frames_of}
-use Rattle.qs_wire.specs.Varint.{varint_at, short_len}
-use Rattle.qs_wire.specs.Reading.{reading_of, reading_from, frames_at, frame_at, number_of_type_at, body_at, number_at}
-use Rattle.qs_send.specs.declared.piece.Item.TheVariants.{MaxData}
-use Rattle.qs_machine.specs.Seen.{Seen, Stream, Control, Plain, seen, seen_all}
-use Rattle.qs_machine.specs.Plains.{IsPlain, DifferInPlain}
-use Rattle.qs_calls.specs.Settings.{limits_fault}
-use Rattle.qs_calls.specs.declared.settings.PeerLimits.{PeerLimits}
-use Rattle.qs_calls.specs.declared.settings.RaiseFault.{RaiseFault}
-use Rattle.qs_calls.specs.declared.uses.UseFault.{UseFault}
-use Rattle.qs_calls.specs.declared.settings.RaiseFault.TheVariants as raising
-use Rattle.qs_calls.specs.declared.settings.SetFault.{SetFault}
-use Rattle.qs_calls.specs.declared.settings.SetFault.TheVariants as setting
-use Rattle.qs_machine.specs.Setting.{SendBuffer, SetStep, is_settable, half_fault, with_setting}
-use Rattle.qs_calls.specs.declared.filling.Fill.{Fill}
-use Rattle.qs_calls.specs.declared.filling.Filled.{Filled}
-use Rattle.qs_calls.specs.declared.making.Made.{Made}
-use Rattle.qs_calls.specs.declared.token.TokenFault.{TokenFault}
-use Rattle.qs_calls.specs.declared.token.TokenFault.TheVariants as tokens
-use Rattle.qs_calls.specs.declared.making.MakeFault.{MakeFault}
-use Rattle.qs_calls.specs.declared.reading.Consumed.{Consumed}
+use Rattle.qs_send.specs.declared.piece.Item.TheVariants.{MaxData, DataBlocked, StreamsBlocked, StreamDataBlocked}
 use Rattle.qs_calls.specs.declared.closing.Closed.TheVariants.{ByPeer}
-use Rattle.qs_calls.specs.declared.closing.Received.TheVariants as answered
-use Rattle.qs_calls.specs.declared.token.Taken.{Taken}
-use Rattle.qs_calls.specs.declared.token.Taken.TheVariants.{Took, Unchanged, NotOurs}
-use Rattle.qs_calls.specs.declared.closing.Closed.{Closed}
-use Rattle.qs_machine.specs.Alone.{TakesOne, TakeAllBy, of_both}
-use Rattle.qs_calls.specs.declared.token.TakeFault.TheVariants.{NoMemory}
+use Rattle.qs_calls.specs.declared.closing.Received.TheVariants.{NoMemory}
+use Rattle.qs_calls.specs.declared.token.TakeFault.TheVariants as faults
+use Rattle.qs_calls.specs.declared.event.Side.{Side}
 use Rattle.qs_calls.specs.declared.event.Side.TheVariants.{A, B}
 use Rattle.qs_machine.specs.Tables.{lookup, total}
-use Rattle.qs_machine.specs.Ends.{End, recv_lane, on_recv}
-use Rattle.qs_machine.specs.Credit.{spent, settle}
-use Rattle.qs_machine.specs.Owner.{Certain, first_refusal, refuse_if, recv_refusal, is_read_no_more, AcceptOfStep, AcceptOpenOf, ConsumeStep, GivesNone, StopAndForgetStep}
-use Rattle.qs_machine.specs.Making.{MakeAckAt, make_refusal}
-use Rattle.qs_machine.specs.Filling.{FillAt}
-use Rattle.qs_machine.specs.Raising.{RaiseStep, limits_raised}
-use Rattle.qs_machine.specs.Examples.{standard, server, client_of}
+use Rattle.qs_machine.specs.Ends.{End}
+use Rattle.qs_machine.specs.Credit.{spent}
+use Rattle.qs_machine.specs.Seen.{Seen, Stream, Control, Plain}
+use Rattle.qs_machine.specs.Plains.{frames_in, but_plain}
+use Rattle.qs_machine.specs.Owner.{GivesNone, AcceptOpen}
+use Rattle.qs_machine.specs.Examples.{standard}
 use Rattle.qs_machine.specs.SmallEnds.{server_with, abc, sent, fresh, all_came}
+use Rattle.qs_machine.specs.EndStep.{Receive, TakeFrames}
 use Rattle.qs_machine.proofs.Claims.{gave}
-use Rattle.qs_runs.specs.Agree.{RepeatAgrees, IsOld, frames_in}
-use Rattle.std.specs.List.{AllByRecursion}
-use Rattle.qs_runs.specs.Logs.{Part, CameAlone, History, AreFramesOf, HasLanded, is_taken, own_calls, made, payload, processed, took, ping_text}
-use Rattle.qs_runs.specs.Worlds.{World, HandedIn}
-use Rattle.qs_runs.specs.Examples.{story, packet, came, part, came_alone}
-use Rattle.qs_runs.specs.Exclusions.{ReadIsNoPrefix, WholeIsMissing, SizesDiffer, WorldsDiffer, NewsIsNotOld, RepeatsSpend, NothingHappens, NothingElseHappens, two_frames, NoFrameComes, TokenAcked, NotYetLanded, Differ, OtherBytesCome, LimitsAreAbove, NoneBegin, Exclusions, both, acknowledged, first_of_three}
+use Rattle.qs_runs.specs.Logs.{History, effects, payload, taken, must_land, HasMade, HasLanded}
+use Rattle.qs_runs.specs.Worlds.{World, May}
+use Rattle.qs_runs.specs.Agree.{IsOld}
+use Rattle.qs_runs.specs.Exclusions.{ReadIsNoPrefix, WholeIsMissing, SizesDiffer, WorldsDiffer, NewsIsNotOld, StepsSpend, two_frames, sent_two, took, came_as, PayloadsThatCome, FramesThatCome, TokensThatAreAcked, OtherSteps, blocked, BlockedFramesLand, Differ, OtherBytesCome, LimitsAreAbove, NoneBegin, Exclusions, acknowledged, first_of_three}
 use Rattle.qs_runs.proofs.NewEnds.{made_first}
-use Rattle.qs_runs.proofs.Standing.{certain_cases}
+use Rattle.qs_runs.proofs.Wire.{ping_seen}
 
-prefix : (bytes other none : Vec ℕ) → bytes.items ≡ abc → other.items ≡ 97 ∷ 120 ∷ [] → ReadIsNoPrefix bytes other none
-unfolding own_calls
-prefix bytes other none is differs =
+prefix : ReadIsNoPrefix (97 ∷ 120 ∷ [])
+unfolding effects
+prefix =
     record {
-      other_byte = λ h. (let (rest, joined) = h.prefix in second rest (ap (λ bs. bs ++ rest) (sym differs) ∙ joined ∙ ap (take 3) is));
-      more = λ h. (let (rest, joined) = h.prefix in too_long rest (ap (λ bs. bs ++ rest) (sym is) ∙ joined ∙ ap (take 2) is));
-      less = λ h. (let e : 0 ≡ 3 = ap length (h.ended refl ∙ ap (take 3) is) in omega arith);
-      other_taken = λ h. (let (rest, joined) = h.prefix in second rest (ap (λ bs. bs ++ rest) (sym differs) ∙ joined ∙ ap (take 3) is));
-      less_taken = λ h. (let e : ◌≡◌ {A = ℕ} 3 6 = ap length (sym (ap (λ bs. bs ++ []) is) ∙ h.ended refl ∙ ap (λ bs. take 3 bs ++ take 3 bs) is) in omega arith);
+      other_byte = λ h. second h.prefix.0 h.prefix.1;
+      more = λ h. too_long h.prefix.0 h.prefix.1;
+      less = λ h. (let e : ◌≡◌ {A = ℕ} 0 3 = ap length (h.ended refl) in omega (arith, e));
+      other_taken = λ h. second h.prefix.0 h.prefix.1;
+      less_taken = λ h. (let e : ◌≡◌ {A = ℕ} 3 6 = ap length (h.ended refl) in omega (arith, e));
     }
   where
     second : (rest : List ℕ) → 97 ∷ 120 ∷ rest ≡ abc → ⊥
@@ -92,14 +69,14 @@ all_acked =
 received : state acknowledged ≡ DataRecvd
 received = ap (λ n. cond ((n == 3) && true) DataRecvd DataSent) all_acked
 
-whole : (bytes : Vec ℕ) → bytes.items ≡ abc → WholeIsMissing bytes
-unfolding own_calls lookup
-whole bytes is =
+whole : WholeIsMissing
+unfolding effects lookup
+whole =
     record {
       unopened = λ h. (let (r, at, size, all) = h acknowledged refl received in none-some r at);
-      offset = λ h. (let (r, at, size, all) = h acknowledged refl received in both_ways _ (contains-numbers 0 1 1) (ap (λ (k : RecvLane). set.contains k.arrived.received 1) (same_Some first_of_three r at) ∙ all 1 (omega (arith, (ap (λ bs. length (take 3 bs)) is)))));
+      offset = λ h. (let (r, at, size, all) = h acknowledged refl received in both_ways _ (contains-numbers 0 1 1) (ap (λ (k : RecvLane). set.contains k.arrived.received 1) (same_Some first_of_three r at) ∙ all 1 (omega arith)));
       unsized = λ h. (let (r, at, size, all) = h acknowledged refl received in none-some _ (ap (λ (k : RecvLane). k.final_size) (same_Some _ r at) ∙ size));
-      other_size = λ h. (let (r, at, size, all) = h acknowledged refl received in let e : 3 ≡ 2 = same_Some _ _ (ap (λ (k : RecvLane). k.final_size) (same_Some _ r at) ∙ size) ∙ ap (λ bs. length (take 2 bs)) is in omega arith);
+      other_size = λ h. (let (r, at, size, all) = h acknowledged refl received in let e : ◌≡◌ {A = ℕ} 3 2 = same_Some _ _ (ap (λ (k : RecvLane). k.final_size) (same_Some _ r at) ∙ size) in omega (arith, e));
     }
 
 final_sizes : SizesDiffer
@@ -120,8 +97,8 @@ unfolding total
 worlds =
     record {
       credit = λ h agree. (let le : 3 ≤ 0 = agree.credit B in omega arith);
-      client_closed = λ h agree. none-some _ (sym (agree.stays_open A));
-      server_closed = λ h agree. none-some _ (sym (agree.stays_open B));
+      client_closed = λ h untold agree. none-some _ (sym (agree.stays_open A untold));
+      server_closed = λ h untold agree. none-some _ (sym (agree.stays_open B untold));
     }
 
 news : NewsIsNotOld
@@ -140,188 +117,230 @@ nothing_spent : spent (server_with fresh) ≡ 0
 unfolding total
 nothing_spent = rw end_of-empty refl
 
-repeats : (bytes text none : Vec ℕ) → RepeatsSpend bytes text none
-unfolding made processed reading_from total
-repeats bytes text none =
-    record { again = λ agrees. again agrees; old_news = λ is agrees. news is agrees; again_with = λ agrees. again agrees; old_news_with = λ is agrees. news is agrees; old_news_alone = λ agrees. ((let f : ◌≡◌ {A = ℕ} 3 0 = (agrees [] tt tt) ∙ nothing_spent in omega (arith, f))) }
-  where
-    again : RepeatAgrees (story bytes text none) (both (client_of standard) (server standard)) (both (client_of standard) (server_with fresh)) B 0 → ⊥
-    again agrees = (let e : ◌≡◌ {A = ℕ} 1 0 = ap (λ (x : End). length x.recvs.client_bidi) (agrees.again refl) in omega (arith, e))
-
-    news : text.items ≡ [] → RepeatAgrees (packet A text ∷ []) (both (client_of standard) (server_with fresh)) (both (client_of standard) (server_with all_came)) B 0 → ⊥
-    news is agrees = (let e : ◌≡◌ {A = ℕ} 3 (spent (server_with fresh)) = agrees.old_news text.items refl (subst (λ bs. AllByRecursion (IsOld (server_with fresh)) (frames_in bs)) (sym is) tt) in let f : ◌≡◌ {A = ℕ} 3 0 = e ∙ nothing_spent in omega (arith, f))
-
-steps : (bytes text none : Vec ℕ) → NothingHappens bytes text none
-unfolding made
-steps bytes text none =
+spends : (text : List ℕ) → StepsSpend text
+unfolding effects total
+spends text =
     record {
-      unmade = λ v w (payload, is, taken, same). none-some payload is;
-      not_its = λ v w (payload, is, taken, same). none-some payload is;
-      sender = λ v w (payload, is, taken, same) changed. changed same;
-      other = λ v w step changed. changed step.1;
-      unused = λ v w number step same. (let (is, new) = gave v.a w.a number step.0 in omega (arith, same, ap (λ (e : End). e.next) new));
-      not_next = λ v w step. (let (is, new) = gave v.a w.a (v.a.next + 1) step.0 in omega (arith, is));
-      other_answer = λ v w step. step.0;
+      again = λ bytes agrees. (let e : ◌≡◌ {A = ℕ} 1 0 = ap (λ (x : End). length x.recvs.client_bidi) (agrees.again 0 bytes refl refl) in omega (arith, e));
+      old_news = λ agrees. three (agrees.old_news (subst (AllByRecursion (IsOld (server_with fresh))) (sym ping_seen) (tt, tt)));
+      old_frame = λ agrees. three (agrees.old_news (tt, tt));
+      other_call = λ agrees. three (agrees.old_news tt);
+    }
+  where
+    three : ◌≡◌ {A = ℕ} 3 (spent (server_with fresh)) → ⊥
+    three e = (let f : ◌≡◌ {A = ℕ} 3 0 = e ∙ nothing_spent in omega (arith, f))
+
+abbrev five : Seen
+five = Control (MaxData 5)
+
+abbrev six : Seen
+six = Control (MaxData 6)
+
+-- the values of two frames
+abbrev value : Seen → ℕ
+value (Control (MaxData m)) = m
+value f = 0
+
+abbrev first_of : List Seen → ℕ
+first_of [] = 0
+first_of (f ∷ fs) = value f
+
+abbrev second_of : List Seen → ℕ
+second_of [] = 0
+second_of (f ∷ []) = 0
+second_of (f ∷ g ∷ fs) = value g
+
+abbrev third_of : List Seen → Bool
+third_of (f ∷ g ∷ k ∷ fs) = true
+third_of fs = false
+
+reads_two : frames_in two_frames ≡ five ∷ six ∷ []
+unfolding reading_from frames_at frame_at number_of_type_at body_at number_at varint_at short_len
+reads_two = refl
+
+reads_ping : frames_in (1 ∷ two_frames) ≡ Plain true ∷ five ∷ six ∷ []
+unfolding reading_from frames_at frame_at number_of_type_at body_at number_at varint_at short_len
+reads_ping = refl
+
+sent_payload : payload A 0 sent_two ≡ Some two_frames
+unfolding effects
+sent_payload = refl
+
+-- what comes as packet 0 differs from it in plain frames alone
+is_two : (w : World) (bytes : List ℕ) → May sent_two w B (Receive 0 bytes) → but_plain (frames_in bytes) ≡ five ∷ six ∷ []
+is_two w bytes (text, is, d) = d.same ∙ ap (λ t. but_plain (frames_in t)) (same_Some text two_frames (sym is ∙ sent_payload)) ∙ ap but_plain reads_two
+
+payloads : (w : World) → PayloadsThatCome w
+unfolding effects reading_from frames_at frame_at number_of_type_at body_at number_at varint_at short_len counted_at plain_at
+payloads w =
+    record {
+      unmade = λ (text, is, d). none-some text is;
+      other_number = λ (text, is, d). none-some text is;
+      its_own = λ (text, is, d). none-some text is;
+      left_out = λ m. (let n : ◌≡◌ {A = ℕ} 0 6 = ap second_of (is_two w _ m) in omega (arith, n));
+      another = λ m. (let n : ◌≡◌ {A = ℕ} 7 6 = ap second_of (is_two w _ m) in omega (arith, n));
+      turned = λ m. (let n : ◌≡◌ {A = ℕ} 6 5 = ap first_of (is_two w _ m) in omega (arith, n));
+      closing = λ m. false≢true (sym (ap third_of (is_two w _ m)));
+      made = (two_frames, refl, record { reads = refl; reads_other = refl; same = refl });
+      front = (two_frames, refl, record { reads = refl; reads_other = refl; same = refl });
+      between = (two_frames, refl, record { reads = refl; reads_other = refl; same = refl });
+      behind = (two_frames, refl, record { reads = refl; reads_other = refl; same = refl });
     }
 
--- an ACK that was made fits its room
-ack_fits : (o : Option MakeFault) (e new : End) (delay : ℕ) (made : Made) → MakeAckAt o e delay 0 (Ok (Some made)) (1 ∷ []) new → ⊥
-ack_fits (Some fault) e new delay made h = cc (h.0)
-ack_fits None e new delay made h = (let le : 1 ≤ 0 = h.fits in omega arith)
+-- A frame that stood in the packet is one of the two
+module _ (f : Seen) where
+  of_two : HasMade sent_two A f → (f ≡ five) ⊎ (f ≡ six)
+  unfolding effects
+  of_two (zero, text, is, among) = go (subst (λ t. Among f (frames_in t)) (same_Some text two_frames (sym is)) among)
+    where
+      go : Among f (frames_in two_frames) → (f ≡ five) ⊎ (f ≡ six)
+      go a = elim (subst (Among f) reads_two a) [ inl x ↦ inl x | inr (inl y) ↦ inr y | inr (inr z) ↦ absurd z ]
+  of_two (suc k, text, is, among) = absurd (none-some text is)
 
-fill_fits : (o : Option MakeFault) (e new : End) (want : Fill) (filled : Filled) → FillAt o e want 0 (Ok (Some filled)) (1 ∷ []) new → ⊥
-fill_fits (Some fault) e new want filled h = cc (h.0)
-fill_fits None e new want filled h = (let le : 1 ≤ 0 = h.fits in omega arith)
-
--- of a token that wasn't given an end is told nothing
-abbrev told_done : Result (Unit {0}) TokenFault
-told_done = Ok tt
-
-none_given : (e new : End) (closed own made : Bool) (E : Type 0) → (own ≡ false) ⊎ (made ≡ false) → Certain (first_refusal (refuse_if closed tokens.Closed) (refuse_if (not (own && made)) tokens.NotGiven)) e told_done new E → ⊥
-none_given e new false true true E (inl is) h = false≢true (sym is)
-none_given e new false true true E (inr is) h = false≢true (sym is)
-none_given e new _ own made E is h = cc (h.0)
-
-is_foreign : (a b : ℕ) → (a ≡ b → ⊥) → nat_eq a b ≡ false
-is_foreign a b differs = grind (arith, nat_tests, differs)
-
-is_unmade : (first k next : ℕ) → next ≤ k → (nat_le first k && nat_lt k next) ≡ false
-is_unmade first k next le = go (nat_le first k) (grind (arith, nat_tests, le))
-  where
-    go : (b : Bool) → nat_lt k next ≡ false → (b && nat_lt k next) ≡ false
-    go true later = later
-    go false later = refl
-
--- an end that closed takes no limits in
-refused : (p : PeerLimits) (e new : End) → e.closed ≡ Some (ByPeer 0) → RaiseStep e p (Ok tt) new → ⊥
-refused p e new shut step =
-    let h : Certain (first_refusal (refuse_if (is_some (Some (ByPeer 0))) raising.Closed) (option_map raising.Refused (limits_fault p))) e (Ok tt) new (◌≡◌ {A = Result (Unit {0}) RaiseFault} (Ok tt) (Ok tt) × (new ≡ settle (limits_raised p e))) =
-    subst (λ o. Certain (first_refusal (refuse_if (is_some o) raising.Closed) (option_map raising.Refused (limits_fault p))) e (Ok tt) new (◌≡◌ {A = Result (Unit {0}) RaiseFault} (Ok tt) (Ok tt) × (new ≡ settle (limits_raised p e)))) shut step in
-    cc (h.0)
-
--- of a stream that isn't open no bytes are taken
-not_open : (e new : End) (consumed : Consumed) → recv_lane e 0 ≡ None → ConsumeStep e 0 10 (Ok consumed) new → ⊥
-not_open e new consumed none step =
-    elim (certain_cases (recv_refusal (is_read_no_more e) e 0) e (Ok consumed) new _ step) [
-      | inl (fault, is, same) ↦ cc is
-      | inr (allowed, (l, there, is, same)) ↦ none-some l (sym none ∙ there)
+none_of_two : HasMade sent_two A (Control (MaxData 7)) → ⊥
+none_of_two m =
+    elim (of_two (Control (MaxData 7)) m) [
+      | inl is ↦ (let n : ◌≡◌ {A = ℕ} 7 5 = ap value is in omega (arith, n))
+      | inr is ↦ (let n : ◌≡◌ {A = ℕ} 7 6 = ap value is in omega (arith, n))
     ]
 
--- what isn't set is answered with a fault
-set_fault : (f : SetFault) → ◌≡◌ {A = Result (Unit {0}) SetFault} (Ok tt) (Err f) → ⊥
-set_fault f h = cc
+nothing_made : (s : Side) (f : Seen) → HasMade [] s f → ⊥
+unfolding effects
+nothing_made s f (k, text, is, among) = none-some text is
 
-not_set : (e new : End) (closed : Bool) (r : Result (Unit {0}) SetFault) (Effect : Type 0) → r ≡ Ok tt → Certain (first_refusal (refuse_if closed setting.Closed) (Some setting.OutOfRange)) e r new Effect → ⊥
-not_set e new true r Effect ok step = set_fault setting.Closed (sym ok ∙ step.0)
-not_set e new false r Effect ok step = set_fault setting.OutOfRange (sym ok ∙ step.0)
+not_by_B : (f : Seen) → HasMade sent_two B f → ⊥
+unfolding effects
+not_by_B f (k, text, is, among) = none-some text is
 
--- and forgets no stream
-not_forgotten : (e new : End) → e.closed ≡ Some (ByPeer 0) → StopAndForgetStep e 0 7 (Ok tt) new → ⊥
-not_forgotten e new shut step =
-    let h : Certain (recv_refusal (is_some (Some (ByPeer 0))) e 0) e (Ok tt) new (◌≡◌ {A = Result (Unit {0}) UseFault} (Ok tt) (Ok tt) × (new ≡ settle (on_recv 0 (λ m. stop_and_forget m 7) e))) =
-    subst (λ o. Certain (recv_refusal (is_some o) e 0) e (Ok tt) new (◌≡◌ {A = Result (Unit {0}) UseFault} (Ok tt) (Ok tt) × (new ≡ settle (on_recv 0 (λ m. stop_and_forget m 7) e)))) shut step in
-    cc (h.0)
+made_five : HasMade sent_two A five
+unfolding effects
+made_five = (0, two_frames, refl, subst (Among five) (sym reads_two) (inl refl))
 
--- and gives out no stream
-not_given_out : (d : Dir) (n : ℕ) (e new : End) → e.closed ≡ Some (ByPeer 0) → AcceptOfStep e d (Some n) new → ⊥
-not_given_out d n e new shut step =
-    let h : GivesNone e (Some n) new = subst (λ o. MatchBool (is_some o) (GivesNone e (Some n) new) (AcceptOpenOf e d (Some n) new)) shut step in
-    none-some n (sym h.0)
+made_six : HasMade sent_two A six
+unfolding effects
+made_six = (0, two_frames, refl, subst (Among six) (sym reads_two) (inr (inl refl)))
 
-unset : (size : ℕ) (e new : End) → e.closed ≡ Some (ByPeer 0) → SetStep e (SendBuffer 0 size) (Ok tt) new → ⊥
-unset size e new shut step =
-    let next : Option SetFault = first_refusal (refuse_if (not (is_settable (SendBuffer 0 size))) setting.OutOfRange) (half_fault e (SendBuffer 0 size)) in
-    let h : Certain (first_refusal (refuse_if (is_some (Some (ByPeer 0))) setting.Closed) next) e (Ok tt) new (◌≡◌ {A = Result (Unit {0}) SetFault} (Ok tt) (Ok tt) × (new ≡ settle (with_setting (SendBuffer 0 size) e))) =
-    subst (λ o. Certain (first_refusal (refuse_if (is_some o) setting.Closed) next) e (Ok tt) new (◌≡◌ {A = Result (Unit {0}) SetFault} (Ok tt) (Ok tt) × (new ≡ settle (with_setting (SendBuffer 0 size) e)))) shut step in
-    cc (h.0)
-
-others : (bytes text none : Vec ℕ) → NothingElseHappens bytes text none
-unfolding made
-others bytes text none =
+alone : (w : World) → FramesThatCome w
+alone w =
     record {
-      unmade = λ v w (payload, is, differ, step, same). none-some payload is;
-      sender = λ v w (payload, is, differ, step, same) changed. changed same;
-      others = λ v w bytes r differs (payload, is, differ, step, same). differs (subst (DifferInPlain bytes) (sym (same_Some text.items payload is)) differ);
-      too_long = λ v w made ((delay, step), same). ack_fits (make_refusal v.a) v.a w.a delay made step;
-      ack_other = λ v w step changed. changed step.1;
-      fill_too_long = λ v w want filled step. fill_fits (make_refusal v.a) v.a w.a want filled step.0;
-      fill_other = λ v w want step changed. changed step.1;
-      other_bytes = λ v w l at_end there differs ((step, taken), same). differs (taken l there);
-      refused_bytes = λ v w fault some ((step, taken), same). some taken;
-      unopened = λ v w at_end none (step, same). not_open v.b w.b _ none step.0;
-      taken_other = λ v w at_end step changed. changed step.1;
-      not_given = λ v w token le step. none_given v.a w.a (is_some v.a.closed) _ _ _ (inr (is_unmade token.first token.number v.a.next le)) step.0;
-      foreign = λ v w token differs step. none_given v.a w.a (is_some v.a.closed) _ _ _ (inl (is_foreign token.epoch v.a.tuning.epoch differs)) step.0;
-      lost_other = λ v w token step changed. changed step.1;
-      ungranted = λ v w p r refuses ((granted, step), same). refuses granted;
-      closed = λ v w p shut ((granted, step), same). refused p v.a w.a shut step;
-      raised_other = λ v w p r step changed. changed step.1;
-      no_window = λ v w step. not_set v.a w.a (is_some v.a.closed) (Ok tt) _ refl step.0;
-      set_other = λ v w x r step changed. changed step.1;
-      forgot_closed = λ v w shut step. not_forgotten v.a w.a shut step.0;
-      forgot_other = λ v w r step changed. changed step.1;
-      given_closed = λ v w d n shut step. not_given_out d n v.a w.a shut step.0;
-      given_other = λ v w d r step changed. changed step.1;
-      set_closed = λ v w size shut (step, same). unset size v.a w.a shut step;
+      unmade = λ m. nothing_made A five (m refl);
+      another = λ m. none_of_two (m refl);
+      its_own = λ m. not_by_B five (m refl);
+      one_of = λ m. none_of_two (m.1.1.0 refl);
+      made = λ ours. made_six;
+      several = (λ ours. made_six, (λ ours. made_five, (λ ours. made_six, tt)));
+      own_ping = λ ours. absurd (false≢true ours);
+      own_ack = λ ours. absurd (false≢true ours);
+      own_crypto = λ offset bytes ours. absurd (false≢true ours);
+      own_close = λ code kind reason ours. absurd (false≢true ours);
+      among = (λ ours. absurd (false≢true ours), (λ ours. made_five, (λ ours. absurd (false≢true ours), tt)));
     }
+
+-- Tokens
+
+-- both frames of the packet were taken, where it landed
+module _ (h : History) (sends : payload A 0 h ≡ Some two_frames) where
+  both_taken : HasLanded h A 0 → Among five (taken B h) × Among six (taken B h)
+  both_taken (text, is, all) =
+      let same : text ≡ two_frames = same_Some text two_frames (sym is ∙ sends) in
+      let has : (f : Seen) → Among f (five ∷ six ∷ []) → Among f (frames_in text) = λ f a. subst (Among f) (sym (ap frames_in same ∙ reads_two)) a in
+      (all five (has five (inl refl)) refl, all six (has six (inr (inl refl))) refl)
+
+  has_landed : Among five (taken B h) → Among six (taken B h) → HasLanded h A 0
+  has_landed a b = (two_frames, sends, λ f among ours. elim (subst (Among f) reads_two among) [ inl is ↦ subst (λ g. Among g (taken B h)) (sym is) a | inr (inl is) ↦ subst (λ g. Among g (taken B h)) (sym is) b | inr (inr z) ↦ absurd z ])
+
+not_same : (m n : ℕ) → Control (MaxData m) ≡ Control (MaxData n) → m ≡ n
+not_same m n is = ap value is
+
+not_one : ◌≡◌ {A = ℕ} 1 0 → ⊥
+not_one n = omega (arith, n)
+
+one_taken : Among six (five ∷ []) → ⊥
+one_taken (inl is) = (let n : ◌≡◌ {A = ℕ} 6 5 = not_same 6 5 is in omega (arith, n))
+one_taken (inr z) = z
+
+two_taken : Among five (six ∷ six ∷ []) → ⊥
+two_taken (inl is) = (let n : ◌≡◌ {A = ℕ} 5 6 = not_same 5 6 is in omega (arith, n))
+two_taken (inr (inl is)) = (let n : ◌≡◌ {A = ℕ} 5 6 = not_same 5 6 is in omega (arith, n))
+two_taken (inr (inr z)) = z
+
+tokens : (w : World) (epoch : w.a.tuning.epoch ≡ 0) → TokensThatAreAcked w epoch
+unfolding effects
+tokens w epoch =
+    record {
+      unmade = λ m. (let (text, is, all) = m (sym epoch) 0 refl in none-some text is);
+      on_its_way = λ m. (both_taken sent_two refl (m (sym epoch) 0 refl)).0;
+      first = λ m. one_taken (both_taken (took (max_data 5 ∷ []) ∷ sent_two) refl (m (sym epoch) 0 refl)).1;
+      twice = λ m. two_taken (both_taken (took (max_data 6 ∷ []) ∷ took (max_data 6 ∷ []) ∷ sent_two) refl (m (sym epoch) 0 refl)).0;
+      no_memory = λ m. (both_taken (record { end = B; call = TakeFrames (max_data 5 ∷ max_data 6 ∷ []); answer = Err faults.NoMemory } ∷ sent_two) refl (m (sym epoch) 0 refl)).0;
+      not_processed = λ m. (both_taken (record { end = B; call = Receive 0 two_frames; answer = Ok NoMemory } ∷ sent_two) refl (m (sym epoch) 0 refl)).0;
+      half = λ m. (let (text, is, all) = m (sym epoch) 1 refl in none-some text is);
+      each = has_landed (took (max_data 5 ∷ []) ∷ took (ping ∷ max_data 6 ∷ []) ∷ sent_two) refl (inr (inr (inl refl))) (inr (inl refl));
+      processed = has_landed (came_as (1 ∷ two_frames) ∷ sent_two) refl (subst (λ fs. Among five (fs ++ [])) (sym reads_ping) (inr (inl refl))) (subst (λ fs. Among six (fs ++ [])) (sym reads_ping) (inr (inr (inl refl))));
+      foreign = λ same. absurd (not_one (same ∙ epoch));
+    }
+
+-- Other steps
+
+closed_gives_none : (e new : End) → e.closed ≡ Some (ByPeer 0) → MatchBool (is_some e.closed) (GivesNone e (Some 3) new) (AcceptOpen e (Some 3) new) → ⊥
+closed_gives_none e new shut step =
+    let h : GivesNone e (Some 3) new = subst (λ o. MatchBool (is_some o) (GivesNone e (Some 3) new) (AcceptOpen e (Some 3) new)) shut step in
+    none-some 3 (sym h.0)
+
+others : (h : History) (v w : World) → OtherSteps h v w
+others h v w =
+    record {
+      ungranted = λ p refuses m. refuses m;
+      ungranted_there = λ p refuses m. refuses m;
+      told = λ close. tt;
+      other_end = λ call answer changed step. changed step.still;
+      other_end_there = λ call answer changed step. changed step.still;
+      unused = λ number step same. (let (is, new) = gave v.a w.a number step.step in omega (arith, same, ap (λ (e : End). e.next) new));
+      not_next = λ step. (let (is, new) = gave v.a w.a (v.a.next + 1) step.step in omega (arith, is));
+      no_answer = λ step shut. closed_gives_none v.a w.a shut step.step;
+    }
+
+reads_blocked : frames_in blocked ≡ Control (DataBlocked 5) ∷ Control (StreamsBlocked Bidi 6) ∷ Control (StreamDataBlocked 0 7) ∷ []
+unfolding reading_from frames_at frame_at number_of_type_at body_at number_at varint_at short_len
+reads_blocked = refl
+
+blocked_land : BlockedFramesLand
+unfolding effects
+blocked_land =
+    record {
+      all = λ (text, is, all). all (Control (StreamDataBlocked 0 7)) (subst (λ t. Among (Control (StreamDataBlocked 0 7)) (frames_in t)) (same_Some blocked text is) (subst (Among (Control (StreamDataBlocked 0 7))) (sym reads_blocked) (inr (inr (inl refl))))) refl;
+      one = (blocked, refl, λ f a land. one f (subst (Among f) reads_blocked a) land);
+    }
+  where
+    one : (f : Seen) → Among f (Control (DataBlocked 5) ∷ Control (StreamsBlocked Bidi 6) ∷ Control (StreamDataBlocked 0 7) ∷ []) → must_land f ≡ true → Among f (Control (StreamDataBlocked 0 7) ∷ [])
+    one f (inl is) land = absurd (false≢true (ap must_land (sym is) ∙ land))
+    one f (inr (inl is)) land = absurd (false≢true (ap must_land (sym is) ∙ land))
+    one f (inr (inr a)) land = a
+
+-- the frames that both have, once plain ones are left out
+kept : (fs gs : List Seen) → Differ fs gs → but_plain fs ≡ but_plain gs
+kept fs gs (text, other, is, is_other, d) = ap but_plain (sym is) ∙ d.same ∙ ap but_plain is_other
 
 -- the limit that the first frame tells
 abbrev told : List Seen → ℕ
 told (Control (MaxData m) ∷ fs) = m
 told fs = 0
 
--- the frames that both have, and the plain ones behind them
-parts : (fs gs : List Seen) → Differ fs gs → (front : List Seen) × (mine theirs : List Seen) × (fs ≡ front ++ mine) × (gs ≡ front ++ theirs) × AllByRecursion IsPlain mine × AllByRecursion IsPlain theirs
-parts fs gs (text, other, is, is_other, d) = (
-  seen_all (frames_of d.front),
-  seen_all (frames_of d.behind),
-  seen_all (frames_of d.others),
-  sym is ∙ ap (λ r. seen_all (frames_of r.left)) d.reads ∙ joined d.front d.behind,
-  sym is_other ∙ ap (λ r. seen_all (frames_of r.left)) d.reads_other ∙ joined d.front d.others,
-  d.plain,
-  d.plain_other,
-)
-  where
-    joined : (ps qs : List PlacedValue) → seen_all (frames_of (ps ++ qs)) ≡ seen_all (frames_of ps) ++ seen_all (frames_of qs)
-    joined ps qs = ap seen_all (map-append (λ (p : PlacedValue). p.frame) ps qs) ∙ map-append seen (frames_of ps) (frames_of qs)
-
--- a frame at its place
-abbrev placed : ℕ → FrameValue → ℕ → PlacedValue
-placed place frame type = record { place = place; frame = frame; frame_type = type }
-
-behind_max_data : DifferInPlain (0x10 ∷ 5 ∷ 1 ∷ []) (0x10 ∷ 5 ∷ [])
-unfolding reading_from frames_at frame_at number_of_type_at body_at number_at varint_at short_len
-behind_max_data =
-    record { front = placed 0 (max_data 5) 0x10 ∷ []; behind = placed 2 ping 1 ∷ []; others = []; reads = refl; reads_other = refl; plain = (tt, tt); plain_other = tt }
-
-place_of_ping : DifferInPlain (0 ∷ []) ping_text
-unfolding reading_from frames_at frame_at number_of_type_at body_at varint_at short_len
-place_of_ping = record { front = []; behind = placed 0 padding 0 ∷ []; others = placed 0 ping 1 ∷ []; reads = refl; reads_other = refl; plain = (tt, tt); plain_other = (tt, tt) }
-
 bytes_come : OtherBytesCome
+unfolding reading_from frames_at frame_at number_of_type_at body_at number_at varint_at short_len
 bytes_come =
     record {
-      not_plain = λ d. (let (front, mine, theirs, is, is_other, plain, plain_other) = parts _ _ d in more front mine theirs is is_other plain);
-      left_out = λ d. (let (front, mine, theirs, is, is_other, plain, plain_other) = parts _ _ d in out front mine theirs is is_other plain_other);
-      another = λ d. (let (front, mine, theirs, is, is_other, plain, plain_other) = parts _ _ d in other_one front mine theirs is is_other plain);
-      fault = λ text other f is d. none-some f (sym (ap (λ r. r.fault) d.reads) ∙ is);
-      fault_other = λ text other f is d. none-some f (sym (ap (λ r. r.fault) d.reads_other) ∙ is);
-      behind = behind_max_data;
-      in_place = place_of_ping;
+      not_plain = λ d. (let none : ◌≡◌ {A = List Seen} (Stream 0 0 [] true ∷ []) [] = ap (drop 1) (kept _ _ d) in cc none);
+      left_out = λ d. (let five : ◌≡◌ {A = ℕ} 0 5 = ap told (kept _ _ d) in omega arith);
+      another = λ d. (let six : ◌≡◌ {A = ℕ} 6 5 = ap told (kept _ _ d) in omega arith);
+      turned = λ d. (let six : ◌≡◌ {A = ℕ} 6 5 = ap told (kept _ _ d) in omega arith);
+      fault = λ text other f is d. none-some f (sym d.reads ∙ is);
+      fault_other = λ text other f is d. none-some f (sym d.reads_other ∙ is);
+      behind = record { reads = refl; reads_other = refl; same = refl };
+      front = record { reads = refl; reads_other = refl; same = refl };
+      between = record { reads = refl; reads_other = refl; same = refl };
+      in_place = record { reads = refl; reads_other = refl; same = refl };
     }
-  where
-    more : (front mine theirs : List Seen) → Control (MaxData 5) ∷ Stream 0 0 [] true ∷ [] ≡ front ++ mine → Control (MaxData 5) ∷ [] ≡ front ++ theirs → AllByRecursion IsPlain mine → ⊥
-    more [] mine theirs is is_other plain = (subst (AllByRecursion IsPlain) (sym is) plain).0
-    more (f ∷ []) mine theirs is is_other plain = (let same : Stream 0 0 [] true ∷ [] ≡ mine = ap (drop 1) is in (subst (AllByRecursion IsPlain) (sym same) plain).0)
-    more (f ∷ g ∷ front) mine theirs is is_other plain = (let none : [] ≡ g ∷ (front ++ theirs) = ap (drop 1) is_other in cc none)
-
-    out : (front mine theirs : List Seen) → Plain true ∷ [] ≡ front ++ mine → Control (MaxData 5) ∷ [] ≡ front ++ theirs → AllByRecursion IsPlain theirs → ⊥
-    out [] mine theirs is is_other plain = (subst (AllByRecursion IsPlain) (sym is_other) plain).0
-    out (f ∷ front) mine theirs is is_other plain = (let five : ◌≡◌ {A = ℕ} 0 5 = ap told (ap (take 1) is ∙ sym (ap (take 1) is_other)) in omega arith)
-
-    other_one : (front mine theirs : List Seen) → Control (MaxData 6) ∷ Plain true ∷ [] ≡ front ++ mine → Control (MaxData 5) ∷ [] ≡ front ++ theirs → AllByRecursion IsPlain mine → ⊥
-    other_one [] mine theirs is is_other plain = (subst (AllByRecursion IsPlain) (sym is) plain).0
-    other_one (f ∷ front) mine theirs is is_other plain = (let six : ◌≡◌ {A = ℕ} 6 5 = ap told (ap (take 1) is ∙ sym (ap (take 1) is_other)) in omega arith)
 
 limits : LimitsAreAbove
 limits =
@@ -334,118 +353,6 @@ limits =
       streams_uni = λ g. (let le : 9 ≤ 8 = g.streams_uni in omega arith);
     }
 
--- what is read of the two frames
-read_two : frames_of (reading_of two_frames).left ≡ max_data 5 ∷ max_data 6 ∷ []
-unfolding reading_from frames_at frame_at number_of_type_at body_at number_at varint_at short_len
-read_two = refl
-
--- the value that a MAX_DATA has
-abbrev value_of : FrameValue → ℕ
-value_of (max_data m) = m
-value_of f = 0
-
--- what comes of a frame that was taken, and of another behind it
-one_came : (e : End) (f : FrameValue) (one later : Taken) (mid : End) → TakesOne e f (Ok one) mid → is_taken (Ok (of_both one later)) ≡ true
-one_came e f Unchanged Took mid h = refl
-one_came e f NotOurs later mid h = absurd h
-one_came e f _ later mid h = refl
-
--- of two frames of its own kinds an end says that they took effect, or why not
-two_taken : (e new : End) → HandedIn (max_data 5 ∷ max_data 6 ∷ []) e (Ok NotOurs) new → ⊥
-two_taken e new (inl step) = by e.closed step
-  where
-    by : (o : Option Closed) → TakeAllBy o (max_data 5 ∷ max_data 6 ∷ []) e (Ok NotOurs) new → ⊥
-    by (Some closed) h = cc (h.0)
-    by None (mid, inl (next, one, Ok later, takes, more, is), after) = false≢true (ap is_taken is ∙ one_came e (max_data 5) one later next takes)
-    by None (mid, inl (next, one, Err fault, takes, more, is), after) = cc is
-    by None (mid, inr (fault, one, is), after) = cc is
-two_taken e new (inr (f, is, step)) = (let none : max_data 6 ∷ [] ≡ [] = ap (drop 1) is in cc none)
-
--- of a packet that wasn't made there are none
-none_of : (h : History) (one : Part) (parts : List Part) (fs : List FrameValue) → payload A one.number h ≡ None → AreFramesOf h A (one ∷ parts) fs → ⊥
-none_of h one parts [] none are = are
-none_of h one parts (f ∷ fs) none ((bytes, there, at), are) = none-some bytes (sym none ∙ there)
-
-frames : (text : Vec ℕ) → text.items ≡ two_frames → NoFrameComes text
-unfolding made
-frames text is =
-    record {
-      unmade = λ v w r (fs, are, came, same). none_of (packet A text ∷ []) (part 1 0) [] fs refl are;
-      unmade_later = λ v w r (fs, are, came, same). later fs are;
-      not_in_it = λ v w r (fs, are, came, same). outside fs are;
-      sender = λ v w r (fs, are, came, same) changed. changed same;
-      another = λ ((bytes, there, at), are). ((let n : ◌≡◌ {A = ℕ} 5 6 = ap value_of (same_Some (max_data 5) (max_data 6) (subst (λ gs. slice_get gs 0 ≡ Some (max_data 6)) (read bytes there) at)) in omega arith));
-      fewer = λ are. are.1;
-      more = λ are. are.1;
-      several = two_taken;
-    }
-  where
-    read : (bytes : List ℕ) → Some text.items ≡ Some bytes → frames_of (reading_of bytes).left ≡ max_data 5 ∷ max_data 6 ∷ []
-    read bytes there = ap (λ bs. frames_of (reading_of bs).left) (sym (same_Some text.items bytes there) ∙ is) ∙ read_two
-
-    outside : (fs : List FrameValue) → AreFramesOf (packet A text ∷ []) A (part 0 2 ∷ []) fs → ⊥
-    outside [] are = are
-    outside (f ∷ fs) ((bytes, there, at), are) = none-some f (subst (λ gs. slice_get gs 2 ≡ Some f) (read bytes there) at)
-
-    later : (fs : List FrameValue) → AreFramesOf (packet A text ∷ []) A (part 0 0 ∷ part 1 0 ∷ []) fs → ⊥
-    later [] are = are
-    later (f ∷ fs) (is, are) = none_of (packet A text ∷ []) (part 1 0) [] fs refl are
-
--- of the two frames one wasn't taken, and the packet wasn't processed
-one_left : (text : Vec ℕ) → text.items ≡ two_frames → (h : History) → payload A 0 h ≡ Some text.items → processed B 0 h ≡ false → (took B 0 0 h ≡ false) ⊎ (took B 0 1 h ≡ false) → TokenAcked h → ⊥
-one_left text is h there unprocessed left (v, w, r, ((landed, step), same)) =
-    elim (landed refl 0 refl) [
-      | inl done ↦ false≢true (sym unprocessed ∙ done)
-      | inr (bytes, made, all) ↦ (
-          let read : frames_of (reading_of bytes).left ≡ max_data 5 ∷ max_data 6 ∷ [] = ap (λ bs. frames_of (reading_of bs).left) (sym (same_Some text.items bytes (sym there ∙ made)) ∙ is) ∙ read_two in
-          elim left [
-            | inl none ↦ false≢true (sym none ∙ all 0 (max_data 5) (ap (λ gs. slice_get gs 0) read) refl)
-            | inr none ↦ false≢true (sym none ∙ all 1 (max_data 6) (ap (λ gs. slice_get gs 1) read) refl)
-          ])
-    ]
-
--- both were taken
-both_taken : (text : Vec ℕ) → text.items ≡ two_frames → (k : ℕ) (h : History) → payload A k h ≡ Some text.items → took B k 0 h ≡ true → took B k 1 h ≡ true → HasLanded h A k
-both_taken text is k h there first second =
-    inr (text.items, there, λ i f at ours. each i f (subst (λ gs. slice_get gs i ≡ Some f) (ap (λ bs. frames_of (reading_of bs).left) is ∙ read_two) at))
-  where
-    each : (i : ℕ) (f : FrameValue) → slice_get (max_data 5 ∷ max_data 6 ∷ []) i ≡ Some f → took B k i h ≡ true
-    each zero f at = first
-    each (suc zero) f at = second
-    each (suc (suc i)) f at = absurd (none-some f at)
-
-landing : (text : Vec ℕ) → text.items ≡ two_frames → NotYetLanded text
-unfolding made processed took
-landing text is =
-    record {
-      unmade = λ (v, w, r, ((landed, step), same)). elim (landed refl 0 refl) [ inl done ↦ false≢true done | inr (bytes, none, all) ↦ none-some bytes none ];
-      on_its_way = one_left text is (packet A text ∷ []) refl refl (inl refl);
-      first = one_left text is (came_alone 0 (0 ∷ []) (Ok Took) ∷ packet A text ∷ []) refl refl (inr refl);
-      first_unchanged = one_left text is (came_alone 0 (0 ∷ []) (Ok Unchanged) ∷ packet A text ∷ []) refl refl (inr refl);
-      last = one_left text is (came_alone 0 (1 ∷ []) (Ok Took) ∷ packet A text ∷ []) refl refl (inl refl);
-      twice = one_left text is (came_alone 0 (0 ∷ []) (Ok Took) ∷ came_alone 0 (0 ∷ []) (Ok Took) ∷ packet A text ∷ []) refl refl (inr refl);
-      no_memory = one_left text is (came_alone 0 (0 ∷ 1 ∷ []) (Err NoMemory) ∷ packet A text ∷ []) refl refl (inl refl);
-      not_processed = one_left text is (came A 0 answered.NoMemory ∷ packet A text ∷ []) refl refl (inl refl);
-      half = λ v w r ((landed, step), same). elim (landed refl 1 refl) [ inl done ↦ false≢true done | inr (bytes, none, all) ↦ none-some bytes none ];
-      half_joined = λ v w r ((landed, step), same). elim (landed refl 1 refl) [
-        | inl done ↦ false≢true done
-        | inr (bytes, there, all) ↦ (
-            let two : frames_of (reading_of bytes).left ≡ max_data 5 ∷ max_data 6 ∷ [] = ap (λ bs. frames_of (reading_of bs).left) (sym (same_Some text.items bytes there) ∙ is) ∙ read_two in
-            false≢true (all 1 (max_data 6) (ap (λ gs. slice_get gs 1) two) refl))
-      ];
-      foreign = λ h v w token differs step. none_given v.a w.a (is_some v.a.closed) _ _ _ (inl (is_foreign token.epoch v.a.tuning.epoch differs)) step.0.1;
-      other = λ h v w token r step changed. changed step.1;
-      each = both_taken text is 0 (came_alone 0 (0 ∷ []) (Ok Took) ∷ came_alone 0 (1 ∷ []) (Ok Took) ∷ packet A text ∷ []) refl refl refl;
-      unchanged = both_taken text is 0 (came_alone 0 (0 ∷ []) (Ok Unchanged) ∷ came_alone 0 (1 ∷ []) (Ok Took) ∷ packet A text ∷ []) refl refl refl;
-      together = both_taken text is 0 (came_alone 0 (1 ∷ 0 ∷ []) (Ok Took) ∷ packet A text ∷ []) refl refl refl;
-      joined = both_taken text is 0 joined_packets refl refl refl;
-      joined_later = both_taken text is 1 joined_packets refl refl refl;
-      processed = inl refl;
-    }
-  where
-    joined_packets : History
-    joined_packets = CameAlone A (part 1 0 ∷ part 0 1 ∷ part 1 1 ∷ part 0 0 ∷ []) (Ok Took) ∷ packet A text ∷ packet A text ∷ []
-
 begins : NoneBegin
 begins =
     record {
@@ -456,4 +363,4 @@ begins =
 
 pub exclusions_hold : Exclusions
 exclusions_hold =
-    record { prefix = prefix; whole = whole; final_sizes = final_sizes; worlds = worlds; news = news; repeats = repeats; steps = steps; others = others; frames = frames; tokens = landing; bytes = bytes_come; limits = limits; begins = begins }
+    record { prefix = prefix; whole = whole; final_sizes = final_sizes; worlds = worlds; news = news; spent = spends; payloads = payloads; frames = alone; tokens = tokens; blocked = blocked_land; others = others; bytes = bytes_come; limits = limits; begins = begins }

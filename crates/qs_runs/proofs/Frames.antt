@@ -10,7 +10,8 @@ use Rattle.qs_send.specs.Lane.{SendLane, unacked_from, new_lane as new_send_lane
 use Rattle.qs_machine.specs.Tables.{Tables, lookup, open_to, total, updated}
 use Rattle.qs_machine.specs.Ends.{End, is_own, is_own_by, is_uni, first_send_limit, window, opens, role_bit, opened_by_peer}
 use Rattle.qs_machine.specs.Credit.{all_sent}
-use Rattle.qs_machine.specs.Seen.{Seen, Ack, Stream, Control}
+use Rattle.qs_machine.specs.Seen.{Seen, Ack, Stream, Control, Plain}
+use Rattle.qs_machine.specs.Plains.{is_plain}
 use Rattle.qs_machine.specs.Verdicts.{lane_of, or_new, verdict, item_verdict, credit_fault, state_fault_in}
 use Rattle.qs_runs.specs.Pasts.{Past, Packets, Tells, Names, IsNamed}
 use Rattle.qs_runs.specs.Invariant.{EndOk, SendOk, SendSlot, NotSent, RecvOk, RecvSlot, NotReceived, CreditOk, OpenOk, OpenTrue, is_open, FrameTaken}
@@ -30,6 +31,10 @@ use Rattle.qs_machine.proofs.Leaves.{acks_leave}
 use Rattle.qs_machine.proofs.CallsSound.{no_fault}
 use Rattle.qs_runs.proofs.Taking.{or_else_none, stream_passed, fin_fits, reset_fits, take_stream_ok, take_stream_grows, take_stream_taken, take_reset_ok, take_reset_grows, take_reset_taken}
 use Rattle.qs_runs.proofs.Acking.{allow_ok, stopped_ok, stopped_end, acks_ok, named_pieces_ok}
+
+-- the frame stood in a packet of the peer's, or it is a plain one of the layer beneath
+abbrev pub MayCome : Packets → Seen → Type 0
+MayCome packets f = Tells packets f ⊎ (is_plain f ≡ true)
 
 -- Streams open.
 
@@ -424,3 +429,10 @@ module _ (p : Past) where
       (opened_ok p e n ok (named_by p _ n t refl) (is_own e n) refl) t (stream_passed e n offset bytes fin fine).1 (opened_grows p e n ok (is_own e n))
   frame_keeps e (Control i) ok t fine = item_keeps e i ok t fine
   frame_keeps e _ ok t fine = record { ok = ok; grow = all_grow_refl e.recvs; taken = tt }
+
+  -- the same of a plain one, which changes nothing
+  pub come_keeps : (e : End) (f : Seen) → EndOk p e → MayCome p.theirs f → verdict e f ≡ None → Effect p e (frame_taken f e) f
+  unfolding frame_taken
+  come_keeps e f ok (inl t) fine = frame_keeps e f ok t fine
+  come_keeps e (Plain asks) ok (inr plain) fine = record { ok = ok; grow = all_grow_refl e.recvs; taken = tt }
+  come_keeps e f ok (inr plain) fine = absurd (false≢true plain)

@@ -9,39 +9,20 @@ use Rattle.qs_send.specs.Records.{Among}
 use Rattle.qs_calls.specs.declared.settings.Settings.{Settings}
 use Rattle.qs_calls.specs.declared.making.Made.{Made}
 use Rattle.qs_calls.specs.declared.making.MakeFault.{MakeFault}
-use Rattle.qs_calls.specs.declared.event.Act.{Act}
-use Rattle.qs_calls.specs.declared.event.Act.TheVariants as acts
-use Rattle.qs_calls.specs.declared.answer.Answer.{Answer}
-use Rattle.qs_calls.specs.declared.answer.Answer.TheVariants as answers
 use Rattle.qs_machine.specs.Ends.{End}
 use Rattle.qs_machine.specs.Credit.{first_grant, granted_streams}
 use Rattle.qs_machine.specs.Seen.{Seen, Control, seen_all}
 use Rattle.qs_machine.specs.Lawful.{MayPut, Fills, frame_put}
 use Rattle.qs_machine.specs.Making.{MakeStep, MakeAt, make_refusal, IsMade}
-use Rattle.qs_machine.specs.EndStep.{Call, Answer as CallAnswer, EndStep, Open, Accept, Write, Finish, Reset, Stop, ReadUpTo, Make, Lose, Claim}
+use Rattle.qs_machine.specs.EndStep.{Make, Claim}
 use Rattle.qs_machine.specs.Standing.{CountsRise}
-use Rattle.qs_machine.proofs.EveryCall.{HearsPeer}
-use Rattle.qs_runs.specs.Logs.{texts_of}
-use Rattle.qs_runs.specs.Worlds.{OwnStep, AreGranted}
-use Rattle.qs_runs.specs.Agree.{frames_in}
-use Rattle.qs_runs.specs.Pasts.{Packets, Past, Tells, seen_by}
+use Rattle.qs_runs.specs.Logs.{effects_of}
+use Rattle.qs_runs.specs.Worlds.{AreGranted}
+use Rattle.qs_machine.specs.Plains.{frames_in}
+use Rattle.qs_runs.specs.Pasts.{Packets, Past, Tells, packets_in}
 use Rattle.qs_runs.specs.Invariant.{EndOk, CountsTrue, CountsOk}
 use Rattle.qs_runs.proofs.NewEnds.{tells_nothing}
 use Rattle.qs_runs.proofs.Wire.{text_seen, ping_seen}
-
--- what an owner does is a call of the end in which it hears nothing of its peer
-pub own_call : (e new : End) (act : Act) (answer : Answer) → OwnStep e act answer new → (call : Call) × (given : CallAnswer call) × EndStep e call given new × (HearsPeer call → ⊥)
-own_call e new (acts.OpenStream dir) (answers.OpenStream r) step = (Open dir, r, step, λ no. no)
-own_call e new acts.Accept (answers.Accept r) step = (Accept, r, step, λ no. no)
-own_call e new (acts.Write n bytes) (answers.Write r) step = (Write n bytes.items, r, step, λ no. no)
-own_call e new (acts.Finish n) (answers.Finish r) step = (Finish n, r, step, λ no. no)
-own_call e new (acts.Reset n code) (answers.Reset r) step = (Reset n code, r, step, λ no. no)
-own_call e new (acts.Stop n code) (answers.Stop r) step = (Stop n code, r, step, λ no. no)
-own_call e new (acts.ReadUpTo n size) (answers.ReadUpTo r bytes) step = (ReadUpTo n size, (r, bytes.items), step, λ no. no)
-own_call e new (acts.Make room) (answers.Make r text) (first, delay, step) = (Make first delay room, (r, text.items), step, λ no. no)
-own_call e new (acts.Lose k) (answers.Lose r) step = (Lose k, r, step, λ no. no)
-own_call e new acts.Claim (answers.Claim r) step = (Claim, r, step, λ no. no)
-own_call e new act answer step = absurd step
 
 -- What a packet tells
 
@@ -72,29 +53,25 @@ made_count e new first delay room made text d count h t =
     (subst (Among (Control (MaxStreams d count))) (text_seen delay h.frames text h.lawful.some h.spells) (told_one _ (Control (MaxStreams d count)) t))
 
 make_count : (o : Option MakeFault) (e new : End) (first delay room : ℕ) (r : Result (Option Made) MakeFault) (text : List ℕ) (d : Dir) (count : ℕ) → MakeAt o e first delay room r text new
-    → Tells (map frames_in (texts_of r text)) (Control (MaxStreams d count)) → count ≤ granted_streams e d
+    → Tells (packets_in (effects_of (Make first delay room) (r, text))) (Control (MaxStreams d count)) → count ≤ granted_streams e d
 make_count None e new first delay room (Ok (Some made)) text d count h t = made_count e new first delay room made text d count h t
-make_count (Some fault) e new first delay room r text d count h t = absurd (tells_nothing _ _ (ap (λ x. map frames_in (texts_of x text)) h.0) t)
+make_count (Some fault) e new first delay room r text d count h t = absurd (tells_nothing _ _ (ap (λ x. packets_in (effects_of (Make first delay room) (x, text))) h.0) t)
 make_count None e new first delay room r text d count h t = absurd (tells_nothing _ _ refl t)
 
 -- each count that these packets tell is at most the granted one
 abbrev pub TellCounts : End → Packets → Type 0
 TellCounts e packets = (d : Dir) (count : ℕ) → Tells packets (Control (MaxStreams d count)) → count ≤ granted_streams e d
 
-pub packet_counts : (e new : End) (first delay room : ℕ) (r : Result (Option Made) MakeFault) (text : List ℕ) → MakeStep e first delay room r text new → TellCounts e (map frames_in (texts_of r text))
+pub packet_counts : (e new : End) (first delay room : ℕ) (r : Result (Option Made) MakeFault) (text : List ℕ) → MakeStep e first delay room r text new → TellCounts e (packets_in (effects_of (Make first delay room) (r, text)))
 packet_counts e new first delay room r text step d count t = make_count (make_refusal e) e new first delay room r text d count step t
 
 -- a claimed number's packet tells no control item
-claim_tells : (r : Result ℕ MakeFault) (i : Item) → Tells (seen_by acts.Claim (answers.Claim r)) (Control i) → ⊥
+claim_tells : (r : Result ℕ MakeFault) (i : Item) → Tells (packets_in (effects_of Claim r)) (Control i) → ⊥
 claim_tells (Ok number) i t = elim (subst (Among (Control i)) ping_seen (told_one _ (Control i) t)) [ inl is ↦ cc | inr none ↦ none ]
 claim_tells (Err fault) i t = tells_nothing _ _ refl t
 
-pub own_counts : (e new : End) (act : Act) (answer : Answer) → OwnStep e act answer new → TellCounts e (seen_by act answer)
-own_counts e new (acts.Make room) (answers.Make r text) (first, delay, step) = packet_counts e new first delay room r text.items step
-own_counts e new (acts.Make room) answer step = absurd step
-own_counts e new acts.Claim (answers.Claim r) step = λ d count t. absurd (claim_tells r (MaxStreams d count) t)
-own_counts e new acts.Claim answer step = absurd step
-own_counts e new act answer step = λ d count t. absurd (tells_nothing (seen_by act answer) (Control (MaxStreams d count)) refl t)
+pub claim_counts : (e : End) (r : Result ℕ MakeFault) → TellCounts e (packets_in (effects_of Claim r))
+claim_counts e r d count t = absurd (claim_tells r (MaxStreams d count) t)
 
 -- The clause on counts
 
@@ -102,11 +79,7 @@ module _ (mine : Packets) (e new : End) (ok : CountsTrue mine e.settings (grante
   first_stays : (d : Dir) → first_grant new.settings d ≤ granted_streams new d
   first_stays d = subst (λ (s : Settings). first_grant s d ≤ granted_streams new d) (sym settings) (omega (arith, ok.first_granted d, rise d))
 
-  -- a call that tells nothing
-  pub counts_stay : CountsTrue mine new.settings (granted_streams new)
-  counts_stay = record { first_granted = first_stays; told = λ d count t. omega (arith, ok.told d count t, rise d) }
-
-  -- and one that may
+  -- a call that may tell some
   pub counts_told : (packets : Packets) → TellCounts e packets → CountsTrue (mine ++ packets) new.settings (granted_streams new)
   counts_told packets tells =
       record {

@@ -1,259 +1,222 @@
 -- What one thing more does to the pasts of both ends, and what landed.
-use Rattle.std.proofs.Common.{◌≡◌, ℕ, zero, suc, Bool, true, false, ◌&&◌, List, [], ◌∷◌, ◌++◌, map, Option, Some, None, Result, Ok, Err, slice_get, refl, sym, ap, ◌∙◌, if◌then◌else◌, append-nil, option_map, subst, inl, inr, is_some, nat_lt, nat_eq, not, nat_le}
-use Rattle.std.specs.Global.{Vec}
+use Rattle.std.proofs.Common.{◌≡◌, ℕ, zero, suc, Bool, true, false, not, ◌&&◌, ◌||◌, ◌==◌, nat_lt, nat_eq, nat_le, if◌then◌else◌, List, [], ◌∷◌, ◌++◌, map, Option, Some, None, is_some, option_map, ◌⊎◌, inl, inr, Result, Ok, Err, slice_get, refl, sym, ap, ◌∙◌, subst, append-nil, append_assoc}
+use Rattle.std.specs.Prelude.{flat_map}
+use Rattle.std.specs.List.{AllByRecursion, list_any}
+use Rattle.std.proofs.lemmas.Grind.{flat_map-append}
 use Rattle.std.proofs.lemmas.List.{map-append}
+use Rattle.std.proofs.lemmas.List.Folds.{list_any-append}
 use Rattle.std.proofs.lemmas.Option.{none-some, same_Some, slice_get-map}
-use Rattle.std.specs.List.{AllByRecursion}
-use Rattle.qs_recv.specs.declared.half.Read.TheVariants as reads
-use Rattle.qs_wire.specs.declared.stream_id.Dir.{Dir}
-use Rattle.qs_calls.specs.declared.closing.Closing.{Closing}
-use Rattle.qs_calls.specs.declared.closing.Received.{Received}
-use Rattle.qs_calls.specs.declared.filling.Fill.{Fill}
-use Rattle.qs_calls.specs.declared.filling.Filled.{Filled}
-use Rattle.qs_calls.specs.declared.reading.Consumed.{Consumed}
-use Rattle.qs_calls.specs.declared.uses.UseFault.{UseFault}
-use Rattle.qs_calls.specs.declared.token.Token.{Token}
-use Rattle.qs_calls.specs.declared.token.Taken.{Taken}
-use Rattle.qs_calls.specs.declared.token.TakeFault.{TakeFault}
-use Rattle.qs_calls.specs.declared.token.TokenFault.{TokenFault}
-use Rattle.qs_calls.specs.declared.settings.PeerLimits.{PeerLimits}
-use Rattle.qs_calls.specs.declared.settings.SetFault.{SetFault}
-use Rattle.qs_machine.specs.Setting.{Setting}
-use Rattle.qs_calls.specs.declared.settings.RaiseFault.{RaiseFault}
-use Rattle.qs_calls.specs.declared.making.Made.{Made}
-use Rattle.qs_calls.specs.declared.making.MakeFault.{MakeFault}
-use Rattle.qs_machine.specs.Ends.{End}
-use Rattle.qs_machine.specs.Making.{MakeStep, MakeAt, make_refusal}
-use Rattle.qs_calls.specs.declared.event.Side.{Side}
-use Rattle.qs_calls.specs.declared.event.Side.TheVariants.{A, B}
-use Rattle.qs_calls.specs.declared.event.Act.{Act}
-use Rattle.qs_calls.specs.declared.event.Act.TheVariants as acts
-use Rattle.qs_calls.specs.declared.event.Event.{Event}
-use Rattle.qs_calls.specs.declared.answer.Answer.{Answer}
-use Rattle.qs_calls.specs.declared.answer.Answer.TheVariants as answers
-use Rattle.qs_runs.specs.Logs.{Part, Happening, Did, MadeAck, FilledIn, ConsumedUpTo, AckedToken, LostToken, RaisedLimits, CameWith, CameAlone, History, other, own_of, end_read, reads_of, own_calls, is_delivery, delivers, is_done, takes_in, processed, takes_frame, took, tells_acked, was_acked, texts_of, made, made_by, made_now, payload, was_told, HasSet, Forgot, AcceptedOf, IsFrameOf, AreFramesOf, same_side, HasLanded, is_in}
-use Rattle.qs_runs.specs.Worlds.{OwnStep, World, WorldStep, end_of}
-use Rattle.qs_runs.specs.Agree.{frames_in}
-use Rattle.qs_runs.specs.Invariant.{HasNoFault, WorldOk}
-use Rattle.qs_runs.specs.Pasts.{seen_by, packets_of, past_of, past, HoldsAt, Packets, Holds, WasConfirmed, EachTaken, Landed}
-use Rattle.qs_runs.proofs.OwnMoves.{with_call, with_uses, with_packets}
-use Rattle.qs_runs.proofs.PeerMoves.{with_theirs}
-use Rattle.qs_runs.proofs.Receives.{with_received, with_took, with_token, AreHeldAt, or_cond}
-use Rattle.qs_runs.proofs.Wire.{text_faultless, text_fits, ping_faultless, ping_fits}
-use Rattle.qs_wire.specs.Layout.{FrameValue}
+use Rattle.std.proofs.lemmas.Bool.{false≢true, true≢false, eqb-true}
+use Rattle.qs_wire.specs.Layout.{FrameValue, reset_stream, stop_sending, stream, max_data, max_stream_data, max_streams, data_blocked, stream_data_blocked, streams_blocked, ping}
 use Rattle.qs_wire.specs.Grammar.{Fits, frames_of}
 use Rattle.qs_wire.specs.Reading.{reading_of}
-use Rattle.qs_machine.specs.Seen.{seen, Seen}
-use Rattle.std.proofs.lemmas.Bool.{false≢true, and_parts, eqb-true}
 use Rattle.qs_send.specs.Records.{Among}
-use Rattle.qs_calls.specs.declared.settings.Settings.{Settings}
-use Rattle.qs_calls.specs.declared.token.TokenFault.TheVariants as tokens
-use Rattle.qs_machine.specs.Owner.{Certain, first_refusal, refuse_if}
-use Rattle.qs_machine.specs.Alone.{is_ours, TokenAckedStep}
-use Rattle.qs_runs.proofs.Lists.{slice_get-append}
-use Rattle.qs_machine.proofs.Pieces.{All_at}
+use Rattle.qs_send.specs.declared.piece.Item.TheVariants as items
 use Rattle.qs_recv.specs.declared.half.Read.{Read}
+use Rattle.qs_recv.specs.declared.half.Read.TheVariants as reads
+use Rattle.qs_calls.specs.declared.closing.Received.{Received}
+use Rattle.qs_calls.specs.declared.closing.Received.TheVariants.{Done}
+use Rattle.qs_calls.specs.declared.making.Made.{Made}
+use Rattle.qs_calls.specs.declared.making.MakeFault.{MakeFault}
+use Rattle.qs_calls.specs.declared.settings.Settings.{Settings}
+use Rattle.qs_calls.specs.declared.token.Token.{Token}
+use Rattle.qs_calls.specs.declared.token.TokenFault.{TokenFault}
+use Rattle.qs_calls.specs.declared.token.TokenFault.TheVariants as tokens
+use Rattle.qs_calls.specs.declared.event.Side.{Side}
+use Rattle.qs_calls.specs.declared.event.Side.TheVariants.{A, B}
+use Rattle.qs_machine.specs.Ends.{End}
+use Rattle.qs_machine.specs.Seen.{Seen, Stream, Control, seen, seen_all}
+use Rattle.qs_machine.specs.Plains.{is_plain, frames_in}
+use Rattle.qs_machine.specs.Making.{MakeStep, MakeAt, make_refusal}
+use Rattle.qs_machine.specs.Owner.{Certain, first_refusal, refuse_if}
+use Rattle.qs_machine.specs.Alone.{is_ours, TakeBy, TakeAllBy}
+use Rattle.qs_machine.specs.Receiving.{ReceiveBy, told_receive}
+use Rattle.qs_calls.specs.declared.closing.Closed.{Closed}
+use Rattle.qs_calls.specs.declared.closing.Closed.TheVariants as closings
+use Rattle.qs_calls.specs.declared.closing.Closer.{Closer}
+use Rattle.qs_calls.specs.declared.closing.Closer.TheVariants.{Us, Peer}
+use Rattle.qs_machine.specs.EndStep.{Call, Answer, EndStep, Write, Stop, StopAndForget, ReadUpTo, Consume, Receive, TakeFrame, TakeFrames, TokenAcked, Make, MakeAck, FillIn, Claim, TellClosed}
+use Rattle.qs_machine.proofs.Pieces.{All_at, All_append}
+use Rattle.qs_machine.proofs.Plains.{differ_covers, differ_turned}
+use Rattle.qs_runs.specs.Logs.{Happening, History, Effect, Wrote, Gave, Ended, Stopped, Sent, Came, CameAlone, Acked, ToldClosed, other, same_side, if_ok, read_effects, sent_effects, came_effects, acked_effects, effects_of, effects, wrote_in, gave_in, stops_in, ends_first, sent_in, comes_in, took_in, acks_in, is_in, made, payload, taken, must_land, HasMade, HasLanded}
+use Rattle.qs_runs.specs.Worlds.{World, end_of, IsFrom, IsPayload, May}
+use Rattle.qs_runs.specs.Invariant.{HasNoFault, WorldOk}
+use Rattle.qs_runs.specs.Pasts.{Past, past_of, past, packets_in, Holds, Tells, WasConfirmed, Landed}
+use Rattle.qs_runs.proofs.Past.{with_effect, with_effects}
+use Rattle.qs_runs.proofs.PeerMoves.{with_theirs}
+use Rattle.qs_runs.proofs.OwnMoves.{Hears, Sends}
+use Rattle.qs_runs.proofs.Frames.{MayCome}
+use Rattle.qs_runs.proofs.Lists.{slice_get-append, Among_left}
+use Rattle.qs_runs.proofs.Wire.{text_faultless, text_fits}
 
 -- What an end lived through, as its history tells.
-
--- the event of a side
-abbrev pub does : Side → Act → Event
-does s act = record { end = s; act = act }
-
-abbrev pub did : Side → Act → Answer → Happening
-did s act answer = Did (does s act) answer
 
 -- what one side makes comes to the other
 pub theirs_mine : (s : Side) (h : History) → (past (other s) h).theirs ≡ (past s h).mine
 theirs_mine A h = refl
 theirs_mine B h = refl
 
--- and what the other side made is what comes to it
-pub mine_theirs : (s : Side) (h : History) → (past s h).theirs ≡ (past (other s) h).mine
-mine_theirs _ h = refl
+-- One effect more
 
--- One more event
+-- it told the end of the stream
+abbrev tells_end : ℕ → Effect → Bool
+tells_end n (Ended m) = n == m
+tells_end n x = false
 
-none_delivered : (act : Act) → is_delivery act ≡ false → (answer : Answer) (k : ℕ) (d : Bool) → (if delivers k act && is_done answer then true else d) ≡ d
-none_delivered (acts.Deliver k) own answer j d = absurd (cc)
-none_delivered act own answer k d = refl
+module _ (x : Effect) where
+  one_more : {X : Type 0} (f : Effect → List X) (xs : List Effect) → flat_map f (xs ++ x ∷ []) ≡ flat_map f xs ++ f x
+  one_more f xs = flat_map-append f xs (x ∷ []) ∙ ap (λ ys. flat_map f xs ++ ys) (append-nil (f x))
 
-pub past_own : (s : Side) (act : Act) (answer : Answer) (h : History) → is_delivery act ≡ false → past s (did s act answer ∷ h) ≡ with_call (past s h) act answer
-unfolding own_calls packets_of processed took was_acked
-past_own A act answer h own = rw own (λ i. past_of ((act, answer) ∷ own_calls A h) (packets_of A h ++ seen_by act answer) (append-nil (packets_of B h) i) (λ k. processed A k h) (λ k i. took A k i h) (λ k. was_acked A k h))
-past_own B act answer h own = rw own (λ i. past_of ((act, answer) ∷ own_calls B h) (packets_of B h ++ seen_by act answer) (append-nil (packets_of A h) i) (λ k. processed B k h) (λ k i. took B k i h) (λ k. was_acked B k h))
+  any_more : (f : Effect → Bool) (xs : List Effect) → list_any f (xs ++ x ∷ []) ≡ (if f x then true else list_any f xs)
+  any_more f xs = list_any-append f xs (x ∷ []) ∙ turned (list_any f xs) (f x)
+    where
+      turned : (a b : Bool) → (a || (b || false)) ≡ (if b then true else a)
+      turned true true = refl
+      turned true false = refl
+      turned false true = refl
+      turned false false = refl
 
-pub past_peer : (s : Side) (act : Act) (answer : Answer) (h : History) → is_delivery act ≡ false → past (other s) (did s act answer ∷ h) ≡ with_theirs (past (other s) h) (seen_by act answer)
-unfolding own_calls packets_of processed took was_acked
-past_peer A act answer h own = λ i. past_of (own_calls B h) (append-nil (packets_of B h) i) (packets_of A h ++ seen_by act answer) (λ k. none_delivered act own answer k (processed B k h) i) (λ k j. took B k j h) (λ k. was_acked B k h)
-past_peer B act answer h own = λ i. past_of (own_calls A h) (append-nil (packets_of A h) i) (packets_of B h ++ seen_by act answer) (λ k. none_delivered act own answer k (processed A k h) i) (λ k j. took A k j h) (λ k. was_acked A k h)
+ends_more : (x : Effect) (n : ℕ) (xs : List Effect) → ends_first n (xs ++ x ∷ []) ≡ (if tells_end n x && not (list_any (stops_in n) xs) then true else ends_first n xs)
+ends_more (Ended m) n [] = at_first (n == m)
+  where
+    at_first : (b : Bool) → (b || false) ≡ (if b && true then true else false)
+    at_first true = refl
+    at_first false = refl
+ends_more (Stopped m) n [] = at_first (n == m)
+  where
+    at_first : (b : Bool) → (not b && false) ≡ false
+    at_first true = refl
+    at_first false = refl
+ends_more x n [] = refl
+ends_more x n (Ended m ∷ xs) = ap (λ b. n == m || b) (ends_more x n xs) ∙ by (n == m) (tells_end n x && not (list_any (stops_in n) xs)) (ends_first n xs)
+  where
+    by : (a b c : Bool) → (a || (if b then true else c)) ≡ (if b then true else (a || c))
+    by true true c = refl
+    by true false c = refl
+    by false b c = refl
+ends_more x n (Stopped m ∷ xs) = ap (λ b. not (n == m) && b) (ends_more x n xs) ∙ by (n == m) (tells_end n x) (list_any (stops_in n) xs) (ends_first n xs)
+  where
+    by : (a b c d : Bool) → (not a && (if b && not c then true else d)) ≡ (if b && not (a || c) then true else (not a && d))
+    by true true c d = refl
+    by true false c d = refl
+    by false b c d = refl
+ends_more x n (y ∷ xs) = ends_more x n xs
 
-pub past_sender : (s : Side) (k : ℕ) (answer : Answer) (h : History) → past s (did s (acts.Deliver k) answer ∷ h) ≡ past s h
-unfolding own_calls packets_of processed took was_acked
-past_sender A k answer h = λ i. past_of (own_calls A h) (append-nil (packets_of A h) i) (append-nil (packets_of B h) i) (λ k. processed A k h) (λ k i. took A k i h) (λ k. was_acked A k h)
-past_sender B k answer h = λ i. past_of (own_calls B h) (append-nil (packets_of B h) i) (append-nil (packets_of A h) i) (λ k. processed B k h) (λ k i. took B k i h) (λ k. was_acked B k h)
+-- as the effect tells
+abbrev with_one : Effect → List Effect → Past → Past
+with_one x xs p =
+    record p {
+      mine = map frames_in (flat_map sent_in xs ++ sent_in x);
+      bytes = λ n. flat_map (wrote_in n) xs ++ wrote_in n x;
+      gave = λ n. flat_map (gave_in n) xs ++ gave_in n x;
+      stopped = λ n. if stops_in n x then true else list_any (stops_in n) xs;
+      ended = λ n. if tells_end n x && not (list_any (stops_in n) xs) then true else ends_first n xs;
+      processed = λ k. if comes_in k x then true else list_any (comes_in k) xs;
+      taken = flat_map took_in xs ++ took_in x;
+      tokens = λ k. if acks_in k x then true else list_any (acks_in k) xs;
+    }
 
-pub past_receiver : (s : Side) (k : ℕ) (result : Result Received Closing) (h : History) → past (other s) (did s (acts.Deliver k) (answers.Deliver result) ∷ h) ≡ with_received (past (other s) h) k result
-unfolding own_calls packets_of processed took was_acked
-past_receiver A k result h = λ i. with_received (past_of (own_calls B h) (append-nil (packets_of B h) i) (append-nil (packets_of A h) i) (λ k. processed B k h) (λ k i. took B k i h) (λ k. was_acked B k h)) k result
-past_receiver B k result h = λ i. with_received (past_of (own_calls A h) (append-nil (packets_of A h) i) (append-nil (packets_of B h) i) (λ k. processed A k h) (λ k i. took A k i h) (λ k. was_acked A k h)) k result
+-- of what it doesn't speak nothing is added
+module _ (xs ys : List Effect) where
+  abbrev before : Past
+  before = past_of xs ys
 
--- What scripts don't have
+  no_packets : map frames_in (flat_map sent_in xs ++ []) ≡ packets_in xs
+  no_packets = ap (map frames_in) (append-nil (flat_map sent_in xs))
 
--- a side makes these packets, and nothing else of it is in a past
-pub record Makes (s : Side) (x : Happening) (texts : List (List ℕ)) : Type 0 where
-  pub calls : (t : Side) → own_of t x ≡ []
-  pub takes : (t : Side) (k : ℕ) → takes_in t k x ≡ false
-  pub takes_none : (t : Side) (k i : ℕ) → takes_frame t k i x ≡ false
-  pub tells : (t : Side) (k : ℕ) → tells_acked t k x ≡ false
-  pub here : made_now s x ≡ texts
-  pub there : made_now (other s) x ≡ []
+  one_is : (x : Effect) → with_one x xs before ≡ with_effect x before
+  one_is (Wrote n bytes) = λ i. record (with_effect (Wrote n bytes) before) { mine = no_packets i; gave = λ m. append-nil (before.gave m) i; taken = append-nil before.taken i }
+  one_is (Gave n bytes) = λ i. record (with_effect (Gave n bytes) before) { mine = no_packets i; bytes = λ m. append-nil (before.bytes m) i; taken = append-nil before.taken i }
+  one_is (Ended n) = λ i. record (with_effect (Ended n) before) { mine = no_packets i; bytes = λ m. append-nil (before.bytes m) i; gave = λ m. append-nil (before.gave m) i; taken = append-nil before.taken i }
+  one_is (Stopped n) = λ i. record (with_effect (Stopped n) before) { mine = no_packets i; bytes = λ m. append-nil (before.bytes m) i; gave = λ m. append-nil (before.gave m) i; taken = append-nil before.taken i }
+  one_is (Sent text) = λ i. record (with_effect (Sent text) before) { mine = map-append frames_in (flat_map sent_in xs) (text ∷ []) i; bytes = λ m. append-nil (before.bytes m) i; gave = λ m. append-nil (before.gave m) i; taken = append-nil before.taken i }
+  one_is (Came k bytes) = λ i. record (with_effect (Came k bytes) before) { mine = no_packets i; bytes = λ m. append-nil (before.bytes m) i; gave = λ m. append-nil (before.gave m) i }
+  one_is (CameAlone frames) = λ i. record (with_effect (CameAlone frames) before) { mine = no_packets i; bytes = λ m. append-nil (before.bytes m) i; gave = λ m. append-nil (before.gave m) i }
+  one_is (Acked token) = λ i. record (with_effect (Acked token) before) { mine = no_packets i; bytes = λ m. append-nil (before.bytes m) i; gave = λ m. append-nil (before.gave m) i; taken = append-nil before.taken i }
+  one_is ToldClosed = λ i. record before { mine = no_packets i; bytes = λ m. append-nil (before.bytes m) i; gave = λ m. append-nil (before.gave m) i; taken = append-nil before.taken i }
 
-none_made : (t : Side) (x : Happening) (h : History) → made_now t x ≡ [] → packets_of t h ++ map frames_in (made_now t x) ≡ packets_of t h
-none_made t x h none = ap (λ ts. packets_of t h ++ map frames_in ts) none ∙ append-nil (packets_of t h)
+  past_one : (x : Effect) → past_of (xs ++ x ∷ []) ys ≡ with_effect x before
+  past_one x =
+      (λ i. record {
+        mine = map frames_in (one_more x sent_in xs i);
+        theirs = packets_in ys;
+        bytes = λ n. one_more x (wrote_in n) xs i;
+        gave = λ n. one_more x (gave_in n) xs i;
+        stopped = λ n. any_more x (stops_in n) xs i;
+        ended = λ n. ends_more x n xs i;
+        processed = λ k. any_more x (comes_in k) xs i;
+        taken = one_more x took_in xs i;
+        tokens = λ k. any_more x (acks_in k) xs i;
+      }) ∙ one_is x
 
-pub past_makes : (s : Side) (x : Happening) (texts : List (List ℕ)) (h : History) → Makes s x texts → past s (x ∷ h) ≡ with_packets (past s h) (map frames_in texts)
-unfolding own_calls packets_of processed took was_acked
-past_makes s x texts h m =
-    λ i. past_of (m.calls s i ++ own_calls s h) (packets_of s h ++ map frames_in (m.here i)) (none_made (other s) x h m.there i) (λ k. if m.takes s k i then true else processed s k h) (λ k j. if m.takes_none s k j i then true else took s k j h) (λ k. if m.tells s k i then true else was_acked s k h)
+-- and several
+past_more : (zs xs ys : List Effect) → past_of (xs ++ zs) ys ≡ with_effects zs (past_of xs ys)
+past_more [] xs ys = ap (λ us. past_of us ys) (append-nil xs)
+past_more (z ∷ zs) xs ys = ap (λ us. past_of us ys) (sym (append_assoc xs (z ∷ []) zs)) ∙ past_more zs (xs ++ z ∷ []) ys ∙ ap (with_effects zs) (past_one xs ys z)
 
-pub past_peer_makes : (s : Side) (x : Happening) (texts : List (List ℕ)) (h : History) → Makes s x texts → past (other s) (x ∷ h) ≡ with_theirs (past (other s) h) (map frames_in texts)
-unfolding own_calls packets_of processed took was_acked
-past_peer_makes A x texts h m = λ i. past_of (m.calls B i ++ own_calls B h) (none_made B x h m.there i) (packets_of A h ++ map frames_in (m.here i)) (λ k. if m.takes B k i then true else processed B k h) (λ k j. if m.takes_none B k j i then true else took B k j h) (λ k. if m.tells B k i then true else was_acked B k h)
-past_peer_makes B x texts h m = λ i. past_of (m.calls A i ++ own_calls A h) (none_made A x h m.there i) (packets_of B h ++ map frames_in (m.here i)) (λ k. if m.takes A k i then true else processed A k h) (λ k j. if m.takes_none A k j i then true else took A k j h) (λ k. if m.tells A k i then true else was_acked A k h)
+-- One thing more
 
-pub makes_ack : (s : Side) (room : ℕ) (result : Result (Option Made) MakeFault) (text : List ℕ) → Makes s (MadeAck s room result text) (texts_of result text)
-makes_ack A room result text = record { calls = λ t. refl; takes = λ t k. refl; takes_none = λ t k i. refl; tells = λ t k. refl; here = refl; there = refl }
-makes_ack B room result text = record { calls = λ t. refl; takes = λ t k. refl; takes_none = λ t k i. refl; tells = λ t k. refl; here = refl; there = refl }
+-- what holds of a side and of the other holds of each
+pub two_sides : (P : Side → Type 0) (s : Side) → P s → P (other s) → (t : Side) → P t
+two_sides P A x y B = y
+two_sides P B x y A = y
+two_sides P _ x y _ = x
 
-pub makes_fill : (s : Side) (want : Fill) (room : ℕ) (result : Result (Option Filled) MakeFault) (text : List ℕ) → Makes s (FilledIn s want room result text) (texts_of result text)
-makes_fill A want room result text = record { calls = λ t. refl; takes = λ t k. refl; takes_none = λ t k i. refl; tells = λ t k. refl; here = refl; there = refl }
-makes_fill B want room result text = record { calls = λ t. refl; takes = λ t k. refl; takes_none = λ t k i. refl; tells = λ t k. refl; here = refl; there = refl }
+pub back_again : (P : Side → Type 0) (s : Side) → P s → P (other (other s))
+back_again P A h = h
+back_again P B h = h
 
-pub makes_none : (s : Side) (token : Token) (result : Result (Unit {0}) TokenFault) → Makes s (LostToken s token result) []
-makes_none s token result = record { calls = λ t. refl; takes = λ t k. refl; takes_none = λ t k i. refl; tells = λ t k. refl; here = refl; there = refl }
+same : (s : Side) → same_side s s ≡ true
+same A = refl
+same B = refl
 
-pub makes_set : (s : Side) (x : Setting) (result : Result (Unit {0}) SetFault) → Makes s (HasSet s x result) []
-makes_set s x result = record { calls = λ t. refl; takes = λ t k. refl; takes_none = λ t k i. refl; tells = λ t k. refl; here = refl; there = refl }
+not_same : (s : Side) → same_side (other s) s ≡ false
+not_same A = refl
+not_same B = refl
 
-pub makes_given : (s : Side) (d : Dir) (result : Option ℕ) → Makes s (AcceptedOf s d result) []
-makes_given s d result = record { calls = λ t. refl; takes = λ t k. refl; takes_none = λ t k i. refl; tells = λ t k. refl; here = refl; there = refl }
+module _ (x : Happening) (h : History) where
+  abbrev pub did : List Effect
+  did = effects_of x.call x.answer
 
-pub past_raised : (t s : Side) (limits : PeerLimits) (result : Result (Unit {0}) RaiseFault) (h : History) → past t (RaisedLimits s limits result ∷ h) ≡ past t h
-unfolding own_calls packets_of processed took was_acked
-past_raised t s limits result h = λ i. past_of (own_calls t h) (append-nil (packets_of t h) i) (append-nil (packets_of (other t) h) i) (λ k. processed t k h) (λ k i. took t k i h) (λ k. was_acked t k h)
+  pub effects_here : effects x.end (x ∷ h) ≡ effects x.end h ++ did
+  unfolding effects
+  effects_here = ap (λ b. effects x.end h ++ (if b then did else [])) (same x.end)
 
--- a stream that is forgotten is stopped
-pub past_forgot : (t s : Side) (n code : ℕ) (result : Result (Unit {0}) UseFault) (h : History) → past t (Forgot s n code result ∷ h) ≡ past t (did s (acts.Stop n code) (answers.Stop result) ∷ h)
-unfolding own_calls packets_of processed took was_acked
-past_forgot A A n code result h = refl
-past_forgot A B n code result h = refl
-past_forgot B A n code result h = refl
-past_forgot B B n code result h = refl
+  pub effects_there : effects (other x.end) (x ∷ h) ≡ effects (other x.end) h
+  unfolding effects
+  effects_there = ap (λ b. effects (other x.end) h ++ (if b then did else [])) (not_same x.end) ∙ append-nil (effects (other x.end) h)
 
--- with whatever frames a packet comes, it comes
-pub past_came : (t s : Side) (k : ℕ) (bytes : List ℕ) (result : Result Received Closing) (h : History) → past t (CameWith s k bytes result ∷ h) ≡ past t (did s (acts.Deliver k) (answers.Deliver result) ∷ h)
-unfolding own_calls packets_of processed took was_acked
-past_came A A k bytes result h = refl
-past_came A B k bytes result h = refl
-past_came B A k bytes result h = refl
-past_came B B k bytes result h = refl
+  others_other : (s : Side) → effects (other (other s)) (x ∷ h) ≡ effects s (x ∷ h)
+  others_other A = refl
+  others_other B = refl
 
-consumed_calls : (s : Side) (n most : ℕ) (read : Read) (bytes : Vec ℕ) (h : History) (b : Bool)
-    → past_of ((end_read b n bytes ++ (acts.ReadUpTo n most, answers.ReadUpTo (Ok read) bytes) ∷ []) ++ own_calls s h) (packets_of s h ++ []) (packets_of (other s) h ++ []) (λ k. processed s k h) (λ k i. took s k i h) (λ k. was_acked s k h) ≡
-    with_uses (past s h) (end_read b n bytes ++ (acts.ReadUpTo n most, answers.ReadUpTo (Ok read) bytes) ∷ [])
-consumed_calls s n most read bytes h true =
-    λ i. past_of ((acts.ReadUpTo n 0, answers.ReadUpTo (Ok reads.End) bytes) ∷ (acts.ReadUpTo n most, answers.ReadUpTo (Ok read) bytes) ∷ own_calls s h) (append-nil (packets_of s h) i) (append-nil (packets_of (other s) h) i) (λ k. processed s k h) (λ k i. took s k i h) (λ k. was_acked s k h)
-consumed_calls s n most read bytes h false = λ i. past_of ((acts.ReadUpTo n most, answers.ReadUpTo (Ok read) bytes) ∷ own_calls s h) (append-nil (packets_of s h) i) (append-nil (packets_of (other s) h) i) (λ k. processed s k h) (λ k i. took s k i h) (λ k. was_acked s k h)
+  other_before : (s : Side) → past_of (effects (other s) h) (effects s h) ≡ past (other s) h
+  other_before A = refl
+  other_before B = refl
 
--- bytes are taken without a copy
-pub past_consumed : (s : Side) (n most : ℕ) (result : Result Consumed UseFault) (bytes : Vec ℕ) (h : History) → past s (ConsumedUpTo s n most result bytes ∷ h) ≡ with_uses (past s h) (reads_of n most result bytes)
-unfolding own_calls packets_of processed took was_acked
-past_consumed A n most (Err fault) bytes h = λ i. past_of (own_calls A h) (append-nil (packets_of A h) i) (append-nil (packets_of B h) i) (λ k. processed A k h) (λ k i. took A k i h) (λ k. was_acked A k h)
-past_consumed B n most (Err fault) bytes h = λ i. past_of (own_calls B h) (append-nil (packets_of B h) i) (append-nil (packets_of A h) i) (λ k. processed B k h) (λ k i. took B k i h) (λ k. was_acked B k h)
-past_consumed A n most (Ok consumed) bytes h = consumed_calls A n most consumed.read bytes h consumed.at_end
-past_consumed B n most (Ok consumed) bytes h = consumed_calls B n most consumed.read bytes h consumed.at_end
+  pub past_here : past x.end (x ∷ h) ≡ with_effects did (past x.end h)
+  past_here = (λ i. past_of (effects_here i) (effects_there i)) ∙ past_more did (effects x.end h) (effects (other x.end) h)
 
-pub past_peer_consumed : (s : Side) (n most : ℕ) (result : Result Consumed UseFault) (bytes : Vec ℕ) (h : History) → past (other s) (ConsumedUpTo s n most result bytes ∷ h) ≡ past (other s) h
-unfolding own_calls packets_of processed took was_acked
-past_peer_consumed A n most result bytes h = λ i. past_of (own_calls B h) (append-nil (packets_of B h) i) (append-nil (packets_of A h) i) (λ k. processed B k h) (λ k i. took B k i h) (λ k. was_acked B k h)
-past_peer_consumed B n most result bytes h = λ i. past_of (own_calls A h) (append-nil (packets_of A h) i) (append-nil (packets_of B h) i) (λ k. processed A k h) (λ k i. took A k i h) (λ k. was_acked A k h)
+  pub past_there : past (other x.end) (x ∷ h) ≡ with_theirs (past (other x.end) h) (packets_in did)
+  past_there =
+      (λ i. past_of (effects_there i) ((others_other x.end ∙ effects_here) i))
+      ∙ ap (λ ps. record (past_of (effects (other x.end) h) []) { theirs = ps }) (ap (map frames_in) (flat_map-append sent_in (effects x.end h) did) ∙ map-append frames_in (flat_map sent_in (effects x.end h)) (flat_map sent_in did))
+      ∙ ap (λ p. with_theirs p (packets_in did)) (other_before x.end)
 
--- frames come without their packets: to the other side
-pub past_came_from : (s : Side) (parts : List Part) (result : Result Taken TakeFault) (h : History) → past s (CameAlone s parts result ∷ h) ≡ past s h
-unfolding own_calls packets_of processed took was_acked
-past_came_from A parts result h = λ i. past_of (own_calls A h) (append-nil (packets_of A h) i) (append-nil (packets_of B h) i) (λ k. processed A k h) (λ k i. took A k i h) (λ k. was_acked A k h)
-past_came_from B parts result h = λ i. past_of (own_calls B h) (append-nil (packets_of B h) i) (append-nil (packets_of A h) i) (λ k. processed B k h) (λ k i. took B k i h) (λ k. was_acked B k h)
+  pub made_here : made x.end (x ∷ h) ≡ made x.end h ++ flat_map sent_in did
+  made_here = ap (flat_map sent_in) effects_here ∙ flat_map-append sent_in (effects x.end h) did
 
-pub past_came_to : (s : Side) (parts : List Part) (result : Result Taken TakeFault) (h : History) → past (other s) (CameAlone s parts result ∷ h) ≡ with_took (past (other s) h) parts result
-unfolding own_calls packets_of processed took was_acked
-past_came_to A parts result h = λ i. with_took (past_of (own_calls B h) (append-nil (packets_of B h) i) (append-nil (packets_of A h) i) (λ k. processed B k h) (λ k i. took B k i h) (λ k. was_acked B k h)) parts result
-past_came_to B parts result h = λ i. with_took (past_of (own_calls A h) (append-nil (packets_of A h) i) (append-nil (packets_of B h) i) (λ k. processed A k h) (λ k i. took A k i h) (λ k. was_acked A k h)) parts result
+  pub made_there : made (other x.end) (x ∷ h) ≡ made (other x.end) h
+  made_there = ap (flat_map sent_in) effects_there
 
--- a token is acknowledged
-pub past_token : (s : Side) (token : Token) (result : Result (Unit {0}) TokenFault) (h : History) → past s (AckedToken s token result ∷ h) ≡ with_token (past s h) token (was_told result)
-unfolding own_calls packets_of processed took was_acked
-past_token A token result h = λ i. with_token (past_of (own_calls A h) (append-nil (packets_of A h) i) (append-nil (packets_of B h) i) (λ k. processed A k h) (λ k i. took A k i h) (λ k. was_acked A k h)) token (was_told result)
-past_token B token result h = λ i. with_token (past_of (own_calls B h) (append-nil (packets_of B h) i) (append-nil (packets_of A h) i) (λ k. processed B k h) (λ k i. took B k i h) (λ k. was_acked B k h)) token (was_told result)
-
-pub past_peer_token : (s : Side) (token : Token) (result : Result (Unit {0}) TokenFault) (h : History) → past (other s) (AckedToken s token result ∷ h) ≡ past (other s) h
-unfolding own_calls packets_of processed took was_acked
-past_peer_token A token result h = λ i. past_of (own_calls B h) (append-nil (packets_of B h) i) (append-nil (packets_of A h) i) (λ k. processed B k h) (λ k i. took B k i h) (λ k. was_acked B k h)
-past_peer_token B token result h = λ i. past_of (own_calls A h) (append-nil (packets_of A h) i) (append-nil (packets_of B h) i) (λ k. processed A k h) (λ k i. took A k i h) (λ k. was_acked A k h)
-
--- What is made
-
-pub made_own : (s : Side) (act : Act) (answer : Answer) (h : History) → made s (did s act answer ∷ h) ≡ made s h ++ made_by act answer
-unfolding made
-made_own A act answer h = refl
-made_own B act answer h = refl
-
-pub made_peer : (s : Side) (act : Act) (answer : Answer) (h : History) → made (other s) (did s act answer ∷ h) ≡ made (other s) h
-unfolding made
-made_peer A act answer h = append-nil (made B h)
-made_peer B act answer h = append-nil (made A h)
-
-pub made_makes : (s : Side) (x : Happening) (texts : List (List ℕ)) (h : History) → Makes s x texts → made s (x ∷ h) ≡ made s h ++ texts
-unfolding made
-made_makes s x texts h m = ap (λ ts. made s h ++ ts) m.here
-
-pub made_peer_makes : (s : Side) (x : Happening) (texts : List (List ℕ)) (h : History) → Makes s x texts → made (other s) (x ∷ h) ≡ made (other s) h
-unfolding made
-made_peer_makes s x texts h m = ap (λ ts. made (other s) h ++ ts) m.there ∙ append-nil (made (other s) h)
-
-pub made_raised : (t s : Side) (limits : PeerLimits) (result : Result (Unit {0}) RaiseFault) (h : History) → made t (RaisedLimits s limits result ∷ h) ≡ made t h
-unfolding made
-made_raised t s limits result h = append-nil (made t h)
-
-pub made_forgot : (t s : Side) (n code : ℕ) (result : Result (Unit {0}) UseFault) (h : History) → made t (Forgot s n code result ∷ h) ≡ made t (did s (acts.Stop n code) (answers.Stop result) ∷ h)
-unfolding made
-made_forgot A A n code result h = refl
-made_forgot A B n code result h = refl
-made_forgot B A n code result h = refl
-made_forgot B B n code result h = refl
-
-pub made_came : (t s : Side) (k : ℕ) (bytes : List ℕ) (result : Result Received Closing) (h : History) → made t (CameWith s k bytes result ∷ h) ≡ made t (did s (acts.Deliver k) (answers.Deliver result) ∷ h)
-unfolding made
-made_came A A k bytes result h = refl
-made_came A B k bytes result h = refl
-made_came B A k bytes result h = refl
-made_came B B k bytes result h = refl
-
--- of what a side makes nothing is added
-pub made_none : (t : Side) (x : Happening) (h : History) → made_now t x ≡ [] → made t (x ∷ h) ≡ made t h
-unfolding made
-made_none t x h none = ap (λ ts. made t h ++ ts) none ∙ append-nil (made t h)
+  pub taken_here : taken x.end (x ∷ h) ≡ taken x.end h ++ flat_map took_in did
+  taken_here = ap (flat_map took_in) effects_here ∙ flat_map-append took_in (effects x.end h) did
 
 -- Payloads
 
-pub seen_made : (s : Side) (h : History) → packets_of s h ≡ map frames_in (made s h)
-unfolding made packets_of
-seen_made s [] = refl
-seen_made s (x ∷ h) = ap (λ ps. ps ++ map frames_in (made_now s x)) (seen_made s h) ∙ sym (map-append frames_in (made s h) (made_now s x))
-
 -- the frames of a payload
 pub payload_seen : (s : Side) (k : ℕ) (h : History) (text : List ℕ) → payload s k h ≡ Some text → slice_get (past s h).mine k ≡ Some (frames_in text)
-payload_seen s k h text is = ap (λ x. slice_get x k) (seen_made s h) ∙ slice_get-map frames_in (made s h) k ∙ ap (option_map frames_in) is
+payload_seen s k h text is = slice_get-map frames_in (made s h) k ∙ ap (option_map frames_in) is
 
 -- each payload that was made has no fault
 abbrev pub AreFaultless : List (List ℕ) → Type 0
@@ -264,146 +227,346 @@ faultless_at [] k text all is = absurd (none-some text is)
 faultless_at (t ∷ texts) zero text all is = rw (same_Some t text is) at all.0
 faultless_at (t ∷ texts) (suc k) text all is = faultless_at texts k text all.1 is
 
-made_faultless : (o : Option MakeFault) (e : End) (first delay room : ℕ) (answer : Result (Option Made) MakeFault) (text : List ℕ) (new : End) → MakeAt o e first delay room answer text new → AreFaultless (texts_of answer text)
+made_faultless : (o : Option MakeFault) (e : End) (first delay room : ℕ) (answer : Result (Option Made) MakeFault) (text : List ℕ) (new : End) → MakeAt o e first delay room answer text new → AreFaultless (flat_map sent_in (effects_of (Make first delay room) (answer, text)))
 made_faultless None e first delay room (Ok (Some made)) text new h = ((text_faultless delay h.frames text h.lawful.some h.spells, text_fits delay h.frames text h.lawful.some h.spells), tt)
 made_faultless (Some fault) e first delay room (Ok (Some made)) text new h = absurd (cc (h.0))
 made_faultless o e first delay room _ text new h = tt
 
-pub packet_faultless : (e : End) (first delay room : ℕ) (answer : Result (Option Made) MakeFault) (text : List ℕ) (new : End) → MakeStep e first delay room answer text new → AreFaultless (texts_of answer text)
+pub packet_faultless : (e : End) (first delay room : ℕ) (answer : Result (Option Made) MakeFault) (text : List ℕ) (new : End) → MakeStep e first delay room answer text new → AreFaultless (flat_map sent_in (effects_of (Make first delay room) (answer, text)))
 packet_faultless e first delay room answer text new step = made_faultless (make_refusal e) e first delay room answer text new step
 
-pub own_faultless : (e : End) (act : Act) (answer : Answer) (new : End) → OwnStep e act answer new → AreFaultless (made_by act answer)
-own_faultless e (acts.Make room) (answers.Make r text) new (first, delay, step) = packet_faultless e first delay room r text.items new step
-own_faultless e acts.Claim (answers.Claim (Ok number)) new step = ((ping_faultless, ping_fits), tt)
-own_faultless e act answer new step = tt
+-- a call that sends no packet has sent none
+none_if_ok : {R F : Type 0} (r : Result R F) (f : R → List Effect) → ((x : R) → flat_map sent_in (f x) ≡ []) → flat_map sent_in (if_ok r f) ≡ []
+none_if_ok (Ok x) f none = none x
+none_if_ok (Err fault) f none = refl
 
--- Frames of one end's packets as the other end's past has them.
+none_read : (n : ℕ) (told : Read) (bytes : List ℕ) → flat_map sent_in (read_effects n told bytes) ≡ []
+none_read n (reads.Bytes count) bytes = refl
+none_read n reads.End bytes = refl
+none_read n _ bytes = refl
+
+none_consumed : (n : ℕ) (told : Read) (bytes : List ℕ) (b : Bool) → flat_map sent_in (read_effects n told bytes ++ (if b then Ended n ∷ [] else [])) ≡ []
+none_consumed n told bytes true = flat_map-append sent_in (read_effects n told bytes) (Ended n ∷ []) ∙ ap (λ ts. ts ++ []) (none_read n told bytes)
+none_consumed n told bytes false = flat_map-append sent_in (read_effects n told bytes) [] ∙ ap (λ ts. ts ++ []) (none_read n told bytes)
+
+none_came : (k : ℕ) (bytes : List ℕ) (r : Received) → flat_map sent_in (came_effects k bytes r) ≡ []
+none_came k bytes Done = refl
+none_came k bytes r = refl
+
+none_acked : (t : Token) (r : Result (Unit {0}) TokenFault) → flat_map sent_in (acked_effects t r) ≡ []
+none_acked t (Ok done) = refl
+none_acked t (Err tokens.NoMemory) = refl
+none_acked t (Err fault) = refl
+
+pub none_sent : (call : Call) (answer : Answer call) → (Sends call → ⊥) → flat_map sent_in (effects_of call answer) ≡ []
+none_sent (Write n bytes) answer quiet = none_if_ok answer _ (λ count. refl)
+none_sent (Stop n code) answer quiet = none_if_ok answer _ (λ done. refl)
+none_sent (StopAndForget n code) answer quiet = none_if_ok answer _ (λ done. refl)
+none_sent (ReadUpTo n size) answer quiet = none_if_ok answer.0 _ (λ told. none_read n told answer.1)
+none_sent (Consume n most) answer quiet = none_if_ok answer.0 _ (λ told. none_consumed n told.read answer.1 told.at_end)
+none_sent (Receive k bytes) answer quiet = none_if_ok answer _ (none_came k bytes)
+none_sent (TakeFrame f) answer quiet = none_if_ok answer _ (λ told. refl)
+none_sent (TakeFrames fs) answer quiet = none_if_ok answer _ (λ told. refl)
+none_sent (TokenAcked t) answer quiet = none_acked t answer
+none_sent (Make first delay room) answer quiet = absurd (quiet tt)
+none_sent (MakeAck delay room) answer quiet = absurd (quiet tt)
+none_sent (FillIn want room) answer quiet = absurd (quiet tt)
+none_sent Claim answer quiet = absurd (quiet tt)
+none_sent call answer quiet = refl
+
+-- What comes was made
+
+-- a frame that stood in a packet has a text, whichever value is seen so
+abbrev back : Seen → FrameValue
+back (Stream n offset bytes fin) = stream n offset fin bytes
+back (Control (items.ResetStream n code size)) = reset_stream n code size
+back (Control (items.StopSending n code)) = stop_sending n code
+back (Control (items.MaxData m)) = max_data m
+back (Control (items.MaxStreamData n m)) = max_stream_data n m
+back (Control (items.MaxStreams d m)) = max_streams d m
+back (Control (items.DataBlocked m)) = data_blocked m
+back (Control (items.StreamDataBlocked n m)) = stream_data_blocked n m
+back (Control (items.StreamsBlocked d m)) = streams_blocked d m
+back f = ping
+
+back_seen : (f : FrameValue) → is_ours (seen f) ≡ true → back (seen f) ≡ f
+back_seen (stream n offset fin bytes) ours = refl
+back_seen (reset_stream n code size) ours = refl
+back_seen (stop_sending n code) ours = refl
+back_seen (max_data m) ours = refl
+back_seen (max_stream_data n m) ours = refl
+back_seen (max_streams d m) ours = refl
+back_seen (data_blocked m) ours = refl
+back_seen (stream_data_blocked n m) ours = refl
+back_seen (streams_blocked d m) ours = refl
+back_seen f ours = absurd (false≢true ours)
+
+fits_among : (fs : List FrameValue) (f : FrameValue) → AllByRecursion Fits fs → Among (seen f) (seen_all fs) → is_ours (seen f) ≡ true → Fits f
+fits_among [] f fit a ours = absurd a
+fits_among (g ∷ fs) f fit (inl is) ours = subst Fits (sym (back_seen g (ap is_ours (sym is) ∙ ours)) ∙ ap back (sym is) ∙ back_seen f ours) fit.0
+fits_among (g ∷ fs) f fit (inr a) ours = fits_among fs f fit.1 a ours
+
+not_ours : (g : Seen) → is_plain g ≡ true → is_ours g ≡ false
+not_ours (Stream n offset bytes fin) plain = absurd (false≢true plain)
+not_ours (Control i) plain = absurd (false≢true plain)
+not_ours g plain = refl
 
 module _ (h : History) (s : Side) where
-  part_held : (part : Part) (f : FrameValue) → IsFrameOf h s part f → HoldsAt (past (other s) h).theirs part.number part.place (seen f)
-  part_held part f (text, is, at) = (
-    frames_in text,
-    ap (λ ps. slice_get ps part.number) (theirs_mine s h) ∙ payload_seen s part.number h text is,
-    slice_get-map seen (frames_of (reading_of text).left) part.place ∙ ap (option_map seen) at,
-  )
+  -- what the peer made is told to an end, with a text
+  pub made_told : (f : Seen) → HasMade h (other s) f → Tells (past s h).theirs f
+  made_told f (k, text, is, a) = (k, (frames_in text, payload_seen (other s) k h text is, a))
 
-  pub parts_held : (parts : List Part) (fs : List FrameValue) → AreFramesOf h s parts fs → AreHeldAt (past (other s) h).theirs parts fs
-  parts_held [] [] are = tt
-  parts_held (part ∷ parts) (f ∷ fs) (is, are) = (part_held part f is, parts_held parts fs are)
-  parts_held _ _ are = absurd are
+  pub frame_told : AreFaultless (made (other s) h) → (f : FrameValue) → IsFrom h (other s) (seen f) → is_ours (seen f) ≡ true → Tells (past s h).theirs (seen f) × Fits f
+  frame_told texts f from ours =
+      let (k, text, is, a) = from ours in
+      (made_told (seen f) (from ours), fits_among (frames_of (reading_of text).left) f (faultless_at (made (other s) h) k text texts is).1 a ours)
 
-  -- each has a text
-  pub parts_fit : AreFaultless (made s h) → (parts : List Part) (fs : List FrameValue) → AreFramesOf h s parts fs → AllByRecursion Fits fs
-  parts_fit texts [] [] are = tt
-  parts_fit texts (part ∷ parts) (f ∷ fs) ((text, is, at), are) = (found (frames_of (reading_of text).left) part.place (faultless_at (made s h) part.number text texts is).1 at, parts_fit texts parts fs are)
-    where
-      found : (all : List FrameValue) (i : ℕ) → AllByRecursion Fits all → slice_get all i ≡ Some f → Fits f
-      found [] i fit at = absurd (none-some f at)
-      found (v ∷ all) zero fit at = subst Fits (same_Some v f at) fit.0
-      found (v ∷ all) (suc i) fit at = found all i fit.1 at
-  parts_fit texts _ _ are = absurd are
+  pub frames_told : AreFaultless (made (other s) h) → (fs : List FrameValue) → AllByRecursion (IsFrom h (other s)) (seen_all fs) → AllByRecursion (λ f. is_ours (seen f) ≡ true → Tells (past s h).theirs (seen f) × Fits f) fs
+  frames_told texts [] from = tt
+  frames_told texts (f ∷ fs) from = (frame_told texts f from.0, frames_told texts fs from.1)
 
-  -- they are the only ones
-  pub parts_same : (parts : List Part) (fs gs : List FrameValue) → AreFramesOf h s parts fs → AreFramesOf h s parts gs → fs ≡ gs
-  parts_same [] [] [] x y = refl
-  parts_same [] (f ∷ fs) gs x y = absurd x
-  parts_same (part ∷ parts) [] gs x y = absurd x
-  parts_same (part ∷ parts) (f ∷ fs) (g ∷ gs) ((text, is, at), x) ((t, there, found), y) =
-      let text_same : text ≡ t = same_Some text t (sym is ∙ there) in
-      let one : f ≡ g = same_Some f g (sym at ∙ ap (λ bs. slice_get (frames_of (reading_of bs).left) part.place) text_same ∙ found) in
-      let more : fs ≡ gs = parts_same parts fs gs x y in
-      λ j. one j ∷ more j
-  parts_same _ _ gs x y = absurd y
+  -- of a payload that comes each frame was made, or it is plain
+  pub payload_come : (k : ℕ) (bytes : List ℕ) → IsPayload h (other s) k bytes → (g : Seen) → Among g (frames_in bytes) → MayCome (past s h).theirs g
+  payload_come k bytes (text, is, differ) g a = elim (differ_covers bytes text differ g a) [ inl there ↦ inl (made_told g (k, text, is, there)) | inr plain ↦ inr plain ]
 
--- What a token told landed, and what landed took effect.
+  -- and each that was made and isn't plain comes
+  pub payload_covers : (k : ℕ) (bytes : List ℕ) → IsPayload h (other s) k bytes → (text : List ℕ) × (payload (other s) k h ≡ Some text) × ((g : Seen) → Among g (frames_in text) → is_ours g ≡ true → Among g (frames_in bytes))
+  payload_covers k bytes (text, is, differ) = (text, is, λ g a ours. elim (differ_covers text bytes (differ_turned bytes text differ) g a) [ inl there ↦ there | inr plain ↦ absurd (false≢true (sym (not_ours g plain) ∙ ours)) ])
 
--- A frame and its place
-
-pub among_at : (fs : List Seen) (f : Seen) → Among f fs → (i : ℕ) × (slice_get fs i ≡ Some f)
-among_at [] f a = absurd a
-among_at (g ∷ fs) f (inl is) = (0, ap Some (sym is))
-among_at (g ∷ fs) f (inr a) = (let (i, at) = among_at fs f a in (suc i, at))
-
-pub at_among : (fs : List Seen) (i : ℕ) (f : Seen) → slice_get fs i ≡ Some f → Among f fs
-at_among [] i f at = absurd (none-some f at)
-at_among (g ∷ fs) zero f at = inl (sym (same_Some g f at))
-at_among (g ∷ fs) (suc i) f at = inr (at_among fs i f at)
-
-pub mapped_some : {X Y : Type 0} (f : X → Y) (o : Option X) (y : Y) → option_map f o ≡ Some y → (x : X) × (o ≡ Some x) × (f x ≡ y)
-mapped_some f None y e = absurd (none-some y e)
-mapped_some f (Some x) y e = (x, refl, same_Some (f x) y e)
+-- a frame that has to land is one of streams or of flow control
+pub lands_ours : (g : Seen) → must_land g ≡ true → is_ours g ≡ true
+lands_ours (Control i) land = refl
+lands_ours g land = land
 
 -- What landed stays so
 
-pub still_landed : (h : History) (x : Happening) (s : Side) (k : ℕ) → HasLanded h s k → HasLanded (x ∷ h) s k
-unfolding made processed took
-still_landed h x s k (inl done) = inl (or_cond (takes_in (other s) k x) (processed (other s) k h) done)
-still_landed h x s k (inr (text, is, all)) =
-    inr (text, slice_get-append (made s h) (made_now s x) k text is, λ i f at ours. or_cond (takes_frame (other s) k i x) (took (other s) k i h) (all i f at ours))
+pub still_made : (x : Happening) (h : History) (s : Side) (k : ℕ) (text : List ℕ) → payload s k h ≡ Some text → payload s k (x ∷ h) ≡ Some text
+still_made x h s k text = two_sides (λ t. payload t k h ≡ Some text → payload t k (x ∷ h) ≡ Some text) x.end
+    (λ is. subst (λ ts. slice_get ts k ≡ Some text) (sym (made_here x h)) (slice_get-append (made x.end h) (flat_map sent_in (did x h)) k text is))
+    (λ is. subst (λ ts. slice_get ts k ≡ Some text) (sym (made_there x h)) is) s
 
-same_sides : (s t : Side) → same_side s t ≡ true → t ≡ s
-same_sides A B is = absurd (false≢true is)
-same_sides B A is = absurd (false≢true is)
-same_sides _ _ is = refl
+still_taken : (x : Happening) (h : History) (s : Side) (f : Seen) → Among f (taken s h) → Among f (taken s (x ∷ h))
+still_taken x h s f = two_sides (λ t. Among f (taken t h) → Among f (taken t (x ∷ h))) x.end
+    (λ a. subst (Among f) (sym (taken_here x h)) (Among_left (taken x.end h) (flat_map took_in (did x h)) f a))
+    (λ a. subst (Among f) (sym (ap (flat_map took_in) (effects_there x h))) a) s
 
--- the end took the token, so it is of its epoch
-told_is_own : (e new : End) (t : Token) (result : Result (Unit {0}) TokenFault) → TokenAckedStep e t result new → was_told result ≡ true → t.epoch ≡ e.tuning.epoch
-told_is_own e new t result step told = eqb-true t.epoch e.tuning.epoch (go _ (is_some e.closed) (nat_eq t.epoch e.tuning.epoch) (nat_le t.first t.number && nat_lt t.number e.next) step)
+pub still_has_made : (x : Happening) (h : History) (s : Side) (f : Seen) → HasMade h s f → HasMade (x ∷ h) s f
+still_has_made x h s f (k, text, is, a) = (k, text, still_made x h s k text is, a)
+
+pub still_landed : (x : Happening) (h : History) (s : Side) (k : ℕ) → HasLanded h s k → HasLanded (x ∷ h) s k
+still_landed x h s k (text, is, all) = (text, still_made x h s k text is, λ f a land. still_taken x h (other s) f (all f a land))
+
+-- What an end does in which it hears nothing of its peer
+
+-- something came, or a token was told to be acknowledged
+abbrev hears_in : Effect → Bool
+hears_in (Came k bytes) = true
+hears_in (CameAlone frames) = true
+hears_in (Acked token) = true
+hears_in x = false
+
+abbrev Deaf : List Effect → Type 0
+Deaf xs = AllByRecursion (λ y. hears_in y ≡ false) xs
+
+deaf_if_ok : {R F : Type 0} (r : Result R F) (f : R → List Effect) → ((x : R) → Deaf (f x)) → Deaf (if_ok r f)
+deaf_if_ok (Ok x) f deaf = deaf x
+deaf_if_ok (Err fault) f deaf = tt
+
+deaf_read : (n : ℕ) (told : Read) (bytes : List ℕ) → Deaf (read_effects n told bytes)
+deaf_read n (reads.Bytes count) bytes = (refl, tt)
+deaf_read n reads.End bytes = (refl, tt)
+deaf_read n told bytes = tt
+
+deaf_end : (n : ℕ) (b : Bool) → Deaf (if b then Ended n ∷ [] else [])
+deaf_end n true = (refl, tt)
+deaf_end n false = tt
+
+deaf_sent : {M : Type 0} (o : Option M) (text : List ℕ) → Deaf (sent_effects o text)
+deaf_sent (Some made) text = (refl, tt)
+deaf_sent None text = tt
+
+deaf_effects : (call : Call) (answer : Answer call) → (Hears call → ⊥) → Deaf (effects_of call answer)
+deaf_effects (Write n bytes) answer deaf = deaf_if_ok answer _ (λ count. (refl, tt))
+deaf_effects (Stop n code) answer deaf = deaf_if_ok answer _ (λ done. (refl, tt))
+deaf_effects (StopAndForget n code) answer deaf = deaf_if_ok answer _ (λ done. (refl, tt))
+deaf_effects (ReadUpTo n size) answer deaf = deaf_if_ok answer.0 _ (λ told. deaf_read n told answer.1)
+deaf_effects (Consume n most) answer deaf = deaf_if_ok answer.0 _ (λ told. All_append _ (read_effects n told.read answer.1) (if told.at_end then Ended n ∷ [] else []) (deaf_read n told.read answer.1) (deaf_end n told.at_end))
+deaf_effects (Make first delay room) answer deaf = deaf_if_ok answer.0 _ (λ packet. deaf_sent packet answer.1)
+deaf_effects (MakeAck delay room) answer deaf = deaf_if_ok answer.0 _ (λ packet. deaf_sent packet answer.1)
+deaf_effects (FillIn want room) answer deaf = deaf_if_ok answer.0 _ (λ filled. deaf_sent filled answer.1)
+deaf_effects Claim answer deaf = deaf_if_ok answer _ (λ number. (refl, tt))
+deaf_effects (TellClosed close) answer deaf = (refl, tt)
+deaf_effects (Receive k bytes) answer deaf = absurd (deaf tt)
+deaf_effects (TakeFrame f) answer deaf = absurd (deaf tt)
+deaf_effects (TakeFrames fs) answer deaf = absurd (deaf tt)
+deaf_effects (TokenAcked t) answer deaf = absurd (deaf tt)
+deaf_effects call answer deaf = tt
+
+-- so nothing came by it, and no token was told
+none_any : (f : Effect → Bool) → ((y : Effect) → hears_in y ≡ false → f y ≡ false) → (xs : List Effect) → Deaf xs → list_any f xs ≡ false
+none_any f none [] deaf = refl
+none_any f none (y ∷ xs) deaf = ap (λ b. b || list_any f xs) (none y deaf.0) ∙ none_any f none xs deaf.1
+
+none_acks : (k : ℕ) (y : Effect) → hears_in y ≡ false → acks_in k y ≡ false
+none_acks k (Acked token) deaf = absurd (true≢false deaf)
+none_acks k y deaf = refl
+
+none_comes : (k : ℕ) (y : Effect) → hears_in y ≡ false → comes_in k y ≡ false
+none_comes k (Came j bytes) deaf = absurd (true≢false deaf)
+none_comes k y deaf = refl
+
+none_took : (xs : List Effect) → Deaf xs → flat_map took_in xs ≡ []
+none_took [] deaf = refl
+none_took (y ∷ xs) deaf = ap (λ fs. fs ++ flat_map took_in xs) (none y deaf.0) ∙ none_took xs deaf.1
   where
-    go : (E : Type 0) (closed own made : Bool) → Certain (first_refusal (refuse_if closed tokens.Closed) (refuse_if (not (own && made)) tokens.NotGiven)) e result new E → own ≡ true
-    go E false true made h = refl
-    go E _ own made h = absurd (false≢true (sym (ap was_told h.0) ∙ told))
+    none : (y : Effect) → hears_in y ≡ false → took_in y ≡ []
+    none (Came k bytes) deaf = absurd (true≢false deaf)
+    none (CameAlone frames) deaf = absurd (true≢false deaf)
+    none y deaf = refl
 
--- what a token tells landed before
-landed_before : (h : History) (v w : World) (x : Happening) → WorldStep h v x w → (s : Side) (k : ℕ) → tells_acked s k x ≡ true → HasLanded h s k
-landed_before h v w (AckedToken end token result) ((landed, step), same) s k is =
-    let (here, both) = and_parts (same_side s end) (was_told result && is_in token k) is in
-    let (told, among) = and_parts (was_told result) (is_in token k) both in
-    subst (λ t. HasLanded h t k) (same_sides s end here) (landed (told_is_own (end_of v end) (end_of w end) token result step told) k among)
-landed_before h v w _ step s k is = absurd (false≢true is)
+-- What an end hears
 
-pub step_lands : (h : History) (v w : World) (x : Happening) → WorldStep h v x w → ((s : Side) (k : ℕ) → was_acked s k h ≡ true → HasLanded h s k) → (s : Side) (k : ℕ) → was_acked s k (x ∷ h) ≡ true → HasLanded (x ∷ h) s k
-unfolding was_acked
-step_lands h v w x step before s k is = still_landed h x s k (by (tells_acked s k x) refl is)
+-- an end that closed hears nothing
+refused_take : (o : Option Closed) (e new : End) (f : FrameValue) (answer : Answer (TakeFrame f)) → is_some o ≡ true → TakeBy o f e answer new → effects_of (TakeFrame f) answer ≡ []
+refused_take None e new f answer shut h = absurd (false≢true shut)
+refused_take (Some closed) e new f answer shut h = ap (effects_of (TakeFrame f)) h.0
+
+refused_all : (o : Option Closed) (e new : End) (fs : List FrameValue) (answer : Answer (TakeFrames fs)) → is_some o ≡ true → TakeAllBy o fs e answer new → effects_of (TakeFrames fs) answer ≡ []
+refused_all None e new fs answer shut h = absurd (false≢true shut)
+refused_all (Some closed) e new fs answer shut h = ap (effects_of (TakeFrames fs)) h.0
+
+refused_payload : (o : Option Closed) (e new : End) (k : ℕ) (bytes : List ℕ) (answer : Answer (Receive k bytes)) → is_some o ≡ true → ReceiveBy o k bytes e answer new → effects_of (Receive k bytes) answer ≡ []
+refused_payload None e new k bytes answer shut h = absurd (false≢true shut)
+refused_payload (Some (closings.ByUs closing)) e new k bytes answer shut h = ap (effects_of (Receive k bytes)) h.0
+refused_payload (Some (closings.ByPeer code)) e new k bytes answer shut h = ap (effects_of (Receive k bytes)) h.0
+refused_payload (Some (closings.Told close)) e new k bytes answer shut h = ap (effects_of (Receive k bytes)) h.0 ∙ by close.by
   where
-    by : (b : Bool) → tells_acked s k x ≡ b → (if b then true else was_acked s k h) ≡ true → HasLanded h s k
-    by true now is = landed_before h v w x step s k now
-    by false now is = before s k is
+    by : (c : Closer) → effects_of (Receive k bytes) (told_receive c close.code) ≡ []
+    by Us = refl
+    by Peer = refl
+
+refused_token : (b : Bool) (r : Option TokenFault) (e new : End) (t : Token) (answer : Answer (TokenAcked t)) (Effect : Type 0) → b ≡ true → Certain (first_refusal (refuse_if b tokens.Closed) r) e answer new Effect → effects_of (TokenAcked t) answer ≡ []
+refused_token true r e new t answer Effect shut h = ap (effects_of (TokenAcked t)) h.0
+refused_token false r e new t answer Effect shut h = absurd (false≢true shut)
+
+pub closed_hears : (e new : End) (call : Call) (answer : Answer call) → is_some e.closed ≡ true → Hears call → EndStep e call answer new → effects_of call answer ≡ []
+closed_hears e new (Receive k bytes) answer shut hears step = refused_payload e.closed e new k bytes answer shut step
+closed_hears e new (TakeFrame f) answer shut hears step = refused_take e.closed e new f answer shut step
+closed_hears e new (TakeFrames fs) answer shut hears step = refused_all e.closed e new fs answer shut step
+closed_hears e new (TokenAcked t) answer shut hears step = refused_token (is_some e.closed) _ e new t answer _ shut step
+closed_hears e new call answer shut hears step = absurd hears
+
+-- a token that an end took is of its epoch
+token_own : (b own made : Bool) (e new : End) (t : Token) (answer : Answer (TokenAcked t)) (E : Type 0) (k : ℕ) → Certain (first_refusal (refuse_if b tokens.Closed) (refuse_if (not (own && made)) tokens.NotGiven)) e answer new E → list_any (acks_in k) (effects_of (TokenAcked t) answer) ≡ true → own ≡ true
+token_own false true made e new t answer E k h told = refl
+token_own b own made e new t answer E k h told = absurd (false≢true (sym (ap (λ r. list_any (acks_in k) (effects_of (TokenAcked t) r)) h.0) ∙ told))
+
+told_in : (t : Token) (k : ℕ) (r : Result (Unit {0}) TokenFault) → list_any (acks_in k) (acked_effects t r) ≡ true → is_in t k ≡ true
+told_in t k (Ok done) told = or_false_is (is_in t k) told
+  where
+    or_false_is : (b : Bool) → (b || false) ≡ true → b ≡ true
+    or_false_is true h = refl
+    or_false_is false h = h
+told_in t k (Err tokens.NoMemory) told = or_false_is (is_in t k) told
+  where
+    or_false_is : (b : Bool) → (b || false) ≡ true → b ≡ true
+    or_false_is true h = refl
+    or_false_is false h = h
+told_in t k (Err fault) told = absurd (false≢true told)
+
+-- What the frames and tokens that an end heard tell
+module _ (h : History) (w : World) (s : Side) (new : End) where
+  abbrev e : End
+  e = end_of w s
+
+  -- each frame of streams and flow control that came was made by the peer
+  pub came_made : (call : Call) (answer : Answer call) → (Hears call → May h w s call) → (f : Seen) → Among f (flat_map took_in (effects_of call answer)) → is_ours f ≡ true → HasMade h (other s) f
+  came_made (Receive k bytes) (Ok Done) may f a ours =
+      let (text, is, differ) = may tt in
+      elim (differ_covers bytes text differ f (subst (Among f) (append-nil (frames_in bytes)) a)) [ inl there ↦ (k, text, is, there) | inr plain ↦ absurd (false≢true (sym (not_ours f plain) ∙ ours)) ]
+  came_made (Receive k bytes) (Ok r) may f a ours = absurd a
+  came_made (Receive k bytes) (Err closing) may f a ours = absurd a
+  came_made (TakeFrame g) (Ok told) may f (inl is) ours = subst (HasMade h (other s)) (sym is) (may tt (subst (λ x. is_ours x ≡ true) is ours))
+  came_made (TakeFrame g) (Ok told) may f (inr a) ours = absurd a
+  came_made (TakeFrame g) (Err fault) may f a ours = absurd a
+  came_made (TakeFrames fs) (Ok told) may f a ours = All_at (IsFrom h (other s)) (seen_all fs) f (may tt) (subst (Among f) (append-nil (seen_all fs)) a) ours
+  came_made (TakeFrames fs) (Err fault) may f a ours = absurd a
+  came_made (TokenAcked t) answer may f a ours = absurd (subst (Among f) (none_by answer) a)
+    where
+      none_by : (r : Result (Unit {0}) TokenFault) → flat_map took_in (acked_effects t r) ≡ []
+      none_by (Ok done) = refl
+      none_by (Err tokens.NoMemory) = refl
+      none_by (Err fault) = refl
+  came_made call answer may f a ours = absurd (subst (Among f) (none_took (effects_of call answer) (deaf_effects call answer (λ no. no))) a)
+
+  -- a packet that came landed
+  pub came_landed : (call : Call) (answer : Answer call) → (Hears call → May h w s call) → (k : ℕ) → list_any (comes_in k) (effects_of call answer) ≡ true →
+      (text : List ℕ) × (payload (other s) k h ≡ Some text) × ((f : Seen) → Among f (frames_in text) → must_land f ≡ true → Among f (flat_map took_in (effects_of call answer)))
+  came_landed (Receive j bytes) (Ok Done) may k is =
+      let (text, there, covers) = payload_covers h s j bytes (may tt) in
+      let this : k ≡ j = eqb-true k j (or_false_is (k == j) is) in
+      (text, subst (λ i. payload (other s) i h ≡ Some text) (sym this) there, λ f a land. subst (Among f) (sym (append-nil (frames_in bytes))) (covers f a (lands_ours f land)))
+    where
+      or_false_is : (b : Bool) → (b || false) ≡ true → b ≡ true
+      or_false_is true h = refl
+      or_false_is false h = h
+  came_landed (Receive j bytes) (Ok r) may k is = absurd (false≢true is)
+  came_landed (Receive j bytes) (Err closing) may k is = absurd (false≢true is)
+  came_landed (TakeFrame g) (Ok told) may k is = absurd (false≢true is)
+  came_landed (TakeFrame g) (Err fault) may k is = absurd (false≢true is)
+  came_landed (TakeFrames fs) (Ok told) may k is = absurd (false≢true is)
+  came_landed (TakeFrames fs) (Err fault) may k is = absurd (false≢true is)
+  came_landed (TokenAcked t) answer may k is = absurd (false≢true (sym (none_by answer) ∙ is))
+    where
+      none_by : (r : Result (Unit {0}) TokenFault) → list_any (comes_in k) (acked_effects t r) ≡ false
+      none_by (Ok done) = refl
+      none_by (Err tokens.NoMemory) = refl
+      none_by (Err fault) = refl
+  came_landed call answer may k is = absurd (false≢true (sym (none_any (comes_in k) (none_comes k) (effects_of call answer) (deaf_effects call answer (λ no. no))) ∙ is))
+
+  -- what a token told landed before
+  pub acked_landed : (call : Call) (answer : Answer call) → EndStep e call answer new → (Hears call → May h w s call) → (k : ℕ) → list_any (acks_in k) (effects_of call answer) ≡ true → HasLanded h s k
+  acked_landed (TokenAcked t) answer step may k is =
+      may tt (eqb-true t.epoch e.tuning.epoch (token_own (is_some e.closed) (nat_eq t.epoch e.tuning.epoch) (nat_le t.first t.number && nat_lt t.number e.next) e new t answer _ k step is)) k (told_in t k answer is)
+  acked_landed (Receive j bytes) (Ok Done) step may k is = absurd (false≢true is)
+  acked_landed (Receive j bytes) (Ok r) step may k is = absurd (false≢true is)
+  acked_landed (Receive j bytes) (Err closing) step may k is = absurd (false≢true is)
+  acked_landed (TakeFrame g) (Ok told) step may k is = absurd (false≢true is)
+  acked_landed (TakeFrame g) (Err fault) step may k is = absurd (false≢true is)
+  acked_landed (TakeFrames fs) (Ok told) step may k is = absurd (false≢true is)
+  acked_landed (TakeFrames fs) (Err fault) step may k is = absurd (false≢true is)
+  acked_landed call answer step may k is = absurd (false≢true (sym (none_any (acks_in k) (none_acks k) (effects_of call answer) (deaf_effects call answer (λ no. no))) ∙ is))
+
+-- what is told by an effect of the end was so before, or is so by it
+pub any_here : (f : Effect → Bool) (x : Happening) (h : History) → list_any f (effects x.end (x ∷ h)) ≡ true → (list_any f (effects x.end h) ≡ true) ⊎ (list_any f (did x h) ≡ true)
+any_here f x h is = by (list_any f (effects x.end h)) refl (sym (ap (list_any f) (effects_here x h) ∙ list_any-append f (effects x.end h) (did x h)) ∙ is)
+  where
+    by : (b : Bool) → list_any f (effects x.end h) ≡ b → (b || list_any f (did x h)) ≡ true → (list_any f (effects x.end h) ≡ true) ⊎ (list_any f (did x h) ≡ true)
+    by true was now = inl was
+    by false was now = inr now
+
+pub none_here : (f : Effect → Bool) (x : Happening) (h : History) → list_any f (effects x.end (x ∷ h)) ≡ false → (list_any f (effects x.end h) ≡ false) × (list_any f (did x h) ≡ false)
+none_here f x h is = by (list_any f (effects x.end h)) (list_any f (did x h)) (sym (ap (list_any f) (effects_here x h) ∙ list_any-append f (effects x.end h) (did x h)) ∙ is)
+  where
+    by : (b c : Bool) → (b || c) ≡ false → (b ≡ false) × (c ≡ false)
+    by true c none = absurd (true≢false none)
+    by false c none = (refl, none)
 
 -- What landed took effect
 
-pub landed_taken : (theirs : Packets) (processed : ℕ → Bool) (took : ℕ → ℕ → Bool) (P : Seen → Type 0) → EachTaken theirs processed took P → (k : ℕ) → Landed theirs processed took k →
-    (fs : List Seen) (f : Seen) → slice_get theirs k ≡ Some fs → Among f fs → is_ours f ≡ true → P f
-landed_taken theirs processed took P each k (inl done) fs f is a ours =
-    let (gs, there, all) = each.packets k done in
-    All_at P fs f (subst (AllByRecursion P) (same_Some gs fs (sym there ∙ is)) all) a
-landed_taken theirs processed took P each k (inr (gs, there, all)) fs f is a ours =
-    let same : gs ≡ fs = same_Some gs fs (sym there ∙ is) in
-    let (i, at) = among_at fs f a in
-    let (g, (hs, found, has_it), holds) = each.frames k i (all i f (subst (λ xs. slice_get xs i ≡ Some f) (sym same) at) ours) in
-    let alike : hs ≡ fs = same_Some hs fs (sym found ∙ is) in
-    subst P (same_Some g f (sym (subst (λ xs. slice_get xs i ≡ Some g) alike has_it) ∙ at)) holds
-
 -- what a history tells of a packet a past does
-pub landed_past : (h : History) (s : Side) (k : ℕ) → HasLanded h s k → Landed (past (other s) h).theirs (past (other s) h).processed (past (other s) h).took k
-landed_past h s k (inl done) = inl done
-landed_past h s k (inr (text, is, all)) =
-    inr (
-      frames_in text,
-      ap (λ ps. slice_get ps k) (theirs_mine s h) ∙ payload_seen s k h text is,
-      λ i f at ours. (
-          let (v, there, same) = mapped_some seen (slice_get (frames_of (reading_of text).left) i) f (sym (slice_get-map seen (frames_of (reading_of text).left) i) ∙ at) in
-          all i v there (subst (λ x. is_ours x ≡ true) (sym same) ours)),
-    )
+pub landed_past : (h : History) (s : Side) (k : ℕ) → HasLanded h s k → Landed (past (other s) h).theirs (past (other s) h).taken k
+landed_past h s k (text, is, all) = (frames_in text, ap (λ ps. slice_get ps k) (theirs_mine s h) ∙ payload_seen s k h text is, all)
 
 module _ (a b : Settings) (h : History) (w : World) (ok : WorldOk a b h w) (s : Side) where
   -- a packet that was confirmed landed
-  pub confirmed_landed : (k : ℕ) → WasConfirmed (past s h).theirs (past s h).tokens k → Landed (past (other s) h).theirs (past (other s) h).processed (past (other s) h).took k
-  confirmed_landed k (inl (largest, ranges, t, named)) = inl (((ok.ends (other s)).packets.acks_told largest ranges t).names_processed k named)
+  pub confirmed_landed : (k : ℕ) → WasConfirmed (past s h).theirs (past s h).tokens k → Landed (past (other s) h).theirs (past (other s) h).taken k
+  confirmed_landed k (inl (largest, ranges, t, named)) = landed_past h s k (ok.landed s k (((ok.ends (other s)).packets.acks_told largest ranges t).names_processed k named))
   confirmed_landed k (inr told) = landed_past h s k (ok.confirmed s k told)
 
-  -- so what holds of each frame that was taken holds of each that it has
-  pub confirmed_taken : (P : Seen → Type 0) → EachTaken (past (other s) h).theirs (past (other s) h).processed (past (other s) h).took P →
-      (k : ℕ) (f : Seen) → Holds (past s h).mine k f → WasConfirmed (past s h).theirs (past s h).tokens k → is_ours f ≡ true → P f
-  confirmed_taken P each k f (fs, is, a) confirmed ours =
-      landed_taken (past (other s) h).theirs (past (other s) h).processed (past (other s) h).took P each k (confirmed_landed k confirmed) fs f (ap (λ ps. slice_get ps k) (theirs_mine s h) ∙ is) a ours
+  -- so each frame of it that has to was taken
+  pub confirmed_taken : (k : ℕ) (f : Seen) → Holds (past s h).mine k f → WasConfirmed (past s h).theirs (past s h).tokens k → must_land f ≡ true → Among f (past (other s) h).taken
+  confirmed_taken k f (fs, is, a) confirmed land =
+      let (gs, there, all) = confirmed_landed k confirmed in
+      let same : fs ≡ gs = same_Some fs gs (sym is ∙ sym (ap (λ ps. slice_get ps k) (theirs_mine s h)) ∙ there) in
+      all f (subst (Among f) same a) land

@@ -76,6 +76,11 @@ module _ {X : Type 0} where
   Among_right [] ys x a = a
   Among_right (z ∷ xs) ys x a = inr (Among_right xs ys x a)
 
+  pub Among_either : (xs ys : List X) (x : X) → Among x (xs ++ ys) → Among x xs ⊎ Among x ys
+  Among_either [] ys x a = inr a
+  Among_either (z ∷ xs) ys x (inl e) = inl (inl e)
+  Among_either (z ∷ xs) ys x (inr a) = elim (Among_either xs ys x a) [ inl b ↦ inl (inr b) | inr b ↦ inr b ]
+
   pub Among_push : (xs : List X) (y x : X) → Among x (xs ++ y ∷ []) → Among x xs ⊎ (x ≡ y)
   Among_push [] y x (inl e) = inr e
   Among_push [] y x (inr a) = absurd a

@@ -18,14 +18,16 @@ use Rattle.qs_machine.specs.Ends.{End, first_send_limit, window, new_end, end_ma
 use Rattle.qs_machine.specs.Seen.{Seen}
 use Rattle.qs_machine.proofs.Counts.{new_ends_wide}
 use Rattle.qs_machine.proofs.Ties.{nowhere}
-use Rattle.qs_runs.specs.Worlds.{World, AreGranted, Begins, begun_with, world_made, both_made}
+use Rattle.qs_runs.specs.Worlds.{World, AreGranted, Begins, begun_with, both_made}
+use Rattle.qs_runs.specs.Events.{world_made}
+use Rattle.std.specs.List.{AllByRecursion}
 use Rattle.qs_runs.specs.Pasts.{Packets, Past, Tells}
-use Rattle.qs_runs.specs.Invariant.{EndOk, SendSlot, RecvSlot, is_open}
+use Rattle.qs_runs.specs.Invariant.{EndOk, SendSlot, RecvSlot, FrameTaken, is_open}
 
 pub tells_nothing : (ms : Packets) (f : Seen) → ms ≡ [] → Tells ms f → ⊥
 tells_nothing ms f none (k, (fs, at, a)) = none-some fs (rw none at at)
 
-module _ (role : Role) (own : Settings) (tuned : Tuning) (told : PeerLimits) (p : Past) (made : p.mine ≡ []) (wrote : (n : ℕ) → p.bytes n ≡ []) (gave : (n : ℕ) → p.gave n ≡ []) (stopped : (n : ℕ) → p.stopped n ≡ false) (ended : (n : ℕ) → p.ended n ≡ false) (processed : (k : ℕ) → p.processed k ≡ false) (took : (k i : ℕ) → p.took k i ≡ false) where
+module _ (role : Role) (own : Settings) (tuned : Tuning) (told : PeerLimits) (p : Past) (made : p.mine ≡ []) (wrote : (n : ℕ) → p.bytes n ≡ []) (gave : (n : ℕ) → p.gave n ≡ []) (stopped : (n : ℕ) → p.stopped n ≡ false) (ended : (n : ℕ) → p.ended n ≡ false) (processed : (k : ℕ) → p.processed k ≡ false) (taken : p.taken ≡ []) where
   new_send : (n limit : ℕ) → SendSlot p n limit None
   new_send n limit =
       record {
@@ -64,7 +66,7 @@ module _ (role : Role) (own : Settings) (tuned : Tuning) (told : PeerLimits) (p 
           above = λ k is. omega arith;
           kept = λ k is. absurd (false≢true (sym (processed k) ∙ is));
         };
-        taken = record { packets = λ k is. absurd (false≢true (sym (processed k) ∙ is)); frames = λ k i is. absurd (false≢true (sym (took k i) ∙ is)) };
+        taken = subst (AllByRecursion (FrameTaken no_streams)) (sym taken) tt;
         credit = record { sent_known = omega arith; known_told = inl (omega arith); window_granted = omega arith; granted_told = λ limit t. absurd (tells_nothing p.mine _ made t) };
         streams = record {
           own_send = λ n is o. absurd (not_open SendLane n is);

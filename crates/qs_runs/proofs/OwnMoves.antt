@@ -1,19 +1,19 @@
 -- Each call of its owner keeps the invariant of an end, and so do limits that are taken in.
-use Rattle.std.proofs.Common.{◌≡◌, ℕ, Bool, true, false, List, [], ◌∷◌, ◌++◌, length, Option, Some, None, refl, sym, subst, inl, inr, leb, if◌then◌else◌, ◌≢◌, ◌+◌, ◌*◌, not, ◌&&◌, ◌||◌, map, take, Result, Ok, Err, is_some, ap, ◌∙◌, ◌==◌, append-nil, MatchBool, nat_le, zero, suc, ◌-◌, arith, ◌/◌, ◌%◌, ◌≤◌, max, ◌⊎◌, option_map}
+use Rattle.std.proofs.Common.{◌≡◌, ℕ, Bool, true, false, List, [], ◌∷◌, ◌++◌, length, Option, Some, None, refl, sym, subst, inl, inr, leb, if◌then◌else◌, ◌≢◌, ◌+◌, ◌*◌, not, ◌&&◌, ◌||◌, take, Result, Ok, Err, is_some, ap, ◌∙◌, ◌==◌, append-nil, MatchBool, nat_le, zero, suc, ◌-◌, arith, ◌/◌, ◌%◌, ◌≤◌, max, ◌⊎◌, option_map}
+use Rattle.std.specs.Prelude.{⊤}
 use Rattle.std.specs.FinMap as fmap
 use Rattle.qs_send.specs.Records.{Among, without_first}
 use Rattle.qs_send.specs.LostRecords.{MOST_LOST, with_piece, with_number, without_oldest}
 use Rattle.qs_send.specs.declared.piece.Piece.{Piece}
 use Rattle.qs_machine.specs.Ends.{End, Records, LostPackets, lost_with, on_send, on_recv, send_lane, first_send_limit, window, is_uni, is_own}
 use Rattle.qs_machine.specs.Making.{first_lost, losses, MakeStep, MakeAt, make_refusal, IsMade, LoseStep, lose_refusal, ClaimStep, claim_refusal}
-use Rattle.qs_runs.specs.Pasts.{Past, PieceOf, Packets, seen_by, TellsEnd, Tells}
+use Rattle.qs_runs.specs.Pasts.{Past, PieceOf, TellsEnd, Tells}
 use Rattle.qs_runs.specs.Invariant.{EndOk, StoodIn, RecvTrue, RecvSlot, RecvOk, SendOk, SendSlot, OpenOk, is_open}
 use Rattle.qs_runs.proofs.Lists.{Among_push, Among_take}
 use Rattle.qs_runs.proofs.Members.{get-inserted, get-removed}
 use Rattle.qs_runs.proofs.Acking.{one_less_ok, with_records, reset_ok, reset_end}
 use Rattle.std.proofs.lemmas.Option.{none-some, slice_get-map}
 use Rattle.std.proofs.lemmas.Bool.{eq-eqb, ne_eqb, leb-false, cases_lt}
-use Rattle.std.specs.Global.{Vec}
 use Rattle.qs_wire.specs.declared.stream_id.Dir.{Dir}
 use Rattle.qs_wire.specs.declared.stream_id.Dir.TheVariants.{Bidi, Uni}
 use Rattle.qs_recv.specs.Assembled.{front, front_of}
@@ -39,15 +39,16 @@ use Rattle.qs_machine.specs.Seen.{Seen, seen_all, Control}
 use Rattle.qs_machine.specs.Due.{known_count}
 use Rattle.qs_machine.specs.Owner.{first_refusal, refuse_if, send_refusal, recv_refusal, is_read_no_more, half_refusal, no_half, opened_count, own_type, peer_type, with_wanted, OpenStep, IsBlocked, IsOpened, AcceptStep, AcceptOfStep, GivesNone, GivesBidi, GivesUni, AcceptOpen, AcceptOpenOf, WriteStep, FinishStep, ResetStep, StopStep, ReadStep, ReadBy, next_stream, accepted_by, consumed, is_end as is_told_end, Certain, StopAndForgetStep}
 use Rattle.qs_machine.specs.Alone.{token_refusal, TokenLostStep, LosesEach}
-use Rattle.qs_calls.specs.declared.event.Act.{Act}
-use Rattle.qs_calls.specs.declared.event.Act.TheVariants as acts
-use Rattle.qs_calls.specs.declared.answer.Answer.{Answer}
-use Rattle.qs_calls.specs.declared.answer.Answer.TheVariants as answers
-use Rattle.qs_runs.specs.Logs.{texts_of, wrote_by, read_by, end_read, reads_of, is_stop, is_end}
-use Rattle.qs_runs.specs.Worlds.{OwnStep, AreTaken, TakesBytes}
-use Rattle.qs_runs.specs.Agree.{frames_in}
+use Rattle.qs_calls.specs.declared.closing.Closed.{Closed as ClosedEnd}
+use Rattle.qs_calls.specs.declared.closing.ToldClose.{ToldClose}
+use Rattle.qs_machine.specs.Receiving.{told_by}
+use Rattle.qs_machine.specs.Laws.{StaysOnceClosed}
+use Rattle.qs_machine.specs.EndStep.{Call, Answer, EndStep, Open, Accept, AcceptOf, Write, Finish, Reset, Stop, StopAndForget, ReadUpTo, Consume, Receive, TakeFrame, TakeFrames, TokenAcked, TokenLost, Make, MakeAck, FillIn, Lose, Claim, RaiseLimits, Set, TellClosed, ClosingPayload, Stored, Granted, Spent, GrantedStreams, Report}
+use Rattle.qs_runs.specs.Logs.{Stopped, Ended, Sent, if_ok, read_effects, effects_of}
+use Rattle.qs_runs.proofs.Past.{with_effect, with_effects, effects_joined}
+use Rattle.qs_machine.specs.Owner.{AreTaken, TakesBytes}
 use Rattle.qs_machine.proofs.TableLaws.{lookup_same, value, with_same, with_other, lookup_in, total_le}
-use Rattle.qs_runs.proofs.Changes.{Grows, Grows_refl, send_alike, send_same, recv_alike, granted_more, send_kept, settle_ok, window_ok, write_allowed, wrote_ok, with_bytes, not_at_end, end_by_fin, read_bytes_ok, read_told_ok, told_grows, stop_ok, stop_grows, recv_view, some_mapped, end_anew}
+use Rattle.qs_runs.proofs.Changes.{Grows, Grows_refl, send_alike, send_same, recv_alike, granted_more, send_kept, settle_ok, window_ok, write_allowed, wrote_ok, not_at_end, end_by_fin, read_bytes_ok, read_told_ok, told_grows, stop_ok, stop_grows, recv_view, some_mapped, end_anew}
 use Rattle.qs_runs.proofs.Making.{made_ok, claimed_ok}
 use Rattle.qs_runs.proofs.Standing.{certain_cases, uncertain_cases}
 use Rattle.qs_runs.proofs.Wire.{text_seen, ping_seen}
@@ -101,57 +102,9 @@ module _ (p : Past) (k : ℕ) where
 
 -- Each call of its owner keeps the invariant of an end.
 
--- what it lived through, with these packets made
-abbrev pub with_packets : Past → Packets → Past
-with_packets p packets = record p { mine = p.mine ++ packets }
-
--- what it lived through, with one more call that makes no packet
-abbrev pub with_use : Past → Act → Answer → Past
-with_use p act answer =
-    record p {
-      bytes = λ n. p.bytes n ++ wrote_by n act answer;
-      gave = λ n. p.gave n ++ read_by n act answer;
-      stopped = λ n. if is_stop n act answer then true else p.stopped n;
-      ended = λ n. if is_end n act answer && not (p.stopped n) then true else p.ended n;
-    }
-
--- and with one more call
-abbrev pub with_call : Past → Act → Answer → Past
-with_call p act answer = record (with_use p act answer) { mine = p.mine ++ seen_by act answer }
-
--- with such calls, the newest first
-abbrev pub with_uses : Past → List (Act × Answer) → Past
-with_uses p [] = p
-with_uses p (c ∷ cs) = with_use (with_uses p cs) c.0 c.1
-
--- they make nothing
-pub uses_made : (p : Past) (calls : List (Act × Answer)) → (with_uses p calls).mine ≡ p.mine
-uses_made p [] = refl
-uses_made p (c ∷ cs) = uses_made p cs
-
 -- what a read gave and told
 abbrev pub with_read : Past → ℕ → Read → List ℕ → Past
-with_read p n (reads.Bytes count) given = record p { gave = λ m. p.gave m ++ (if m == n then given else []) }
-with_read p n reads.End given = record p { ended = λ m. if m == n && not (p.stopped m) then true else p.ended m }
-with_read p n _ given = p
-
--- A call that writes, reads, stops and makes nothing leaves it as it was.
-quiet : (p : Past) (act : Act) (answer : Answer) → seen_by act answer ≡ [] → ((n : ℕ) → wrote_by n act answer ≡ []) → ((n : ℕ) → read_by n act answer ≡ []) →
-    ((n : ℕ) → is_stop n act answer ≡ false) → ((n : ℕ) → is_end n act answer ≡ false) → with_call p act answer ≡ p
-quiet p act answer a b c d f =
-    λ i. record p {
-      mine = (ap (λ x. p.mine ++ x) a ∙ append-nil p.mine) i;
-      bytes = λ n. (ap (λ x. p.bytes n ++ x) (b n) ∙ append-nil (p.bytes n)) i;
-      gave = λ n. (ap (λ x. p.gave n ++ x) (c n) ∙ append-nil (p.gave n)) i;
-      stopped = λ n. ap (λ x. if x then true else p.stopped n) (d n) i;
-      ended = λ n. ap (λ x. if x && not (p.stopped n) then true else p.ended n) (f n) i;
-    }
-
--- a read is what it gave and told
-read_use : (p : Past) (n size : ℕ) (a : Read) (bytes : Vec ℕ) → with_use p (acts.ReadUpTo n size) (answers.ReadUpTo (Ok a) bytes) ≡ with_read p n a bytes.items
-read_use p n size (reads.Bytes count) bytes = λ i. record p { bytes = λ m. append-nil (p.bytes m) i; gave = λ m. p.gave m ++ (if m == n then bytes.items else []) }
-read_use p n size reads.End bytes = λ i. record p { bytes = λ m. append-nil (p.bytes m) i; gave = λ m. append-nil (p.gave m) i; ended = λ m. if m == n && not (p.stopped m) then true else p.ended m }
-read_use p n size _ bytes = λ i. record p { bytes = λ m. append-nil (p.bytes m) i; gave = λ m. append-nil (p.gave m) i }
+with_read p n answer given = with_effects (read_effects n answer given) p
 
 -- What speaks against a call
 
@@ -174,14 +127,7 @@ wanted_ok p e Uni count ok = rest_ok p e e.accepted_bidi e.accepted_uni e.wanted
 pub ended_by : (p : Past) (e new : End) → new ≡ e → EndOk p e → EndOk p new
 ended_by p e new is ok = subst (EndOk p) (sym is) ok
 
--- nothing more was made
-pub nothing_made : (p : Past) (e : End) → EndOk p e → EndOk (with_packets p []) e
-nothing_made p e ok = subst (λ x. EndOk (record p { mine = x }) e) (sym (append-nil p.mine)) ok
-
 module _ (p : Past) (e new : End) (ok : EndOk p e) where
-  quiet_moves : (act : Act) (answer : Answer) → with_call p act answer ≡ p → EndOk p new → EndOk (with_call p act answer) new
-  quiet_moves act answer same h = subst (λ x. EndOk x new) (sym same) h
-
   -- Opening
 
   open_moves : (d : Dir) (answer : Result ℕ OpenFault) → OpenStep e d answer new → EndOk p new
@@ -212,7 +158,7 @@ module _ (p : Past) (e new : End) (ok : EndOk p e) where
       by_test (EndOk p new) _ (GivesNone e answer new) (AcceptOpen e answer new) step (gives_none answer)
       (λ goes. by_test (EndOk p new) _ (GivesBidi e answer new) (GivesUni e answer new) goes (gives_bidi answer) (gives_uni answer))
 
-  pub accept_of_moves : (d : Dir) (answer : Option ℕ) → AcceptOfStep e d answer new → EndOk p new
+  accept_of_moves : (d : Dir) (answer : Option ℕ) → AcceptOfStep e d answer new → EndOk p new
   accept_of_moves Bidi answer step =
       by_test (EndOk p new) _ (GivesNone e answer new) (AcceptOpenOf e Bidi answer new) step (gives_none answer)
       (λ goes. by_test (EndOk p new) _ (GivesBidi e answer new) (GivesNone e answer new) goes (gives_bidi answer) (gives_none answer))
@@ -220,33 +166,16 @@ module _ (p : Past) (e new : End) (ok : EndOk p e) where
 
   -- Sending
 
-  wrote_view : (n : ℕ) (bytes : Vec ℕ) (count : ℕ) → with_call p (acts.Write n bytes) (answers.Write (Ok count)) ≡ with_bytes p n (take count bytes.items)
-  wrote_view n bytes count =
-      λ i. record {
-        mine = append-nil p.mine i;
-        theirs = p.theirs;
-        bytes = λ m. p.bytes m ++ (if m == n then take count bytes.items else []);
-        gave = λ m. append-nil (p.gave m) i;
-        stopped = p.stopped;
-        ended = p.ended;
-        processed = p.processed;
-        took = p.took;
-        tokens = p.tokens;
-      }
-
-  write_moves : (n : ℕ) (bytes : Vec ℕ) (answer : Result ℕ UseFault) → WriteStep e n bytes.items answer new → EndOk (with_call p (acts.Write n bytes) (answers.Write answer)) new
+  write_moves : (n : ℕ) (bytes : List ℕ) (answer : Result ℕ UseFault) → WriteStep e n bytes answer new → EndOk (with_effects (effects_of (Write n bytes) answer) p) new
   write_moves n bytes answer step =
       elim (uncertain_cases (send_refusal e n refusal) NoMemory _ e answer new _ step) [
-        | inl (fault, is, same) ↦ subst (λ a. EndOk (with_call p (acts.Write n bytes) (answers.Write a)) new) (sym is)
-            (quiet_moves (acts.Write n bytes) (answers.Write (Err fault)) (quiet p (acts.Write n bytes) (answers.Write (Err fault)) refl (λ m. refl) (λ m. refl) (λ m. refl) (λ m. refl)) (ended_by p e new same ok))
+        | inl (fault, is, same) ↦ subst (λ a. EndOk (with_effects (effects_of (Write n bytes) a) p) new) (sym is) (ended_by p e new same ok)
         | inr (allowed, (l, there, (is, same))) ↦ (
-            let count : ℕ = accepted_by e l (length bytes.items) in
+            let count : ℕ = accepted_by e l (length bytes) in
             let (none, open_end) = write_allowed l (no_half_refusal (refusal l) (no_refusal (refuse_if (is_some e.closed) Closed) (half_refusal (refusal l)) (rw there at allowed)).1) in
-            let moved = settle_ok _ _ (wrote_ok p e n ok (take count bytes.items) l there none open_end) in
-            let e_same : record e { sends = update e.sends n (write_lane l (take count bytes.items)) } ≡ on_send n (λ m. write_lane m (take count bytes.items)) e = ap (λ o. record e { sends = updated e.sends n (λ m. write_lane m (take count bytes.items)) o }) (sym there) in
-            subst (λ a. EndOk (with_call p (acts.Write n bytes) (answers.Write a)) new) (sym is)
-            (subst (λ x. EndOk x new) (sym (wrote_view n bytes count))
-            (ended_by _ _ new (same ∙ ap settle (sym e_same)) moved)))
+            let moved = settle_ok _ _ (wrote_ok p e n ok (take count bytes) l there none open_end) in
+            let e_same : record e { sends = update e.sends n (write_lane l (take count bytes)) } ≡ on_send n (λ m. write_lane m (take count bytes)) e = ap (λ o. record e { sends = updated e.sends n (λ m. write_lane m (take count bytes)) o }) (sym there) in
+            subst (λ a. EndOk (with_effects (effects_of (Write n bytes) a) p) new) (sym is) (ended_by _ _ new (same ∙ ap settle (sym e_same)) moved))
       ]
 
   finish_moves : (n : ℕ) (answer : Result (Unit {0}) UseFault) → FinishStep e n answer new → EndOk p new
@@ -280,33 +209,31 @@ module _ (p : Past) (e new : End) (ok : EndOk p e) where
   changed_half q n f l there given stopped ended view same this g is = ended_by _ _ new is (settle_ok _ _ (half_changed q n f l there given stopped ended view same this g))
 
   -- a half is stopped by such a change
-  stops_by : (n code : ℕ) (f : RecvLane → RecvLane) (answer : Result (Unit {0}) UseFault) → Certain (recv_refusal (is_some e.closed) e n) e answer new ((answer ≡ Ok tt) × (new ≡ settle (on_recv n f e)))
-      → ((l : RecvLane) → RecvOk p n (window e n) l → RecvTrue p.mine p.theirs (p.gave n) true (p.ended n) n (window e n) (f l) × Grows l (f l)) → EndOk (with_call p (acts.Stop n code) (answers.Stop answer)) new
-  stops_by n code f answer step stops =
+  stops_by : (n : ℕ) (f : RecvLane → RecvLane) (answer : Result (Unit {0}) UseFault) → Certain (recv_refusal (is_some e.closed) e n) e answer new ((answer ≡ Ok tt) × (new ≡ settle (on_recv n f e)))
+      → ((l : RecvLane) → RecvOk p n (window e n) l → RecvTrue p.mine p.theirs (p.gave n) true (p.ended n) n (window e n) (f l) × Grows l (f l)) → EndOk (with_effects (if_ok answer (λ done. Stopped n ∷ [])) p) new
+  stops_by n f answer step stops =
       elim (certain_cases (recv_refusal (is_some e.closed) e n) e answer new _ step) [
-        | inl (fault, is, same) ↦ subst (λ a. EndOk (with_call p (acts.Stop n code) (answers.Stop a)) new) (sym is)
-            (quiet_moves (acts.Stop n code) (answers.Stop (Err fault)) (quiet p (acts.Stop n code) (answers.Stop (Err fault)) refl (λ m. refl) (λ m. refl) (λ m. refl) (λ m. refl)) (ended_by p e new same ok))
-        | inr (allowed, (is, same)) ↦ subst (λ a. EndOk (with_call p (acts.Stop n code) (answers.Stop a)) new) (sym is) (go allowed (lookup e.recvs n) refl same)
+        | inl (fault, is, same) ↦ subst (λ a. EndOk (with_effects (if_ok a (λ done. Stopped n ∷ [])) p) new) (sym is) (ended_by p e new same ok)
+        | inr (allowed, (is, same)) ↦ subst (λ a. EndOk (with_effects (if_ok a (λ done. Stopped n ∷ [])) p) new) (sym is) (go allowed (lookup e.recvs n) refl same)
       ]
     where
-      go : recv_refusal (is_some e.closed) e n ≡ None → (o : Option RecvLane) → lookup e.recvs n ≡ o → new ≡ settle (on_recv n f e) → EndOk (with_call p (acts.Stop n code) (answers.Stop (Ok tt))) new
+      go : recv_refusal (is_some e.closed) e n ≡ None → (o : Option RecvLane) → lookup e.recvs n ≡ o → new ≡ settle (on_recv n f e) → EndOk (with_effect (Stopped n) p) new
       go allowed None there same = absurd (none-some _ (sym (no_refusal (refuse_if (is_some e.closed) Closed) (Some (no_half (is_some (send_lane e n)))) (rw there at allowed)).1))
       go allowed (Some l) there same =
           let h : RecvOk p n (window e n) l = subst (RecvSlot p n (window e n)) there (ok.recvs n) in
           let (stopped, grows) = stops l h in
-          changed_half _ n f l there p.gave (λ m. if m == n then true else p.stopped m) p.ended
-          (λ i. record { mine = append-nil p.mine i; theirs = p.theirs; bytes = λ m. append-nil (p.bytes m) i; gave = λ m. append-nil (p.gave m) i; stopped = λ m. if m == n then true else p.stopped m; ended = p.ended; processed = p.processed; took = p.took; tokens = p.tokens })
+          changed_half _ n f l there p.gave (λ m. if m == n then true else p.stopped m) p.ended refl
           (λ j ne. (refl, rw (ne_eqb j n ne) refl, refl))
           (subst (λ b. RecvTrue p.mine p.theirs (p.gave n) (if b then true else p.stopped n) (p.ended n) n (window e n) (f l)) (sym (eq-eqb n n refl)) stopped)
           grows same
 
-  stop_moves : (n code : ℕ) (answer : Result (Unit {0}) UseFault) → StopStep e n code answer new → EndOk (with_call p (acts.Stop n code) (answers.Stop answer)) new
+  stop_moves : (n code : ℕ) (answer : Result (Unit {0}) UseFault) → StopStep e n code answer new → EndOk (with_effects (effects_of (Stop n code) answer) p) new
   stop_moves n code answer step =
-      stops_by n code (λ m. stop m code) answer step (λ l h. (stop_ok p n (window e n) l h code (is_some l.stop_code || is_over l), stop_grows p n (window e n) l h code (is_some l.stop_code || is_over l)))
+      stops_by n (λ m. stop m code) answer step (λ l h. (stop_ok p n (window e n) l h code (is_some l.stop_code || is_over l), stop_grows p n (window e n) l h code (is_some l.stop_code || is_over l)))
 
-  pub forget_moves : (n code : ℕ) (answer : Result (Unit {0}) UseFault) → StopAndForgetStep e n code answer new → EndOk (with_call p (acts.Stop n code) (answers.Stop answer)) new
+  forget_moves : (n code : ℕ) (answer : Result (Unit {0}) UseFault) → StopAndForgetStep e n code answer new → EndOk (with_effects (effects_of (StopAndForget n code) answer) p) new
   forget_moves n code answer step =
-      stops_by n code (λ m. stop_and_forget m code) answer step (λ l h. (
+      stops_by n (λ m. stop_and_forget m code) answer step (λ l h. (
         (let stopped = stop_ok p n (window e n) l h code (is_some l.stop_code || is_over l) in recv_alike stopped (omega arith) stopped.ended),
         told_grows l _ (stop_grows p n (window e n) l h code (is_some l.stop_code || is_over l)),
       ))
@@ -351,43 +278,31 @@ module _ (p : Past) (e new : End) (ok : EndOk p e) where
           (subst (λ a. RecvTrue p.mine p.theirs (p.gave n) (p.stopped n) (p.ended n) n (window e n) (after_answer a l size)) (sym at) h)
           (none_lost reads.Wait at (Grows_refl l))
 
-  read_moves : (n size : ℕ) (answer : Result Read UseFault) (bytes : Vec ℕ) → ReadStep e n size answer bytes.items new → EndOk (with_call p (acts.ReadUpTo n size) (answers.ReadUpTo answer bytes)) new
-  read_moves n size answer bytes step = by (recv_refusal (is_read_no_more e) e n) step
+  read_moves : (n size : ℕ) (answer : Answer (ReadUpTo n size)) → ReadStep e n size answer.0 answer.1 new → EndOk (with_effects (effects_of (ReadUpTo n size) answer) p) new
+  read_moves n size answer step = by (recv_refusal (is_read_no_more e) e n) step
     where
-      by : (o : Option UseFault) → ReadBy o e n size answer bytes.items new → EndOk (with_call p (acts.ReadUpTo n size) (answers.ReadUpTo answer bytes)) new
-      by (Some fault) (is, none, same) = subst (λ a. EndOk (with_call p (acts.ReadUpTo n size) (answers.ReadUpTo a bytes)) new) (sym is)
-          (quiet_moves (acts.ReadUpTo n size) (answers.ReadUpTo (Err fault) bytes) (quiet p (acts.ReadUpTo n size) (answers.ReadUpTo (Err fault) bytes) refl (λ m. refl) (λ m. refl) (λ m. refl) (λ m. refl)) (ended_by p e new same ok))
+      by : (o : Option UseFault) → ReadBy o e n size answer.0 answer.1 new → EndOk (with_effects (effects_of (ReadUpTo n size) answer) p) new
+      by (Some fault) (is, none, same) = subst (λ a. EndOk (with_effects (if_ok a (λ told. read_effects n told answer.1)) p) new) (sym is) (ended_by p e new same ok)
       by None (l, there, is, given, same) =
-          subst (λ a. EndOk (with_call p (acts.ReadUpTo n size) (answers.ReadUpTo a bytes)) new) (sym is)
-          (subst (λ q. EndOk q new) (ap (with_read p n (read_answer l size)) (sym given) ∙ sym ((λ i. record (with_use p (acts.ReadUpTo n size) (answers.ReadUpTo (Ok (read_answer l size)) bytes)) { mine = append-nil p.mine i }) ∙ read_use p n size (read_answer l size) bytes))
-          (ended_by _ _ new same (settle_ok _ _ (half_read n size l there (read_answer l size) refl))))
+          subst (λ a. EndOk (with_effects (if_ok a (λ told. read_effects n told answer.1)) p) new) (sym is)
+          (subst (λ bytes. EndOk (with_read p n (read_answer l size) bytes) new) (sym given) (ended_by _ _ new same (settle_ok _ _ (half_read n size l there (read_answer l size) refl))))
 
   -- Packets
 
-  made_moves : (first delay room : ℕ) (made : Made) (text : List ℕ) → IsMade e first delay room made text new → EndOk (with_packets p (map frames_in (text ∷ []))) new
+  made_moves : (first delay room : ℕ) (made : Made) (text : List ℕ) → IsMade e first delay room made text new → EndOk (with_effect (Sent text) p) new
   made_moves first delay room made text h =
       let frames : List Seen = seen_all h.frames in
-      subst (λ x. EndOk (with_packets p (x ∷ [])) new) (sym (text_seen delay h.frames text h.lawful.some h.spells)) (ended_by _ _ new h.after (made_ok p e h.mid frames ok h.lawful))
+      subst (λ x. EndOk (record p { mine = p.mine ++ x ∷ [] }) new) (sym (text_seen delay h.frames text h.lawful.some h.spells)) (ended_by _ _ new h.after (made_ok p e h.mid frames ok h.lawful))
 
-  -- nothing is made
-  pub silent : (packets : Packets) → packets ≡ [] → new ≡ e → EndOk (with_packets p packets) new
-  silent packets none same = subst (λ x. EndOk (record p { mine = x }) new) (sym (append-nil p.mine) ∙ ap (λ x. p.mine ++ x) (sym none)) (ended_by p e new same ok)
-
-  pub packet_moves : (first delay room : ℕ) (answer : Result (Option Made) MakeFault) (text : List ℕ) → MakeStep e first delay room answer text new → EndOk (with_packets p (map frames_in (texts_of answer text))) new
+  pub packet_moves : (first delay room : ℕ) (answer : Result (Option Made) MakeFault) (text : List ℕ) → MakeStep e first delay room answer text new → EndOk (with_effects (effects_of (Make first delay room) (answer, text)) p) new
   packet_moves first delay room answer text step = by (make_refusal e) answer step
     where
-      by : (o : Option MakeFault) (answer : Result (Option Made) MakeFault) → MakeAt o e first delay room answer text new → EndOk (with_packets p (map frames_in (texts_of answer text))) new
-      by (Some fault) answer h = silent _ (ap (λ x. map frames_in (texts_of x text)) h.0) h.2
+      by : (o : Option MakeFault) (answer : Result (Option Made) MakeFault) → MakeAt o e first delay room answer text new → EndOk (with_effects (effects_of (Make first delay room) (answer, text)) p) new
+      by (Some fault) answer h = subst (λ a. EndOk (with_effects (effects_of (Make first delay room) (a, text)) p) new) (sym h.0) (ended_by p e new h.2 ok)
       by None (Ok (Some made)) h = made_moves first delay room made text h
       by None (Err making.Closed) h = absurd h
       by None (Err making.Exhausted) h = absurd h
-      by None answer h = silent _ refl h.2
-
-  make_moves : (first delay room : ℕ) (answer : Result (Option Made) MakeFault) (text : Vec ℕ) → MakeStep e first delay room answer text.items new → EndOk (with_call p (acts.Make room) (answers.Make answer text)) new
-  make_moves first delay room answer text step =
-      subst (λ x. EndOk x new)
-      (λ i. record { mine = p.mine ++ map frames_in (texts_of answer text.items); theirs = p.theirs; bytes = λ m. sym (append-nil (p.bytes m)) i; gave = λ m. sym (append-nil (p.gave m)) i; stopped = p.stopped; ended = p.ended; processed = p.processed; took = p.took; tokens = p.tokens })
-      (packet_moves first delay room answer text.items step)
+      by None answer h = ended_by p e new h.2 ok
 
   lose_moves : (k : ℕ) (answer : Result (Unit {0}) LostFault) → LoseStep e k answer new → EndOk p new
   lose_moves k answer step =
@@ -397,15 +312,12 @@ module _ (p : Past) (e new : End) (ok : EndOk p e) where
         | inr (allowed, (ps, there, inr (moved, lt, is, same))) ↦ ended_by p _ new same (losses_ok p k (take moved ps) e (λ x a. ok.packets.records k ps x there (Among_take moved ps x a)) ok)
       ]
 
-  claim_moves : (answer : Result ℕ MakeFault) → ClaimStep e answer new → EndOk (with_call p acts.Claim (answers.Claim answer)) new
+  pub claim_moves : (answer : Result ℕ MakeFault) → ClaimStep e answer new → EndOk (with_effects (effects_of Claim answer) p) new
   claim_moves answer step =
       elim (certain_cases (claim_refusal e) e answer new _ step) [
-        | inl (fault, is, same) ↦ subst (λ a. EndOk (with_call p acts.Claim (answers.Claim a)) new) (sym is)
-            (quiet_moves acts.Claim (answers.Claim (Err fault)) (quiet p acts.Claim (answers.Claim (Err fault)) refl (λ m. refl) (λ m. refl) (λ m. refl) (λ m. refl)) (ended_by p e new same ok))
-        | inr (allowed, (is, same)) ↦ subst (λ a. EndOk (with_call p acts.Claim (answers.Claim a)) new) (sym is)
-            (subst (λ x. EndOk x new)
-            (λ i. record { mine = p.mine ++ sym ping_seen i ∷ []; theirs = p.theirs; bytes = λ m. sym (append-nil (p.bytes m)) i; gave = λ m. sym (append-nil (p.gave m)) i; stopped = p.stopped; ended = p.ended; processed = p.processed; took = p.took; tokens = p.tokens })
-            (ended_by _ _ new same (claimed_ok p e ok)))
+        | inl (fault, is, same) ↦ subst (λ a. EndOk (with_effects (effects_of Claim a) p) new) (sym is) (ended_by p e new same ok)
+        | inr (allowed, (is, same)) ↦ subst (λ a. EndOk (with_effects (effects_of Claim a) p) new) (sym is)
+            (subst (λ fs. EndOk (record p { mine = p.mine ++ fs ∷ [] }) new) (sym ping_seen) (ended_by _ _ new same (claimed_ok p e ok)))
       ]
 
 -- Bytes are taken without a copy: a read of so many, and one of none.
@@ -418,60 +330,52 @@ none_in_front l = refl
 none_given : (p : Past) (n count : ℕ) → with_read p n (reads.Bytes count) [] ≡ p
 none_given p n count = λ i. record p { gave = λ m. (ap (λ x. p.gave m ++ x) (same_either (λ x. x) (m == n) [] [] refl) ∙ append-nil (p.gave m)) i }
 
-module _ (p : Past) (e new : End) (ok : EndOk p e) (n most : ℕ) (bytes : Vec ℕ) where
-  abbrev Ended : Result Consumed UseFault → Type 0
-  Ended answer = EndOk (with_uses p (reads_of n most answer bytes)) new
+module _ (p : Past) (e new : End) (ok : EndOk p e) (n most : ℕ) (bytes : List ℕ) where
+  abbrev Ends : Result Consumed UseFault → Type 0
+  Ends answer = EndOk (with_effects (effects_of (Consume n most) (answer, bytes)) p) new
 
-  pub consume_moves : (answer : Result Consumed UseFault) → TakesBytes e n most answer bytes.items new → Ended answer
+  consume_moves : (answer : Result Consumed UseFault) → TakesBytes e n most answer bytes new → Ends answer
   consume_moves answer (step, taken) =
       elim (certain_cases (recv_refusal (is_read_no_more e) e n) e answer new _ step) [
-        | inl (fault, is, same) ↦ subst Ended (sym is) (ended_by p e new same ok)
-        | inr (allowed, (l, there, is, same)) ↦ subst Ended (sym is) (both l there (subst (λ a. AreTaken e n most a bytes.items) is taken l there) same)
+        | inl (fault, is, same) ↦ subst Ends (sym is) (ended_by p e new same ok)
+        | inr (allowed, (l, there, is, same)) ↦ subst Ends (sym is) (both l there (subst (λ a. AreTaken e n most a bytes) is taken l there) same)
       ]
     where
       once : RecvLane → Past
-      once l = with_use p (acts.ReadUpTo n most) (answers.ReadUpTo (Ok (read_answer l most)) bytes)
+      once l = with_read p n (read_answer l most) bytes
 
-      both : (l : RecvLane) → lookup e.recvs n ≡ Some l → bytes.items ≡ bytes_read l most → new ≡ settle (on_recv n (λ m. after_read m 0) (on_recv n (λ m. after_read m most) e)) → Ended (Ok (consumed l most))
+      both : (l : RecvLane) → lookup e.recvs n ≡ Some l → bytes ≡ bytes_read l most → new ≡ settle (on_recv n (λ m. after_read m 0) (on_recv n (λ m. after_read m most) e)) → Ends (Ok (consumed l most))
       both l there given same =
           let first : EndOk (once l) (on_recv n (λ m. after_read m most) e) =
-          subst (λ x. EndOk x (on_recv n (λ m. after_read m most) e)) (ap (with_read p n (read_answer l most)) (sym given) ∙ sym (read_use p n most (read_answer l most) bytes)) (half_read p e new ok n most l there (read_answer l most) refl) in
+          subst (λ bs. EndOk (with_read p n (read_answer l most) bs) (on_recv n (λ m. after_read m most) e)) (sym given) (half_read p e new ok n most l there (read_answer l most) refl) in
           let last : Read = read_answer (after_read l most) 0 in
           ended_by _ _ new same (settle_ok _ _ (second last (half_read (once l) (on_recv n (λ m. after_read m most) e) new first n 0 (after_read l most) (ap (λ o. lookup (updated e.recvs n (λ m. after_read m most) o) n) there ∙ lookup_same e.recvs n l (after_read l most) there) last refl)))
         where
           after : End
           after = on_recv n (λ m. after_read m 0) (on_recv n (λ m. after_read m most) e)
 
+          -- what the second read told, behind the first one
+          joined : (b : Bool) → EndOk (with_effects (if b then Ended n ∷ [] else []) (once l)) after → EndOk (with_effects (read_effects n (read_answer l most) bytes ++ (if b then Ended n ∷ [] else [])) p) after
+          joined b h = subst (λ q. EndOk q after) (sym (effects_joined (read_effects n (read_answer l most) bytes) (if b then Ended n ∷ [] else []) p)) h
+
           second : (a : Read) → EndOk (with_read (once l) n a (bytes_of a (after_read l most) 0)) after →
-              EndOk (with_uses p (end_read (is_told_end a) n bytes ++ (acts.ReadUpTo n most, answers.ReadUpTo (Ok (read_answer l most)) bytes) ∷ [])) after
-          second (reads.Bytes count) h = subst (λ x. EndOk x after) (none_given (once l) n count) (subst (λ given. EndOk (with_read (once l) n (reads.Bytes count) given) after) (none_in_front (after_read l most)) h)
-          second reads.End h = subst (λ x. EndOk x after) (sym (read_use (once l) n 0 reads.End bytes)) h
-          second _ h = h
+              EndOk (with_effects (read_effects n (read_answer l most) bytes ++ (if is_told_end a then Ended n ∷ [] else [])) p) after
+          second (reads.Bytes count) h = joined false (subst (λ x. EndOk x after) (none_given (once l) n count) (subst (λ given. EndOk (with_read (once l) n (reads.Bytes count) given) after) (none_in_front (after_read l most)) h))
+          second reads.End h = joined true h
+          second (reads.Reset code) h = joined false h
+          second reads.Wait h = joined false h
 
 lose_each_moves : (p : Past) (count first : ℕ) (e new : End) (answer : Result (Unit {0}) TokenFault) → EndOk p e → LosesEach count first e answer new → EndOk p new
 lose_each_moves p zero first e new answer ok step = ended_by p e new step.1 ok
 lose_each_moves p (suc n) first e new answer ok (inl (mid, (declared, lost, is), later)) = lose_each_moves p n first mid new answer (lose_moves p e mid ok (first + n) declared lost) later
 lose_each_moves p (suc n) first e new answer ok (inr (fault, (declared, lost, is), failed)) = lose_moves p e new ok (first + n) declared lost
 
-pub token_lost_moves : (p : Past) (e new : End) → EndOk p e → (t : Token) (answer : Result (Unit {0}) TokenFault) → TokenLostStep e t answer new → EndOk p new
+token_lost_moves : (p : Past) (e new : End) → EndOk p e → (t : Token) (answer : Result (Unit {0}) TokenFault) → TokenLostStep e t answer new → EndOk p new
 token_lost_moves p e new ok t answer step =
     elim (certain_cases (token_refusal e t) e answer new _ step) [
       | inl (fault, is, same) ↦ ended_by p e new same ok
       | inr (allowed, lost) ↦ lose_each_moves p ((t.number + 1) - t.first) t.first e new answer ok lost
     ]
-
-pub own_moves : (p : Past) (e new : End) (act : Act) (answer : Answer) → EndOk p e → OwnStep e act answer new → EndOk (with_call p act answer) new
-own_moves p e new (acts.OpenStream dir) (answers.OpenStream r) ok step = quiet_moves p e new ok (acts.OpenStream dir) (answers.OpenStream r) (quiet p (acts.OpenStream dir) (answers.OpenStream r) refl (λ m. refl) (λ m. refl) (λ m. refl) (λ m. refl)) (open_moves p e new ok dir r step)
-own_moves p e new acts.Accept (answers.Accept r) ok step = quiet_moves p e new ok acts.Accept (answers.Accept r) (quiet p acts.Accept (answers.Accept r) refl (λ m. refl) (λ m. refl) (λ m. refl) (λ m. refl)) (accept_moves p e new ok r step)
-own_moves p e new (acts.Write n bytes) (answers.Write r) ok step = write_moves p e new ok n bytes r step
-own_moves p e new (acts.Finish n) (answers.Finish r) ok step = quiet_moves p e new ok (acts.Finish n) (answers.Finish r) (quiet p (acts.Finish n) (answers.Finish r) refl (λ m. refl) (λ m. refl) (λ m. refl) (λ m. refl)) (finish_moves p e new ok n r step)
-own_moves p e new (acts.Reset n code) (answers.Reset r) ok step = quiet_moves p e new ok (acts.Reset n code) (answers.Reset r) (quiet p (acts.Reset n code) (answers.Reset r) refl (λ m. refl) (λ m. refl) (λ m. refl) (λ m. refl)) (reset_moves p e new ok n code r step)
-own_moves p e new (acts.Stop n code) (answers.Stop r) ok step = stop_moves p e new ok n code r step
-own_moves p e new (acts.ReadUpTo n size) (answers.ReadUpTo r bytes) ok step = read_moves p e new ok n size r bytes step
-own_moves p e new (acts.Make room) (answers.Make r text) ok (first, delay, step) = make_moves p e new ok first delay room r text step
-own_moves p e new (acts.Lose k) (answers.Lose r) ok step = quiet_moves p e new ok (acts.Lose k) (answers.Lose r) (quiet p (acts.Lose k) (answers.Lose r) refl (λ m. refl) (λ m. refl) (λ m. refl) (λ m. refl)) (lose_moves p e new ok k r step)
-own_moves p e new acts.Claim (answers.Claim r) ok step = claim_moves p e new ok r step
-own_moves p e new act answer ok step = absurd step
 
 -- What holds of an end in a run holds of it once windows, a buffer or a grant were set anew.
 
@@ -482,7 +386,7 @@ set_ok p e (Grant Uni n) ok = end_anew ok ok.sends ok.credit ok.streams
 set_ok p e (SendBuffer n size) ok = send_kept p e n ok (λ m. buffer_lane m size) (λ l there h. (send_same h, refl))
 set_ok p e (StreamWindow n w) ok = window_ok p e n w ok
 
-pub set_moves : (p : Past) (e new : End) (x : Setting) (answer : Result (Unit {0}) SetFault) → EndOk p e → SetStep e x answer new → EndOk p new
+set_moves : (p : Past) (e new : End) (x : Setting) (answer : Result (Unit {0}) SetFault) → EndOk p e → SetStep e x answer new → EndOk p new
 set_moves p e new x answer ok step =
     elim (certain_cases (set_refusal e x) e answer new _ step) [
       | inl (fault, is, same) ↦ ended_by p e new same ok
@@ -587,9 +491,77 @@ module _ (p : Past) (e : End) (q : PeerLimits) (ok : EndOk p e) where
             (told_raised e.known_uni e.peer.streams_uni q.streams_uni (λ x. Control (MaxStreams Uni x)) ok.streams.uni_told));
       }
 
-pub raise_moves : (p : Past) (e new : End) (q : PeerLimits) (answer : Result (Unit {0}) RaiseFault) → EndOk p e → RaiseStep e q answer new → EndOk p new
+raise_moves : (p : Past) (e new : End) (q : PeerLimits) (answer : Result (Unit {0}) RaiseFault) → EndOk p e → RaiseStep e q answer new → EndOk p new
 raise_moves p e new q answer ok step =
     elim (certain_cases (raise_refusal e q) e answer new _ step) [
       | inl (fault, is, same) ↦ ended_by p e new same ok
       | inr (allowed, (is, same)) ↦ ended_by p _ new same (settle_ok p _ (raise_ok p e q ok))
     ]
+
+-- Each call in which an end hears nothing of its peer but limits, or that it closed, keeps its invariant.
+
+-- a payload or a frame comes, or a token is told to be acknowledged
+abbrev pub Hears : Call → Type 0
+Hears (Receive k bytes) = ⊤
+Hears (TakeFrame f) = ⊤
+Hears (TakeFrames fs) = ⊤
+Hears (TokenAcked t) = ⊤
+Hears call = ⊥
+
+pub heard_or : (call : Call) → Hears call ⊎ (Hears call → ⊥)
+heard_or (Receive k bytes) = inl tt
+heard_or (TakeFrame f) = inl tt
+heard_or (TakeFrames fs) = inl tt
+heard_or (TokenAcked t) = inl tt
+heard_or call = inr (λ no. no)
+
+-- an end that closed hears nothing
+pub heard_same : (old new : End) (call : Call) → Hears call → StaysOnceClosed old call new → new ≡ old
+heard_same old new (Receive k bytes) heard same = same
+heard_same old new (TakeFrame f) heard same = same
+heard_same old new (TakeFrames fs) heard same = same
+heard_same old new (TokenAcked t) heard same = same
+heard_same old new call heard same = absurd heard
+
+-- a packet may go out
+abbrev pub Sends : Call → Type 0
+Sends (Make first delay room) = ⊤
+Sends (MakeAck delay room) = ⊤
+Sends (FillIn want room) = ⊤
+Sends Claim = ⊤
+Sends call = ⊥
+
+told_moves : (p : Past) (e : End) (close : ToldClose) (o : Option ClosedEnd) → EndOk p e → EndOk p (told_by o close e)
+told_moves p e close (Some closed) ok = ok
+told_moves p e close None ok = record { sends = ok.sends; recvs = ok.recvs; packets = ok.packets; taken = ok.taken; credit = ok.credit; streams = ok.streams }
+
+pub own_moves : (p : Past) (e new : End) (call : Call) (answer : Answer call) → (Hears call → ⊥) → (Sends call → ⊥) → EndOk p e → EndStep e call answer new → EndOk (with_effects (effects_of call answer) p) new
+own_moves p e new (Open d) answer deaf quiet ok step = open_moves p e new ok d answer step
+own_moves p e new Accept answer deaf quiet ok step = accept_moves p e new ok answer step
+own_moves p e new (AcceptOf d) answer deaf quiet ok step = accept_of_moves p e new ok d answer step
+own_moves p e new (Write n bytes) answer deaf quiet ok step = write_moves p e new ok n bytes answer step
+own_moves p e new (Finish n) answer deaf quiet ok step = finish_moves p e new ok n answer step
+own_moves p e new (Reset n code) answer deaf quiet ok step = reset_moves p e new ok n code answer step
+own_moves p e new (Stop n code) answer deaf quiet ok step = stop_moves p e new ok n code answer step
+own_moves p e new (StopAndForget n code) answer deaf quiet ok step = forget_moves p e new ok n code answer step
+own_moves p e new (ReadUpTo n size) answer deaf quiet ok step = read_moves p e new ok n size answer step
+own_moves p e new (Consume n most) answer deaf quiet ok step = consume_moves p e new ok n most answer.1 answer.0 step
+own_moves p e new (Receive k bytes) answer deaf quiet ok step = absurd (deaf tt)
+own_moves p e new (TakeFrame f) answer deaf quiet ok step = absurd (deaf tt)
+own_moves p e new (TakeFrames fs) answer deaf quiet ok step = absurd (deaf tt)
+own_moves p e new (TokenAcked t) answer deaf quiet ok step = absurd (deaf tt)
+own_moves p e new (TokenLost t) answer deaf quiet ok step = token_lost_moves p e new ok t answer step
+own_moves p e new (Make first delay room) answer deaf quiet ok step = absurd (quiet tt)
+own_moves p e new (MakeAck delay room) answer deaf quiet ok step = absurd (quiet tt)
+own_moves p e new (FillIn want room) answer deaf quiet ok step = absurd (quiet tt)
+own_moves p e new (Lose k) answer deaf quiet ok step = lose_moves p e new ok k answer step
+own_moves p e new Claim answer deaf quiet ok step = absurd (quiet tt)
+own_moves p e new (RaiseLimits limits) answer deaf quiet ok step = raise_moves p e new limits answer ok step
+own_moves p e new (Set x) answer deaf quiet ok step = set_moves p e new x answer ok step
+own_moves p e new (TellClosed close) answer deaf quiet ok step = subst (EndOk p) (sym step) (told_moves p e close e.closed ok)
+own_moves p e new (ClosingPayload slice) answer deaf quiet ok step = ended_by p e new step.1 ok
+own_moves p e new Stored answer deaf quiet ok step = ended_by p e new step.1 ok
+own_moves p e new Granted answer deaf quiet ok step = ended_by p e new step.1 ok
+own_moves p e new Spent answer deaf quiet ok step = ended_by p e new step.1 ok
+own_moves p e new (GrantedStreams d) answer deaf quiet ok step = ended_by p e new step.1 ok
+own_moves p e new (Report n) answer deaf quiet ok step = ended_by p e new step.1 ok

@@ -1,9 +1,10 @@
--- What packets tell, they tell when more were made.
-use Rattle.std.proofs.Common.{ℕ, Bool, ◌++◌, inl, inr}
-use Rattle.qs_machine.specs.Seen.{Seen}
-use Rattle.qs_runs.specs.Pasts.{Packets, Holds, Tells, TellsOffset, TellsByte, TellsEnd, TellsAck, WasConfirmed, HoldsAt, EachTaken, IsNamed}
+-- What packets tell, they tell when more were made; and what one thing more does to what an end lived through.
+use Rattle.std.proofs.Common.{◌≡◌, ℕ, Bool, true, not, ◌&&◌, ◌==◌, if◌then◌else◌, List, [], ◌∷◌, ◌++◌, inl, inr, refl, sym, ◌∙◌, append-nil, append_assoc}
+use Rattle.qs_machine.specs.Seen.{Seen, seen_all}
+use Rattle.qs_machine.specs.Plains.{frames_in}
+use Rattle.qs_runs.specs.Logs.{Effect, Wrote, Gave, Ended, Stopped, Sent, Came, CameAlone, Acked, ToldClosed, is_in}
+use Rattle.qs_runs.specs.Pasts.{Past, Packets, Holds, Tells, TellsOffset, TellsByte, TellsEnd, TellsAck, WasConfirmed, IsNamed, packets_in}
 use Rattle.qs_runs.proofs.Lists.{slice_get-append}
-use Rattle.qs_machine.proofs.Pieces.{All_more}
 
 module _ (ps more : Packets) where
   pub Holds-more : (k : ℕ) (f : Seen) → Holds ps k f → Holds (ps ++ more) k f
@@ -27,23 +28,39 @@ module _ (ps more : Packets) where
   pub Confirmed-more : (tokens : ℕ → Bool) (k : ℕ) → WasConfirmed ps tokens k → WasConfirmed (ps ++ more) tokens k
   Confirmed-more tokens k c = elim c [ inl ack ↦ inl (TellsAck-more k ack) | inr told ↦ inr told ]
 
-  pub HoldsAt-more : (k i : ℕ) (f : Seen) → HoldsAt ps k i f → HoldsAt (ps ++ more) k i f
-  HoldsAt-more k i f (fs, there, at) = (fs, slice_get-append ps more k fs there, at)
-
-  pub EachTaken-more : (processed : ℕ → Bool) (took : ℕ → ℕ → Bool) (P : Seen → Type 0) → EachTaken ps processed took P → EachTaken (ps ++ more) processed took P
-  EachTaken-more processed took P h =
-      record {
-        packets = λ k is. (let (fs, there, all) = h.packets k is in (fs, slice_get-append ps more k fs there, all));
-        frames = λ k i is. (let (f, holds, taken) = h.frames k i is in (f, HoldsAt-more k i f holds, taken));
-      }
-
   pub IsNamed-more : (n : ℕ) → IsNamed ps n → IsNamed (ps ++ more) n
   IsNamed-more n (f, m, t, names, same, le) = (f, m, Tells-more f t, names, same, le)
 
--- what holds of each frame that was taken, and what follows from it
-pub each_taken : (ps : Packets) (processed : ℕ → Bool) (took : ℕ → ℕ → Bool) (P Q : Seen → Type 0) → ((f : Seen) → P f → Q f) → EachTaken ps processed took P → EachTaken ps processed took Q
-each_taken ps processed took P Q more h =
-    record {
-      packets = λ k is. (let (fs, there, all) = h.packets k is in (fs, there, All_more P Q fs more all));
-      frames = λ k i is. (let (f, holds, taken) = h.frames k i is in (f, holds, more f taken));
-    }
+-- What one end lived through with one thing more that was done there.
+abbrev pub with_effect : Effect → Past → Past
+with_effect (Wrote n bytes) p = record p { bytes = λ m. p.bytes m ++ (if m == n then bytes else []) }
+with_effect (Gave n bytes) p = record p { gave = λ m. p.gave m ++ (if m == n then bytes else []) }
+with_effect (Ended n) p = record p { ended = λ m. if m == n && not (p.stopped m) then true else p.ended m }
+with_effect (Stopped n) p = record p { stopped = λ m. if m == n then true else p.stopped m }
+with_effect (Sent text) p = record p { mine = p.mine ++ frames_in text ∷ [] }
+with_effect (Came k bytes) p = record p { processed = λ j. if j == k then true else p.processed j; taken = p.taken ++ frames_in bytes }
+with_effect (CameAlone frames) p = record p { taken = p.taken ++ seen_all frames }
+with_effect (Acked token) p = record p { tokens = λ j. if is_in token j then true else p.tokens j }
+with_effect ToldClosed p = p
+
+-- and with several, in order
+abbrev pub with_effects : List Effect → Past → Past
+with_effects [] p = p
+with_effects (x ∷ xs) p = with_effects xs (with_effect x p)
+
+pub effects_joined : (xs ys : List Effect) (p : Past) → with_effects (xs ++ ys) p ≡ with_effects ys (with_effects xs p)
+effects_joined [] ys p = refl
+effects_joined (x ∷ xs) ys p = effects_joined xs ys (with_effect x p)
+
+-- the packets among them
+pub effects_made : (xs : List Effect) (p : Past) → (with_effects xs p).mine ≡ p.mine ++ packets_in xs
+effects_made [] p = sym (append-nil p.mine)
+effects_made (Sent text ∷ xs) p = effects_made xs (with_effect (Sent text) p) ∙ append_assoc p.mine (frames_in text ∷ []) (packets_in xs)
+effects_made (Wrote n bytes ∷ xs) p = effects_made xs (with_effect (Wrote n bytes) p)
+effects_made (Gave n bytes ∷ xs) p = effects_made xs (with_effect (Gave n bytes) p)
+effects_made (Ended n ∷ xs) p = effects_made xs (with_effect (Ended n) p)
+effects_made (Stopped n ∷ xs) p = effects_made xs (with_effect (Stopped n) p)
+effects_made (Came k bytes ∷ xs) p = effects_made xs (with_effect (Came k bytes) p)
+effects_made (CameAlone frames ∷ xs) p = effects_made xs (with_effect (CameAlone frames) p)
+effects_made (Acked token ∷ xs) p = effects_made xs (with_effect (Acked token) p)
+effects_made (ToldClosed ∷ xs) p = effects_made xs p

@@ -6,7 +6,7 @@ use Rattle.qs_machine.specs.Tables.{lookup}
 use Rattle.qs_machine.specs.Ends.{End, first_send_limit, window}
 use Rattle.qs_runs.specs.Pasts.{Packets, Past}
 use Rattle.qs_runs.proofs.Changes.{send_alike}
-use Rattle.qs_runs.proofs.Past.{Tells-more, TellsOffset-more, TellsByte-more, TellsEnd-more, Confirmed-more, EachTaken-more, IsNamed-more}
+use Rattle.qs_runs.proofs.Past.{Tells-more, TellsOffset-more, TellsByte-more, TellsEnd-more, Confirmed-more, IsNamed-more}
 use Rattle.qs_runs.specs.Invariant.{EndOk, SendSlot, RecvSlot}
 
 abbrev pub with_theirs : Past → Packets → Past
@@ -39,7 +39,7 @@ module _ (p : Past) (more : Packets) where
         sends = λ n. send_slot n (first_send_limit e n) (lookup e.sends n) (ok.sends n);
         recvs = λ n. recv_slot n (window e n) (lookup e.recvs n) (ok.recvs n);
         packets = ok.packets;
-        taken = EachTaken-more p.theirs more p.processed p.took _ ok.taken;
+        taken = ok.taken;
         credit = record {
           sent_known = ok.credit.sent_known;
           known_told = elim ok.credit.known_told [ inl e ↦ inl e | inr t ↦ inr (Tells-more p.theirs more _ t) ];

@@ -1,6 +1,6 @@
 -- What the peer made keeps the invariant of the end that it comes to, as a payload or as frames alone, and spends nothing when it comes again.
-use Rattle.std.proofs.Common.{◌≡◌, ℕ, ◌≤◌, ◌<◌, Bool, List, [], ◌∷◌, ◌++◌, ◌⊎◌, take, Option, Some, None, Result, Ok, Err, slice_get, true, false, if◌then◌else◌, ◌&&◌, ◌||◌, ◌==◌, refl, sym, ap, ◌∙◌, subst, arith, inl, inr, append-nil, append_assoc, zero, suc, MatchBool, ◌≢◌, ◌+◌, length, unwrap_or, is_some, nat_lt, le_antisymm}
-use Rattle.std.proofs.lemmas.Bool.{cases_lt, eqb-true, ltb-false, eq-eqb, and_right, false≢true, or_cases, and_parts, lt-ltb, true≢false, or_right}
+use Rattle.std.proofs.Common.{◌≡◌, ℕ, ◌≤◌, ◌<◌, Bool, List, [], ◌∷◌, ◌++◌, ◌⊎◌, take, Option, Some, None, Result, Ok, Err, true, false, if◌then◌else◌, ◌||◌, ◌==◌, refl, sym, ap, ◌∙◌, subst, arith, inl, inr, append-nil, append_assoc, MatchBool, ◌≢◌, ◌+◌, length, unwrap_or, is_some, nat_lt, le_antisymm}
+use Rattle.std.proofs.lemmas.Bool.{cases_lt, eqb-true, ltb-false, eq-eqb, false≢true, or_cases, lt-ltb, true≢false}
 use Rattle.std.specs.FinSet as set
 use Rattle.std.specs.List.{AllByRecursion}
 use Rattle.qs_ranges.specs.Numbers.{NumberSet, numbers, missing_from, end_of}
@@ -13,32 +13,39 @@ use Rattle.qs_calls.specs.declared.closing.Closing.{Closing}
 use Rattle.qs_calls.specs.declared.closing.Closed.{Closed}
 use Rattle.qs_calls.specs.declared.closing.Closer.{Closer}
 use Rattle.qs_calls.specs.declared.closing.Closer.TheVariants.{Us, Peer}
-use Rattle.qs_machine.specs.Receiving.{told_receive, ReceiveStep, ReceiveBy, Takes, Stops, AtEnd, RunsOut, TakesPayload}
+use Rattle.qs_machine.specs.Receiving.{told_by, told_receive, ReceiveStep, ReceiveBy, Takes, Stops, AtEnd, RunsOut, TakesPayload}
 use Rattle.qs_calls.specs.declared.closing.Closed.TheVariants.{ByUs, ByPeer}
 use Rattle.qs_calls.specs.declared.closing.Closed.TheVariants as closings
 use Rattle.qs_calls.specs.declared.closing.Received.{Received}
 use Rattle.qs_calls.specs.declared.closing.Received.TheVariants.{Done, Duplicate, BelowFloor, PeerClosed, NoMemory}
-use Rattle.qs_machine.specs.Ends.{End, closes, first_send_limit, is_own, opens, opened_by_peer}
+use Rattle.qs_machine.specs.Ends.{End, on_recv, closes, first_send_limit, is_own, opens, opened_by_peer}
 use Rattle.qs_machine.specs.Seen.{Seen, Ack, Close, seen, seen_all, asks_ack, Stream, Control}
-use Rattle.qs_machine.specs.FrameStep.{named, frame_taken, is_named, item_taken}
+use Rattle.qs_machine.specs.FrameStep.{acks, named, frame_taken, is_named, item_taken}
 use Rattle.qs_machine.specs.Recording.{recorded, has_too_many, lowest_end, least_in}
 use Rattle.qs_machine.proofs.RunLaws.{least_above}
-use Rattle.qs_machine.proofs.EveryCall.{no_fault_there, by_open, same_either}
-use Rattle.qs_calls.specs.declared.answer.Answer.TheVariants as answers
-use Rattle.qs_runs.specs.Logs.{is_done, Part, is_among, is_taken, is_taken_at, was_told, is_in}
-use Rattle.qs_runs.specs.Agree.{frames_in, IsOld}
+use Rattle.qs_machine.proofs.EveryCall.{no_fault_there, by_open, same_either, relates, Change, changed, Comes, HearsPeer, Wanted, Opened, Stopped as WasStopped, Forgotten, WasRead, WasSet, Took as WasTaken, Acked as WasAckedBy, Put, Settled}
+use Rattle.qs_runs.specs.Logs.{Came, Acked, effects_of, acked_effects, is_in}
+use Rattle.qs_machine.specs.EndStep.{Call, Answer, EndStep, Receive, TakeFrame, TakeFrames, TokenAcked, RaiseLimits, TellClosed}
+use Rattle.qs_machine.specs.Raising.{limits_raised, raise_refusal}
+use Rattle.qs_machine.specs.Setting.{SendBuffer, StreamWindow, Grant}
+use Rattle.qs_recv.specs.declared.half.Read.{Read}
+use Rattle.qs_recv.specs.declared.half.Read.TheVariants as reads
+use Rattle.qs_runs.proofs.Past.{with_effect, with_effects}
+use Rattle.qs_calls.specs.declared.token.TokenFault.TheVariants as tokens
+use Rattle.qs_machine.specs.Plains.{frames_in}
+use Rattle.qs_runs.specs.Agree.{IsOld}
 use Rattle.qs_runs.proofs.Lists.{Among_right}
 use Rattle.qs_runs.proofs.Members.{insert-cases, insert-old, insert-new, cut-cases, cut-kept, run-cases, run-old, below-end, end-le}
-use Rattle.qs_runs.specs.Pasts.{Past, Tells, Packets, WasConfirmed, HoldsAt, EachTaken}
-use Rattle.qs_runs.specs.Invariant.{EndOk, FrameTaken, SendSlot, standing}
+use Rattle.qs_runs.specs.Pasts.{Past, Tells, WasConfirmed}
+use Rattle.qs_runs.specs.Invariant.{EndOk, FrameTaken, SendSlot}
 use Rattle.qs_runs.proofs.Changes.{send_alike, AllGrow, all_grow_refl, grow_trans, frame_stays, Grows, settle_ok, each_grows, raise_grows}
 use Rattle.qs_runs.proofs.Acking.{acks_ok, named_pieces_ok, WasAcked}
-use Rattle.qs_machine.proofs.Leaves.{frame_leaves, acks_leave, stops_leave, end_leaves}
-use Rattle.qs_runs.proofs.Frames.{Effect, frame_keeps, new_recvs, lane_opened}
+use Rattle.qs_machine.proofs.Leaves.{put_leaves, frame_leaves, acks_leave, stops_leave, end_leaves}
+use Rattle.qs_runs.proofs.Frames.{Effect, MayCome, come_keeps, frame_keeps, new_recvs, lane_opened}
 use Rattle.qs_runs.proofs.OwnMoves.{ended_by}
 use Rattle.std.proofs.lemmas.Option.{none-some, same_Some}
 use Rattle.std.specs.Bool.{⊤}
-use Rattle.qs_recv.specs.Lane.{RecvLane, raise, highest, take_stream, take_reset, is_whole, check_stream, check_reset}
+use Rattle.qs_recv.specs.Lane.{after_answer, after_read, read_answer, stop, stop_and_forget, set_window, is_over, RecvLane, raise, highest, take_stream, take_reset, is_whole, check_stream, check_reset}
 use Rattle.qs_send.specs.Lane.{SendLane}
 use Rattle.qs_send.specs.Records.{Among}
 use Rattle.qs_calls.specs.declared.token.Token.{Token}
@@ -50,34 +57,18 @@ use Rattle.qs_calls.specs.declared.token.TokenFault.{TokenFault}
 use Rattle.qs_machine.specs.Tables.{Tables, lookup, updated, total, open_to}
 use Rattle.qs_machine.specs.Credit.{settle, spent}
 use Rattle.qs_machine.specs.Verdicts.{verdict, item_verdict, credit_fault, lane_of, state_fault_in}
-use Rattle.qs_machine.specs.Alone.{is_ours, MayTake, TakesOne, TakesEach, TakeBy, TakeAllBy, after_one, token_refusal, TokenAckedStep}
-use Rattle.qs_runs.specs.Worlds.{HandedIn}
+use Rattle.qs_machine.specs.Alone.{TakeFrameStep, TakeFramesStep, is_ours, MayTake, TakesOne, TakesEach, TakeBy, TakeAllBy, after_one, token_refusal, TokenAckedStep}
 use Rattle.qs_runs.proofs.Facing.{IsThere, there_taken}
-use Rattle.qs_runs.proofs.Standing.{certain_cases}
+use Rattle.qs_runs.proofs.Standing.{fixed, certain_cases}
 use Rattle.qs_wire.specs.declared.stream_id.Dir.TheVariants.{Uni}
-use Rattle.qs_recv.specs.Assembled.{put, forget, Assembled}
+use Rattle.qs_recv.specs.Assembled.{put, forget, discard, Assembled}
 use Rattle.qs_send.specs.declared.piece.Item.TheVariants.{MaxStreamData, MaxStreams, ResetStream, StopSending, StreamDataBlocked}
 use Rattle.qs_machine.proofs.TableLaws.{lookup_open, total_update, total_each}
 use Rattle.qs_runs.proofs.Taking.{or_else_none, stream_passed, fin_fits, reset_fits}
 use Rattle.qs_runs.proofs.Unharmed.{spent_opened}
-use Rattle.std.proofs.Math.Bool.{and-true}
 use Rattle.qs_machine.proofs.Pieces.{All_append, All_take, All_more}
 
 -- A payload that the peer made keeps the invariant of the end that it comes to, whatever comes of it.
-
--- packet k was processed now, or it was not
-abbrev pub with_done : Past → ℕ → Bool → Past
-with_done p k b = record p { processed = λ j. if j == k && b then true else p.processed j }
-
-abbrev pub with_received : Past → ℕ → Result Received Closing → Past
-with_received p k result = with_done p k (is_done (answers.Deliver result))
-
--- another answer than Done processes nothing
-unchanged : (p : Past) (k : ℕ) (e : End) (b : Bool) → b ≡ false → EndOk p e → EndOk (with_done p k b) e
-unchanged p k e b is ok = subst (λ d. EndOk (record p { processed = d }) e) (λ i j. go j i) ok
-  where
-    go : (j : ℕ) → p.processed j ≡ (if j == k && b then true else p.processed j)
-    go j = rw (and_right (j == k) b is) refl
 
 -- Recording
 
@@ -86,8 +77,8 @@ or_cond true x h = refl
 or_cond false x h = h
 
 module _ (k : ℕ) where
-  processed_or : (d : ℕ → Bool) (j : ℕ) → (if j == k && true then true else d j) ≡ true → (j ≡ k) ⊎ (d j ≡ true)
-  processed_or d j h = go (j == k) refl (rw (and-true (j == k)) at h)
+  processed_or : (d : ℕ → Bool) (j : ℕ) → (if j == k then true else d j) ≡ true → (j ≡ k) ⊎ (d j ≡ true)
+  processed_or d j h = go (j == k) refl h
     where
       go : (b : Bool) → (j == k) ≡ b → (if b then true else d j) ≡ true → (j ≡ k) ⊎ (d j ≡ true)
       go true e h = inl (eqb-true j k e)
@@ -124,8 +115,8 @@ module _ (k : ℕ) where
   inserted_above : (done : NumberSet) (floor : ℕ) → floor ≤ k → ((q : ℕ) → set.contains done q ≡ true → floor ≤ q) → (q : ℕ) → set.contains (set.insert done k) q ≡ true → floor ≤ q
   inserted_above done floor le all q h = elim (insert-cases done k q h) [ inl e ↦ omega arith | inr old ↦ all q old ]
 
-  pub recorded_ok : (p : Past) (asks : Bool) (e : End) (frames : List Seen) → e.floor ≤ k → EndOk p e → slice_get p.theirs k ≡ Some frames → AllByRecursion (FrameTaken e.recvs) frames → EndOk (with_done p k true) (recorded k asks e)
-  recorded_ok p asks e frames low ok is all =
+  recorded_ok : (p : Past) (asks : Bool) (e : End) (bytes : List ℕ) → e.floor ≤ k → EndOk p e → AllByRecursion (FrameTaken e.recvs) (frames_in bytes) → EndOk (with_effect (Came k bytes) p) (recorded k asks e)
+  recorded_ok p asks e bytes low ok all =
       let s : NumberSet = set.insert e.done k in
       let b : Bool = has_too_many s in
       let above : (q : ℕ) → set.contains s q ≡ true → e.floor ≤ q = inserted_above e.done e.floor low ok.packets.above in
@@ -139,11 +130,11 @@ module _ (k : ℕ) where
           records = ok.packets.records;
           lost_records = ok.packets.lost_records;
           kinds = ok.packets.kinds;
-          acks_told = λ largest ranges t. (let a = ok.packets.acks_told largest ranges t in record { names_largest = a.names_largest; names_processed = λ j named. or_cond (j == k && true) _ (a.names_processed j named) });
+          acks_told = λ largest ranges t. (let a = ok.packets.acks_told largest ranges t in record { names_largest = a.names_largest; names_processed = λ j named. or_cond (j == k) _ (a.names_processed j named) });
           is_done = λ j h.
               elim (insert-cases e.done k j (still_member b s j h)) [
                 | inl same ↦ rw (eq-eqb j k same) refl
-                | inr old ↦ or_cond (j == k && true) _ (ok.packets.is_done j old)
+                | inr old ↦ or_cond (j == k) _ (ok.packets.is_done j old)
               ];
           kept = λ j h.
               elim (processed_or p.processed j h) [
@@ -155,14 +146,7 @@ module _ (k : ℕ) where
               ];
           above = λ j h. kept_above b s e.floor j above h;
         };
-        taken = record {
-          packets = λ j h.
-              elim (processed_or p.processed j h) [
-                | inl same ↦ (frames, ap (slice_get p.theirs) same ∙ is, all)
-                | inr old ↦ ok.taken.packets j old
-              ];
-          frames = ok.taken.frames;
-        };
+        taken = All_append (FrameTaken e.recvs) p.taken (frames_in bytes) ok.taken all;
       }
 
 -- The frames of a payload, one after the other
@@ -170,108 +154,69 @@ module _ (k : ℕ) where
 closed_ok : (p : Past) (e : End) (c : Closed) → EndOk p e → EndOk p (closes c e)
 closed_ok p e c ok = record { sends = ok.sends; recvs = ok.recvs; packets = ok.packets; taken = ok.taken; credit = ok.credit; streams = ok.streams }
 
-module _ (p : Past) (k : ℕ) (all : List Seen) (is : slice_get p.theirs k ≡ Some all) where
-  at_end_ok : (asks : Bool) (fault : Option WireFault) (e : End) (result : Result Received Closing) (new : End) → EndOk p e → e.floor ≤ k → AllByRecursion (FrameTaken e.recvs) all → AtEnd k asks fault e result new → EndOk (with_received p k result) new
-  at_end_ok asks None e (Ok Done) new ok low taken h = ended_by _ _ _ h (recorded_ok k p asks e all low ok is taken)
-  at_end_ok asks None e (Ok NoMemory) new ok low taken h = unchanged p k new _ refl (ended_by p _ _ h.0 ok)
-  at_end_ok asks (Some fault) e (Err closing) new ok low taken h = unchanged p k new _ refl (ended_by p _ _ h.1 (closed_ok p e _ ok))
+-- Those that come are told by the peer, or plain.
+module _ (p : Past) (k : ℕ) (bytes : List ℕ) (come : (g : Seen) → Among g (frames_in bytes) → MayCome p.theirs g) where
+  abbrev Leaves : Result Received Closing → End → Type 0
+  Leaves result new = EndOk (with_effects (effects_of (Receive k bytes) result) p) new
+
+  at_end_ok : (asks : Bool) (fault : Option WireFault) (e : End) (result : Result Received Closing) (new : End) → EndOk p e → e.floor ≤ k → AllByRecursion (FrameTaken e.recvs) (frames_in bytes) → AtEnd k asks fault e result new → Leaves result new
+  at_end_ok asks None e (Ok Done) new ok low taken h = ended_by _ _ _ h (recorded_ok k p asks e bytes low ok taken)
+  at_end_ok asks None e (Ok NoMemory) new ok low taken h = ended_by p _ _ h.0 ok
+  at_end_ok asks (Some fault) e (Err closing) new ok low taken h = ended_by p _ _ h.1 (closed_ok p e _ ok)
   at_end_ok asks fault e result new ok low taken h = absurd h
 
-  stops_ok : (v : PlacedValue) (f : Seen) (e : End) (result : Result Received Closing) (new : End) → EndOk p e → Tells p.theirs f → Stops v f e result new → EndOk (with_received p k result) new
-  stops_ok v (Close code) e (Ok (PeerClosed told)) new ok t h = unchanged p k new _ refl (ended_by p _ _ h.1 (closed_ok p e _ ok))
-  stops_ok v (Ack largest ranges) e (Ok NoMemory) new ok t (fine, (m, h, asks)) =
-      unchanged p k new _ refl (ended_by p _ _ h (acks_ok p (take m (named e ranges)) e (All_take _ m _ (named_pieces_ok p e ok ranges (λ j a. inl (largest, ranges, t, a)))) ok))
+  stops_ok : (v : PlacedValue) (f : Seen) (e : End) (result : Result Received Closing) (new : End) → EndOk p e → MayCome p.theirs f → Stops v f e result new → Leaves result new
+  stops_ok v (Close code) e (Ok (PeerClosed told)) new ok t h = ended_by p _ _ h.1 (closed_ok p e _ ok)
+  stops_ok v (Ack largest ranges) e (Ok NoMemory) new ok (inr plain) stops = absurd (false≢true plain)
+  stops_ok v (Ack largest ranges) e (Ok NoMemory) new ok (inl t) (fine, (m, h, asks)) =
+      ended_by p _ _ h (acks_ok p (take m (named e ranges)) e (All_take _ m _ (named_pieces_ok p e ok ranges (λ j a. inl (largest, ranges, t, a)))) ok)
   stops_ok v (Close code) e result new ok t h = absurd h
-  stops_ok v f e (Ok NoMemory) new ok t h = unchanged p k new _ refl (ended_by p _ _ h.1.0 ok)
-  stops_ok v f e (Err closing) new ok t h = unchanged p k new _ refl (ended_by p _ _ h.2 (closed_ok p e _ ok))
+  stops_ok v f e (Ok NoMemory) new ok t h = ended_by p _ _ h.1.0 ok
+  stops_ok v f e (Err closing) new ok t h = ended_by p _ _ h.2 (closed_ok p e _ ok)
   stops_ok v f e result new ok t h = absurd h
 
   -- the frames before have taken effect; what is left are these
-  takes_ok : (left : List PlacedValue) (before : List Seen) (asks : Bool) (fault : Option WireFault) (e : End) (result : Result Received Closing) (new : End) → all ≡ before ++ seen_all (frames_of left) →
-      EndOk p e → e.floor ≤ k → AllByRecursion (FrameTaken e.recvs) before → Takes k fault asks e left result new → EndOk (with_received p k result) new
+  takes_ok : (left : List PlacedValue) (before : List Seen) (asks : Bool) (fault : Option WireFault) (e : End) (result : Result Received Closing) (new : End) → frames_in bytes ≡ before ++ seen_all (frames_of left) →
+      EndOk p e → e.floor ≤ k → AllByRecursion (FrameTaken e.recvs) before → Takes k fault asks e left result new → Leaves result new
   takes_ok [] before asks fault e result new split ok low taken h =
       at_end_ok asks fault e result new ok low (subst (AllByRecursion (FrameTaken e.recvs)) (sym (split ∙ append-nil before)) taken) h
   takes_ok (v ∷ left) before asks fault e result new split ok low taken (inl stops) =
-      stops_ok v (seen v.frame) e result new ok (k, (all, is, rw split (Among_right before _ _ (inl refl)))) stops
+      stops_ok v (seen v.frame) e result new ok (come (seen v.frame) (rw split (Among_right before _ _ (inl refl)))) stops
   takes_ok (v ∷ left) before asks fault e result new split ok low taken (inr (goes, rest)) =
       let f : Seen = seen v.frame in
-      let one : Effect p e (frame_taken f e) f = frame_keeps p e f ok (k, (all, is, rw split (Among_right before _ _ (inl refl)))) (no_fault_there e f goes) in
+      let one : Effect p e (frame_taken f e) f = come_keeps p e f ok (come f (rw split (Among_right before _ _ (inl refl)))) (no_fault_there e f goes) in
       takes_ok left (before ++ f ∷ []) (asks || asks_ack f) fault (frame_taken f e) result new (split ∙ sym (append_assoc before (f ∷ []) (seen_all (frames_of left)))) one.ok
       (rw (ap (λ (x : End). x.floor) (frame_leaves f e)) low)
       (All_append (FrameTaken (frame_taken f e).recvs) before (f ∷ []) (All_more (FrameTaken e.recvs) (FrameTaken (frame_taken f e).recvs) before (frame_stays e.recvs (frame_taken f e).recvs one.grow) taken) (one.taken, tt)) rest
 
-pub receives : (p : Past) (e new : End) (k : ℕ) (text : List ℕ) (result : Result Received Closing) → EndOk p e → slice_get p.theirs k ≡ Some (frames_in text) → ReceiveStep e k text result new → EndOk (with_received p k result) new
-receives p e new k text result ok is step = by_closed e.closed step
+pub receives : (p : Past) (e new : End) (k : ℕ) (bytes : List ℕ) (result : Result Received Closing) → EndOk p e → ((g : Seen) → Among g (frames_in bytes) → MayCome p.theirs g) → ReceiveStep e k bytes result new →
+    EndOk (with_effects (effects_of (Receive k bytes) result) p) new
+receives p e new k bytes result ok come step = by_closed e.closed step
   where
     -- what wasn't taken changes nothing
-    stays : (r : Result Received Closing) → is_done (answers.Deliver r) ≡ false → result ≡ r → new ≡ e → EndOk (with_received p k result) new
-    stays r undone at same = unchanged p k new _ (ap (λ x. is_done (answers.Deliver x)) at ∙ undone) (ended_by p e new same ok)
+    stays : (r : Result Received Closing) → effects_of (Receive k bytes) r ≡ [] → result ≡ r → new ≡ e → EndOk (with_effects (effects_of (Receive k bytes) result) p) new
+    stays r none at same = subst (λ xs. EndOk (with_effects xs p) new) (sym (ap (effects_of (Receive k bytes)) at ∙ none)) (ended_by p e new same ok)
 
-    by_closed : (o : Option Closed) → ReceiveBy o k text e result new → EndOk (with_received p k result) new
+    settled_ok : (r : Result Received Closing) (mid new : End) → new ≡ settle mid → EndOk (with_effects (effects_of (Receive k bytes) r) p) mid → EndOk (with_effects (effects_of (Receive k bytes) r) p) new
+    settled_ok r mid new same h = ended_by _ _ _ same (settle_ok _ mid h)
+
+    never_done : (c : Closer) (code : ℕ) → effects_of (Receive k bytes) (told_receive c code) ≡ []
+    never_done Us code = refl
+    never_done Peer code = refl
+
+    by_closed : (o : Option Closed) → ReceiveBy o k bytes e result new → EndOk (with_effects (effects_of (Receive k bytes) result) p) new
     by_closed (Some (ByUs closing)) h = stays (Err closing) refl h.0 h.1
     by_closed (Some (ByPeer code)) h = stays (Ok (PeerClosed code)) refl h.0 h.1
-    by_closed (Some (closings.Told close)) h = stays (told_receive close.by close.code) (never_done close.by) h.0 h.1
-      where
-        never_done : (c : Closer) → is_done (answers.Deliver (told_receive c close.code)) ≡ false
-        never_done Us = refl
-        never_done Peer = refl
+    by_closed (Some (closings.Told close)) h = stays (told_receive close.by close.code) (never_done close.by close.code) h.0 h.1
     by_closed None h =
-        by_open (EndOk (with_received p k result) new) k text e result new h (stays (Ok BelowFloor) refl) (stays (Ok Duplicate) refl) (λ high mid takes same.
-        ended_by _ _ _ same (settle_ok _ mid (takes_ok p k (frames_in text) is (reading_of text).left [] false (reading_of text).fault e result mid refl ok (ltb-false k e.floor high) tt takes)))
+        by_open (EndOk (with_effects (effects_of (Receive k bytes) result) p) new) k bytes e result new h (stays (Ok BelowFloor) refl) (stays (Ok Duplicate) refl) (λ high mid takes same.
+        settled_ok result mid new same (takes_ok p k bytes come (reading_of bytes).left [] false (reading_of bytes).fault e result mid refl ok (ltb-false k e.floor high) tt takes))
 
 -- Frames that come without their packet, and tokens that are acknowledged.
 
--- these frames of the peer's packets came, with this result
-abbrev pub with_took : Past → List Part → Result Taken TakeFault → Past
-with_took p parts result = record p { took = λ k i. if is_taken_at k i parts result then true else p.took k i }
-
--- this end was told that the token's packets were acknowledged, if it was
-abbrev pub with_token : Past → Token → Bool → Past
-with_token p t told = record p { tokens = λ j. if told && is_in t j then true else p.tokens j }
-
-cond_or : (b x : Bool) → (if b then true else x) ≡ true → (b ≡ true) ⊎ (x ≡ true)
-cond_or true x h = inl refl
-cond_or false x h = inr h
-
--- The frames at their places
-
--- each of these frames stands in its packet
-abbrev pub AreHeldAt : Packets → List Part → List FrameValue → Type 0
-AreHeldAt ps [] [] = ⊤
-AreHeldAt ps (part ∷ parts) (f ∷ fs) = HoldsAt ps part.number part.place (seen f) × AreHeldAt ps parts fs
-AreHeldAt ps parts fs = ⊥
-
--- so each is told
-pub held_told : (ps : Packets) (parts : List Part) (fs : List FrameValue) → AreHeldAt ps parts fs → (g : Seen) → Among g (seen_all fs) → Tells ps g
-held_told ps [] [] held g a = absurd a
-held_told ps (part ∷ parts) (f ∷ fs) ((all, there, at), held) g (inl is) = (part.number, (all, there, subst (λ x. Among x all) (sym is) (found all part.place at)))
-  where
-    found : (all : List Seen) (i : ℕ) → slice_get all i ≡ Some (seen f) → Among (seen f) all
-    found [] i at = absurd (none-some (seen f) at)
-    found (v ∷ all) zero at = inl (sym (same_Some v (seen f) at))
-    found (v ∷ all) (suc i) at = inr (found all i at)
-held_told ps (part ∷ parts) (f ∷ fs) (here, held) g (inr a) = held_told ps parts fs held g a
-held_told ps _ _ held g a = absurd held
-
--- what holds of them holds at each of the places
-pub held_holds : (P : Seen → Type 0) (ps : Packets) (parts : List Part) (fs : List FrameValue) → AreHeldAt ps parts fs → AllByRecursion P (seen_all fs) → (k i : ℕ) → is_among k i parts ≡ true →
-    (f : Seen) × HoldsAt ps k i f × P f
-held_holds P ps [] fs held all k i is = absurd (false≢true is)
-held_holds P ps (part ∷ parts) [] held all k i is = absurd held
-held_holds P ps (part ∷ parts) (f ∷ fs) (here, held) all k i is =
-    elim (or_cases (k == part.number && i == part.place) (is_among k i parts) is) [
-      | inl this ↦ (
-          let (number, place) = and_parts (k == part.number) (i == part.place) this in
-          (seen f, subst (λ x. HoldsAt ps x i (seen f)) (sym (eqb-true k part.number number)) (subst (λ x. HoldsAt ps part.number x (seen f)) (sym (eqb-true i part.place place)) here), all.0))
-      | inr other ↦ held_holds P ps parts fs held all.1 k i other
-    ]
-
--- and what holds at each of the places holds of them
-pub held_all : (P : Seen → Type 0) (ps : Packets) (parts : List Part) (fs : List FrameValue) → AreHeldAt ps parts fs → ((k i : ℕ) (f : Seen) → is_among k i parts ≡ true → HoldsAt ps k i f → P f) → AllByRecursion P (seen_all fs)
-held_all P ps [] [] held each = tt
-held_all P ps (part ∷ parts) (f ∷ fs) (here, held) each =
-    (each part.number part.place (seen f) (rw (eq-eqb part.number part.number refl, eq-eqb part.place part.place refl) refl) here, held_all P ps parts fs held (λ k i g among at. each k i g (or_right _ (is_among k i parts) among) at))
-held_all P ps _ _ held each = absurd held
+-- several frames are handed in together, or one alone (RFC 9000, sections 12.4 and 13.1)
+abbrev pub HandedIn : List FrameValue → End → Result Taken TakeFault → End → Type 0
+HandedIn fs old r new = TakeFramesStep old fs r new ⊎ ((f : FrameValue) × (fs ≡ f ∷ []) × TakeFrameStep old f r new)
 
 -- Frames, one after the other
 
@@ -281,8 +226,8 @@ took_effect e f NotOurs new h = absurd h
 took_effect e f _ new h = (h.0, h.1)
 
 -- one by one they are several of one; what isn't an end's own changes nothing
-pub handed : (e : End) (fs : List FrameValue) (result : Result Taken TakeFault) (new : End) → e.closed ≡ None → HandedIn fs e result new →
-    ((mid : End) × TakesEach fs e result mid × (new ≡ settle mid)) ⊎ ((result ≡ Ok NotOurs) × (new ≡ e))
+handed : (e : End) (fs : List FrameValue) (result : Result Taken TakeFault) (new : End) → e.closed ≡ None → HandedIn fs e result new →
+    ((mid : End) × TakesEach fs e result mid × (new ≡ settle mid)) ⊎ (AllByRecursion (λ f. is_ours (seen f) ≡ false) fs × (new ≡ e))
 handed e fs result new open_end (inl several) = inl (subst (λ o. TakeAllBy o fs e result new) open_end several)
 handed e fs result new open_end (inr (f, is, one)) = by (is_ours (seen f)) refl (subst (λ o. TakeBy o f e result new) open_end one)
   where
@@ -293,20 +238,16 @@ handed e fs result new open_end (inr (f, is, one)) = by (is_ours (seen f)) refl 
     each ours (Err fault) mid h = rw ours (inr (fault, h, refl))
 
     by : (b : Bool) → is_ours (seen f) ≡ b → MatchBool b ((mid : End) × TakesOne e f result mid × (new ≡ settle mid)) ((result ≡ Ok NotOurs) × (new ≡ e)) →
-        ((mid : End) × TakesEach fs e result mid × (new ≡ settle mid)) ⊎ ((result ≡ Ok NotOurs) × (new ≡ e))
+        ((mid : End) × TakesEach fs e result mid × (new ≡ settle mid)) ⊎ (AllByRecursion (λ f. is_ours (seen f) ≡ false) fs × (new ≡ e))
     by true ours (mid, takes, after) = inl (mid, subst (λ gs. TakesEach gs e result mid) (sym is) (each ours result mid takes), after)
-    by false other none = inr none
+    by false other none = inr (subst (AllByRecursion (λ g. is_ours (seen g) ≡ false)) (sym is) (other, tt), none.1)
 
 -- no frame of these found a fault, nor a want of memory
 abbrev pub all_came : Result Taken TakeFault → Bool
 all_came (Ok taken) = true
 all_came (Err fault) = false
 
-pub taken_came : (result : Result Taken TakeFault) → is_taken result ≡ true → all_came result ≡ true
-taken_came (Ok taken) is = refl
-taken_came (Err fault) is = is
-
-pub later_came : (one : Taken) (later : Result Taken TakeFault) → all_came (after_one one later) ≡ true → all_came later ≡ true
+later_came : (one : Taken) (later : Result Taken TakeFault) → all_came (after_one one later) ≡ true → all_came later ≡ true
 later_came one (Ok taken) is = refl
 later_came one (Err fault) is = is
 
@@ -321,18 +262,22 @@ others_taken t (Control i) other = absurd (false≢true (sym other))
 others_taken t g other = tt
 
 -- What frames leave that came.
-pub record Came (p : Past) (old e new : End) (fs : List Seen) (result : Result Taken TakeFault) : Type 0 where
+record FramesCame (p : Past) (old e new : End) (fs : List Seen) (result : Result Taken TakeFault) : Type 0 where
   pub ok : EndOk p new
   pub there : IsThere old new
   pub grow : AllGrow e.recvs new.recvs
   pub done : all_came result ≡ true → AllByRecursion (FrameTaken new.recvs) fs
 
+-- each frame of streams and of flow control was told, and has a text
+abbrev pub WereTold : Past → List FrameValue → Type 0
+WereTold p fs = AllByRecursion (λ f. is_ours (seen f) ≡ true → Tells p.theirs (seen f) × Fits f) fs
+
 module _ (p : Past) (old : End) (fine : (mid : End) → EndOk p mid → IsThere old mid → (g : Seen) → Tells p.theirs g → verdict mid g ≡ None) where
-  same_came : (e new : End) (fs : List Seen) (result : Result Taken TakeFault) → EndOk p e → IsThere old e → new ≡ e → (all_came result ≡ true → AllByRecursion (FrameTaken e.recvs) fs) → Came p old e new fs result
-  same_came e new fs result ok there same done = subst (λ x. Came p old e x fs result) (sym same) (record { ok = ok; there = there; grow = all_grow_refl e.recvs; done = done })
+  same_came : (e new : End) (fs : List Seen) (result : Result Taken TakeFault) → EndOk p e → IsThere old e → new ≡ e → (all_came result ≡ true → AllByRecursion (FrameTaken e.recvs) fs) → FramesCame p old e new fs result
+  same_came e new fs result ok there same done = subst (λ x. FramesCame p old e x fs result) (sym same) (record { ok = ok; there = there; grow = all_grow_refl e.recvs; done = done })
 
   -- one took no effect
-  stops_came : (f : FrameValue) (e new : End) (fs : List Seen) (fault : TakeFault) (result : Result Taken TakeFault) → result ≡ Err fault → EndOk p e → IsThere old e → Tells p.theirs (seen f) → Fits f → is_ours (seen f) ≡ true → TakesOne e f (Err fault) new → Came p old e new fs result
+  stops_came : (f : FrameValue) (e new : End) (fs : List Seen) (fault : TakeFault) (result : Result Taken TakeFault) → result ≡ Err fault → EndOk p e → IsThere old e → Tells p.theirs (seen f) → Fits f → is_ours (seen f) ≡ true → TakesOne e f (Err fault) new → FramesCame p old e new fs result
   stops_came f e new fs faults.NoMemory result is ok there told fit ours h =
       same_came e new fs result ok there (none_asked e new (seen f) ours h.1) (λ d. absurd (false≢true (sym (ap all_came is) ∙ d)))
   stops_came f e new fs (faults.Closing closing) result is ok there told fit ours h =
@@ -342,16 +287,16 @@ module _ (p : Past) (old : End) (fine : (mid : End) → EndOk p mid → IsThere 
       ]
   stops_came f e new fs (faults.PeerClosed code) result is ok there told fit ours h = absurd h
 
-  pub each_came : (fs : List FrameValue) (e : End) (result : Result Taken TakeFault) (new : End) → EndOk p e → IsThere old e → ((g : Seen) → Among g (seen_all fs) → Tells p.theirs g) → AllByRecursion Fits fs → TakesEach fs e result new → Came p old e new (seen_all fs) result
-  each_came [] e result new ok there told fit h = same_came e new [] result ok there h.1 (λ d. tt)
-  each_came (f ∷ fs) e result new ok there told fit h =
-      by (is_ours (seen f)) refl h (λ mid r now same takes. each_came fs mid r new now same (λ g a. told g (inr a)) fit.1 takes)
+  each_came : (fs : List FrameValue) (e : End) (result : Result Taken TakeFault) (new : End) → EndOk p e → IsThere old e → WereTold p fs → TakesEach fs e result new → FramesCame p old e new (seen_all fs) result
+  each_came [] e result new ok there told h = same_came e new [] result ok there h.1 (λ d. tt)
+  each_came (f ∷ fs) e result new ok there told h =
+      by (is_ours (seen f)) refl h (λ mid r now same takes. each_came fs mid r new now same told.1 takes)
     where
       by : (b : Bool) → is_ours (seen f) ≡ b → MatchBool b (((mid : End) × (one : Taken) × (later : Result Taken TakeFault) × TakesOne e f (Ok one) mid × TakesEach fs mid later new × (result ≡ after_one one later)) ⊎ ((fault : TakeFault) × TakesOne e f (Err fault) new × (result ≡ Err fault))) (TakesEach fs e result new)
-          → ((mid : End) (r : Result Taken TakeFault) → EndOk p mid → IsThere old mid → TakesEach fs mid r new → Came p old mid new (seen_all fs) r) → Came p old e new (seen f ∷ seen_all fs) result
+          → ((mid : End) (r : Result Taken TakeFault) → EndOk p mid → IsThere old mid → TakesEach fs mid r new → FramesCame p old mid new (seen_all fs) r) → FramesCame p old e new (seen f ∷ seen_all fs) result
       by true ours (inl (mid, one, later, takes, more, is)) goes =
           let (may, after) = took_effect e f one mid takes in
-          let effect : Effect p e (frame_taken (seen f) e) (seen f) = frame_keeps p e (seen f) ok (told (seen f) (inl refl)) may.1 in
+          let effect : Effect p e (frame_taken (seen f) e) (seen f) = frame_keeps p e (seen f) ok (told.0 ours).0 may.1 in
           let rest = goes (frame_taken (seen f) e) later effect.ok (there_taken old e (seen f) there) (subst (λ x. TakesEach fs x later new) after more) in
           record {
             ok = rest.ok;
@@ -359,63 +304,48 @@ module _ (p : Past) (old : End) (fine : (mid : End) → EndOk p mid → IsThere 
             grow = grow_trans e.recvs _ new.recvs effect.grow rest.grow;
             done = λ d. (frame_stays _ new.recvs rest.grow (seen f) effect.taken, rest.done (later_came one later (sym (ap all_came is) ∙ d)));
           }
-      by true ours (inr (fault, one, is)) goes = stops_came f e new (seen f ∷ seen_all fs) fault result is ok there (told (seen f) (inl refl)) fit.0 ours one
+      by true ours (inr (fault, one, is)) goes = stops_came f e new (seen f ∷ seen_all fs) fault result is ok there (told.0 ours).0 (told.0 ours).1 ours one
       by false other more goes =
           let rest = goes e result ok there more in
           record { ok = rest.ok; there = rest.there; grow = rest.grow; done = λ d. (others_taken new.recvs (seen f) other, rest.done d) }
 
+  -- frames that came are taken, where nothing spoke against one
+  came_alone : (fs : List FrameValue) (r : Result Taken TakeFault) (new : End) → EndOk p new → (all_came r ≡ true → AllByRecursion (FrameTaken new.recvs) (seen_all fs)) → EndOk (with_effects (effects_of (TakeFrames fs) r) p) new
+  came_alone fs (Ok told) new ok taken = record { sends = ok.sends; recvs = ok.recvs; packets = ok.packets; credit = ok.credit; streams = ok.streams; taken = All_append (FrameTaken new.recvs) p.taken (seen_all fs) ok.taken (taken refl) }
+  came_alone fs (Err fault) new ok taken = ok
+
+  none_ours : (t : Tables RecvLane) (fs : List FrameValue) → AllByRecursion (λ f. is_ours (seen f) ≡ false) fs → AllByRecursion (FrameTaken t) (seen_all fs)
+  none_ours t [] foreign = tt
+  none_ours t (f ∷ fs) foreign = (others_taken t (seen f) foreign.0, none_ours t fs foreign.1)
+
   -- as the call ends the limits move
-  pub handed_came : (fs : List FrameValue) (e : End) (result : Result Taken TakeFault) (new : End) → e.closed ≡ None → EndOk p e → IsThere old e → ((g : Seen) → Among g (seen_all fs) → Tells p.theirs g) → AllByRecursion Fits fs → HandedIn fs e result new →
-      EndOk p new × (standing new ≡ standing old) × (is_taken result ≡ true → AllByRecursion (FrameTaken new.recvs) (seen_all fs))
-  handed_came fs e result new open_end ok there told fit h =
+  pub handed_came : (fs : List FrameValue) (e : End) (result : Result Taken TakeFault) (new : End) → e.closed ≡ None → EndOk p e → IsThere old e → WereTold p fs → HandedIn fs e result new →
+      EndOk (with_effects (effects_of (TakeFrames fs) result) p) new × (fixed new ≡ fixed old)
+  handed_came fs e result new open_end ok there told h =
       elim (handed e fs result new open_end h) [
         | inl (mid, takes, after) ↦ (
-            let came = each_came fs e result mid ok there told fit takes in (
-              ended_by p _ new after (settle_ok p mid came.ok),
-              ap standing after ∙ came.there.0,
-              λ d. subst (λ x. AllByRecursion (FrameTaken x.recvs) (seen_all fs)) (sym after)
-                  (All_more (FrameTaken mid.recvs) (FrameTaken (settle mid).recvs) (seen_all fs) (frame_stays mid.recvs (settle mid).recvs (each_grows raise mid.recvs raise_grows)) (came.done (taken_came result d))),
+            let came = each_came fs e result mid ok there told takes in (
+              came_alone fs result new (ended_by p _ new after (settle_ok p mid came.ok))
+                  (λ d. subst (λ x. AllByRecursion (FrameTaken x.recvs) (seen_all fs)) (sym after)
+                  (All_more (FrameTaken mid.recvs) (FrameTaken (settle mid).recvs) (seen_all fs) (frame_stays mid.recvs (settle mid).recvs (each_grows raise mid.recvs raise_grows)) (came.done d))),
+              ap fixed after ∙ came.there.0,
             )
             )
-        | inr (is, same) ↦ (ended_by p e new same ok, ap standing same ∙ there.0, λ d. absurd (false≢true (sym (ap is_taken is) ∙ d)))
+        | inr (foreign, same) ↦ (came_alone fs result new (ended_by p e new same ok) (λ d. none_ours new.recvs fs foreign), ap fixed same ∙ there.0)
       ]
-
--- what holds of each frame that was taken holds of these too
-pub took_each : (p : Past) (parts : List Part) (result : Result Taken TakeFault) (P : Seen → Type 0) → EachTaken p.theirs p.processed p.took P →
-    ((k i : ℕ) → is_among k i parts ≡ true → is_taken result ≡ true → (f : Seen) × HoldsAt p.theirs k i f × P f) → EachTaken p.theirs p.processed (with_took p parts result).took P
-took_each p parts result P each taken =
-    record {
-      packets = each.packets;
-      frames = λ k i is.
-          elim (cond_or (is_taken_at k i parts result) (p.took k i) is) [
-            | inl now ↦ (let (among, came) = and_parts (is_among k i parts) _ now in taken k i among came)
-            | inr before ↦ each.frames k i before
-          ];
-    }
-
-pub took_ok : (p : Past) (parts : List Part) (result : Result Taken TakeFault) (e : End) → EndOk p e → ((k i : ℕ) → is_among k i parts ≡ true → is_taken result ≡ true → (f : Seen) × HoldsAt p.theirs k i f × FrameTaken e.recvs f) → EndOk (with_took p parts result) e
-took_ok p parts result e ok taken =
-    record {
-      sends = ok.sends;
-      recvs = ok.recvs;
-      packets = ok.packets;
-      credit = ok.credit;
-      streams = ok.streams;
-      taken = took_each p parts result (FrameTaken e.recvs) ok.taken taken;
-    }
 
 -- Tokens
 
 -- an end is told more tokens
-pub token_ok : (p : Past) (t : Token) (told : Bool) (e : End) → EndOk p e → EndOk (with_token p t told) e
-token_ok p t was e ok =
+token_ok : (p : Past) (t : Token) (e : End) → EndOk p e → EndOk (with_effect (Acked t) p) e
+token_ok p t e ok =
     record { sends = λ n. slot n (lookup e.sends n) (ok.sends n); recvs = ok.recvs; packets = ok.packets; taken = ok.taken; credit = ok.credit; streams = ok.streams }
   where
-    more : (j : ℕ) → WasConfirmed p.theirs p.tokens j → WasConfirmed p.theirs (with_token p t was).tokens j
+    more : (j : ℕ) → WasConfirmed p.theirs p.tokens j → WasConfirmed p.theirs (with_effect (Acked t) p).tokens j
     more j (inl ack) = inl ack
-    more j (inr told) = inr (or_cond (was && is_in t j) (p.tokens j) told)
+    more j (inr told) = inr (or_cond (is_in t j) (p.tokens j) told)
 
-    slot : (n : ℕ) (o : Option SendLane) → SendSlot p n (first_send_limit e n) o → SendSlot (with_token p t was) n (first_send_limit e n) o
+    slot : (n : ℕ) (o : Option SendLane) → SendSlot p n (first_send_limit e n) o → SendSlot (with_effect (Acked t) p) n (first_send_limit e n) o
     slot n None h = h
     slot n (Some l) h = send_alike h (λ is. is) more h.sent_limit h.limit_told
 
@@ -423,25 +353,28 @@ named_alone : (t : Token) (j : ℕ) → is_named ((t.first, t.number) ∷ []) j 
 named_alone t j h = elim (or_cases _ _ h) [ inl both ↦ both | inr none ↦ absurd (false≢true none) ]
 
 -- the pieces of the packets that are told by their token
-pub token_pieces : (p : Past) (t : Token) (e : End) → EndOk (with_token p t true) e → AllByRecursion (WasAcked (with_token p t true)) (named e ((t.first, t.number) ∷ []))
-token_pieces p t e ok = named_pieces_ok (with_token p t true) e ok ((t.first, t.number) ∷ []) (λ j is. inr (told j (named_alone t j is)))
+token_pieces : (p : Past) (t : Token) (e : End) → EndOk (with_effect (Acked t) p) e → AllByRecursion (WasAcked (with_effect (Acked t) p)) (named e ((t.first, t.number) ∷ []))
+token_pieces p t e ok = named_pieces_ok (with_effect (Acked t) p) e ok ((t.first, t.number) ∷ []) (λ j is. inr (told j (named_alone t j is)))
   where
     told : (j : ℕ) → is_in t j ≡ true → (if is_in t j then true else p.tokens j) ≡ true
     told j is = rw is refl
 
-pub token_acked_moves : (p : Past) (e new : End) (t : Token) (result : Result (Unit {0}) TokenFault) → EndOk p e → TokenAckedStep e t result new → EndOk (with_token p t (was_told result)) new
+pub token_acked_moves : (p : Past) (e new : End) (t : Token) (result : Result (Unit {0}) TokenFault) → EndOk p e → TokenAckedStep e t result new → EndOk (with_effects (effects_of (TokenAcked t) result) p) new
 unfolding frame_taken
 token_acked_moves p e new t result ok step =
-    let q : Past = with_token p t true in
-    let now : EndOk q e = token_ok p t true e ok in
+    let q : Past = with_effect (Acked t) p in
+    let now : EndOk q e = token_ok p t e ok in
     let all = token_pieces p t e now in
-    let told : was_told result ≡ true → EndOk q new → EndOk (with_token p t (was_told result)) new = λ is. subst (λ b. EndOk (with_token p t b) new) (sym is) in
     elim (certain_cases (token_refusal e t) e result new _ step) [
-      | inl (fault, is, same) ↦ ended_by _ e new same (token_ok p t (was_told result) e ok)
-      | inr (allowed, inl (is, same)) ↦ told (ap was_told is) (ended_by q _ new same (settle_ok q _ (acks_ok q (named e ((t.first, t.number) ∷ [])) e all now)))
+      | inl (fault, is, same) ↦ subst (λ r. EndOk (with_effects (acked_effects t r) p) new) (sym is) (refused fault (ended_by p e new same ok))
+      | inr (allowed, inl (is, same)) ↦ subst (λ r. EndOk (with_effects (acked_effects t r) p) new) (sym is) (ended_by q _ new same (settle_ok q _ (acks_ok q (named e ((t.first, t.number) ∷ [])) e all now)))
       | inr (allowed, inr (is, mid, (m, h, asks), same)) ↦
-          told (ap was_told is) (ended_by q _ new same (settle_ok q mid (ended_by q _ mid h (acks_ok q (take m (named e ((t.first, t.number) ∷ []))) e (All_take _ m _ all) now))))
+          subst (λ r. EndOk (with_effects (acked_effects t r) p) new) (sym is) (ended_by q _ new same (settle_ok q mid (ended_by q _ mid h (acks_ok q (take m (named e ((t.first, t.number) ∷ []))) e (All_take _ m _ all) now))))
     ]
+  where
+    refused : (fault : TokenFault) → EndOk p new → EndOk (with_effects (acked_effects t (Err fault)) p) new
+    refused tokens.NoMemory h = token_ok p t new h
+    refused fault h = h
 
 -- A repeat leaves an end as it was, and what tells nothing new spends nothing.
 
@@ -576,22 +509,22 @@ settle_spends e = total_each highest raise e.recvs (λ l. refl)
 
 -- The frames of a payload, one after the other
 
-takes_spend : (left : List PlacedValue) (p : Past) (k : ℕ) (asks : Bool) (fault : Option WireFault) (e : End) (result : Result Received Closing) (new : End) → EndOk p e → ((f : Seen) → Among f (seen_all (frames_of left)) → Tells p.theirs f) →
+takes_spend : (left : List PlacedValue) (p : Past) (k : ℕ) (asks : Bool) (fault : Option WireFault) (e : End) (result : Result Received Closing) (new : End) → EndOk p e → ((f : Seen) → Among f (seen_all (frames_of left)) → MayCome p.theirs f) →
     AllByRecursion (IsOld e) (seen_all (frames_of left)) → Takes k fault asks e left result new → spent new ≡ spent e
 takes_spend [] p k asks fault e result new ok told all h = ap (total highest) (end_leaves k asks fault e result new h)
 takes_spend (v ∷ left) p k asks fault e result new ok told all (inl stops) = ap (total highest) (stops_leave v (seen v.frame) e result new stops)
 takes_spend (v ∷ left) p k asks fault e result new ok told all (inr (goes, rest)) =
     let f : Seen = seen v.frame in
-    let one : Effect p e (frame_taken f e) f = frame_keeps p e f ok (told f (inl refl)) (no_fault_there e f goes) in
+    let one : Effect p e (frame_taken f e) f = come_keeps p e f ok (told f (inl refl)) (no_fault_there e f goes) in
     takes_spend left p k (asks || asks_ack f) fault (frame_taken f e) result new one.ok (λ g a. told g (inr a)) (All_more (IsOld e) (IsOld (frame_taken f e)) (seen_all (frames_of left)) (old_stays e (frame_taken f e) one.grow) all.1) rest
     ∙ frame_spends e f all.0 (no_fault_there e f goes)
 
 -- a payload that tells nothing new spends nothing
-pub spends_nothing : (p : Past) (e new : End) (k : ℕ) (text : List ℕ) (result : Result Received Closing) → EndOk p e → slice_get p.theirs k ≡ Some (frames_in text) → e.closed ≡ None → ReceiveStep e k text result new →
+pub spends_nothing : (p : Past) (e new : End) (k : ℕ) (text : List ℕ) (result : Result Received Closing) → EndOk p e → ((g : Seen) → Among g (frames_in text) → MayCome p.theirs g) → e.closed ≡ None → ReceiveStep e k text result new →
     AllByRecursion (IsOld e) (frames_in text) → spent new ≡ spent e
-spends_nothing p e new k text result ok is not_closed step all =
+spends_nothing p e new k text result ok come not_closed step all =
     by_open (spent new ≡ spent e) k text e result new (subst (λ o. ReceiveBy o k text e result new) not_closed step) (λ low same. ap spent same) (λ again same. ap spent same) (λ high mid takes same.
-    ap spent same ∙ settle_spends mid ∙ takes_spend (reading_of text).left p k false (reading_of text).fault e result mid ok (λ g a. (k, (frames_in text, is, a))) all takes)
+    ap spent same ∙ settle_spends mid ∙ takes_spend (reading_of text).left p k false (reading_of text).fault e result mid ok come all takes)
 
 -- Frames without their packet, one after the other
 
@@ -600,24 +533,81 @@ one_spends f e new faults.NoMemory ours h = ap spent (none_asked e new (seen f) 
 one_spends f e new (faults.Closing closing) ours h = ap spent h.2
 one_spends f e new (faults.PeerClosed code) ours h = absurd h
 
-each_spends : (fs : List FrameValue) (p : Past) (e : End) (result : Result Taken TakeFault) (new : End) → EndOk p e → ((g : Seen) → Among g (seen_all fs) → Tells p.theirs g) → AllByRecursion (IsOld e) (seen_all fs) → TakesEach fs e result new → spent new ≡ spent e
+each_spends : (fs : List FrameValue) (p : Past) (e : End) (result : Result Taken TakeFault) (new : End) → EndOk p e → WereTold p fs → AllByRecursion (IsOld e) (seen_all fs) → TakesEach fs e result new → spent new ≡ spent e
 each_spends [] p e result new ok told old h = ap spent h.1
-each_spends (f ∷ fs) p e result new ok told old h = by (is_ours (seen f)) refl h (λ mid r now before takes. each_spends fs p mid r new now (λ g a. told g (inr a)) before takes)
+each_spends (f ∷ fs) p e result new ok told old h = by (is_ours (seen f)) refl h (λ mid r now before takes. each_spends fs p mid r new now told.1 before takes)
   where
     by : (b : Bool) → is_ours (seen f) ≡ b → MatchBool b (((mid : End) × (one : Taken) × (later : Result Taken TakeFault) × TakesOne e f (Ok one) mid × TakesEach fs mid later new × (result ≡ after_one one later)) ⊎ ((fault : TakeFault) × TakesOne e f (Err fault) new × (result ≡ Err fault))) (TakesEach fs e result new)
         → ((mid : End) (r : Result Taken TakeFault) → EndOk p mid → AllByRecursion (IsOld mid) (seen_all fs) → TakesEach fs mid r new → spent new ≡ spent mid) → spent new ≡ spent e
     by true ours (inl (mid, one, later, takes, more, is)) goes =
         let (may, after) = took_effect e f one mid takes in
-        let effect : Effect p e (frame_taken (seen f) e) (seen f) = frame_keeps p e (seen f) ok (told (seen f) (inl refl)) may.1 in
+        let effect : Effect p e (frame_taken (seen f) e) (seen f) = frame_keeps p e (seen f) ok (told.0 ours).0 may.1 in
         goes (frame_taken (seen f) e) later effect.ok
         (All_more (IsOld e) (IsOld (frame_taken (seen f) e)) (seen_all fs) (old_stays e (frame_taken (seen f) e) effect.grow) old.1) (subst (λ x. TakesEach fs x later new) after more) ∙ frame_spends e (seen f) old.0 may.1
     by true ours (inr (fault, one, is)) goes = one_spends f e new fault ours one
     by false other more goes = goes e result ok old.1 more
 
 -- frames that tell nothing new spend nothing
-pub frames_spend : (p : Past) (e new : End) (fs : List FrameValue) (result : Result Taken TakeFault) → EndOk p e → e.closed ≡ None → ((g : Seen) → Among g (seen_all fs) → Tells p.theirs g) → AllByRecursion (IsOld e) (seen_all fs) → HandedIn fs e result new → spent new ≡ spent e
+pub frames_spend : (p : Past) (e new : End) (fs : List FrameValue) (result : Result Taken TakeFault) → EndOk p e → e.closed ≡ None → WereTold p fs → AllByRecursion (IsOld e) (seen_all fs) → HandedIn fs e result new → spent new ≡ spent e
 frames_spend p e new fs result ok open_end told old h =
     elim (handed e fs result new open_end h) [
       | inl (mid, takes, after) ↦ ap spent after ∙ settle_spends mid ∙ each_spends fs p e result mid ok told old takes
-      | inr (is, same) ↦ ap spent same
+      | inr (foreign, same) ↦ ap spent same
     ]
+
+-- A call that hands nothing in spends nothing.
+
+highest_stop : (l : RecvLane) (code : ℕ) → highest (stop l code) ≡ highest l
+highest_stop l code = same_either highest (is_some l.stop_code || is_over l) l (record l { arrived = discard l.arrived; stop_code = Some code }) refl
+
+highest_read : (a : Read) (l : RecvLane) (size : ℕ) → highest (after_answer a l size) ≡ highest l
+highest_read (reads.Bytes count) l size = refl
+highest_read a l size = refl
+
+edit_spends : (n : ℕ) (f : RecvLane → RecvLane) (e : End) → ((l : RecvLane) → highest (f l) ≡ highest l) → spent (on_recv n f e) ≡ spent e
+edit_spends n f e same = spent_kept e n f (lookup e.recvs n) refl (λ l is. same l)
+
+change_spends : (old : End) (call : Call) (c : Change) (e : End) → (HearsPeer call → ⊥) → Comes old call e c → spent (changed c e) ≡ spent e
+change_spends old call (Wanted Uni count) e deaf comes = refl
+change_spends old call (Opened n) e deaf comes = spent_opened e n false
+change_spends old call (WasStopped n code) e deaf comes = edit_spends n (λ m. stop m code) e (λ l. highest_stop l code)
+change_spends old call (Forgotten n code) e deaf comes = edit_spends n (λ m. stop_and_forget m code) e (λ l. highest_stop l code)
+change_spends old call (WasRead n size) e deaf comes = edit_spends n (λ m. after_read m size) e (λ l. highest_read (read_answer l size) l size)
+change_spends old call (WasSet (StreamWindow n w)) e deaf comes = edit_spends n (λ m. set_window m w) e (λ l. refl)
+change_spends old call (WasSet (SendBuffer n size)) e deaf comes = refl
+change_spends old call (WasSet (Grant Uni n)) e deaf comes = refl
+change_spends old call (WasTaken f) e deaf comes = absurd (deaf comes.1)
+change_spends old call (WasAckedBy count ranges) e deaf comes = absurd (deaf comes)
+change_spends old call (Put f) e deaf comes = ap spent (put_leaves f e)
+change_spends old call Settled e deaf comes = settle_spends e
+change_spends old call c e deaf comes = refl
+
+token_spends : (e new : End) (t : Token) (result : Result (Unit {0}) TokenFault) → TokenAckedStep e t result new → spent new ≡ spent e
+unfolding frame_taken
+token_spends e new t result step =
+    elim (certain_cases (token_refusal e t) e result new _ step) [
+      | inl (fault, is, same) ↦ ap spent same
+      | inr (allowed, inl (is, same)) ↦ ap spent same ∙ settle_spends (acks (named e ((t.first, t.number) ∷ [])) e) ∙ ap spent (acks_leave (named e ((t.first, t.number) ∷ [])) e)
+      | inr (allowed, inr (is, mid, (m, h, asks), same)) ↦ ap spent same ∙ settle_spends mid ∙ ap spent h ∙ ap spent (acks_leave (take m (named e ((t.first, t.number) ∷ []))) e)
+    ]
+
+-- frames are handed in
+abbrev pub Hands : Call → Type 0
+Hands (Receive k bytes) = ⊤
+Hands (TakeFrame f) = ⊤
+Hands (TakeFrames fs) = ⊤
+Hands call = ⊥
+
+pub none_spent : (e new : End) (call : Call) (answer : Answer call) → (Hands call → ⊥) → EndStep e call answer new → spent new ≡ spent e
+none_spent e new (TokenAcked t) answer idle step = token_spends e new t answer step
+none_spent e new (RaiseLimits q) answer idle step =
+    elim (certain_cases (raise_refusal e q) e answer new _ step) [ inl (fault, is, same) ↦ ap spent same | inr (allowed, (is, same)) ↦ ap spent same ∙ settle_spends (limits_raised q e) ]
+none_spent e new (TellClosed close) answer idle step = ap spent step ∙ by e.closed
+  where
+    by : (o : Option Closed) → spent (told_by o close e) ≡ spent e
+    by None = refl
+    by (Some closed) = refl
+none_spent e new (Receive k bytes) answer idle step = absurd (idle tt)
+none_spent e new (TakeFrame f) answer idle step = absurd (idle tt)
+none_spent e new (TakeFrames fs) answer idle step = absurd (idle tt)
+none_spent e new call answer idle step = relates (λ a b. spent b ≡ spent a) (λ a. refl) (λ a b c x y. y ∙ x) e call (λ c f comes. change_spends e call c f (λ no. no) comes) answer new step

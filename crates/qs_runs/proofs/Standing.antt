@@ -1,6 +1,7 @@
 -- What no call of an end changes but a closing: its role, its settings, what it was told of its peer's, and that it is open.
 use Rattle.std.proofs.Common.{◌≡◌, ℕ, ◌⊎◌, take, Option, Some, None, Result, Err, refl, ap, ◌∙◌, inl, inr}
 use Rattle.qs_wire.specs.declared.stream_id.Dir.TheVariants.{Uni}
+use Rattle.qs_calls.specs.declared.closing.Closed.{Closed}
 use Rattle.qs_machine.specs.Ends.{End}
 use Rattle.qs_machine.specs.EndStep.{Call, Answer as CallAnswer, EndStep}
 use Rattle.qs_machine.proofs.Leaves.{acks_leave, put_leaves, frame_leaves}
@@ -10,9 +11,13 @@ use Rattle.qs_machine.specs.FrameStep.{named}
 use Rattle.qs_machine.specs.Owner.{Certain, Uncertain}
 use Rattle.qs_runs.specs.Invariant.{Standing, standing}
 
+-- that, and whether it closed
+abbrev pub fixed : End → Standing × Option Closed
+fixed e = (standing e, e.closed)
+
 -- that, the number below which no packet is told apart, and the granted counts of streams
-abbrev pub standing_at : End → Standing × ℕ × ℕ × ℕ
-standing_at e = (standing e, e.floor, e.granted_bidi, e.granted_uni)
+abbrev pub standing_at : End → (Standing × Option Closed) × ℕ × ℕ × ℕ
+standing_at e = (fixed e, e.floor, e.granted_bidi, e.granted_uni)
 
 -- The calls of an owner
 
@@ -30,11 +35,11 @@ uncertain_cases None no_memory Asks old answer new E (inl h) = inl (no_memory, h
 uncertain_cases None no_memory Asks old answer new E (inr h) = inr (refl, h)
 
 -- no change but a closing and limits that rise moves what stands
-stands_change : (old : End) (call : Call) (c : Change) (e : End) → (MovesStanding call → ⊥) → Comes old call e c → standing (changed c e) ≡ standing e
+stands_change : (old : End) (call : Call) (c : Change) (e : End) → (MovesStanding call → ⊥) → Comes old call e c → fixed (changed c e) ≡ fixed e
 stands_change old call (Wanted Uni count) e own comes = refl
-stands_change old call (Took f) e own comes = ap standing (frame_leaves f e)
-stands_change old call (Acked count ranges) e own comes = ap standing (acks_leave (take count (named e ranges)) e)
-stands_change old call (Put f) e own comes = ap standing (put_leaves f e)
+stands_change old call (Took f) e own comes = ap fixed (frame_leaves f e)
+stands_change old call (Acked count ranges) e own comes = ap fixed (acks_leave (take count (named e ranges)) e)
+stands_change old call (Put f) e own comes = ap fixed (put_leaves f e)
 stands_change old call (WasSet (SendBuffer n size)) e own comes = refl
 stands_change old call (WasSet (StreamWindow n w)) e own comes = refl
 stands_change old call (Raised limits) e own comes = absurd (own comes)
@@ -42,5 +47,5 @@ stands_change old call (Shut c) e own comes = absurd (own comes)
 stands_change old call (WasSet (Grant Uni n)) e own comes = refl
 stands_change old call c e own comes = refl
 
-pub call_stands : (old : End) (call : Call) → (MovesStanding call → ⊥) → (answer : CallAnswer call) (new : End) → EndStep old call answer new → standing new ≡ standing old
-call_stands old call own answer new step = relates (λ a b. standing b ≡ standing a) (λ e. refl) (λ a b c x y. y ∙ x) old call (λ c e comes. stands_change old call c e own comes) answer new step
+pub call_stands : (old : End) (call : Call) → (MovesStanding call → ⊥) → (answer : CallAnswer call) (new : End) → EndStep old call answer new → fixed new ≡ fixed old
+call_stands old call own answer new step = relates (λ a b. fixed b ≡ fixed a) (λ e. refl) (λ a b c x y. y ∙ x) old call (λ c e comes. stands_change old call c e own comes) answer new step

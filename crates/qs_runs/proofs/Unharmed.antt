@@ -38,6 +38,10 @@ pub record Facing (e f : End) : Type 0 where
   pub bidi : f.known_bidi ≤ e.granted_bidi
   pub uni : f.known_uni ≤ e.granted_uni
 
+-- what an end processed its peer made
+abbrev pub ProcessedWasMade : Past → Type 0
+ProcessedWasMade q = (k : ℕ) → q.processed k ≡ true → (fs : List Seen) × (slice_get q.theirs k ≡ Some fs)
+
 module _ (p q : Past) (from : p.theirs ≡ q.mine) (n limit w : ℕ) where
   -- what was received lies below the sent end, and a final size is the sent end
   received_sent : (o : Option SendLane) → SendSlot q n limit o → (y : ℕ) → TellsUpTo p.theirs n y → y < sent_of o
@@ -332,19 +336,19 @@ module _ (p q : Past) (from : p.theirs ≡ q.mine) (back : q.theirs ≡ p.mine) 
       both_none _ _ (state_in_fine p q from back e f facing ok their n sends)
       (reset_lane_fine n code size t (lookup (opened_by_peer n e).recvs n) refl (half_open n sends (is_own e n) refl) (lookup f.sends n) refl (their.sends n))
 
-  ack_fine : (largest : ℕ) (ranges : List (ℕ × ℕ)) → Tells q.mine (Ack largest ranges) → ack_fault e largest ≡ None
-  ack_fine largest ranges t =
+  ack_fine : ProcessedWasMade q → (largest : ℕ) (ranges : List (ℕ × ℕ)) → Tells q.mine (Ack largest ranges) → ack_fault e largest ≡ None
+  ack_fine was_made largest ranges t =
       let ack = their.packets.acks_told largest ranges t in
-      let (fs, there, all) = their.taken.packets largest (ack.names_processed largest ack.names_largest) in
+      let (fs, there) = was_made largest (ack.names_processed largest ack.names_largest) in
       let below : largest < length p.mine = slice_get_within p.mine largest fs (subst (λ x. slice_get x largest ≡ Some fs) back there) in
       no_fault_from _ 10 (lt-leb e.next largest (omega (arith, ok.packets.count)))
 
-  pub told_fine : (g : Seen) → Tells q.mine g → verdict e g ≡ None
+  pub told_fine : ProcessedWasMade q → (g : Seen) → Tells q.mine g → verdict e g ≡ None
   unfolding verdict
-  told_fine (Ack largest ranges) t = ack_fine largest ranges t
-  told_fine (Stream n offset bytes fin) t = stream_fine n offset bytes fin t
-  told_fine (Control (MaxStreamData n m)) t = state_out_fine p q from back e f facing ok their n (recv_is_open q f their n (λ h. h.no_limit m t))
-  told_fine (Control (ResetStream n code size)) t = reset_fine n code size t
-  told_fine (Control (StopSending n code)) t = state_out_fine p q from back e f facing ok their n (recv_is_open q f their n (λ h. h.no_stop code t))
-  told_fine (Control (StreamDataBlocked n m)) t = state_in_fine p q from back e f facing ok their n (send_is_open q f their n (λ h. h.no_blocked m t))
-  told_fine g t = refl
+  told_fine was_made (Ack largest ranges) t = ack_fine was_made largest ranges t
+  told_fine was_made (Stream n offset bytes fin) t = stream_fine n offset bytes fin t
+  told_fine was_made (Control (MaxStreamData n m)) t = state_out_fine p q from back e f facing ok their n (recv_is_open q f their n (λ h. h.no_limit m t))
+  told_fine was_made (Control (ResetStream n code size)) t = reset_fine n code size t
+  told_fine was_made (Control (StopSending n code)) t = state_out_fine p q from back e f facing ok their n (recv_is_open q f their n (λ h. h.no_stop code t))
+  told_fine was_made (Control (StreamDataBlocked n m)) t = state_in_fine p q from back e f facing ok their n (send_is_open q f their n (λ h. h.no_blocked m t))
+  told_fine was_made g t = refl

@@ -9,7 +9,7 @@ use Rattle.qs_wire.proofs.PayloadLaws.{canonical_payload, payload_again}
 use Rattle.qs_machine.specs.Seen.{Plain, seen_all}
 use Rattle.qs_machine.specs.Making.{IsText}
 use Rattle.qs_runs.specs.Logs.{ping_text}
-use Rattle.qs_runs.specs.Agree.{frames_in}
+use Rattle.qs_machine.specs.Plains.{frames_in}
 
 pub canonical_reads_back : (frames : List FrameValue) → 0 < length frames → AllByRecursion Fits frames → (frames_of (reading_of (canonical_all frames)).left ≡ frames) × ((reading_of (canonical_all frames)).fault ≡ None)
 canonical_reads_back frames some fit = payload_again frames (canonical_all frames) (canonical_payload frames some fit)

@@ -1,23 +1,20 @@
 -- Trusted.
 -- What two ends agree on, whatever happens to them and to their packets.
-use Rattle.std.specs.Prelude.{◌≡◌, ◌≢◌, ℕ, ◌+◌, ◌<◌, ◌≤◌, true, List, ◌++◌, length, None, Some, ⊤}
+use Rattle.std.specs.Prelude.{◌≡◌, ◌≢◌, ℕ, ◌+◌, ◌<◌, ◌≤◌, true, false, List, [], ◌∷◌, ◌++◌, length, None, Some, ⊤}
 use Rattle.std.specs.List.{AllByRecursion}
 use Rattle.std.specs.FinSet as set
-use Rattle.qs_wire.specs.Layout.{FrameValue}
-use Rattle.qs_wire.specs.Grammar.{frames_of}
-use Rattle.qs_wire.specs.Reading.{reading_of}
 use Rattle.qs_recv.specs.Lane.{RecvLane}
 use Rattle.qs_send.specs.Lane.{SendLane, state, declared_size}
 use Rattle.qs_send.specs.declared.parts.SendState.TheVariants.{DataRecvd}
 use Rattle.qs_send.specs.declared.piece.Item.TheVariants.{ResetStream}
 use Rattle.qs_calls.specs.declared.settings.Settings.{Settings}
+use Rattle.qs_calls.specs.declared.event.Side.{Side}
 use Rattle.qs_machine.specs.Ends.{End, send_lane, recv_lane}
 use Rattle.qs_machine.specs.Credit.{spent, all_sent}
-use Rattle.qs_machine.specs.Seen.{Seen, Stream, Control, seen_all}
-use Rattle.qs_calls.specs.declared.event.Side.{Side}
-use Rattle.qs_calls.specs.declared.event.Act.{Act}
-use Rattle.qs_calls.specs.declared.event.Act.TheVariants as acts
-use Rattle.qs_runs.specs.Logs.{Part, Happening, Did, CameWith, CameAlone, History, other, written, read, payload, processed, read_whole, AreFramesOf}
+use Rattle.qs_machine.specs.Seen.{Seen, Stream, Control, seen, seen_all}
+use Rattle.qs_machine.specs.Plains.{frames_in}
+use Rattle.qs_machine.specs.EndStep.{Call, Receive, TakeFrame, TakeFrames}
+use Rattle.qs_runs.specs.Logs.{Happening, History, other, written, read, read_whole, processed, was_told_closed}
 use Rattle.qs_runs.specs.Worlds.{World, end_of, WorldStep, Run}
 
 -- xs is how ys begins (RFC 9000, section 2.2)
@@ -34,8 +31,7 @@ pub record PrefixAgrees (h : History) (s : Side) (n : ℕ) : Type 0 where
 abbrev pub WholeAgrees : History → World → Side → ℕ → Type 0
 WholeAgrees h w s n =
     (l : SendLane) → send_lane (end_of w s) n ≡ Some l → state l ≡ DataRecvd →
-    (r : RecvLane) × (recv_lane (end_of w (other s)) n ≡ Some r)
-    × (r.final_size ≡ Some (length (written s n h)))
+    (r : RecvLane) × (recv_lane (end_of w (other s)) n ≡ Some r) × (r.final_size ≡ Some (length (written s n h)))
     × ((q : ℕ) → q < length (written s n h) → set.contains r.arrived.received q ≡ true)
 
 -- a final size that is known is the declared one, and the code of a known reset is the sender's (RFC 9000, section 4.5)
@@ -49,9 +45,9 @@ pub record FinalSizesAgree (w : World) (s : Side) (n : ℕ) : Type 0 where
 abbrev pub CreditAgrees : World → Side → Type 0
 CreditAgrees w s = spent (end_of w s) ≤ all_sent (end_of w (other s))
 
--- an end has neither closed nor seen its peer close (RFC 9000, section 10.2)
-abbrev pub StaysOpen : World → Side → Type 0
-StaysOpen w s = (end_of w s).closed ≡ None
+-- an end has neither closed nor seen its peer close, unless it was told of a close (RFC 9000, section 10.2)
+abbrev pub StaysOpen : History → World → Side → Type 0
+StaysOpen h w s = was_told_closed s h ≡ false → (end_of w s).closed ≡ None
 
 -- what agrees in a world with this history (RFC 9000, sections 2.2, 3, 4 and 10.2)
 pub record Agree (h : History) (w : World) : Type 0 where
@@ -59,7 +55,7 @@ pub record Agree (h : History) (w : World) : Type 0 where
   pub credit : (s : Side) → CreditAgrees w s
   pub whole : (s : Side) (n : ℕ) → WholeAgrees h w s n
   pub final_sizes : (s : Side) (n : ℕ) → FinalSizesAgree w s n
-  pub stays_open : (s : Side) → StaysOpen w s
+  pub stays_open : (s : Side) → StaysOpen h w s
 
 -- Repeats (RFC 9000, sections 2.2, 4.1 and 12.3)
 
@@ -78,34 +74,19 @@ IsOld e (Stream n offset bytes fin) =
 IsOld e (Control (ResetStream n code size)) = KnowsSize e n
 IsOld e f = ⊤
 
--- what an end reads in a payload
-abbrev pub frames_in : List ℕ → List Seen
-frames_in text = seen_all (frames_of (reading_of text).left)
+-- the frames that a call hands to an end; another call hands in none, and so spends nothing
+abbrev pub handed_in : Call → List Seen
+handed_in (Receive k bytes) = frames_in bytes
+handed_in (TakeFrame f) = seen f ∷ []
+handed_in (TakeFrames fs) = seen_all fs
+handed_in call = []
 
--- A repeat spends no credit: the peer's packet k comes to side s.
-pub record RepeatAgrees (h : History) (old new : World) (s : Side) (k : ℕ) : Type 0 where
-  -- one that was processed leaves the end as it was
-  pub again : processed s k h ≡ true → end_of new s ≡ end_of old s
-  -- one that tells nothing new spends nothing
-  pub old_news : (text : List ℕ) → payload (other s) k h ≡ Some text → AllByRecursion (IsOld (end_of old s)) (frames_in text) → spent (end_of new s) ≡ spent (end_of old s)
-
--- These frames of the peer's packets come to side s without them: where they tell nothing new they spend nothing (RFC 9000, sections 2.2
--- and 4.1).
-abbrev pub FramesAgree : History → (old new : World) → Side → List Part → Type 0
-FramesAgree h old new s parts =
-    (fs : List FrameValue) → AreFramesOf h (other s) parts fs → AllByRecursion (IsOld (end_of old s)) (seen_all fs) → spent (end_of new s) ≡ spent (end_of old s)
-
--- a delivery spends no credit again; of other steps nothing is said (RFC 9000, sections 4.1 and 12.3)
-abbrev pub EventAgrees : History → World → Side → Act → World → Type 0
-EventAgrees h old s (acts.Deliver k) new = RepeatAgrees h old new (other s) k
-EventAgrees h old s act new = ⊤
-
--- the same, whatever plain frames come with it (RFC 9000, sections 4.1 and 12.3)
-abbrev pub StepAgrees : History → World → Happening → World → Type 0
-StepAgrees h old (Did event answer) new = EventAgrees h old event.end event.act new
-StepAgrees h old (CameWith s k bytes r) new = RepeatAgrees h old new (other s) k
-StepAgrees h old (CameAlone s parts r) new = FramesAgree h old new (other s) parts
-StepAgrees h old x new = ⊤
+-- A repeat spends no credit (RFC 9000, sections 2.2, 4.1 and 12.3).
+pub record StepAgrees (h : History) (old : World) (x : Happening) (new : World) : Type 0 where
+  -- a packet that was processed leaves the end as it was
+  pub again : (k : ℕ) (bytes : List ℕ) → x.call ≡ Receive k bytes → processed x.end k h ≡ true → end_of new x.end ≡ end_of old x.end
+  -- what tells nothing new spends nothing
+  pub old_news : AllByRecursion (IsOld (end_of old x.end)) (handed_in x.call) → spent (end_of new x.end) ≡ spent (end_of old x.end)
 
 -- every world of a run agrees, and so does every step
 abbrev pub EveryRunAgrees : Type 0

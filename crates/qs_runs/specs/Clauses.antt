@@ -13,9 +13,9 @@ use Rattle.qs_machine.specs.Credit.{all_sent, grant}
 use Rattle.qs_send.specs.Records.{Among}
 use Rattle.qs_machine.specs.Seen.{Seen, Stream, Control}
 use Rattle.qs_calls.specs.declared.event.Side.{Side}
-use Rattle.qs_runs.specs.Logs.{History, other, payload, processed, took, written, read}
+use Rattle.qs_runs.specs.Logs.{History, other, payload, taken, written, read}
 use Rattle.qs_runs.specs.Worlds.{World, end_of}
-use Rattle.qs_runs.specs.Agree.{frames_in}
+use Rattle.qs_machine.specs.Plains.{frames_in}
 
 -- packet k of side s carries the frame
 abbrev pub Carries : History → Side → ℕ → Seen → Type 0
@@ -27,13 +27,9 @@ sending w s n = send_lane (end_of w s) n
 abbrev pub receiving : World → Side → ℕ → Option RecvLane
 receiving w s n = recv_lane (end_of w (other s)) n
 
--- frame i of packet k of side s
-abbrev pub CarriesAt : History → Side → (k i : ℕ) → Seen → Type 0
-CarriesAt h s k i f = (text : List ℕ) × (payload s k h ≡ Some text) × (slice_get (frames_in text) i ≡ Some f)
-
--- it took effect at the other side, with its packet or without it
-abbrev pub HasArrived : History → Side → (k i : ℕ) → Type 0
-HasArrived h s k i = (processed (other s) k h ≡ true) ⊎ (took (other s) k i h ≡ true)
+-- the frame took effect at the other side, with a packet or without one
+abbrev pub HasArrived : History → Side → Seen → Type 0
+HasArrived h s f = Among f (taken (other s) h)
 
 -- Of a stream
 
@@ -63,7 +59,7 @@ ReadIsWritten h s n = (q b : ℕ) → slice_get (read (other s) n h) q ≡ Some 
 -- of a frame that arrived, with its packet or without it, each offset was received, or the stream's reset is known, and its end is known
 abbrev pub ArrivedWasTaken : History → World → Side → ℕ → Type 0
 ArrivedWasTaken h w s n =
-    (k i offset : ℕ) (bytes : List ℕ) (fin : Bool) → HasArrived h s k i → CarriesAt h s k i (Stream n offset bytes fin) →
+    (offset : ℕ) (bytes : List ℕ) (fin : Bool) → HasArrived h s (Stream n offset bytes fin) →
     (r : RecvLane) × (receiving w s n ≡ Some r)
     × (((q : ℕ) → offset ≤ q → q < offset + length bytes → set.contains r.arrived.received q ≡ true) ⊎ (is_some r.reset_code ≡ true))
     × (fin ≡ true → r.final_size ≡ Some (offset + length bytes))
@@ -71,15 +67,15 @@ ArrivedWasTaken h w s n =
 -- and of a reset the final size is known
 abbrev pub ArrivedResetWasTaken : History → World → Side → ℕ → Type 0
 ArrivedResetWasTaken h w s n =
-    (k i code size : ℕ) → HasArrived h s k i → CarriesAt h s k i (Control (ResetStream n code size)) →
+    (code size : ℕ) → HasArrived h s (Control (ResetStream n code size)) →
     (r : RecvLane) × (receiving w s n ≡ Some r) × (r.final_size ≡ Some size)
 
 -- what is acknowledged stood in a frame that arrived at the peer
 pub record AckedHasArrived (h : History) (w : World) (s : Side) (n : ℕ) : Type 0 where
   pub offsets : (l : SendLane) (q : ℕ) → sending w s n ≡ Some l → set.contains l.acked q ≡ true →
-      (k i offset : ℕ) × (bytes : List ℕ) × (fin : Bool) × CarriesAt h s k i (Stream n offset bytes fin) × (offset ≤ q) × (q < offset + length bytes) × HasArrived h s k i
+      (offset : ℕ) × (bytes : List ℕ) × (fin : Bool) × HasArrived h s (Stream n offset bytes fin) × (offset ≤ q) × (q < offset + length bytes)
   pub end : (l : SendLane) → sending w s n ≡ Some l → l.fin_acked ≡ true →
-      (k i offset : ℕ) × (bytes : List ℕ) × CarriesAt h s k i (Stream n offset bytes true) × HasArrived h s k i
+      (offset : ℕ) × (bytes : List ℕ) × HasArrived h s (Stream n offset bytes true)
 
 -- a final size that is known is the declared one, which is the sent end, and without a known reset the count written (RFC 9000, section 4.5)
 abbrev pub FinalSizeIsDeclared : History → World → Side → ℕ → Type 0

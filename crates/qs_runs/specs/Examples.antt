@@ -1,223 +1,191 @@
 -- Of laws.
--- What is read off a small log.
-use Rattle.std.specs.Prelude.{◌≡◌, ℕ, Bool, true, false, List, [], ◌∷◌, map, Option, None, Some, Result, Ok, Err}
-use Rattle.std.specs.Global.{Vec}
+-- What is read off small histories.
+use Rattle.std.specs.Prelude.{◌≡◌, ℕ, Bool, true, false, List, [], ◌∷◌, Option, None, Some, Ok, Err}
+use Rattle.qs_wire.specs.Layout.{ping, max_data}
 use Rattle.qs_wire.specs.declared.stream_id.Dir.{Dir}
 use Rattle.qs_recv.specs.declared.half.Read.TheVariants.{Bytes, End}
+use Rattle.qs_send.specs.declared.piece.Item.TheVariants.{MaxData}
 use Rattle.qs_calls.specs.declared.settings.PeerLimits.{PeerLimits}
 use Rattle.qs_calls.specs.declared.closing.Received.{Received}
 use Rattle.qs_calls.specs.declared.closing.Received.TheVariants.{Done, Duplicate}
+use Rattle.qs_calls.specs.declared.closing.ToldClose.{ToldClose}
 use Rattle.qs_calls.specs.declared.filling.Fill.{Fill}
 use Rattle.qs_calls.specs.declared.filling.Filled.{Filled}
 use Rattle.qs_calls.specs.declared.making.MakeFault.TheVariants.{Exhausted}
 use Rattle.qs_calls.specs.declared.token.Token.{Token}
 use Rattle.qs_calls.specs.declared.token.Taken.TheVariants.{Took, Unchanged, NotOurs}
-use Rattle.qs_calls.specs.declared.token.TakeFault.{TakeFault}
-use Rattle.qs_calls.specs.declared.token.TakeFault.TheVariants.{NoMemory}
-use Rattle.qs_calls.specs.declared.token.TokenFault.TheVariants.{NotGiven}
-use Rattle.qs_calls.specs.declared.token.Taken.{Taken}
+use Rattle.qs_calls.specs.declared.token.TakeFault.TheVariants as faults
+use Rattle.qs_calls.specs.declared.token.TokenFault.TheVariants as tokens
 use Rattle.qs_calls.specs.declared.uses.UseFault.TheVariants.{NoSuchStream}
 use Rattle.qs_calls.specs.declared.event.Side.{Side}
 use Rattle.qs_calls.specs.declared.event.Side.TheVariants.{A, B}
-use Rattle.qs_calls.specs.declared.event.Act.{Act}
-use Rattle.qs_calls.specs.declared.event.Act.TheVariants.{Write, Stop, ReadUpTo, Make, Claim, Deliver}
-use Rattle.qs_calls.specs.declared.event.Event.{Event}
-use Rattle.qs_calls.specs.declared.answer.Answer.TheVariants as answers
 use Rattle.qs_machine.specs.SmallEnds.{abc}
-use Rattle.qs_runs.specs.Logs.{Part, Happening, Did, MadeAck, FilledIn, ConsumedUpTo, AckedToken, LostToken, RaisedLimits, CameWith, CameAlone, History, written, read, made, payload, processed, took, was_acked, read_whole, HasSet, Forgot, AcceptedOf}
+use Rattle.qs_machine.specs.Seen.{Control, Plain}
 use Rattle.qs_machine.specs.Setting.{Setting}
+use Rattle.qs_machine.specs.EndStep.{Call, Answer, AcceptOf, Write, Stop, StopAndForget, ReadUpTo, Consume, Receive, TakeFrame, TakeFrames, TokenAcked, TokenLost, Make, MakeAck, FillIn, Claim, RaiseLimits, Set, TellClosed}
+use Rattle.qs_calls.specs.declared.settings.Settings.{Settings}
+use Rattle.qs_runs.specs.Worlds.{World, end_of, Run}
+use Rattle.qs_runs.specs.Logs.{Happening, History, written, read, read_whole, stopped, made, payload, processed, taken, was_acked, was_told_closed}
 
-abbrev pub at : Side → Act → Event
-at side act = record { end = side; act = act }
+-- a call of an end, with its answer
+abbrev pub at : Side → (call : Call) → Answer call → Happening
+at side call answer = record { end = side; call = call; answer = answer }
 
 -- `write` on stream 0 accepted so many of these bytes
-abbrev pub wrote : Side → Vec ℕ → ℕ → Happening
-wrote side bytes count = Did (at side (Write 0 bytes)) (answers.Write (Ok count))
+abbrev pub wrote : Side → List ℕ → ℕ → Happening
+wrote side bytes count = at side (Write 0 bytes) (Ok count)
 
 -- `read` on stream 0 gave these bytes
-abbrev pub got : Side → Vec ℕ → Happening
-got side bytes = Did (at side (ReadUpTo 0 10)) (answers.ReadUpTo (Ok (Bytes 3)) bytes)
+abbrev pub got : Side → List ℕ → Happening
+got side bytes = at side (ReadUpTo 0 10) (Ok (Bytes 3), bytes)
 
 -- or told the end
-abbrev pub told_end : Side → Vec ℕ → Happening
-told_end side none = Did (at side (ReadUpTo 0 10)) (answers.ReadUpTo (Ok End) none)
+abbrev pub told_end : Side → Happening
+told_end side = at side (ReadUpTo 0 10) (Ok End, [])
+
+-- `consume` took these bytes of stream 0, and was told whether the end follows
+abbrev pub took_out : Side → List ℕ → Bool → Happening
+took_out side bytes at_end = at side (Consume 0 10) (Ok (record { read = Bytes 3; at_end = at_end }), bytes)
+
+-- the stream's reader stopped
+abbrev pub stop : Side → Happening
+stop side = at side (Stop 0 7) (Ok tt)
 
 -- `make_packet` made packet 0 of this text
-abbrev pub packet : Side → Vec ℕ → Happening
-packet side text = Did (at side (Make 1200)) (answers.Make (Ok (Some (record { number = 0; len = 8; is_ack_eliciting = true }))) text)
+abbrev pub packet : Side → List ℕ → Happening
+packet side text = at side (Make 0 0 1200) (Ok (Some (record { number = 0; len = 8; is_ack_eliciting = true })), text)
 
--- the end's packet came to its peer
-abbrev pub came : Side → ℕ → Received → Happening
-came side number answer = Did (at side (Deliver number)) (answers.Deliver (Ok answer))
-
--- in these bytes
-abbrev pub came_with : Side → ℕ → List ℕ → Received → Happening
-came_with side number bytes answer = CameWith side number bytes (Ok answer)
-
--- `make_ack` made packet 0 of this text
-abbrev pub acked : Side → List ℕ → Happening
-acked side text = MadeAck side 1200 (Ok (Some (record { number = 0; len = 8; is_ack_eliciting = false }))) text
+-- the peer's packet came to an end in these bytes
+abbrev pub came : Side → ℕ → List ℕ → Received → Happening
+came side number bytes answer = at side (Receive number bytes) (Ok answer)
 
 -- A writes bytes, makes packet 0 of them, which comes to B, and B reads them and then the end; the newest first
-abbrev pub story : Vec ℕ → Vec ℕ → Vec ℕ → History
-story bytes text none =
-    told_end B none
-    ∷ got B bytes
-    ∷ came A 0 Done
+abbrev pub story : List ℕ → History
+story text =
+    told_end B
+    ∷ got B abc
+    ∷ came B 0 text Done
     ∷ packet A text
-    ∷ wrote A bytes 3
+    ∷ wrote A abc 3
     ∷ []
 
 -- What was written, read, made and processed
-pub record StoryIsRead (bytes text none : Vec ℕ) : Type 0 where
-  pub written_there : written A 0 (story bytes text none) ≡ abc
-  pub not_here : written B 0 (story bytes text none) ≡ []
-  pub not_on_another : written A 4 (story bytes text none) ≡ []
-  pub read_here : read B 0 (story bytes text none) ≡ abc
-  pub not_there : read A 0 (story bytes text none) ≡ []
-  pub made_there : made A (story bytes text none) ≡ text.items ∷ []
-  pub by_number : payload A 0 (story bytes text none) ≡ Some text.items
-  pub no_other : payload A 1 (story bytes text none) ≡ None
-  pub processed_here : processed B 0 (story bytes text none) ≡ true
-  pub processed_once : processed B 1 (story bytes text none) ≡ false
-  pub processed_not_there : processed A 0 (story bytes text none) ≡ false
+pub record StoryIsRead (text : List ℕ) : Type 0 where
+  pub written_there : written A 0 (story text) ≡ abc
+  pub not_here : written B 0 (story text) ≡ []
+  pub not_on_another : written A 4 (story text) ≡ []
+  pub read_here : read B 0 (story text) ≡ abc
+  pub not_there : read A 0 (story text) ≡ []
+  pub made_there : made A (story text) ≡ text ∷ []
+  pub by_number : payload A 0 (story text) ≡ Some text
+  pub no_other : payload A 1 (story text) ≡ None
+  pub processed_here : processed B 0 (story text) ≡ true
+  pub processed_once : processed B 1 (story text) ≡ false
+  pub processed_not_there : processed A 0 (story text) ≡ false
   -- B was told the end
-  pub whole : read_whole B 0 (story bytes text none) ≡ true
-  pub not_whole_there : read_whole A 0 (story bytes text none) ≡ false
-  pub not_another_whole : read_whole B 4 (story bytes text none) ≡ false
+  pub whole : read_whole B 0 (story text) ≡ true
+  pub not_whole_there : read_whole A 0 (story text) ≡ false
+  pub not_another_whole : read_whole B 4 (story text) ≡ false
 
--- Other logs
-pub record LogsAreRead (bytes none : Vec ℕ) : Type 0 where
+-- What is written and read
+pub record BytesAreRead : Type 0 where
   -- of three bytes two were accepted
-  pub in_part : written A 0 (wrote A bytes 2 ∷ []) ≡ 97 ∷ 98 ∷ []
+  pub in_part : written A 0 (wrote A abc 2 ∷ []) ≡ 97 ∷ 98 ∷ []
   -- what was written later comes behind
-  pub in_order : written A 0 (wrote A bytes 1 ∷ wrote A bytes 3 ∷ []) ≡ 97 ∷ 98 ∷ 99 ∷ 97 ∷ []
-  -- as does what was read later
-  pub read_in_order : read B 0 (got B bytes ∷ told_end B none ∷ got B bytes ∷ []) ≡ 97 ∷ 98 ∷ 99 ∷ 97 ∷ 98 ∷ 99 ∷ []
-  -- under a claimed number a PING goes
-  pub claimed : payload A 0 (Did (at A Claim) (answers.Claim (Ok 0)) ∷ []) ≡ Some (1 ∷ [])
-  -- and no packet where none was left to claim
-  pub none_claimed : made A (Did (at A Claim) (answers.Claim (Err Exhausted)) ∷ []) ≡ []
-  -- a packet that came twice was processed once
-  pub twice : processed B 0 (came A 0 Duplicate ∷ []) ≡ false
-  -- a reader that was told no end wasn't told the whole
-  pub no_end : read_whole B 0 (got B bytes ∷ []) ≡ false
-  -- nor was one that had stopped before
-  pub stopped_before : read_whole B 0 (told_end B none ∷ Did (at B (Stop 0 7)) (answers.Stop (Ok tt)) ∷ []) ≡ false
-  -- or forgotten it
-  pub forgotten_before : read_whole B 0 (told_end B none ∷ Forgot B 0 7 (Ok tt) ∷ []) ≡ false
-  -- one that stopped afterwards was
-  pub stopped_after : read_whole B 0 (Did (at B (Stop 0 7)) (answers.Stop (Ok tt)) ∷ told_end B none ∷ []) ≡ true
-
--- `consume` took these three bytes of stream 0 at B, and was told whether the end follows
-abbrev pub took_out : Vec ℕ → Bool → Happening
-took_out bytes at_end = ConsumedUpTo B 0 10 (Ok (record { read = Bytes 3; at_end = at_end })) bytes
-
--- Bytes that are taken without a copy
-pub record TakenIsRead (bytes none : Vec ℕ) : Type 0 where
-  -- they count as read, of that stream and at that end
-  pub taken : read B 0 (took_out bytes false ∷ []) ≡ abc
-  pub not_on_another : read B 4 (took_out bytes false ∷ []) ≡ []
-  pub not_there : read A 0 (took_out bytes false ∷ []) ≡ []
-  -- once, where the end follows
-  pub once : read B 0 (took_out bytes true ∷ []) ≡ abc
-  -- in order with what was read
-  pub in_order : read B 0 (took_out bytes false ∷ got B bytes ∷ []) ≡ 97 ∷ 98 ∷ 99 ∷ 97 ∷ 98 ∷ 99 ∷ []
+  pub in_order : written A 0 (wrote A abc 1 ∷ wrote A abc 3 ∷ []) ≡ 97 ∷ 98 ∷ 99 ∷ 97 ∷ []
+  -- as does what was read later, with a copy or without one
+  pub read_in_order : read B 0 (took_out B abc false ∷ told_end B ∷ got B abc ∷ []) ≡ 97 ∷ 98 ∷ 99 ∷ 97 ∷ 98 ∷ 99 ∷ []
+  -- bytes that are taken without a copy count once, where the end follows, too, and of that stream and at that end alone
+  pub once : read B 0 (took_out B abc true ∷ []) ≡ abc
+  pub not_on_another : read B 4 (took_out B abc true ∷ []) ≡ []
+  pub not_there : read A 0 (took_out B abc true ∷ []) ≡ []
   -- none of a call that was refused
-  pub refused : read B 0 (ConsumedUpTo B 0 10 (Err NoSuchStream) bytes ∷ []) ≡ []
-  -- where the end follows, the reader was told the whole
-  pub whole : read_whole B 0 (took_out bytes true ∷ []) ≡ true
-  -- or where it had come already
-  pub ended : read_whole B 0 (ConsumedUpTo B 0 10 (Ok (record { read = End; at_end = true })) none ∷ []) ≡ true
-  -- else it wasn't, nor one that had stopped before
-  pub no_end : read_whole B 0 (took_out bytes false ∷ []) ≡ false
-  pub stopped_before : read_whole B 0 (took_out bytes true ∷ Did (at B (Stop 0 7)) (answers.Stop (Ok tt)) ∷ []) ≡ false
-  -- nothing is made by it, nor processed
-  pub none_made : made B (took_out bytes true ∷ []) ≡ []
-  pub none_processed : processed B 0 (took_out bytes true ∷ []) ≡ false
+  pub refused : read B 0 (at B (Consume 0 10) (Err NoSuchStream, abc) ∷ []) ≡ []
 
--- What scripts don't have
-pub record OthersAreRead (text : List ℕ) : Type 0 where
-  -- an ACK alone is a packet of its end
-  pub ack : made A (acked A text ∷ []) ≡ text ∷ []
-  -- and not of the other
-  pub ack_not_there : made B (acked A text ∷ []) ≡ []
+-- Who was told the end
+pub record EndsAreTold : Type 0 where
+  -- a reader that was told none wasn't told the whole
+  pub no_end : read_whole B 0 (took_out B abc false ∷ got B abc ∷ []) ≡ false
+  -- one that was told it behind what it took was, or where it had come already
+  pub taken : read_whole B 0 (took_out B abc true ∷ []) ≡ true
+  pub none_taken : read_whole B 0 (at B (Consume 0 10) (Ok (record { read = End; at_end = true }), []) ∷ []) ≡ true
+  -- not one that had stopped before, or forgotten the stream
+  pub stopped_before : read_whole B 0 (told_end B ∷ stop B ∷ []) ≡ false
+  pub taken_then : read_whole B 0 (took_out B abc true ∷ stop B ∷ []) ≡ false
+  pub forgotten_before : read_whole B 0 (told_end B ∷ at B (StopAndForget 0 7) (Ok tt) ∷ []) ≡ false
+  -- one that stopped another stream was, and one that stopped afterwards
+  pub other_stopped : read_whole B 0 (told_end B ∷ at B (Stop 4 7) (Ok tt) ∷ []) ≡ true
+  pub stopped_after : read_whole B 0 (stop B ∷ told_end B ∷ []) ≡ true
+  -- a stream that is forgotten is stopped, and none by a call that was refused
+  pub forgotten : stopped B 0 (at B (StopAndForget 0 7) (Ok tt) ∷ []) ≡ true
+  pub refused : stopped B 0 (at B (Stop 0 7) (Err NoSuchStream) ∷ []) ≡ false
+
+-- What is made and comes
+pub record PacketsAreRead (text : List ℕ) : Type 0 where
+  -- under a claimed number a PING goes
+  pub claimed : payload A 0 (at A Claim (Ok 0) ∷ []) ≡ Some (1 ∷ [])
+  -- and no packet where none was left to claim
+  pub none_claimed : made A (at A Claim (Err Exhausted) ∷ []) ≡ []
+  -- an ACK alone is a packet of its end, and not of the other
+  pub ack : made A (at A (MakeAck 0 1200) (Ok (Some (record { number = 0; len = 8; is_ack_eliciting = false })), text) ∷ []) ≡ text ∷ []
+  pub ack_not_there : made B (at A (MakeAck 0 1200) (Ok (Some (record { number = 0; len = 8; is_ack_eliciting = false })), text) ∷ []) ≡ []
   -- where none was made there is none
-  pub no_ack : made A (MadeAck A 1200 (Ok None) text ∷ []) ≡ []
-  -- frames that were filled in are a packet of its end
-  pub fill : (want : Fill) (filled : Filled) → made A (FilledIn A want 1200 (Ok (Some filled)) text ∷ []) ≡ text ∷ []
-  -- and not of the other
-  pub fill_not_there : (want : Fill) (filled : Filled) → made B (FilledIn A want 1200 (Ok (Some filled)) text ∷ []) ≡ []
-  -- where nothing went in there is none
-  pub no_fill : (want : Fill) → made A (FilledIn A want 1200 (Ok None) text ∷ []) ≡ []
-  -- a packet that came with other frames was processed
-  pub with_more : processed B 0 (came_with A 0 text Done ∷ []) ≡ true
-  -- that one alone, once, and not by its sender
-  pub not_another : processed B 1 (came_with A 0 text Done ∷ []) ≡ false
-  pub twice : processed B 0 (came_with A 0 text Duplicate ∷ []) ≡ false
-  pub not_there : processed A 0 (came_with A 0 text Done ∷ []) ≡ false
-  -- nothing is made by it, nor by a token that is lost, by limits that are taken in or by what is set
-  pub none_made : made A (came_with A 0 text Done ∷ []) ≡ []
-  pub none_lost : (token : Token) → made A (LostToken A token (Ok tt) ∷ []) ≡ []
-  pub none_raised : (limits : PeerLimits) → made A (RaisedLimits A limits (Ok tt) ∷ []) ≡ []
-  pub none_set : (setting : Setting) → made A (HasSet A setting (Ok tt) ∷ []) ≡ []
+  pub no_ack : made A (at A (MakeAck 0 1200) (Ok None, text) ∷ []) ≡ []
+  -- frames that were filled in are a packet of its end, where any went in
+  pub fill : (want : Fill) (filled : Filled) → made A (at A (FillIn want 1200) (Ok (Some filled), text) ∷ []) ≡ text ∷ []
+  pub no_fill : (want : Fill) → made A (at A (FillIn want 1200) (Ok None, text) ∷ []) ≡ []
+  -- a packet that came twice was processed once
+  pub twice : processed B 0 (came B 0 text Duplicate ∷ []) ≡ false
+  -- nothing is made by one that came, nor by a token that is lost, by limits that are taken in or by what is set
+  pub none_made : made B (came B 0 text Done ∷ []) ≡ []
+  pub none_lost : (token : Token) → made A (at A (TokenLost token) (Ok tt) ∷ []) ≡ []
+  pub none_raised : (limits : PeerLimits) → made A (at A (RaiseLimits limits) (Ok tt) ∷ []) ≡ []
+  pub none_set : (setting : Setting) → made A (at A (Set setting) (Ok tt) ∷ []) ≡ []
   -- nor by a stream that is forgotten, or given out of one direction
-  pub none_forgot : made A (Forgot A 0 7 (Ok tt) ∷ []) ≡ []
-  pub none_given : (d : Dir) (result : Option ℕ) → made A (AcceptedOf A d result ∷ []) ≡ []
+  pub none_forgot : made A (at A (StopAndForget 0 7) (Ok tt) ∷ []) ≡ []
+  pub none_given : (d : Dir) (result : Option ℕ) → made A (at A (AcceptOf d) result ∷ []) ≡ []
 
--- the frame at a place of a packet
-abbrev pub part : (number place : ℕ) → Part
-part number place = record { number = number; place = place }
+-- A is told that the packets of this token were acknowledged
+abbrev pub token_acked : Token → Happening
+token_acked token = at A (TokenAcked token) (Ok tt)
 
--- frames of A's packet come to B without it, with this answer
-abbrev pub came_alone : ℕ → List ℕ → Result Taken TakeFault → Happening
-came_alone number places answer = CameAlone A (map (part number) places) answer
-
--- the first frame of packet 0 and the second of packet 1 come together
-abbrev pub came_joined : Happening
-came_joined = CameAlone A (part 0 0 ∷ part 1 1 ∷ []) (Ok Took)
-
--- A is told that the packet of this token was acknowledged
-abbrev pub token_acked : ℕ → Happening
-token_acked number = AckedToken A (record { epoch = 0; first = number; number = number }) (Ok tt)
+abbrev pub token : (first number : ℕ) → Token
+token first number = record { epoch = 0; first = first; number = number }
 
 -- Frames and tokens
 pub record TokensAreRead : Type 0 where
-  -- a frame that came alone was taken
-  pub taken : took B 0 1 (came_alone 0 (1 ∷ []) (Ok Took) ∷ []) ≡ true
-  -- be it that it changed nothing
-  pub unchanged : took B 0 1 (came_alone 0 (1 ∷ []) (Ok Unchanged) ∷ []) ≡ true
-  -- and so was each of several
-  pub several : took B 0 2 (came_alone 0 (0 ∷ 2 ∷ []) (Ok Took) ∷ []) ≡ true
-  -- of one packet, or of several
-  pub joined : took B 0 0 (came_joined ∷ []) ≡ true
-  pub joined_later : took B 1 1 (came_joined ∷ []) ≡ true
-  -- each at its place in its own packet
-  pub not_crossed : took B 0 1 (came_joined ∷ []) ≡ false
-  pub not_crossed_later : took B 1 0 (came_joined ∷ []) ≡ false
-  -- that one alone, of that packet, and not by its sender
-  pub not_another : took B 0 0 (came_alone 0 (1 ∷ []) (Ok Took) ∷ []) ≡ false
-  pub not_of_another : took B 1 1 (came_alone 0 (1 ∷ []) (Ok Took) ∷ []) ≡ false
-  pub not_there : took A 0 1 (came_alone 0 (1 ∷ []) (Ok Took) ∷ []) ≡ false
-  -- not where it found no memory, or was of another kind
-  pub no_memory : took B 0 1 (came_alone 0 (1 ∷ []) (Err NoMemory) ∷ []) ≡ false
-  pub not_ours : took B 0 1 (came_alone 0 (1 ∷ []) (Ok NotOurs) ∷ []) ≡ false
-  -- its packet wasn't processed, and no other was made
-  pub not_processed : processed B 0 (came_alone 0 (1 ∷ []) (Ok Took) ∷ []) ≡ false
-  pub none_made : made A (came_alone 0 (1 ∷ []) (Ok Took) ∷ []) ≡ []
+  -- a frame that came alone was taken, be it that it changed nothing, and so was each of several
+  pub one : taken B (at B (TakeFrame (max_data 5)) (Ok Took) ∷ []) ≡ Control (MaxData 5) ∷ []
+  pub unchanged : taken B (at B (TakeFrame (max_data 5)) (Ok Unchanged) ∷ []) ≡ Control (MaxData 5) ∷ []
+  pub several : taken B (at B (TakeFrames (max_data 5 ∷ ping ∷ max_data 6 ∷ [])) (Ok Took) ∷ []) ≡ Control (MaxData 5) ∷ Plain true ∷ Control (MaxData 6) ∷ []
+  -- at that end, and not where it found no memory
+  pub not_there : taken A (at B (TakeFrame (max_data 5)) (Ok Took) ∷ []) ≡ []
+  pub no_memory : taken B (at B (TakeFrames (max_data 5 ∷ [])) (Err faults.NoMemory) ∷ []) ≡ []
+  -- no packet was processed by it, and none was made
+  pub not_processed : processed B 0 (at B (TakeFrame (max_data 5)) (Ok Took) ∷ []) ≡ false
+  pub none_made : made B (at B (TakeFrame (max_data 5)) (Ok Took) ∷ []) ≡ []
   -- a token was told to be acknowledged, that one, if the end took it, and at that end
-  pub acked : was_acked A 3 (token_acked 3 ∷ []) ≡ true
-  pub not_another_token : was_acked A 4 (token_acked 3 ∷ []) ≡ false
-  pub of_several : was_acked A 4 (AckedToken A (record { epoch = 0; first = 3; number = 5 }) (Ok tt) ∷ []) ≡ true
-  pub not_below : was_acked A 2 (AckedToken A (record { epoch = 0; first = 3; number = 5 }) (Ok tt) ∷ []) ≡ false
-  pub not_refused : was_acked A 3 (AckedToken A (record { epoch = 1; first = 3; number = 3 }) (Err NotGiven) ∷ []) ≡ false
-  pub not_at_the_peer : was_acked B 3 (token_acked 3 ∷ []) ≡ false
+  pub acked : was_acked A 3 (token_acked (token 3 3) ∷ []) ≡ true
+  pub not_another : was_acked A 4 (token_acked (token 3 3) ∷ []) ≡ false
+  pub of_several : was_acked A 4 (token_acked (token 3 5) ∷ []) ≡ true
+  pub not_below : was_acked A 2 (token_acked (token 3 5) ∷ []) ≡ false
+  pub not_refused : was_acked A 3 (at A (TokenAcked (token 3 3)) (Err tokens.NotGiven) ∷ []) ≡ false
+  pub in_part : was_acked A 3 (at A (TokenAcked (token 3 3)) (Err tokens.NoMemory) ∷ []) ≡ true
+  pub not_at_the_peer : was_acked B 3 (token_acked (token 3 3) ∷ []) ≡ false
   -- which makes nothing
-  pub none_made_by_it : made A (token_acked 3 ∷ []) ≡ []
+  pub none_made_by_it : made A (token_acked (token 3 3) ∷ []) ≡ []
+  -- a close is told to one end
+  pub told_closed : (close : ToldClose) → was_told_closed A (at A (TellClosed close) tt ∷ []) ≡ true
+  pub not_told : (close : ToldClose) → was_told_closed B (at A (TellClosed close) tt ∷ []) ≡ false
+
+-- A PING that is handed in alone is answered NotOurs, and the run goes on in the same world (RFC 9000, section 19.2).
+abbrev pub PingComesAlone : Type 0
+PingComesAlone = (a b : Settings) (h : History) (w : World) (s : Side) → Run a b h w → (end_of w s).closed ≡ None → Run a b (at s (TakeFrame ping) (Ok NotOurs) ∷ h) w
 
 pub record Examples : Type 0 where
-  pub story : (bytes text none : Vec ℕ) → bytes.items ≡ abc → StoryIsRead bytes text none
-  pub logs : (bytes none : Vec ℕ) → bytes.items ≡ abc → LogsAreRead bytes none
-  pub takes : (bytes none : Vec ℕ) → bytes.items ≡ abc → TakenIsRead bytes none
-  pub others : (text : List ℕ) → OthersAreRead text
+  pub story : (text : List ℕ) → StoryIsRead text
+  pub bytes : BytesAreRead
+  pub ends : EndsAreTold
+  pub packets : (text : List ℕ) → PacketsAreRead text
   pub tokens : TokensAreRead
+  pub ping_alone : PingComesAlone

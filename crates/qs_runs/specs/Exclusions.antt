@@ -1,64 +1,45 @@
 -- Of laws.
--- What two ends that agree exclude: beside each clause a small history, and a world, that lacks it (RFC 9000, sections 2.2, 3 and 4).
-use Rattle.std.specs.Prelude.{◌≡◌, ℕ, ◌+◌, ◌≤◌, Bool, true, false, List, [], ◌∷◌, Option, None, Some, Result, Ok, Err}
-use Rattle.std.specs.Global.{Vec}
+-- What two ends that agree exclude, clause by clause, and what the premises of a run leave out and let in, row by row of `May`
+-- (RFC 9000, sections 2.2, 3, 4, 10.2, 12.4, 13.1 and 13.3).
+use Rattle.std.specs.Prelude.{◌≡◌, ℕ, ◌+◌, true, false, List, [], ◌∷◌, ◌++◌, None, Some, Ok, Err}
 use Rattle.qs_ranges.specs.Numbers.{numbers}
-use Rattle.qs_wire.specs.declared.stream_id.Dir.{Dir}
-use Rattle.qs_recv.specs.Lane.{RecvLane, bytes_read}
-use Rattle.qs_send.specs.Lane.{SendLane}
-use Rattle.qs_send.specs.declared.piece.Item.TheVariants.{MaxData, ResetStream}
-use Rattle.qs_wire.specs.Layout.{max_data}
+use Rattle.qs_wire.specs.Layout.{FrameValue, ping, ack, crypto, max_data, stream_data_blocked, connection_close}
 use Rattle.qs_wire.specs.Reading.{reading_of}
 use Rattle.qs_wire.specs.declared.fault.WireFault.{WireFault}
+use Rattle.qs_recv.specs.Lane.{RecvLane}
+use Rattle.qs_send.specs.Lane.{SendLane}
+use Rattle.qs_send.specs.declared.piece.Item.TheVariants.{MaxData, ResetStream}
 use Rattle.qs_calls.specs.Settings.{limits_of}
-use Rattle.qs_calls.specs.declared.settings.PeerLimits.{PeerLimits}
-use Rattle.qs_calls.specs.declared.settings.RaiseFault.{RaiseFault}
-use Rattle.qs_calls.specs.declared.settings.SetFault.{SetFault}
-use Rattle.qs_calls.specs.declared.uses.UseFault.{UseFault}
-use Rattle.qs_calls.specs.declared.filling.Fill.{Fill}
-use Rattle.qs_calls.specs.declared.filling.Filled.{Filled}
-use Rattle.qs_calls.specs.declared.making.Made.{Made}
-use Rattle.qs_calls.specs.declared.token.Token.{Token}
-use Rattle.qs_calls.specs.declared.token.Taken.{Taken}
-use Rattle.qs_calls.specs.declared.token.Taken.TheVariants.{Took, Unchanged, NotOurs}
-use Rattle.qs_calls.specs.declared.token.TakeFault.{TakeFault}
-use Rattle.qs_calls.specs.declared.token.TakeFault.TheVariants.{NoMemory}
-use Rattle.qs_calls.specs.declared.token.TokenFault.{TokenFault}
-use Rattle.qs_calls.specs.declared.closing.Closing.{Closing}
 use Rattle.qs_calls.specs.declared.closing.Closed.TheVariants.{ByPeer}
-use Rattle.qs_calls.specs.declared.closing.Received.{Received}
-use Rattle.qs_calls.specs.declared.closing.Received.TheVariants.{Done}
-use Rattle.qs_calls.specs.declared.closing.Received.TheVariants as received
-use Rattle.qs_calls.specs.declared.uses.UseFault.{UseFault}
+use Rattle.qs_calls.specs.declared.closing.Received.TheVariants.{Done, NoMemory}
+use Rattle.qs_calls.specs.declared.closing.ToldClose.{ToldClose}
+use Rattle.qs_calls.specs.declared.settings.PeerLimits.{PeerLimits}
+use Rattle.qs_calls.specs.declared.token.Taken.TheVariants.{Took}
+use Rattle.qs_calls.specs.declared.token.TakeFault.TheVariants as faults
 use Rattle.qs_calls.specs.declared.event.Side.TheVariants.{A, B}
-use Rattle.qs_calls.specs.declared.event.Act.TheVariants.{Accept, Claim}
-use Rattle.qs_calls.specs.declared.answer.Answer.TheVariants as answers
-use Rattle.qs_machine.specs.Ends.{End, recv_lane}
+use Rattle.qs_machine.specs.Ends.{End}
 use Rattle.qs_machine.specs.Seen.{Seen, Stream, Control, Plain}
-use Rattle.qs_machine.specs.Alone.{token_of}
-use Rattle.qs_machine.specs.Plains.{DifferInPlain}
+use Rattle.qs_machine.specs.Plains.{DifferInPlain, frames_in}
 use Rattle.qs_machine.specs.Examples.{standard, server, client_of}
-use Rattle.qs_machine.specs.Setting.{Setting, ConnWindow}
 use Rattle.qs_machine.specs.SmallEnds.{client_with, server_with, abc, wrote as wrote_half, sent, fresh, all_came}
-use Rattle.qs_runs.specs.Logs.{Did, MadeAck, FilledIn, ConsumedUpTo, AckedToken, LostToken, RaisedLimits, CameWith, CameAlone, History, AreFramesOf, HasLanded, ping_text, HasSet, Forgot, AcceptedOf}
-use Rattle.qs_calls.specs.declared.settings.SetFault.{SetFault}
-use Rattle.qs_machine.specs.Setting.{Setting, SendBuffer}
-use Rattle.qs_runs.specs.Worlds.{World, AreGranted, HandedIn, WorldStep, Begins}
-use Rattle.qs_runs.specs.Agree.{PrefixAgrees, WholeAgrees, FinalSizesAgree, Agree, IsOld, StepAgrees, frames_in}
-use Rattle.qs_runs.specs.Examples.{at, wrote, got, told_end, took_out, story, packet, came, came_with, part, came_alone}
+use Rattle.qs_machine.specs.EndStep.{Call, Answer, Accept, Receive, TakeFrame, TakeFrames, TokenAcked, Make, Claim, RaiseLimits, TellClosed}
+use Rattle.qs_runs.specs.Logs.{Happening, History, was_told_closed, HasLanded, ping_text}
+use Rattle.qs_runs.specs.Worlds.{World, WorldStep, May, AreGranted, Begins}
+use Rattle.qs_runs.specs.Agree.{PrefixAgrees, WholeAgrees, FinalSizesAgree, Agree, IsOld, StepAgrees}
+use Rattle.qs_runs.specs.Examples.{at, wrote, got, told_end, took_out, story, packet, came, token}
 
 -- It doesn't agree (section 2.2) that what was read
-pub record ReadIsNoPrefix (bytes other none : Vec ℕ) : Type 0 where
+pub record ReadIsNoPrefix (other : List ℕ) : Type 0 where
   -- has another byte than was written
-  pub other_byte : PrefixAgrees (got B other ∷ wrote A bytes 3 ∷ []) A 0 → ⊥
+  pub other_byte : PrefixAgrees (got B other ∷ wrote A abc 3 ∷ []) A 0 → ⊥
   -- is more than was written
-  pub more : PrefixAgrees (got B bytes ∷ wrote A bytes 2 ∷ []) A 0 → ⊥
+  pub more : PrefixAgrees (got B abc ∷ wrote A abc 2 ∷ []) A 0 → ⊥
   -- is less, once the end was told
-  pub less : PrefixAgrees (told_end B none ∷ wrote A bytes 3 ∷ []) A 0 → ⊥
+  pub less : PrefixAgrees (told_end B ∷ wrote A abc 3 ∷ []) A 0 → ⊥
   -- nor what was taken without a copy, where it has another byte
-  pub other_taken : PrefixAgrees (took_out other false ∷ wrote A bytes 3 ∷ []) A 0 → ⊥
+  pub other_taken : PrefixAgrees (took_out B other false ∷ wrote A abc 3 ∷ []) A 0 → ⊥
   -- or is less, once the end was told
-  pub less_taken : PrefixAgrees (took_out bytes true ∷ wrote A bytes 3 ∷ wrote A bytes 3 ∷ []) A 0 → ⊥
+  pub less_taken : PrefixAgrees (took_out B abc true ∷ wrote A abc 3 ∷ wrote A abc 3 ∷ []) A 0 → ⊥
 
 abbrev pub both : End → End → World
 both a b = record { a = a; b = b }
@@ -72,15 +53,15 @@ abbrev pub first_of_three : RecvLane
 first_of_three = record fresh { arrived = record fresh.arrived { received = numbers 0 1 }; final_size = Some 3 }
 
 -- Data Recvd doesn't agree (section 3.1)
-pub record WholeIsMissing (bytes : Vec ℕ) : Type 0 where
+pub record WholeIsMissing : Type 0 where
   -- with a receiver that has no such half
-  pub unopened : WholeAgrees (wrote A bytes 3 ∷ []) (both (client_with acknowledged) (server standard)) A 0 → ⊥
+  pub unopened : WholeAgrees (wrote A abc 3 ∷ []) (both (client_with acknowledged) (server standard)) A 0 → ⊥
   -- that lacks an offset
-  pub offset : WholeAgrees (wrote A bytes 3 ∷ []) (both (client_with acknowledged) (server_with first_of_three)) A 0 → ⊥
+  pub offset : WholeAgrees (wrote A abc 3 ∷ []) (both (client_with acknowledged) (server_with first_of_three)) A 0 → ⊥
   -- that doesn't know the final size
-  pub unsized : WholeAgrees (wrote A bytes 3 ∷ []) (both (client_with acknowledged) (server_with (record all_came { final_size = None }))) A 0 → ⊥
+  pub unsized : WholeAgrees (wrote A abc 3 ∷ []) (both (client_with acknowledged) (server_with (record all_came { final_size = None }))) A 0 → ⊥
   -- that knows another one than was written
-  pub other_size : WholeAgrees (wrote A bytes 2 ∷ []) (both (client_with acknowledged) (server_with all_came)) A 0 → ⊥
+  pub other_size : WholeAgrees (wrote A abc 2 ∷ []) (both (client_with acknowledged) (server_with all_came)) A 0 → ⊥
 
 -- A known final size doesn't agree (section 4.5)
 pub record SizesDiffer : Type 0 where
@@ -97,10 +78,10 @@ pub record SizesDiffer : Type 0 where
 pub record WorldsDiffer : Type 0 where
   -- where more is spent than was sent (section 4.1)
   pub credit : (h : History) → Agree h (both (client_with wrote_half) (server_with all_came)) → ⊥
-  -- where the client closed
-  pub client_closed : (h : History) → Agree h (both (record (client_of standard) { closed = Some (ByPeer 0) }) (server standard)) → ⊥
+  -- where the client closed, and wasn't told to
+  pub client_closed : (h : History) → was_told_closed A h ≡ false → Agree h (both (record (client_of standard) { closed = Some (ByPeer 0) }) (server standard)) → ⊥
   -- or the server
-  pub server_closed : (h : History) → Agree h (both (client_of standard) (record (server standard) { closed = Some (ByPeer 0) })) → ⊥
+  pub server_closed : (h : History) → was_told_closed B h ≡ false → Agree h (both (client_of standard) (record (server standard) { closed = Some (ByPeer 0) })) → ⊥
 
 -- It is news (sections 2.2 and 4.5)
 pub record NewsIsNotOld : Type 0 where
@@ -117,148 +98,123 @@ pub record NewsIsNotOld : Type 0 where
   -- and an offset that came is none
   pub came : IsOld (server_with first_of_three) (Stream 0 0 (97 ∷ []) false)
 
--- A repeat doesn't agree
-pub record RepeatsSpend (bytes text none : Vec ℕ) : Type 0 where
-  -- where a packet that was processed changes the end
-  pub again : StepAgrees (story bytes text none) (both (client_of standard) (server standard)) (came A 0 Done) (both (client_of standard) (server_with fresh)) → ⊥
-  -- where a packet that tells nothing spends credit
-  pub old_news : text.items ≡ [] → StepAgrees (packet A text ∷ []) (both (client_of standard) (server_with fresh)) (came A 0 Done) (both (client_of standard) (server_with all_came)) → ⊥
-  -- and so with frames of the layer beneath
-  pub again_with : StepAgrees (story bytes text none) (both (client_of standard) (server standard)) (came_with A 0 text.items Done) (both (client_of standard) (server_with fresh)) → ⊥
-  pub old_news_alone : StepAgrees (packet A text ∷ []) (both (client_of standard) (server_with fresh)) (came_alone 0 [] (Ok NotOurs)) (both (client_of standard) (server_with all_came)) → ⊥
-  pub old_news_with : text.items ≡ [] → StepAgrees (packet A text ∷ []) (both (client_of standard) (server_with fresh)) (came_with A 0 text.items Done) (both (client_of standard) (server_with all_came)) → ⊥
-
--- Nothing of this happens in a world
-pub record NothingHappens (bytes text none : Vec ℕ) : Type 0 where
-  -- a packet comes that wasn't made
-  pub unmade : (v w : World) → WorldStep (story bytes text none) v (came A 1 Done) w → ⊥
-  -- or that was made by the other end
-  pub not_its : (v w : World) → WorldStep (story bytes text none) v (came B 0 Done) w → ⊥
-  -- a packet that comes changes its sender
-  pub sender : (v w : World) → WorldStep (story bytes text none) v (came A 0 Done) w → (w.a ≡ v.a → ⊥) → ⊥
-  -- a call of one end changes the other
-  pub other : (v w : World) → WorldStep (story bytes text none) v (Did (at A Accept) (answers.Accept None)) w → (w.b ≡ v.b → ⊥) → ⊥
-  -- a number is claimed and stays unused
-  pub unused : (v w : World) (number : ℕ) → WorldStep (story bytes text none) v (Did (at A Claim) (answers.Claim (Ok number))) w → w.a.next ≡ v.a.next → ⊥
-  -- or isn't the next one
-  pub not_next : (v w : World) → WorldStep (story bytes text none) v (Did (at A Claim) (answers.Claim (Ok (v.a.next + 1)))) w → ⊥
-  -- a call answers as another one does
-  pub other_answer : (v w : World) → WorldStep (story bytes text none) v (Did (at A Accept) (answers.Finish (Ok tt))) w → ⊥
-
--- Nor of this, which scripts don't have
-pub record NothingElseHappens (bytes text none : Vec ℕ) : Type 0 where
-  -- with frames of the layer beneath a packet comes that wasn't made
-  pub unmade : (v w : World) → WorldStep (story bytes text none) v (came_with A 1 text.items Done) w → ⊥
-  -- or it changes its sender
-  pub sender : (v w : World) → WorldStep (story bytes text none) v (came_with A 0 text.items Done) w → (w.a ≡ v.a → ⊥) → ⊥
-  -- or in bytes that differ in more
-  pub others : (v w : World) (bytes : List ℕ) (r : Result Received Closing) → (DifferInPlain bytes text.items → ⊥) → WorldStep (packet A text ∷ []) v (CameWith A 0 bytes r) w → ⊥
-  -- an ACK alone has more bytes than its room
-  pub too_long : (v w : World) (made : Made) → WorldStep [] v (MadeAck A 0 (Ok (Some made)) (1 ∷ [])) w → ⊥
-  -- or changes the other end
-  pub ack_other : (v w : World) → WorldStep [] v (MadeAck A 1200 (Ok None) []) w → (w.b ≡ v.b → ⊥) → ⊥
-  -- frames are filled in that have more bytes than their room
-  pub fill_too_long : (v w : World) (want : Fill) (filled : Filled) → WorldStep [] v (FilledIn A want 0 (Ok (Some filled)) (1 ∷ [])) w → ⊥
-  -- or the other end changes
-  pub fill_other : (v w : World) (want : Fill) → WorldStep [] v (FilledIn A want 1200 (Ok None) []) w → (w.b ≡ v.b → ⊥) → ⊥
-  -- other bytes are taken than a read gives (section 2.2)
-  pub other_bytes : (v w : World) (l : RecvLane) (at_end : Bool) → recv_lane v.b 0 ≡ Some l → (bytes.items ≡ bytes_read l 10 → ⊥) → WorldStep [] v (took_out bytes at_end) w → ⊥
-  -- or some by a call that was refused
-  pub refused_bytes : (v w : World) (fault : UseFault) → (bytes.items ≡ [] → ⊥) → WorldStep [] v (ConsumedUpTo B 0 10 (Err fault) bytes) w → ⊥
-  -- or of a stream that isn't open
-  pub unopened : (v w : World) (at_end : Bool) → recv_lane v.b 0 ≡ None → WorldStep [] v (took_out bytes at_end) w → ⊥
-  -- or the other end changes
-  pub taken_other : (v w : World) (at_end : Bool) → WorldStep [] v (took_out bytes at_end) w → (w.a ≡ v.a → ⊥) → ⊥
-  -- a token is lost that wasn't given
-  pub not_given : (v w : World) (token : Token) → v.a.next ≤ token.number → WorldStep [] v (LostToken A token (Ok tt)) w → ⊥
-  -- or that another end gave
-  pub foreign : (v w : World) (token : Token) → (token.epoch ≡ v.a.tuning.epoch → ⊥) → WorldStep [] v (LostToken A token (Ok tt)) w → ⊥
-  -- or the other end changes
-  pub lost_other : (v w : World) (token : Token) → WorldStep [] v (LostToken A token (Ok tt)) w → (w.b ≡ v.b → ⊥) → ⊥
-  -- limits are taken in that the peer doesn't grant
-  pub ungranted : (v w : World) (p : PeerLimits) (r : Result (Unit {0}) RaiseFault) → (AreGranted p v.b.settings → ⊥) → WorldStep [] v (RaisedLimits A p r) w → ⊥
-  -- by an end that closed
-  pub closed : (v w : World) (p : PeerLimits) → v.a.closed ≡ Some (ByPeer 0) → WorldStep [] v (RaisedLimits A p (Ok tt)) w → ⊥
-  -- or the other end changes
-  pub raised_other : (v w : World) (p : PeerLimits) (r : Result (Unit {0}) RaiseFault) → WorldStep [] v (RaisedLimits A p r) w → (w.b ≡ v.b → ⊥) → ⊥
-  -- a window of no byte is set
-  pub no_window : (v w : World) → WorldStep [] v (HasSet A (ConnWindow 0) (Ok tt)) w → ⊥
-  -- or the other end changes as one is set
-  pub set_other : (v w : World) (x : Setting) (r : Result (Unit {0}) SetFault) → WorldStep [] v (HasSet A x r) w → (w.b ≡ v.b → ⊥) → ⊥
-  -- a stream is forgotten by an end that closed
-  pub forgot_closed : (v w : World) → v.a.closed ≡ Some (ByPeer 0) → WorldStep [] v (Forgot A 0 7 (Ok tt)) w → ⊥
-  -- or the other end changes
-  pub forgot_other : (v w : World) (r : Result (Unit {0}) UseFault) → WorldStep [] v (Forgot A 0 7 r) w → (w.b ≡ v.b → ⊥) → ⊥
-  -- a stream of one direction is given out by an end that closed
-  pub given_closed : (v w : World) (d : Dir) (n : ℕ) → v.a.closed ≡ Some (ByPeer 0) → WorldStep [] v (AcceptedOf A d (Some n)) w → ⊥
-  -- or the other end changes
-  pub given_other : (v w : World) (d : Dir) (r : Option ℕ) → WorldStep [] v (AcceptedOf A d r) w → (w.b ≡ v.b → ⊥) → ⊥
-  -- a buffer is set at an end that closed
-  pub set_closed : (v w : World) (size : ℕ) → v.a.closed ≡ Some (ByPeer 0) → WorldStep [] v (HasSet A (SendBuffer 0 size) (Ok tt)) w → ⊥
+-- A step doesn't agree
+pub record StepsSpend (text : List ℕ) : Type 0 where
+  -- where a packet that was processed changes the end, in whatever bytes it comes
+  pub again : (bytes : List ℕ) → StepAgrees (story text) (both (client_of standard) (server standard)) (came B 0 bytes Done) (both (client_of standard) (server_with fresh)) → ⊥
+  -- where what tells nothing new spends credit: a packet, a frame alone, or another call
+  pub old_news : StepAgrees [] (both (client_of standard) (server_with fresh)) (came B 0 (1 ∷ []) Done) (both (client_of standard) (server_with all_came)) → ⊥
+  pub old_frame : StepAgrees [] (both (client_of standard) (server_with fresh)) (at B (TakeFrame ping) (Ok Took)) (both (client_of standard) (server_with all_came)) → ⊥
+  pub other_call : StepAgrees [] (both (client_of standard) (server_with fresh)) (at B Accept None) (both (client_of standard) (server_with all_came)) → ⊥
 
 -- a packet of two frames, a MAX_DATA of 5 and one of 6 (RFC 9000, section 19.9)
 abbrev pub two_frames : List ℕ
 two_frames = 0x10 ∷ 5 ∷ 0x10 ∷ 6 ∷ []
 
--- No frames come without their packet
-pub record NoFrameComes (text : Vec ℕ) : Type 0 where
-  -- of a packet that wasn't made
-  pub unmade : (v w : World) (r : Result Taken TakeFault) → WorldStep (packet A text ∷ []) v (came_alone 1 (0 ∷ []) r) w → ⊥
-  -- be it together with one of a packet that was
-  pub unmade_later : (v w : World) (r : Result Taken TakeFault) → WorldStep (packet A text ∷ []) v (CameAlone A (part 0 0 ∷ part 1 0 ∷ []) r) w → ⊥
-  -- that it doesn't have
-  pub not_in_it : (v w : World) (r : Result Taken TakeFault) → WorldStep (packet A text ∷ []) v (came_alone 0 (2 ∷ []) r) w → ⊥
-  -- to the other end, so that their sender changes
-  pub sender : (v w : World) (r : Result Taken TakeFault) → WorldStep (packet A text ∷ []) v (came_alone 0 (0 ∷ []) r) w → (w.a ≡ v.a → ⊥) → ⊥
-  -- with another value than they have there
-  pub another : AreFramesOf (packet A text ∷ []) A (part 0 0 ∷ []) (max_data 6 ∷ []) → ⊥
-  -- fewer than came, or more
-  pub fewer : AreFramesOf (packet A text ∷ []) A (part 0 0 ∷ part 0 1 ∷ []) (max_data 5 ∷ []) → ⊥
-  pub more : AreFramesOf (packet A text ∷ []) A (part 0 0 ∷ []) (max_data 5 ∷ max_data 6 ∷ []) → ⊥
-  -- several as one of another kind
-  pub several : (e new : End) → HandedIn (max_data 5 ∷ max_data 6 ∷ []) e (Ok NotOurs) new → ⊥
+-- A made packet 0 of them
+abbrev pub two_made : Happening
+two_made = record { end = A; call = Make 0 0 1200; answer = (Ok (Some (record { number = 0; len = 4; is_ack_eliciting = true })), two_frames) }
 
--- the token of packet 0 of an end is told to be acknowledged
-abbrev pub TokenAcked : History → Type 0
-TokenAcked h = (v : World) × (w : World) × (r : Result (Unit {0}) TokenFault) × WorldStep h v (AckedToken A (token_of v.a 0) r) w
+abbrev pub sent_two : History
+sent_two = two_made ∷ []
 
--- It isn't told (sections 13.1 and 13.3)
-pub record NotYetLanded (text : Vec ℕ) : Type 0 where
-  -- before the packet was made
-  pub unmade : TokenAcked [] → ⊥
+-- B took these frames alone
+abbrev pub took : List FrameValue → Happening
+took fs = record { end = B; call = TakeFrames fs; answer = Ok Took }
+
+-- it took its payload under that number, in these bytes
+abbrev pub came_as : List ℕ → Happening
+came_as bytes = record { end = B; call = Receive 0 bytes; answer = Ok Done }
+
+-- A payload comes (`Receive`)
+pub record PayloadsThatCome (w : World) : Type 0 where
+  -- that wasn't made
+  pub unmade : May [] w B (Receive 0 two_frames) → ⊥
+  -- under another number
+  pub other_number : May sent_two w B (Receive 1 two_frames) → ⊥
+  -- to the end that made it
+  pub its_own : May sent_two w A (Receive 0 two_frames) → ⊥
+  -- without one of its frames
+  pub left_out : May sent_two w B (Receive 0 (0x10 ∷ 5 ∷ [])) → ⊥
+  -- with another value
+  pub another : May sent_two w B (Receive 0 (0x10 ∷ 5 ∷ 0x10 ∷ 7 ∷ [])) → ⊥
+  -- in another order
+  pub turned : May sent_two w B (Receive 0 (0x10 ∷ 6 ∷ 0x10 ∷ 5 ∷ [])) → ⊥
+  -- with a CONNECTION_CLOSE behind it
+  pub closing : May sent_two w B (Receive 0 (two_frames ++ 0x1d ∷ 0 ∷ 0 ∷ [])) → ⊥
+  -- though it may come as it was made
+  pub made : May sent_two w B (Receive 0 two_frames)
+  -- and with a PING in front, between or behind (section 19.2)
+  pub front : May sent_two w B (Receive 0 (1 ∷ two_frames))
+  pub between : May sent_two w B (Receive 0 (0x10 ∷ 5 ∷ 1 ∷ 0x10 ∷ 6 ∷ []))
+  pub behind : May sent_two w B (Receive 0 (two_frames ++ 1 ∷ []))
+
+-- Frames come alone (`TakeFrame`, `TakeFrames`)
+pub record FramesThatCome (w : World) : Type 0 where
+  -- that no packet had
+  pub unmade : May [] w B (TakeFrame (max_data 5)) → ⊥
+  -- with another value
+  pub another : May sent_two w B (TakeFrame (max_data 7)) → ⊥
+  -- to the end that made them
+  pub its_own : May sent_two w A (TakeFrame (max_data 5)) → ⊥
+  -- be it one of several
+  pub one_of : May sent_two w B (TakeFrames (max_data 5 ∷ ping ∷ max_data 7 ∷ [])) → ⊥
+  -- though each that was made may come, in any order and again
+  pub made : May sent_two w B (TakeFrame (max_data 6))
+  pub several : May sent_two w B (TakeFrames (max_data 6 ∷ max_data 5 ∷ max_data 6 ∷ []))
+  -- and frames of the stack's own, whatever was made: PING, ACK, CRYPTO, CONNECTION_CLOSE (sections 19.2, 19.3, 19.6 and 19.19)
+  pub own_ping : May [] w B (TakeFrame ping)
+  pub own_ack : May [] w B (TakeFrame (ack 3 0 (0 ∷ []) None))
+  pub own_crypto : (offset : ℕ) (bytes : List ℕ) → May [] w B (TakeFrame (crypto offset bytes))
+  pub own_close : (code kind : ℕ) (reason : List ℕ) → May [] w B (TakeFrame (connection_close code kind reason))
+  pub among : May sent_two w B (TakeFrames (ping ∷ max_data 5 ∷ ack 3 0 (0 ∷ []) None ∷ []))
+
+-- A token is acknowledged (`TokenAcked`) at an end of epoch 0
+pub record TokensThatAreAcked (w : World) (epoch : w.a.tuning.epoch ≡ 0) : Type 0 where
+  -- before its packet was made
+  pub unmade : May [] w A (TokenAcked (token 0 0)) → ⊥
   -- as long as nothing of it came
-  pub on_its_way : TokenAcked (packet A text ∷ []) → ⊥
-  -- once its first frame was taken
-  pub first : TokenAcked (came_alone 0 (0 ∷ []) (Ok Took) ∷ packet A text ∷ []) → ⊥
-  -- be it that it changed nothing
-  pub first_unchanged : TokenAcked (came_alone 0 (0 ∷ []) (Ok Unchanged) ∷ packet A text ∷ []) → ⊥
-  -- or its last one
-  pub last : TokenAcked (came_alone 0 (1 ∷ []) (Ok Took) ∷ packet A text ∷ []) → ⊥
-  -- or the same one twice
-  pub twice : TokenAcked (came_alone 0 (0 ∷ []) (Ok Took) ∷ came_alone 0 (0 ∷ []) (Ok Took) ∷ packet A text ∷ []) → ⊥
+  pub on_its_way : May sent_two w A (TokenAcked (token 0 0)) → ⊥
+  -- once one of its frames was taken, be it twice or with one that no packet had
+  pub first : May (took (max_data 5 ∷ []) ∷ sent_two) w A (TokenAcked (token 0 0)) → ⊥
+  pub twice : May (took (max_data 6 ∷ []) ∷ took (max_data 6 ∷ []) ∷ sent_two) w A (TokenAcked (token 0 0)) → ⊥
   -- where they found no memory
-  pub no_memory : TokenAcked (came_alone 0 (0 ∷ 1 ∷ []) (Err NoMemory) ∷ packet A text ∷ []) → ⊥
-  -- where the packet came and found none
-  pub not_processed : TokenAcked (came A 0 received.NoMemory ∷ packet A text ∷ []) → ⊥
-  -- of two packets once the first one landed, and the other wasn't made
-  pub half : (v w : World) (r : Result (Unit {0}) TokenFault) → WorldStep (came A 0 Done ∷ packet A text ∷ []) v (AckedToken A (record (token_of v.a 0) { number = 1 }) r) w → ⊥
-  -- nor once the frames of the first one came together with one of the other
-  pub half_joined : (v w : World) (r : Result (Unit {0}) TokenFault) → WorldStep (CameAlone A (part 0 0 ∷ part 0 1 ∷ part 1 0 ∷ []) (Ok Took) ∷ packet A text ∷ packet A text ∷ []) v (AckedToken A (record (token_of v.a 0) { number = 1 }) r) w → ⊥
-  -- one of another end isn't taken, and changes nothing
-  pub foreign : (h : History) (v w : World) (token : Token) → (token.epoch ≡ v.a.tuning.epoch → ⊥) → WorldStep h v (AckedToken A token (Ok tt)) w → ⊥
-  -- nor does the other end change
-  pub other : (h : History) (v w : World) (token : Token) (r : Result (Unit {0}) TokenFault) → WorldStep h v (AckedToken A token r) w → (w.b ≡ v.b → ⊥) → ⊥
-  -- though the packet landed once each of its frames was taken, in any order
-  pub each : HasLanded (came_alone 0 (0 ∷ []) (Ok Took) ∷ came_alone 0 (1 ∷ []) (Ok Took) ∷ packet A text ∷ []) A 0
-  -- be it that one of them changed nothing
-  pub unchanged : HasLanded (came_alone 0 (0 ∷ []) (Ok Unchanged) ∷ came_alone 0 (1 ∷ []) (Ok Took) ∷ packet A text ∷ []) A 0
-  -- or several together
-  pub together : HasLanded (came_alone 0 (1 ∷ 0 ∷ []) (Ok Took) ∷ packet A text ∷ []) A 0
-  -- or with those of another packet between them
-  pub joined : HasLanded (CameAlone A (part 1 0 ∷ part 0 1 ∷ part 1 1 ∷ part 0 0 ∷ []) (Ok Took) ∷ packet A text ∷ packet A text ∷ []) A 0
-  pub joined_later : HasLanded (CameAlone A (part 1 0 ∷ part 0 1 ∷ part 1 1 ∷ part 0 0 ∷ []) (Ok Took) ∷ packet A text ∷ packet A text ∷ []) A 1
-  -- or once it was processed
-  pub processed : HasLanded (came A 0 Done ∷ packet A text ∷ []) A 0
+  pub no_memory : May (record { end = B; call = TakeFrames (max_data 5 ∷ max_data 6 ∷ []); answer = Err faults.NoMemory } ∷ sent_two) w A (TokenAcked (token 0 0)) → ⊥
+  pub not_processed : May (record { end = B; call = Receive 0 two_frames; answer = Ok NoMemory } ∷ sent_two) w A (TokenAcked (token 0 0)) → ⊥
+  -- of two packets, once the frames of the first were taken
+  pub half : May (took (max_data 5 ∷ max_data 6 ∷ []) ∷ sent_two) w A (TokenAcked (token 0 1)) → ⊥
+  -- though it may be once each was, in any order, with others, together or apart
+  pub each : HasLanded (took (max_data 5 ∷ []) ∷ took (ping ∷ max_data 6 ∷ []) ∷ sent_two) A 0
+  -- or once the packet was processed, whatever plain frames came with it
+  pub processed : HasLanded (came_as (1 ∷ two_frames) ∷ sent_two) A 0
+  -- and a token of another epoch may be told: it isn't taken
+  pub foreign : May [] w A (TokenAcked (record { epoch = 1; first = 0; number = 0 }))
+
+-- Limits are taken in (`RaiseLimits`), an end is told of a close (`TellClosed`), and each step
+pub record OtherSteps (h : History) (v w : World) : Type 0 where
+  -- that the peer doesn't grant
+  pub ungranted : (p : PeerLimits) → (AreGranted p v.b.settings → ⊥) → May h v A (RaiseLimits p) → ⊥
+  pub ungranted_there : (p : PeerLimits) → (AreGranted p v.a.settings → ⊥) → May h v B (RaiseLimits p) → ⊥
+  -- an end may be told of a close at any time
+  pub told : (close : ToldClose) → May h v A (TellClosed close)
+  -- the other end changes, whatever the call
+  pub other_end : (call : Call) (answer : Answer call) → (w.b ≡ v.b → ⊥) → WorldStep h v (record { end = A; call = call; answer = answer }) w → ⊥
+  pub other_end_there : (call : Call) (answer : Answer call) → (w.a ≡ v.a → ⊥) → WorldStep h v (record { end = B; call = call; answer = answer }) w → ⊥
+  -- a number is claimed and stays unused, or isn't the next one
+  pub unused : (number : ℕ) → WorldStep h v (record { end = A; call = Claim; answer = Ok number }) w → w.a.next ≡ v.a.next → ⊥
+  pub not_next : WorldStep h v (record { end = A; call = Claim; answer = Ok (v.a.next + 1) }) w → ⊥
+  -- and a step is one of the end
+  pub no_answer : WorldStep h v (record { end = A; call = Accept; answer = Some 3 }) w → v.a.closed ≡ Some (ByPeer 0) → ⊥
+
+-- Of a packet with a DATA_BLOCKED, a STREAMS_BLOCKED and a STREAM_DATA_BLOCKED (RFC 9000, sections 19.12 to 19.14)
+abbrev pub blocked : List ℕ
+blocked = 0x14 ∷ 5 ∷ 0x16 ∷ 6 ∷ 0x15 ∷ 0 ∷ 7 ∷ []
+
+pub record BlockedFramesLand : Type 0 where
+  -- the last one has to land
+  pub all : HasLanded (packet A blocked ∷ []) A 0 → ⊥
+  -- and the first two needn't
+  pub one : HasLanded (at B (TakeFrame (stream_data_blocked 0 7)) (Ok Took) ∷ packet A blocked ∷ []) A 0
 
 -- two payloads differ in plain frames alone (RFC 9000, section 12.4), where the one has these frames and the other those
 abbrev pub Differ : List Seen → List Seen → Type 0
@@ -272,11 +228,15 @@ pub record OtherBytesCome : Type 0 where
   pub left_out : Differ (Plain true ∷ []) (Control (MaxData 5) ∷ []) → ⊥
   -- where another one stands there
   pub another : Differ (Control (MaxData 6) ∷ Plain true ∷ []) (Control (MaxData 5) ∷ []) → ⊥
+  -- where they stand in another order
+  pub turned : Differ (Control (MaxData 6) ∷ Control (MaxData 5) ∷ []) (Control (MaxData 5) ∷ Control (MaxData 6) ∷ []) → ⊥
   -- where one has a fault, as an empty payload has
   pub fault : (text other : List ℕ) (f : WireFault) → (reading_of text).fault ≡ Some f → DifferInPlain text other → ⊥
   pub fault_other : (text other : List ℕ) (f : WireFault) → (reading_of other).fault ≡ Some f → DifferInPlain text other → ⊥
-  -- though a PING may stand behind a MAX_DATA
+  -- though a PING may stand behind a MAX_DATA, in front of it and between two
   pub behind : DifferInPlain (0x10 ∷ 5 ∷ 1 ∷ []) (0x10 ∷ 5 ∷ [])
+  pub front : DifferInPlain (1 ∷ 0x10 ∷ 5 ∷ []) (0x10 ∷ 5 ∷ [])
+  pub between : DifferInPlain (0x10 ∷ 5 ∷ 1 ∷ 0x10 ∷ 6 ∷ []) (0x10 ∷ 5 ∷ 0x10 ∷ 6 ∷ [])
   -- and PADDING in the place of a PING
   pub in_place : DifferInPlain (0 ∷ []) ping_text
 
@@ -302,16 +262,17 @@ pub record NoneBegin : Type 0 where
   pub made : (w : World) → Begins standard standard w → w.a.next ≡ 1 → ⊥
 
 pub record Exclusions : Type 0 where
-  pub prefix : (bytes other none : Vec ℕ) → bytes.items ≡ abc → other.items ≡ 97 ∷ 120 ∷ [] → ReadIsNoPrefix bytes other none
-  pub whole : (bytes : Vec ℕ) → bytes.items ≡ abc → WholeIsMissing bytes
+  pub prefix : ReadIsNoPrefix (97 ∷ 120 ∷ [])
+  pub whole : WholeIsMissing
   pub final_sizes : SizesDiffer
   pub worlds : WorldsDiffer
   pub news : NewsIsNotOld
-  pub repeats : (bytes text none : Vec ℕ) → RepeatsSpend bytes text none
-  pub steps : (bytes text none : Vec ℕ) → NothingHappens bytes text none
-  pub others : (bytes text none : Vec ℕ) → NothingElseHappens bytes text none
-  pub frames : (text : Vec ℕ) → text.items ≡ two_frames → NoFrameComes text
-  pub tokens : (text : Vec ℕ) → text.items ≡ two_frames → NotYetLanded text
+  pub spent : (text : List ℕ) → StepsSpend text
+  pub payloads : (w : World) → PayloadsThatCome w
+  pub frames : (w : World) → FramesThatCome w
+  pub tokens : (w : World) (epoch : w.a.tuning.epoch ≡ 0) → TokensThatAreAcked w epoch
+  pub blocked : BlockedFramesLand
+  pub others : (h : History) (v w : World) → OtherSteps h v w
   pub bytes : OtherBytesCome
   pub limits : LimitsAreAbove
   pub begins : NoneBegin

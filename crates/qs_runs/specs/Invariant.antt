@@ -21,18 +21,18 @@ use Rattle.qs_machine.specs.Standing.{IsSound}
 use Rattle.qs_machine.specs.Repeats.{SentWasWritten}
 use Rattle.qs_machine.specs.Seen.{Seen, Ack, Stream, Control, Close, Plain}
 use Rattle.qs_machine.specs.FrameStep.{is_named}
+use Rattle.qs_machine.specs.Alone.{is_ours}
 use Rattle.qs_send.specs.Records.{Among}
 use Rattle.qs_wire.specs.Grammar.{Fits, frames_of}
 use Rattle.qs_wire.specs.Reading.{reading_of}
 use Rattle.qs_calls.specs.declared.settings.Settings.{Settings}
 use Rattle.qs_calls.specs.declared.settings.PeerLimits.{PeerLimits}
-use Rattle.qs_calls.specs.declared.closing.Closed.{Closed}
 use Rattle.qs_wire.specs.declared.stream_id.Role.TheVariants.{Client, Server}
 use Rattle.qs_calls.specs.declared.event.Side.{Side}
 use Rattle.qs_calls.specs.declared.event.Side.TheVariants.{A, B}
-use Rattle.qs_runs.specs.Logs.{History, other, made, was_acked, HasLanded}
+use Rattle.qs_runs.specs.Logs.{History, other, made, processed, taken, was_acked, was_told_closed, HasMade, HasLanded}
 use Rattle.qs_runs.specs.Worlds.{World, end_of, AreGranted}
-use Rattle.qs_runs.specs.Pasts.{Packets, Past, past, Holds, Tells, TellsOffset, TellsByte, TellsEnd, TellsReset, WasConfirmed, EachTaken, PieceOf, IsNamed}
+use Rattle.qs_runs.specs.Pasts.{Packets, Past, past, Holds, Tells, TellsOffset, TellsByte, TellsEnd, TellsReset, WasConfirmed, PieceOf, IsNamed}
 
 -- Sending
 
@@ -152,9 +152,9 @@ pub record PacketsTrue (mine : Packets) (processed : ℕ → Bool) (next : ℕ) 
 abbrev pub PacketsOk : Past → ℕ → Records → Records → NumberSet → ℕ → Type 0
 PacketsOk p = PacketsTrue p.mine p.processed
 
--- Each frame of a processed packet, or taken without its packet, took effect, for good.
+-- Each frame that was taken took effect, for good.
 abbrev pub TakenOk : Past → Tables RecvLane → Type 0
-TakenOk p t = EachTaken p.theirs p.processed p.took (FrameTaken t)
+TakenOk p t = AllByRecursion (FrameTaken t) p.taken
 
 -- The connection
 
@@ -211,11 +211,10 @@ pub record Standing : Type 0 where
   pub role : Role
   pub settings : Settings
   pub peer : PeerLimits
-  pub closed : Option Closed
 
--- what no call of an end changes but a closing: its role, its settings, what it was told of its peer's, and that it is open
+-- what no call of an end changes: its role, its settings, and what it was told of its peer's
 abbrev pub standing : End → Standing
-standing e = record { role = e.role; settings = e.settings; peer = e.peer; closed = e.closed }
+standing e = record { role = e.role; settings = e.settings; peer = e.peer }
 
 abbrev pub role_of : Side → Role
 role_of A = Client
@@ -225,16 +224,18 @@ abbrev pub settings_of : Settings → Settings → Side → Settings
 settings_of a b A = a
 settings_of a b B = b
 
--- an end from the first to the last, with the limits that it was told: open
+-- an end from the first to the last, with the limits that it was told
 abbrev pub stands_as : Settings → Settings → Side → PeerLimits → Standing
-stands_as a b s told = record { role = role_of s; settings = settings_of a b s; peer = told; closed = None }
+stands_as a b s told = record { role = role_of s; settings = settings_of a b s; peer = told }
 
 -- a payload is read to its end, as frames that have a text
 abbrev pub HasNoFault : List ℕ → Type 0
 HasNoFault text = ((reading_of text).fault ≡ None) × AllByRecursion Fits (frames_of (reading_of text).left)
 
 -- The invariant of a world: that of each end, about what it lived through; each end is sound, and what it sent was written; the limits
--- that it was told are granted; each payload that was made has no fault; and what it was told by a token landed at the other.
+-- that it was told are granted; each payload that was made has no fault; each frame of streams and flow control that was taken was made
+-- by the other, and each packet that was processed landed, as did each that it was told of by a token; and an end closes only where it is
+-- told to.
 pub record WorldOk (a b : Settings) (h : History) (w : World) : Type 0 where
   pub ends : (s : Side) → EndOk (past s h) (end_of w s)
   pub counts : (s : Side) → CountsOk (past s h) (end_of w s)
@@ -243,4 +244,7 @@ pub record WorldOk (a b : Settings) (h : History) (w : World) : Type 0 where
   pub stand : (s : Side) → standing (end_of w s) ≡ stands_as a b s (end_of w s).peer
   pub peers : (s : Side) → AreGranted (end_of w s).peer (settings_of a b (other s))
   pub texts : (s : Side) → AllByRecursion HasNoFault (made s h)
+  pub taken : (s : Side) (f : Seen) → Among f (taken s h) → is_ours f ≡ true → HasMade h (other s) f
+  pub landed : (s : Side) (k : ℕ) → processed (other s) k h ≡ true → HasLanded h s k
   pub confirmed : (s : Side) (k : ℕ) → was_acked s k h ≡ true → HasLanded h s k
+  pub unclosed : (s : Side) → was_told_closed s h ≡ false → (end_of w s).closed ≡ None

@@ -3,8 +3,9 @@
 use Rattle.std.specs.Prelude.{ℕ, [], ◌∷◌}
 use Rattle.qs_calls.specs.declared.settings.Settings.{Settings}
 use Rattle.qs_calls.specs.declared.event.Side.{Side}
-use Rattle.qs_runs.specs.Logs.{Happening, History, Log, happened}
-use Rattle.qs_runs.specs.Worlds.{World, Begins, WorldStep, Run, EventRun}
+use Rattle.qs_runs.specs.Logs.{Happening, History}
+use Rattle.qs_runs.specs.Worlds.{World, Begins, WorldStep, Run}
+use Rattle.qs_runs.specs.Events.{Log, happened, EventRun}
 use Rattle.qs_runs.specs.Agree.{PrefixAgrees, CreditAgrees, WholeAgrees, FinalSizesAgree, StaysOpen, StepAgrees}
 use Rattle.qs_runs.specs.Invariant.{WorldOk}
 use Rattle.qs_runs.specs.Clauses.{PiecesAreWritten, ReceivedIsBelowSent, StoredIsWritten, ReadIsWritten, ArrivedWasTaken, ArrivedResetWasTaken, AckedHasArrived, FinalSizeIsDeclared, AllKeepWhatTheyKnow, ResetCodeIsTheSenders, SentIsWithinKnown, KnownIsWithinGranted, IsOpenAtInitiator, OpenedIsBelowKnown}
@@ -94,5 +95,6 @@ ReceivedIsWhole = InEachWorld (λ h w. (s : Side) (n : ℕ) → WholeAgrees h w 
 abbrev pub FinalSizesAlwaysAgree : Type 0
 FinalSizesAlwaysAgree = InEachWorld (λ h w. (s : Side) (n : ℕ) → FinalSizesAgree w s n)
 
+-- no end closes that wasn't told to
 abbrev pub NoEndCloses : Type 0
-NoEndCloses = InEachWorld (λ h w. (s : Side) → StaysOpen w s)
+NoEndCloses = InEachWorld (λ h w. (s : Side) → StaysOpen h w s)

@@ -1,4 +1,5 @@
 pub mod Worlds
+pub mod Events
 pub mod Logs
 pub mod Agree
 pub mod Pasts

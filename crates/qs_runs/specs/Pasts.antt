@@ -1,19 +1,16 @@
 -- Of laws.
 -- What one end lived through, and what the packets of an end tell.
-use Rattle.std.specs.Prelude.{◌≡◌, ℕ, ◌+◌, ◌-◌, ◌%◌, ◌<◌, ◌≤◌, Bool, true, List, [], ◌∷◌, ◌++◌, map, length, ◌⊎◌, Some, slice_get}
-use Rattle.std.specs.List.{AllByRecursion}
+use Rattle.std.specs.Prelude.{◌≡◌, ℕ, ◌+◌, ◌-◌, ◌%◌, ◌<◌, ◌≤◌, Bool, true, List, map, flat_map, length, ◌⊎◌, Some, slice_get}
+use Rattle.std.specs.List.{list_any}
 use Rattle.qs_send.specs.declared.piece.Item.TheVariants.{MaxStreamData, ResetStream, StopSending, StreamDataBlocked}
 use Rattle.qs_send.specs.declared.piece.Piece.{Piece}
 use Rattle.qs_send.specs.declared.piece.Piece.TheVariants.{Data, Told}
 use Rattle.qs_machine.specs.Seen.{Seen, Ack, Stream, Control}
 use Rattle.qs_machine.specs.FrameStep.{is_named}
-use Rattle.qs_machine.specs.Alone.{is_ours}
 use Rattle.qs_send.specs.Records.{Among}
 use Rattle.qs_calls.specs.declared.event.Side.{Side}
-use Rattle.qs_calls.specs.declared.event.Act.{Act}
-use Rattle.qs_calls.specs.declared.answer.Answer.{Answer}
-use Rattle.qs_runs.specs.Logs.{History, other, own_calls, processed, took, was_acked, wrote, gave, made_by, made_now, stopped_in, ended_in}
-use Rattle.qs_runs.specs.Agree.{frames_in}
+use Rattle.qs_machine.specs.Plains.{frames_in}
+use Rattle.qs_runs.specs.Logs.{must_land, History, Effect, other, effects, wrote_in, gave_in, stops_in, ends_first, sent_in, comes_in, took_in, acks_in}
 
 -- the frames of the packets of an end, by packet number
 abbrev pub Packets : Type 0
@@ -21,7 +18,7 @@ Packets = List (List Seen)
 
 -- What one end lived through: the packets that it made and that its peer made; the bytes that were written to it and read from it on
 -- each stream; whether `stop` was called of a stream, and whether `read` answered End before that; which packets it processed; which
--- frames it took without their packet, by packet and place; and of which packets it was told by a token that they were acknowledged.
+-- frames it took, with their packets or without them; and of which packets it was told by a token that they were acknowledged.
 pub record Past : Type 0 where
   pub mine : Packets
   pub theirs : Packets
@@ -30,7 +27,7 @@ pub record Past : Type 0 where
   pub stopped : ℕ → Bool
   pub ended : ℕ → Bool
   pub processed : ℕ → Bool
-  pub took : ℕ → ℕ → Bool
+  pub taken : List Seen
   pub tokens : ℕ → Bool
 
 -- packet k has the frame
@@ -65,19 +62,9 @@ TellsAck packets k = (largest : ℕ) × (ranges : List (ℕ × ℕ)) × Tells pa
 abbrev pub WasConfirmed : Packets → (tokens : ℕ → Bool) → ℕ → Type 0
 WasConfirmed packets tokens k = TellsAck packets k ⊎ (tokens k ≡ true)
 
--- frame i of packet k
-abbrev pub HoldsAt : Packets → (k i : ℕ) → Seen → Type 0
-HoldsAt packets k i f = (fs : List Seen) × (slice_get packets k ≡ Some fs) × (slice_get fs i ≡ Some f)
-
--- Each frame of a processed packet has P, and so has each that was taken without its packet.
-pub record EachTaken (theirs : Packets) (processed : ℕ → Bool) (took : ℕ → ℕ → Bool) (P : Seen → Type 0) : Type 0 where
-  pub packets : (k : ℕ) → processed k ≡ true → (fs : List Seen) × (slice_get theirs k ≡ Some fs) × AllByRecursion P fs
-  pub frames : (k i : ℕ) → took k i ≡ true → (f : Seen) × HoldsAt theirs k i f × P f
-
--- packet k landed: it was processed, or each frame of it that can be taken without it was
-abbrev pub Landed : (theirs : Packets) (processed : ℕ → Bool) (took : ℕ → ℕ → Bool) → ℕ → Type 0
-Landed theirs processed took k =
-    (processed k ≡ true) ⊎ ((fs : List Seen) × (slice_get theirs k ≡ Some fs) × ((i : ℕ) (f : Seen) → slice_get fs i ≡ Some f → is_ours f ≡ true → took k i ≡ true))
+-- each frame of packet k that has to land was taken
+abbrev pub Landed : (theirs : Packets) (taken : List Seen) → ℕ → Type 0
+Landed theirs taken k = (fs : List Seen) × (slice_get theirs k ≡ Some fs) × ((f : Seen) → Among f fs → must_land f ≡ true → Among f taken)
 
 -- the piece stood in packet k
 abbrev pub PieceOf : Packets → ℕ → Piece → Type 0
@@ -99,29 +86,25 @@ IsNamed packets n = (f : Seen) × (m : ℕ) × Tells packets f × Names f m × (
 
 -- Histories
 
--- the frames of the payloads that a call made
-abbrev pub seen_by : Act → Answer → Packets
-seen_by act answer = map frames_in (made_by act answer)
+-- the frames of the payloads that went out of one end, in order
+abbrev pub packets_in : List Effect → Packets
+packets_in xs = map frames_in (flat_map sent_in xs)
 
--- the frames of the payloads that one end made, in order
-unfoldable pub packets_of : Side → History → Packets
-packets_of s [] = []
-packets_of s (x ∷ h) = packets_of s h ++ map frames_in (made_now s x)
-
-abbrev pub past_of : List (Act × Answer) → (mine theirs : Packets) → (processed : ℕ → Bool) (took : ℕ → ℕ → Bool) (tokens : ℕ → Bool) → Past
-past_of calls mine theirs done alone told =
+-- what one end lived through, by what was done there and at its peer
+abbrev pub past_of : (mine theirs : List Effect) → Past
+past_of xs ys =
     record {
-      mine = mine;
-      theirs = theirs;
-      bytes = λ n. wrote n calls;
-      gave = λ n. gave n calls;
-      stopped = λ n. stopped_in n calls;
-      ended = λ n. ended_in n calls;
-      processed = done;
-      took = alone;
-      tokens = told;
+      mine = packets_in xs;
+      theirs = packets_in ys;
+      bytes = λ n. flat_map (wrote_in n) xs;
+      gave = λ n. flat_map (gave_in n) xs;
+      stopped = λ n. list_any (stops_in n) xs;
+      ended = λ n. ends_first n xs;
+      processed = λ k. list_any (comes_in k) xs;
+      taken = flat_map took_in xs;
+      tokens = λ k. list_any (acks_in k) xs;
     }
 
--- what one end lived through, as the history tells
+-- as the history tells
 abbrev pub past : Side → History → Past
-past s h = past_of (own_calls s h) (packets_of s h) (packets_of (other s) h) (λ k. processed s k h) (λ k i. took s k i h) (λ k. was_acked s k h)
+past s h = past_of (effects s h) (effects (other s) h)

@@ -17,7 +17,7 @@ pub fn steps_keep_invariant()
     ensures { StepsKeepInvariant }
 {}
 
-/// Every run of events alone, of ends that were told the true limits, is a run.
+/// Every run of events alone, of ends that were told the true limits, is a run of the calls that they are.
 pub fn event_runs_are_runs()
     ensures { EventRunsAreRuns }
 {}
@@ -97,7 +97,7 @@ pub fn spent_is_below_sent()
     ensures { SpentIsBelowSent }
 {}
 
-/// A packet that was processed leaves an end as it was, and one that tells nothing new spends no credit.
+/// A packet that was processed leaves an end as it was, and a call that hands in nothing new spends no credit.
 pub fn repeats_spend_nothing()
     ensures { RepeatsSpendNothing }
 {}
@@ -112,7 +112,7 @@ pub fn final_sizes_agree()
     ensures { FinalSizesAlwaysAgree }
 {}
 
-/// Neither end closes, and neither sees its peer close.
+/// No end closes, or sees its peer close, that wasn't told of a close.
 pub fn no_end_closes()
     ensures { NoEndCloses }
 {}
@@ -122,18 +122,18 @@ pub fn every_run_agrees()
     ensures { EveryRunAgrees }
 {}
 
-/// The packet of a number that the layer beneath claimed is a PING, and one that comes, or plain frames in its place, changes nothing at
-/// the peer but which numbers it keeps, from which one on, and whether an ACK is due.
+/// The packet of a number that the layer beneath claimed is a PING, and what comes under it, be it the PING or plain frames in its place,
+/// changes nothing at an open peer but which numbers it keeps, from which one on, and whether an ACK is due.
 pub fn claims_tell_nothing()
     ensures { ClaimsAlwaysTellNothing }
 {}
 
-/// What was written, read, made and processed, read off small logs.
+/// What was written, read, made, processed and taken, read off small histories; and a PING may come alone.
 pub fn examples()
     ensures { Examples }
 {}
 
-/// Small histories and worlds that don't agree, clause by clause.
+/// Small histories and worlds that don't agree, clause by clause; and what may happen, and what may not, row by row.
 pub fn exclusions()
     ensures { Exclusions }
 {}

@@ -20,7 +20,7 @@ use Rattle.qs_calls.specs.declared.answer.Answer.{Answer}
 use Rattle.qs_calls.specs.declared.answer.Answer.TheVariants as answers
 use Rattle.qs_runs.specs.Logs.{History, Log, happened, made, made_by, payload, same_side}
 use Rattle.qs_runs.specs.Worlds.{World, end_of, EventStep}
-use Rattle.qs_runs.specs.Agree.{frames_in}
+use Rattle.qs_machine.specs.Plains.{frames_in}
 use Rattle.qs_runs.proofs.Histories.{seen_made}
 use Rattle.qs_runs.proofs.Lists.{slice_get-last}
 use Rattle.qs_world.specs.Plays.{AgreeingRun, Played, HasAgreed}
