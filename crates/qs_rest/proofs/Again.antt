@@ -4,7 +4,6 @@ use Rattle.std.proofs.lemmas.Option.{none-some}
 use Rattle.std.proofs.lemmas.Bool.{false≢true, cond_both, eq-eqb, and_from}
 use Rattle.std.specs.List.{AllByRecursion}
 use Rattle.qs_wire.specs.Layout.{FrameValue}
-use Rattle.qs_wire.specs.Grammar.{Fits}
 use Rattle.qs_wire.specs.declared.stream_id.Dir.TheVariants.{Bidi}
 use Rattle.qs_recv.specs.Lane.{RecvLane, raise}
 use Rattle.qs_send.specs.Lane.{SendLane, reset_lane, reset_refusal, unacked_from, is_whole, stop_taken, broken_off, first_code}
@@ -19,7 +18,7 @@ use Rattle.qs_machine.specs.Seen.{Seen, Ack, Stream, Control, Close, Plain, seen
 use Rattle.qs_machine.specs.Verdicts.{verdict, state_fault_in}
 use Rattle.qs_machine.specs.FrameStep.{frame_taken}
 use Rattle.qs_machine.specs.Receiving.{GoesOn}
-use Rattle.qs_machine.specs.Alone.{is_ours, TakesOne, TakesEach, after_one}
+use Rattle.qs_machine.specs.Alone.{is_ours, MayTake, TakesOne, TakesEach, after_one}
 use Rattle.qs_machine.specs.Standing.{IsSound, IsInCredit}
 use Rattle.qs_machine.specs.Repeats.{SentWasWritten}
 use Rattle.qs_machine.specs.EndStep.{Call, Answer, EndStep}
@@ -33,7 +32,8 @@ use Rattle.qs_runs.specs.Pasts.{Past}
 use Rattle.qs_runs.specs.Invariant.{EndOk, SendOk, SendSlot}
 use Rattle.qs_runs.proofs.Taking.{or_else_none}
 use Rattle.qs_runs.proofs.Changes.{acked_written}
-use Rattle.qs_runs.proofs.Receives.{all_came, later_came, none_asked, took_effect}
+use Rattle.qs_runs.proofs.Receives.{none_asked, took_effect}
+use Rattle.qs_rest.proofs.Effects.{later_told}
 use Rattle.qs_rest.specs.Invariant.{IsAllAcked, IsStopTaken, ItemTaken}
 use Rattle.qs_rest.proofs.Streams.{missing_is}
 
@@ -168,7 +168,7 @@ module _ (p : Past) (e : End) (ok : EndOk p e) where
 
 -- Frames without their packet
 
-others_still : (e : End) (g : Seen) → is_ours g ≡ false → StillDone e g
+pub others_still : (e : End) (g : Seen) → is_ours g ≡ false → StillDone e g
 others_still e (Stream n offset bytes fin) other = absurd (false≢true (sym other))
 others_still e (Control i) other = absurd (false≢true (sym other))
 others_still e _ other = tt
@@ -178,37 +178,46 @@ goes_on e (Stream n offset bytes fin) ours fine = fine
 goes_on e (Control i) ours fine = fine
 goes_on e _ ours fine = absurd (false≢true ours)
 
+-- one that took effect
+pub one_still : (f : FrameValue) (e : End) (one : Taken) (new : End) → IsSound e → SentWasWritten e → is_ours (seen f) ≡ true → TakesOne e f (Ok one) new → IsAfter e new × IsSound new × SentWasWritten new × StillDone new (seen f)
+one_still f e one new sound sent ours takes =
+    let (may, after) = took_effect e f one new takes in
+    let g : Seen = seen f in
+    let go : GoesOn e g = goes_on e g ours may.1 in
+    let left = one_left g e go sound sent in
+    subst (λ x. IsAfter e x × IsSound x × SentWasWritten x × StillDone x g) (sym after) (left.after, left.sound, left.sent, done_still (frame_taken g e) g (frame_done g e go sound.0 sent))
+
 -- those that all took effect
-pub each_still : (fs : List FrameValue) (e : End) (result : Result Taken TakeFault) (new : End) → IsSound e → SentWasWritten e → TakesEach fs e result new → all_came result ≡ true → IsAfter e new × AllByRecursion (StillDone new) (seen_all fs)
-each_still [] e result new sound sent h came = (subst (IsAfter e) (sym h.1) (after_same e), tt)
-each_still (f ∷ fs) e result new sound sent h came = by (is_ours (seen f)) refl h (λ mid r now was takes all. each_still fs mid r new now was takes all)
+pub each_still : (fs : List FrameValue) (e : End) (result : Result Taken TakeFault) (new : End) → IsSound e → SentWasWritten e → TakesEach fs e result new → (told : Taken) → result ≡ Ok told → IsAfter e new × AllByRecursion (StillDone new) (seen_all fs)
+each_still [] e result new sound sent h told came = (subst (IsAfter e) (sym h.1) (after_same e), tt)
+each_still (f ∷ fs) e result new sound sent h told came = by (is_ours (seen f)) refl h (λ mid r now was takes all is. each_still fs mid r new now was takes all is)
   where
     by : (b : Bool) → is_ours (seen f) ≡ b → MatchBool b (((mid : End) × (one : Taken) × (later : Result Taken TakeFault) × TakesOne e f (Ok one) mid × TakesEach fs mid later new × (result ≡ after_one one later)) ⊎ ((fault : TakeFault) × TakesOne e f (Err fault) new × (result ≡ Err fault))) (TakesEach fs e result new)
-        → ((mid : End) (r : Result Taken TakeFault) → IsSound mid → SentWasWritten mid → TakesEach fs mid r new → all_came r ≡ true → IsAfter mid new × AllByRecursion (StillDone new) (seen_all fs)) → IsAfter e new × AllByRecursion (StillDone new) (seen f ∷ seen_all fs)
+        → ((mid : End) (r : Result Taken TakeFault) → IsSound mid → SentWasWritten mid → TakesEach fs mid r new → (all : Taken) → r ≡ Ok all → IsAfter mid new × AllByRecursion (StillDone new) (seen_all fs)) → IsAfter e new × AllByRecursion (StillDone new) (seen f ∷ seen_all fs)
     by true ours (inl (mid, one, later, takes, more, is)) goes =
-        let (may, after) = took_effect e f one mid takes in
-        let g : Seen = seen f in
-        let next : End = frame_taken g e in
-        let go : GoesOn e g = goes_on e g ours may.1 in
-        let left = one_left g e go sound sent in
-        let rest = goes next later left.sound left.sent (subst (λ x. TakesEach fs x later new) after more) (later_came one later (sym (ap all_came is) ∙ came)) in
-        (after_twice e next new left.after rest.0, (after_still next new rest.0 g (done_still next g (frame_done g e go sound.0 sent)), rest.1))
-    by true ours (inr (fault, one, is)) goes = absurd (false≢true (sym (ap all_came is) ∙ came))
-    by false other more goes = (let rest = goes e result sound sent more came in (rest.0, (others_still new (seen f) other, rest.1)))
+        let (after, now, was, done) = one_still f e one mid sound sent ours takes in
+        let (last, at) = later_told one told later (sym is ∙ came) in
+        let rest = goes mid later now was more last at in
+        (after_twice e mid new after rest.0, (after_still mid new rest.0 (seen f) done, rest.1))
+    by true ours (inr (fault, one, is)) goes = absurd (cc (sym is ∙ came))
+    by false other more goes = (let rest = goes e result sound sent more told came in (rest.0, (others_still new (seen f) other, rest.1)))
 
 -- and those that change nothing when they come again
-pub each_again : (fs : List FrameValue) (e : End) (result : Result Taken TakeFault) (new : End) → AllByRecursion Fits fs → AllByRecursion (λ g. verdict e g ≡ None) (seen_all fs) → AllByRecursion (λ g. is_ours g ≡ true → frame_taken g e ≡ e) (seen_all fs) → TakesEach fs e result new → new ≡ e
-each_again [] e result new fit fine again h = h.1
-each_again (f ∷ fs) e result new fit fine again h = by (is_ours (seen f)) refl h (λ r takes. each_again fs e r new fit.1 fine.1 again.1 takes)
+abbrev pub TakesNothing : End → FrameValue → Type 0
+TakesNothing e f = is_ours (seen f) ≡ true → MayTake e f × (frame_taken (seen f) e ≡ e)
+
+pub each_again : (fs : List FrameValue) (e : End) (result : Result Taken TakeFault) (new : End) → AllByRecursion (TakesNothing e) fs → TakesEach fs e result new → new ≡ e
+each_again [] e result new again h = h.1
+each_again (f ∷ fs) e result new again h = by (is_ours (seen f)) refl h (λ r takes. each_again fs e r new again.1 takes)
   where
     by : (b : Bool) → is_ours (seen f) ≡ b → MatchBool b (((mid : End) × (one : Taken) × (later : Result Taken TakeFault) × TakesOne e f (Ok one) mid × TakesEach fs mid later new × (result ≡ after_one one later)) ⊎ ((fault : TakeFault) × TakesOne e f (Err fault) new × (result ≡ Err fault))) (TakesEach fs e result new)
         → ((r : Result Taken TakeFault) → TakesEach fs e r new → new ≡ e) → new ≡ e
-    by true ours (inl (mid, one, later, takes, more, is)) goes = goes later (subst (λ x. TakesEach fs x later new) ((took_effect e f one mid takes).1 ∙ again.0 ours) more)
+    by true ours (inl (mid, one, later, takes, more, is)) goes = goes later (subst (λ x. TakesEach fs x later new) ((took_effect e f one mid takes).1 ∙ (again.0 ours).1) more)
     by true ours (inr (faults.NoMemory, one, is)) goes = none_asked e new (seen f) ours one.1
     by true ours (inr (faults.Closing closing, one, is)) goes =
         elim one.0 [
-          | inl no_text ↦ absurd (no_text.0 fit.0)
-          | inr (fits, faulty) ↦ absurd (none-some closing.code (sym fine.0 ∙ faulty))
+          | inl no_text ↦ absurd (no_text.0 (again.0 ours).0.0)
+          | inr (fits, faulty) ↦ absurd (none-some closing.code (sym (again.0 ours).0.1 ∙ faulty))
         ]
     by true ours (inr (faults.PeerClosed code, one, is)) goes = absurd one
     by false other more goes = goes result more

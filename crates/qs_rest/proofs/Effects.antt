@@ -1,5 +1,5 @@
 -- What came of the peer took effect, for good: an item, a payload, and frames alone.
-use Rattle.std.proofs.Common.{◌≡◌, ℕ, ◌≤◌, Bool, true, false, not, ◌&&◌, ◌||◌, ◌==◌, ◌⊎◌, List, [], ◌∷◌, Option, Some, None, is_some, is_none, refl, sym, ap, ◌∙◌, subst, arith, inl, inr, ◌++◌, take, Result, Ok, Err, slice_get, append-nil, append_assoc, MatchBool}
+use Rattle.std.proofs.Common.{◌≡◌, ℕ, ◌≤◌, Bool, true, false, not, ◌&&◌, ◌||◌, ◌==◌, ◌⊎◌, List, [], ◌∷◌, Option, Some, None, is_some, is_none, refl, sym, ap, ◌∙◌, subst, arith, inl, inr, ◌++◌, take, Result, Ok, Err, append-nil, append_assoc, MatchBool}
 use Rattle.std.specs.Prelude.{cond}
 use Rattle.std.proofs.lemmas.Option.{none-some}
 use Rattle.std.proofs.lemmas.Bool.{and_parts, or_cases, eqb-true, true≢false, false≢true}
@@ -25,7 +25,7 @@ use Rattle.qs_machine.proofs.EndsAfter.{after_opened, has_code}
 use Rattle.qs_runs.specs.Pasts.{Past, Tells}
 use Rattle.qs_runs.specs.Invariant.{EndOk, SendOk, SendSlot}
 use Rattle.qs_runs.proofs.Changes.{before-missing, Grows, AllGrow, all_grow_refl, grow_trans, each_grows, raise_grows}
-use Rattle.qs_runs.proofs.Frames.{named_by, opened_ok, new_sends, Effect, frame_keeps}
+use Rattle.qs_runs.proofs.Frames.{named_by, opened_ok, new_sends, Effect, MayCome, frame_keeps, come_keeps}
 use Rattle.qs_rest.specs.Invariant.{IsAllAcked, IsStopTaken, ItemTaken, AckedTrue}
 use Rattle.qs_rest.proofs.Halves.{Lasts}
 use Rattle.qs_wire.specs.Layout.{PlacedValue, FrameValue}
@@ -34,23 +34,22 @@ use Rattle.qs_wire.specs.declared.fault.WireFault.{WireFault}
 use Rattle.qs_calls.specs.declared.closing.Closing.{Closing}
 use Rattle.qs_calls.specs.declared.closing.Received.{Received}
 use Rattle.qs_calls.specs.declared.closing.Received.TheVariants.{Done, PeerClosed, NoMemory}
-use Rattle.qs_calls.specs.declared.answer.Answer.TheVariants as answers
+use Rattle.qs_calls.specs.declared.closing.Closed.{Closed}
+use Rattle.qs_calls.specs.declared.token.Taken.TheVariants.{Took, Unchanged, NotOurs}
 use Rattle.qs_machine.specs.Credit.{settle}
 use Rattle.qs_machine.specs.Recording.{recorded}
 use Rattle.qs_machine.specs.Receiving.{Takes, Stops, AtEnd}
 use Rattle.qs_machine.proofs.EveryCall.{no_fault_there}
-use Rattle.qs_runs.specs.Logs.{is_done, is_taken}
 use Rattle.qs_runs.proofs.Lists.{Among_right}
-use Rattle.qs_runs.proofs.Acking.{named_pieces_ok}
+use Rattle.qs_runs.proofs.Acking.{WasAcked, named_pieces_ok}
 use Rattle.qs_machine.proofs.Leaves.{stops_leave}
 use Rattle.qs_rest.proofs.Moves.{Moved, moved_same, moved_twice, frame_moved, acks_moved, AllTrue}
 use Rattle.qs_send.specs.Records.{Among}
 use Rattle.qs_calls.specs.declared.token.Taken.{Taken}
 use Rattle.qs_calls.specs.declared.token.TakeFault.{TakeFault}
 use Rattle.qs_calls.specs.declared.token.TakeFault.TheVariants as faults
-use Rattle.qs_machine.specs.Alone.{is_ours, TakesOne, TakesEach, after_one}
-use Rattle.qs_runs.specs.Worlds.{HandedIn}
-use Rattle.qs_runs.proofs.Receives.{handed, all_came, taken_came, later_came, none_asked, took_effect}
+use Rattle.qs_machine.specs.Alone.{is_ours, TakesOne, TakesEach, TakeBy, TakeAllBy, after_one}
+use Rattle.qs_runs.proofs.Receives.{none_asked, took_effect}
 use Rattle.qs_machine.proofs.Pieces.{All_append, All_take, All_more}
 
 -- A control item of a packet that was processed took effect, for good.
@@ -185,10 +184,20 @@ module _ (p : Past) (e : End) (ok : EndOk p e) where
       )
   item_done i t fine h = tt
 
-  pub frame_done : (f : Seen) → Tells p.theirs f → verdict e f ≡ None → ItemTaken (frame_taken f e) f
+  pub frame_done : (f : Seen) → MayCome p.theirs f → verdict e f ≡ None → ItemTaken (frame_taken f e) f
   unfolding verdict frame_taken
-  frame_done (Control i) t fine = item_done i t fine (frame_keeps p e (Control i) ok t fine)
+  frame_done (Control i) (inl t) fine = item_done i t fine (frame_keeps p e (Control i) ok t fine)
+  frame_done (Control i) (inr plain) fine = absurd (false≢true plain)
   frame_done f t fine = tt
+
+  -- the pieces that an ACK takes were confirmed
+  acked_pieces : (largest : ℕ) (ranges : List (ℕ × ℕ)) → MayCome p.theirs (Ack largest ranges) → AllByRecursion (WasAcked p) (named e ranges)
+  acked_pieces largest ranges (inl t) = named_pieces_ok p e ok ranges (λ j a. inl (largest, ranges, t, a))
+  acked_pieces largest ranges (inr plain) = absurd (false≢true plain)
+
+  -- what a frame leaves of the sending side
+  goes_moved : (f : Seen) → MayCome p.theirs f → AllTrue p e → AckedTrue p e.acked → Moved p e (frame_taken f e)
+  goes_moved f t halves acked = frame_moved p f e (λ largest ranges same. acked_pieces largest ranges (subst (MayCome p.theirs) same t)) halves acked
 
 -- What a payload of the peer leaves: its items took effect.
 
@@ -196,12 +205,12 @@ module _ (p : Past) (e : End) (ok : EndOk p e) where
 pub record After (p : Past) (all : List Seen) (old : End) (result : Result Received Closing) (new : End) : Type 0 where
   pub moved : Moved p old new
   pub grow : AllGrow old.recvs new.recvs
-  pub done : is_done (answers.Deliver result) ≡ true → AllByRecursion (ItemTaken new) all
+  pub done : result ≡ Ok Done → AllByRecursion (ItemTaken new) all
 
 same_grow : (old a b : End) → b.recvs ≡ a.recvs → AllGrow old.recvs a.recvs → AllGrow old.recvs b.recvs
 same_grow old a b is h = subst (AllGrow old.recvs) (sym is) h
 
-module _ (p : Past) (k : ℕ) (all : List Seen) (is : slice_get p.theirs k ≡ Some all) (old : End) where
+module _ (p : Past) (k : ℕ) (all : List Seen) (old : End) where
   at_end : (asks : Bool) (fault : Option WireFault) (e : End) (result : Result Received Closing) (new : End) → Moved p old e → AllGrow old.recvs e.recvs → AllByRecursion (ItemTaken e) all → AtEnd k asks fault e result new → After p all old result new
   at_end asks None e (Ok Done) new m g taken h =
       subst (After p all old (Ok Done)) (sym h) (record {
@@ -209,44 +218,39 @@ module _ (p : Past) (k : ℕ) (all : List Seen) (is : slice_get p.theirs k ≡ S
         grow = g;
         done = λ _. items_stay e (recorded k asks e) refl (omega arith) (omega arith) (omega arith) (moved_same p e m.halves m.acked).sends (all_grow_refl e.recvs) all taken;
       })
-  at_end asks None e (Ok NoMemory) new m g taken h = subst (After p all old (Ok NoMemory)) (sym h.0) (record { moved = m; grow = g; done = λ d. absurd (false≢true d) })
-  at_end asks (Some fault) e (Err closing) new m g taken h =
-      subst (After p all old (Err closing)) (sym h.1) (record {
-        moved = m;
-        grow = g;
-        done = λ d. absurd (false≢true d);
-      })
+  at_end asks None e (Ok NoMemory) new m g taken h = subst (After p all old (Ok NoMemory)) (sym h.0) (record { moved = m; grow = g; done = λ d. absurd (cc d) })
+  at_end asks (Some fault) e (Err closing) new m g taken h = subst (After p all old (Err closing)) (sym h.1) (record { moved = m; grow = g; done = λ d. absurd (cc d) })
   at_end asks fault e result new m g taken h = absurd h
 
   -- nothing was processed
-  pub not_done : (result : Result Received Closing) (mid new : End) → is_done (answers.Deliver result) ≡ false → new ≡ mid → Moved p old mid → AllGrow old.recvs new.recvs → After p all old result new
-  not_done result mid new none same m g = record { moved = subst (Moved p old) (sym same) m; grow = g; done = λ d. absurd (false≢true (sym none ∙ d)) }
+  pub not_done : (result : Result Received Closing) (mid new : End) → (result ≡ Ok Done → ⊥) → new ≡ mid → Moved p old mid → AllGrow old.recvs new.recvs → After p all old result new
+  not_done result mid new none same m g = record { moved = subst (Moved p old) (sym same) m; grow = g; done = λ d. absurd (none d) }
 
-  stops : (v : PlacedValue) (f : Seen) (e : End) (result : Result Received Closing) (new : End) → EndOk p e → Tells p.theirs f → Moved p old e → AllGrow old.recvs e.recvs → Stops v f e result new → After p all old result new
-  stops v (Close code) e (Ok (PeerClosed told)) new ok t m g h = not_done _ _ new refl h.1 m (same_grow old e new (ap (λ x. x.recvs) h.1) g)
+  stops : (v : PlacedValue) (f : Seen) (e : End) (result : Result Received Closing) (new : End) → EndOk p e → MayCome p.theirs f → Moved p old e → AllGrow old.recvs e.recvs → Stops v f e result new → After p all old result new
+  stops v (Close code) e (Ok (PeerClosed told)) new ok t m g h = not_done _ _ new (λ d. absurd (cc d)) h.1 m (same_grow old e new (ap (λ x. x.recvs) h.1) g)
   stops v (Ack largest ranges) e (Ok NoMemory) new ok t m g (fine, (n, h, asks)) =
       let some : List AckedPiece = take n (named e ranges) in
-      not_done _ (acks some e) new refl h (moved_twice p old e (acks some e) m (acks_moved p some e (All_take _ n _ (named_pieces_ok p e ok ranges (λ j a. inl (largest, ranges, t, a)))) m.halves m.acked))
+      not_done _ (acks some e) new (λ d. absurd (cc d)) h (moved_twice p old e (acks some e) m (acks_moved p some e (All_take _ n _ (acked_pieces p e ok largest ranges t)) m.halves m.acked))
       (same_grow old e new (stops_leave v (Ack largest ranges) e (Ok NoMemory) new (fine, (n, h, asks))) g)
   stops v (Close code) e result new ok t m g h = absurd h
-  stops v f e (Ok NoMemory) new ok t m g h = not_done _ e new refl h.1.0 m (same_grow old e new (ap (λ x. x.recvs) h.1.0) g)
-  stops v f e (Err closing) new ok t m g h = not_done _ _ new refl h.2 m (same_grow old e new (ap (λ x. x.recvs) h.2) g)
+  stops v f e (Ok NoMemory) new ok t m g h = not_done _ e new (λ d. absurd (cc d)) h.1.0 m (same_grow old e new (ap (λ x. x.recvs) h.1.0) g)
+  stops v f e (Err closing) new ok t m g h = not_done _ _ new (λ d. absurd (cc d)) h.2 m (same_grow old e new (ap (λ x. x.recvs) h.2) g)
   stops v f e result new ok t m g h = absurd h
 
-  pub takes : (left : List PlacedValue) (before : List Seen) (asks : Bool) (fault : Option WireFault) (e : End) (result : Result Received Closing) (new : End) → all ≡ before ++ seen_all (frames_of left) →
+  pub takes : (left : List PlacedValue) (before : List Seen) (asks : Bool) (fault : Option WireFault) (e : End) (result : Result Received Closing) (new : End) → all ≡ before ++ seen_all (frames_of left) → ((f : Seen) → Among f all → MayCome p.theirs f) →
       EndOk p e → Moved p old e → AllGrow old.recvs e.recvs → AllByRecursion (ItemTaken e) before → Takes k fault asks e left result new → After p all old result new
-  takes [] before asks fault e result new split ok m g taken h =
+  takes [] before asks fault e result new split told ok m g taken h =
       at_end asks fault e result new m g (subst (AllByRecursion (ItemTaken e)) (sym (split ∙ append-nil before)) taken) h
-  takes (v ∷ left) before asks fault e result new split ok m g taken (inl ends) =
-      stops v (seen v.frame) e result new ok (k, (all, is, rw split (Among_right before _ _ (inl refl)))) m g ends
-  takes (v ∷ left) before asks fault e result new split ok m g taken (inr (goes, rest)) =
+  takes (v ∷ left) before asks fault e result new split told ok m g taken (inl ends) =
+      stops v (seen v.frame) e result new ok (told (seen v.frame) (rw split (Among_right before _ _ (inl refl)))) m g ends
+  takes (v ∷ left) before asks fault e result new split told ok m g taken (inr (goes, rest)) =
       let f : Seen = seen v.frame in
-      let told : Tells p.theirs f = (k, (all, is, rw split (Among_right before _ _ (inl refl)))) in
-      let one : Effect p e (frame_taken f e) f = frame_keeps p e f ok told (no_fault_there e f goes) in
-      let m2 : Moved p e (frame_taken f e) = frame_moved p f e (λ largest ranges same. named_pieces_ok p e ok ranges (λ j a. inl (largest, ranges, subst (Tells p.theirs) same told, a))) m.halves m.acked in
-      takes left (before ++ f ∷ []) (asks || asks_ack f) fault (frame_taken f e) result new (split ∙ sym (append_assoc before (f ∷ []) (seen_all (frames_of left)))) one.ok
+      let t : MayCome p.theirs f = told f (rw split (Among_right before _ _ (inl refl))) in
+      let one : Effect p e (frame_taken f e) f = come_keeps p e f ok t (no_fault_there e f goes) in
+      let m2 : Moved p e (frame_taken f e) = goes_moved p e ok f t m.halves m.acked in
+      takes left (before ++ f ∷ []) (asks || asks_ack f) fault (frame_taken f e) result new (split ∙ sym (append_assoc before (f ∷ []) (seen_all (frames_of left)))) told one.ok
       (moved_twice p old e (frame_taken f e) m m2) (grow_trans old.recvs e.recvs _ g one.grow)
-      (All_append (ItemTaken (frame_taken f e)) before (f ∷ []) (items_stay e (frame_taken f e) m2.tuning m2.conn m2.bidi m2.uni m2.sends one.grow before taken) (frame_done p e ok f told (no_fault_there e f goes), tt)) rest
+      (All_append (ItemTaken (frame_taken f e)) before (f ∷ []) (items_stay e (frame_taken f e) m2.tuning m2.conn m2.bidi m2.uni m2.sends one.grow before taken) (frame_done p e ok f t (no_fault_there e f goes), tt)) rest
 
   -- as the call ends the limits move
   pub settled : (result : Result Received Closing) (mid new : End) → AllGrow mid.recvs (settle mid).recvs → new ≡ settle mid → After p all old result mid → After p all old result new
@@ -260,71 +264,87 @@ module _ (p : Past) (k : ℕ) (all : List Seen) (is : slice_get p.theirs k ≡ S
 -- What frames leave that come without their packet: they took effect.
 
 -- What frames leave that came.
-pub record Came (p : Past) (old : End) (fs : List Seen) (came : Bool) (new : End) : Type 0 where
+pub record Came (p : Past) (old : End) (fs : List Seen) (result : Result Taken TakeFault) (new : End) : Type 0 where
   pub moved : Moved p old new
   pub grow : AllGrow old.recvs new.recvs
-  pub done : came ≡ true → AllByRecursion (ItemTaken new) fs
+  pub done : (told : Taken) → result ≡ Ok told → AllByRecursion (ItemTaken new) fs
 
-others_done : (e : End) (g : Seen) → is_ours g ≡ false → ItemTaken e g
+pub others_done : (e : End) (g : Seen) → is_ours g ≡ false → ItemTaken e g
 others_done e (Stream n offset bytes fin) other = absurd (false≢true (sym other))
 others_done e (Control i) other = absurd (false≢true (sym other))
 others_done e _ other = tt
 
+pub later_told : (one told : Taken) (later : Result Taken TakeFault) → after_one one later ≡ Ok told → (last : Taken) × (later ≡ Ok last)
+later_told one told (Ok last) is = (last, refl)
+later_told one told (Err fault) is = absurd (cc is)
+
 module _ (p : Past) where
-  same_came : (e : End) (fs : List Seen) (result : Result Taken TakeFault) (new : End) → AllTrue p e → AckedTrue p e.acked → new ≡ e → (all_came result ≡ true → AllByRecursion (ItemTaken e) fs) → Came p e fs (all_came result) new
-  same_came e fs result new halves acked same done = subst (Came p e fs (all_came result)) (sym same) (record { moved = moved_same p e halves acked; grow = all_grow_refl e.recvs; done = done })
+  pub same_came : (e : End) (fs : List Seen) (result : Result Taken TakeFault) (new : End) → AllTrue p e → AckedTrue p e.acked → new ≡ e → ((told : Taken) → result ≡ Ok told → AllByRecursion (ItemTaken e) fs) → Came p e fs result new
+  same_came e fs result new halves acked same done = subst (Came p e fs result) (sym same) (record { moved = moved_same p e halves acked; grow = all_grow_refl e.recvs; done = done })
 
   -- one took no effect
-  stops_came : (f : FrameValue) (e : End) (fs : List Seen) (fault : TakeFault) (result : Result Taken TakeFault) (new : End) → result ≡ Err fault → AllTrue p e → AckedTrue p e.acked → is_ours (seen f) ≡ true → TakesOne e f (Err fault) new → Came p e fs (all_came result) new
-  stops_came f e fs faults.NoMemory result new is halves acked ours h =
-      same_came e fs result new halves acked (none_asked e new (seen f) ours h.1) (λ d. absurd (false≢true (sym (ap all_came is) ∙ d)))
+  stops_came : (f : FrameValue) (e : End) (fs : List Seen) (fault : TakeFault) (result : Result Taken TakeFault) (new : End) → result ≡ Err fault → AllTrue p e → AckedTrue p e.acked → is_ours (seen f) ≡ true → TakesOne e f (Err fault) new → Came p e fs result new
+  stops_came f e fs faults.NoMemory result new is halves acked ours h = same_came e fs result new halves acked (none_asked e new (seen f) ours h.1) (λ told d. absurd (cc))
   stops_came f e fs (faults.Closing closing) result new is halves acked ours h =
-      subst (Came p e fs (all_came result)) (sym h.2) (record {
-        moved = moved_same p e halves acked;
-        grow = all_grow_refl e.recvs;
-        done = λ d. absurd (false≢true (sym (ap all_came is) ∙ d));
-      })
+      subst (Came p e fs result) (sym h.2) (record { moved = moved_same p e halves acked; grow = all_grow_refl e.recvs; done = λ told d. absurd (cc) })
   stops_came f e fs (faults.PeerClosed code) result new is halves acked ours h = absurd h
 
-  each_came : (fs : List FrameValue) (e : End) (result : Result Taken TakeFault) (new : End) → EndOk p e → AllTrue p e → AckedTrue p e.acked → ((g : Seen) → Among g (seen_all fs) → Tells p.theirs g) → TakesEach fs e result new → Came p e (seen_all fs) (all_came result) new
-  each_came [] e result new ok halves acked told h = same_came e [] result new halves acked h.1 (λ d. tt)
+  each_came : (fs : List FrameValue) (e : End) (result : Result Taken TakeFault) (new : End) → EndOk p e → AllTrue p e → AckedTrue p e.acked → ((g : Seen) → Among g (seen_all fs) → is_ours g ≡ true → Tells p.theirs g) → TakesEach fs e result new → Came p e (seen_all fs) result new
+  each_came [] e result new ok halves acked told h = same_came e [] result new halves acked h.1 (λ _ d. tt)
   each_came (f ∷ fs) e result new ok halves acked told h =
       by (is_ours (seen f)) refl h (λ mid r now all items takes. each_came fs mid r new now all items (λ g a. told g (inr a)) takes)
     where
       by : (b : Bool) → is_ours (seen f) ≡ b → MatchBool b (((mid : End) × (one : Taken) × (later : Result Taken TakeFault) × TakesOne e f (Ok one) mid × TakesEach fs mid later new × (result ≡ after_one one later)) ⊎ ((fault : TakeFault) × TakesOne e f (Err fault) new × (result ≡ Err fault))) (TakesEach fs e result new)
-          → ((mid : End) (r : Result Taken TakeFault) → EndOk p mid → AllTrue p mid → AckedTrue p mid.acked → TakesEach fs mid r new → Came p mid (seen_all fs) (all_came r) new) → Came p e (seen f ∷ seen_all fs) (all_came result) new
+          → ((mid : End) (r : Result Taken TakeFault) → EndOk p mid → AllTrue p mid → AckedTrue p mid.acked → TakesEach fs mid r new → Came p mid (seen_all fs) r new) → Came p e (seen f ∷ seen_all fs) result new
       by true ours (inl (mid, one, later, takes, more, is)) goes =
           let (may, after) = took_effect e f one mid takes in
           let g : Seen = seen f in
-          let here : Tells p.theirs g = told g (inl refl) in
+          let here : MayCome p.theirs g = inl (told g (inl refl) ours) in
           let next : End = frame_taken g e in
-          let effect : Effect p e next g = frame_keeps p e g ok here may.1 in
-          let m : Moved p e next = frame_moved p g e (λ largest ranges same. named_pieces_ok p e ok ranges (λ j a. inl (largest, ranges, subst (Tells p.theirs) same here, a))) halves acked in
+          let effect : Effect p e next g = frame_keeps p e g ok (told g (inl refl) ours) may.1 in
+          let m : Moved p e next = goes_moved p e ok g here halves acked in
           let rest = goes next later effect.ok m.halves m.acked (subst (λ x. TakesEach fs x later new) after more) in
           record {
             moved = moved_twice p e next new m rest.moved;
             grow = grow_trans e.recvs next.recvs new.recvs effect.grow rest.grow;
-            done = λ d. (item_stays next new rest.moved.tuning rest.moved.conn rest.moved.bidi rest.moved.uni rest.moved.sends rest.grow g (frame_done p e ok g here may.1), rest.done (later_came one later (sym (ap all_came is) ∙ d)));
+            done = λ all d. (
+                let (last, at) = later_told one all later (sym is ∙ d) in
+                (item_stays next new rest.moved.tuning rest.moved.conn rest.moved.bidi rest.moved.uni rest.moved.sends rest.grow g (frame_done p e ok g here may.1), rest.done last at));
           }
       by true ours (inr (fault, one, is)) goes = stops_came f e (seen f ∷ seen_all fs) fault result new is halves acked ours one
       by false other more goes =
           let rest = goes e result ok halves acked more in
-          record { moved = rest.moved; grow = rest.grow; done = λ d. (others_done new (seen f) other, rest.done d) }
+          record { moved = rest.moved; grow = rest.grow; done = λ all d. (others_done new (seen f) other, rest.done all d) }
 
-  -- as the call ends the limits move
-  settled_came : (e mid : End) (fs : List Seen) (a b : Bool) (new : End) → (b ≡ true → a ≡ true) → new ≡ settle mid → Came p e fs a mid → Came p e fs b new
-  settled_came e mid fs a b new fewer same h =
-      let rises = each_grows raise mid.recvs raise_grows in
-      subst (Came p e fs b) (sym same) (record {
-        moved = h.moved;
-        grow = grow_trans e.recvs mid.recvs _ h.grow rises;
-        done = λ d. items_stay mid (settle mid) refl (omega arith) (omega arith) (omega arith) (moved_same p mid h.moved.halves h.moved.acked).sends rises fs (h.done (fewer d));
-      })
+  -- several come, after which the limits move, or one does; a closed end takes none
+  module _ (e : End) (ok : EndOk p e) (halves : AllTrue p e) (acked : AckedTrue p e.acked) where
+    settled_came : (mid : End) (fs : List Seen) (result : Result Taken TakeFault) (new : End) → new ≡ settle mid → Came p e fs result mid → Came p e fs result new
+    settled_came mid fs result new same h =
+        let rises = each_grows raise mid.recvs raise_grows in
+        subst (Came p e fs result) (sym same) (record {
+          moved = h.moved;
+          grow = grow_trans e.recvs mid.recvs _ h.grow rises;
+          done = λ all d. items_stay mid (settle mid) refl (omega arith) (omega arith) (omega arith) (moved_same p mid h.moved.halves h.moved.acked).sends rises fs (h.done all d);
+        })
 
-  pub handed_came : (fs : List FrameValue) (e : End) (result : Result Taken TakeFault) (new : End) → EndOk p e → e.closed ≡ None → AllTrue p e → AckedTrue p e.acked → ((g : Seen) → Among g (seen_all fs) → Tells p.theirs g) → HandedIn fs e result new →
-      Came p e (seen_all fs) (is_taken result) new
-  handed_came fs e result new ok open_end halves acked told h =
-      elim (handed e fs result new open_end h) [
-        | inl (mid, takes, after) ↦ settled_came e mid (seen_all fs) (all_came result) (is_taken result) new (taken_came result) after (each_came fs e result mid ok halves acked told takes)
-        | inr (is, same) ↦ subst (Came p e (seen_all fs) (is_taken result)) (sym same) (record { moved = moved_same p e halves acked; grow = all_grow_refl e.recvs; done = λ d. absurd (false≢true (sym (ap is_taken is) ∙ d)) })
-      ]
+    pub frames_came : (fs : List FrameValue) (result : Result Taken TakeFault) (new : End) (o : Option Closed) → (o ≡ None → (g : Seen) → Among g (seen_all fs) → is_ours g ≡ true → Tells p.theirs g) → TakeAllBy o fs e result new → Came p e (seen_all fs) result new
+    frames_came fs result new (Some closed) told (is, same) = same_came e (seen_all fs) result new halves acked same (λ all d. absurd (cc))
+    frames_came fs result new None told (mid, takes, after) = settled_came mid (seen_all fs) result new after (each_came fs e result mid ok halves acked (told refl) takes)
+
+    pub frame_came : (f : FrameValue) (result : Result Taken TakeFault) (new : End) (o : Option Closed) → (o ≡ None → is_ours (seen f) ≡ true → Tells p.theirs (seen f)) → TakeBy o f e result new → Came p e (seen f ∷ []) result new
+    frame_came f result new (Some closed) told (is, same) = same_came e (seen f ∷ []) result new halves acked same (λ all d. absurd (cc))
+    frame_came f result new None told step = by (is_ours (seen f)) refl step
+      where
+        only : is_ours (seen f) ≡ true → (r : Result Taken TakeFault) (mid : End) → TakesOne e f r mid → TakesEach (f ∷ []) e r mid
+        only ours (Ok Took) mid h = rw ours (inl (mid, Took, Ok NotOurs, h, (refl, refl), refl))
+        only ours (Ok Unchanged) mid h = rw ours (inl (mid, Unchanged, Ok NotOurs, h, (refl, refl), refl))
+        only ours (Ok NotOurs) mid h = absurd h
+        only ours (Err fault) mid h = rw ours (inr (fault, h, refl))
+
+        by : (b : Bool) → is_ours (seen f) ≡ b → MatchBool b ((mid : End) × TakesOne e f result mid × (new ≡ settle mid)) ((result ≡ Ok NotOurs) × (new ≡ e)) → Came p e (seen f ∷ []) result new
+        by true ours (mid, one, after) = settled_came mid (seen f ∷ []) result new after (each_came (f ∷ []) e result mid ok halves acked (λ g a is. subst (Tells p.theirs) (sym (the_one g a)) (told refl ours)) (only ours result mid one))
+          where
+            the_one : (g : Seen) → Among g (seen f ∷ []) → g ≡ seen f
+            the_one g (inl is) = is
+            the_one g (inr none) = absurd none
+        by false other none = same_came e (seen f ∷ []) result new halves acked none.1 (λ all d. (others_done e (seen f) other, tt))

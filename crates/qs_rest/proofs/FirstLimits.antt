@@ -11,16 +11,18 @@ use Rattle.qs_machine.specs.Raising.{RaiseStep, raise_refusal, greater_limits}
 use Rattle.qs_machine.specs.Setting.{Grant, StreamWindow, SendBuffer}
 use Rattle.qs_machine.specs.FrameStep.{named, acks, frame_taken}
 use Rattle.qs_machine.specs.Lawful.{frame_put}
-use Rattle.qs_machine.specs.EndStep.{Call, Answer as CallAnswer, EndStep}
+use Rattle.qs_machine.specs.EndStep.{Call, Answer as CallAnswer, EndStep, RaiseLimits}
 use Rattle.qs_machine.proofs.Leaves.{acks_leave, put_leaves, frame_leaves}
 use Rattle.qs_machine.proofs.EveryCall.{Change, changed, Comes, relates, Wanted, Took, Acked, Put, Raised, WasSet}
-use Rattle.qs_runs.specs.Logs.{Happening, Did, RaisedLimits, History, happened, other}
+use Rattle.qs_runs.specs.Logs.{Happening, History, other}
+use Rattle.qs_runs.specs.Events.{happened}
 use Rattle.qs_runs.specs.Worlds.{World, AreGranted, end_of, WorldStep, Run}
 use Rattle.qs_runs.specs.Invariant.{WorldOk}
 use Rattle.qs_runs.proofs.Standing.{certain_cases}
 use Rattle.qs_runs.proofs.Stays.{each_side}
 use Rattle.qs_runs.proofs.NewEnds.{first_world, made_first, made_wide}
-use Rattle.qs_runs.proofs.Runs.{two_sides, run_keeps, granted_limits, event_runs, settings_stay}
+use Rattle.qs_runs.proofs.Histories.{two_sides}
+use Rattle.qs_runs.proofs.Runs.{run_keeps, granted_limits, event_runs, settings_stay}
 use Rattle.qs_rest.specs.Resting.{KnowsFirstLimits, FirstLimitsStay, TakenInIsTold, EventRunsTell}
 
 -- no limit of q is below that of p
@@ -105,8 +107,8 @@ taken_rises e new limits step =
 
 pub taken_in_is_told : TakenInIsTold
 taken_in_is_told a b h v w s run step =
-    told_true a b h v w (RaisedLimits s (limits_of (end_of v (other s)).settings) (Ok tt)) run step s (taken_rises (end_of v s) (end_of w s) (limits_of (end_of v (other s)).settings) step.0.1)
+    told_true a b h v w (record { end = s; call = RaiseLimits (limits_of (end_of v (other s)).settings); answer = Ok tt }) run step s (taken_rises (end_of v s) (end_of w s) (limits_of (end_of v (other s)).settings) step.step)
 
 pub event_runs_tell : EventRunsTell
 event_runs_tell a b [] w is s = subst (λ x. KnowsFirstLimits x s) (sym (made_first a b default_tuning default_tuning (limits_of a) (limits_of b) w (made_wide a b w is))) (two_sides (KnowsFirstLimits (first_world a b default_tuning default_tuning (limits_of a) (limits_of b))) A refl refl s)
-event_runs_tell a b (x ∷ log) w (v, before, step) s = first_limits_stay a b (happened log) v w (Did x.0 x.1) (event_runs a b log v before) step s (event_runs_tell a b log v before s)
+event_runs_tell a b (x ∷ log) w (v, before, (y, is, step)) s = first_limits_stay a b (happened log) v w y (event_runs a b log v before) step s (event_runs_tell a b log v before s)

@@ -32,5 +32,5 @@ module _ (e : End) (open_end : e.closed ≡ None) (true_of : (n : ℕ) (l : Recv
       go n l is false same = same
 
 pub idle_rests : IdleIsRest
-idle_rests a b h w run s quiet none unread =
-    idle _ (ap (λ x. x.closed) ((run_keeps a b h w run).stand s)) (every_run_keeps a b h w run s).told quiet none unread
+idle_rests a b h w run s untold quiet none unread =
+    idle _ ((run_keeps a b h w run).unclosed s untold) (every_run_keeps a b h w run s).told quiet none unread

@@ -1,6 +1,7 @@
 pub mod ItemParts
 pub mod Halves
 pub mod Moves
+pub mod More
 pub mod Effects
 pub mod Telling
 pub mod Runs

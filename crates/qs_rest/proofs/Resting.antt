@@ -7,7 +7,7 @@ use Rattle.qs_wire.specs.declared.stream_id.Dir.TheVariants.{Bidi, Uni}
 use Rattle.qs_recv.specs.Lane.{RecvLane}
 use Rattle.qs_send.specs.Lane.{SendLane}
 use Rattle.qs_send.specs.declared.piece.Item.{Item}
-use Rattle.qs_send.specs.declared.piece.Item.TheVariants.{MaxData, MaxStreamData, MaxStreams}
+use Rattle.qs_send.specs.declared.piece.Item.TheVariants.{MaxData, MaxStreamData, MaxStreams, DataBlocked, StreamsBlocked}
 use Rattle.qs_send.specs.declared.piece.Piece.TheVariants.{Told}
 use Rattle.qs_calls.specs.declared.settings.Settings.{Settings}
 use Rattle.qs_calls.specs.declared.event.Side.{Side}
@@ -16,6 +16,7 @@ use Rattle.qs_machine.specs.Ends.{End, first_send_limit, window, is_uni, is_own}
 use Rattle.qs_machine.specs.Credit.{granted_streams}
 use Rattle.qs_machine.specs.Due.{known_count}
 use Rattle.qs_machine.specs.Seen.{Control}
+use Rattle.qs_machine.proofs.Pieces.{All_at}
 use Rattle.qs_runs.specs.Logs.{History, other}
 use Rattle.qs_runs.specs.Worlds.{World, end_of}
 use Rattle.qs_runs.specs.Pasts.{past}
@@ -44,7 +45,9 @@ items_acked e i rest current =
 module _ (a b : Settings) (h : History) (w : World) (ok : WorldOk a b h w) (keeps : (s : Side) → RestOk (past s h) (end_of w s)) where
   -- what was told in a packet that was confirmed took effect
   pub taken : (s : Side) (i : Item) → WasTold (past s h) i → ItemTaken (end_of w (other s)) (Control i)
-  taken s i (k, holds, confirmed) = confirmed_taken a b h w ok s (ItemTaken (end_of w (other s))) (keeps (other s)).taken k (Control i) holds confirmed refl
+  taken s (DataBlocked m) told = tt
+  taken s (StreamsBlocked d m) told = tt
+  taken s i (k, holds, confirmed) = All_at (ItemTaken (end_of w (other s))) (past (other s) h).taken (Control i) (keeps (other s)).taken (confirmed_taken a b h w ok s k (Control i) holds confirmed refl)
 
   -- and what the other side told
   pub taken_here : (s : Side) (i : Item) → WasTold (past (other s) h) i → ItemTaken (end_of w s) (Control i)

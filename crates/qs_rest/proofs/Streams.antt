@@ -22,10 +22,11 @@ use Rattle.qs_machine.specs.Standing.{HasLawfulLane}
 use Rattle.qs_machine.specs.Seen.{Stream, Control}
 use Rattle.qs_machine.proofs.Counts.{stored_and_taken}
 use Rattle.qs_machine.proofs.TableLaws.{value, total_le, total_both}
-use Rattle.qs_runs.specs.Logs.{History, other}
+use Rattle.qs_machine.proofs.Pieces.{All_at}
+use Rattle.qs_runs.specs.Logs.{History, other, taken as taken_by}
 use Rattle.qs_runs.specs.Worlds.{World, end_of}
 use Rattle.qs_runs.specs.Pasts.{past, Tells}
-use Rattle.qs_runs.specs.Clauses.{CarriesAt, HasArrived, sending, receiving}
+use Rattle.qs_runs.specs.Clauses.{HasArrived, sending, receiving}
 use Rattle.qs_runs.specs.Invariant.{WorldOk, SendOk, SendSlot, RecvOk, RecvSlot, FrameTaken}
 use Rattle.qs_runs.proofs.Members.{end-le, below-end}
 use Rattle.qs_runs.proofs.Histories.{theirs_mine, confirmed_taken}
@@ -45,6 +46,9 @@ missing_is t k all below = sym (missing_from-of t 0 k (record { from = omega ari
     go : (b : Bool) → set.contains t k ≡ b → set.contains t k ≡ false
     go true is = (let lt : k < k = below k is in absurd (omega arith))
     go false is = is
+
+known_size : (o : Option RecvLane) (size : ℕ) (r : RecvLane) → (t : RecvLane) × (o ≡ Some t) × (t.final_size ≡ Some size) → o ≡ Some r → r.final_size ≡ Some size
+known_size o size r (t, there, final) at = (let same : t ≡ r = same_Some t r (sym there ∙ at) in rw same at final)
 
 module _ (a b : Settings) (h : History) (w : World) (ok : WorldOk a b h w) (keeps : (s : Side) → RestOk (past s h) (end_of w s)) (rest : (s : Side) → AtRest (end_of w s)) (s : Side) (n : ℕ) where
   pub lawful : (r : RecvLane) → receiving w s n ≡ Some r → IsLawful r
@@ -96,8 +100,8 @@ module _ (a b : Settings) (h : History) (w : World) (ok : WorldOk a b h w) (keep
   -- an offset that is acknowledged came
   pub acked_came : (l : SendLane) (q : ℕ) → sending w s n ≡ Some l → l.was_reset ≡ None → set.contains l.acked q ≡ true → (r : RecvLane) × (receiving w s n ≡ Some r) × (set.contains r.arrived.received q ≡ true)
   acked_came l q at none acked =
-      let (k, i, offset, bytes, fin, carries, low, high, arrived) = (acked_has_arrived a b h w ok s n).offsets l q at acked in
-      let (r, is, took, fins) = arrived_was_taken a b h w ok s n k i offset bytes fin arrived carries in
+      let (offset, bytes, fin, arrived, low, high) = (acked_has_arrived a b h w ok s n).offsets l q at acked in
+      let (r, is, took, fins) = arrived_was_taken a b h w ok s n offset bytes fin arrived in
       elim took [
         | inl all ↦ (r, is, all q low high)
         | inr reset ↦ absurd (true≢false (sym reset ∙ ap is_some (no_reset_known l r at is none)))
@@ -124,9 +128,7 @@ module _ (a b : Settings) (h : History) (w : World) (ok : WorldOk a b h w) (keep
       let (code, size, told) = ((keeps s).sends n l at).reset_told known in
       let (r, found, ended) = item_taken a b h w ok keeps s (ResetStream n code size) told in
       let (k, holds, ack) = told in
-      let (t, found_too, final) = confirmed_taken a b h w ok s (FrameTaken (end_of w (other s)).recvs) (ok.ends (other s)).taken k (Control (ResetStream n code size)) holds ack refl in
-      let same_half : t ≡ r = same_Some t r (sym found_too ∙ found) in
-      let sized : r.final_size ≡ Some size = rw same_half at final in
+      let sized = known_size (receiving w s n) size r (All_at (FrameTaken (end_of w (other s)).recvs) (taken_by (other s) h) (Control (ResetStream n code size)) (ok.ends (other s)).taken (confirmed_taken a b h w ok s k (Control (ResetStream n code size)) holds ack refl)) found in
       (known, (r, found, ap is_some sized, ended))
 
   -- the highest offset is the sent end
@@ -251,9 +253,9 @@ module _ (a b : Settings) (h : History) (w : World) (ok : WorldOk a b h w) (keep
           let whole : send_whole l ≡ true = and_from _ _ (eq-eqb (unacked_from l) l.written first) end in
           rw (not_reset l.reset_acked refl, none, whole) refl
 
-      by : (k i offset : ℕ) × (bytes : List ℕ) × CarriesAt h s k i (Stream n offset bytes true) × HasArrived h s k i → IsReadAtBoth w s n
-      by (k, i, offset, bytes, carries, arrived) =
-          let (r, is, took, fins) = arrived_was_taken a b h w ok s n k i offset bytes true arrived carries in
+      by : (offset : ℕ) × (bytes : List ℕ) × HasArrived h s (Stream n offset bytes true) → IsReadAtBoth w s n
+      by (offset, bytes, arrived) =
+          let (r, is, took, fins) = arrived_was_taken a b h w ok s n offset bytes true arrived in
           let final = fins refl in
           let (m, there, declared, size, count) = final_size_is_declared a b h w ok s n r (offset + length bytes) is final in
           let same : m ≡ l = same_Some m l (sym there ∙ at) in

@@ -1,6 +1,7 @@
 -- Of laws.
 -- What holds of an end in every run, beside the invariant of qs_runs: what was acknowledged was told, and what was told took effect.
 use Rattle.std.specs.Prelude.{◌≡◌, ℕ, ◌<◌, ◌≤◌, Bool, true, ◌⊎◌, Some, is_some}
+use Rattle.std.specs.List.{AllByRecursion}
 use Rattle.std.specs.FinMap as fmap
 use Rattle.std.specs.FinSet as set
 use Rattle.qs_ranges.specs.Numbers.{MAX_VARINT}
@@ -14,7 +15,7 @@ use Rattle.qs_machine.specs.Ends.{End, AckedItems, first_send_limit}
 use Rattle.qs_machine.specs.Seen.{Seen, Control}
 use Rattle.qs_machine.specs.SettledLimits.{LimitsAreSettled}
 use Rattle.qs_machine.specs.Standing.{CountsAreSettled}
-use Rattle.qs_runs.specs.Pasts.{Past, Holds, WasConfirmed, EachTaken}
+use Rattle.qs_runs.specs.Pasts.{Past, Holds, WasConfirmed}
 
 -- the item stood in a packet that was confirmed: an ACK of the peer named it, or its token was told (RFC 9000, section 13.3)
 abbrev pub WasTold : Past → Item → Type 0
@@ -77,6 +78,6 @@ pub record RestOk (p : Past) (e : End) : Type 0 where
   pub sends : (n : ℕ) (l : SendLane) → lookup e.sends n ≡ Some l → HalfTrue p n (first_send_limit e n) l
   pub acked : AckedTrue p e.acked
   pub told : (n : ℕ) (l : RecvLane) → lookup e.recvs n ≡ Some l → ToldTrue l
-  pub taken : EachTaken p.theirs p.processed p.took (ItemTaken e)
+  pub taken : AllByRecursion (ItemTaken e) p.taken
   pub limits : LimitsAreSettled e
   pub counts : CountsAreSettled e

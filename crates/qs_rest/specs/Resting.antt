@@ -17,8 +17,10 @@ use Rattle.qs_machine.specs.Ends.{End, send_lane, recv_lane}
 use Rattle.qs_machine.specs.Credit.{spent, all_taken, all_stored, all_sent, granted_streams, next_count}
 use Rattle.qs_machine.specs.Due.{IsCurrent, IsAcked, known_count}
 use Rattle.qs_machine.specs.Seen.{Control}
-use Rattle.qs_runs.specs.Logs.{Happening, RaisedLimits, History, Log, other, own_calls, stopped_in, written, read}
-use Rattle.qs_runs.specs.Worlds.{World, end_of, WorldStep, Run, EventRun}
+use Rattle.qs_machine.specs.EndStep.{RaiseLimits}
+use Rattle.qs_runs.specs.Logs.{Happening, History, other, stopped, written, read}
+use Rattle.qs_runs.specs.Worlds.{World, end_of, WorldStep, Run}
+use Rattle.qs_runs.specs.Events.{Log, EventRun}
 use Rattle.qs_runs.specs.Pasts.{past}
 use Rattle.qs_rest.specs.Invariant.{WasTold, ItemTaken}
 use Rattle.qs_rest.specs.Rest.{AtRest}
@@ -50,7 +52,7 @@ FirstLimitsStay = (a b : Settings) (h : History) (v w : World) (x : Happening) �
 -- and so does one that takes them in
 abbrev pub TakenInIsTold : Type 0
 TakenInIsTold =
-    (a b : Settings) (h : History) (v w : World) (s : Side) → Run a b h v → WorldStep h v (RaisedLimits s (limits_of (end_of v (other s)).settings) (Ok tt)) w → KnowsFirstLimits w s
+    (a b : Settings) (h : History) (v w : World) (s : Side) → Run a b h v → WorldStep h v (record { end = s; call = RaiseLimits (limits_of (end_of v (other s)).settings); answer = Ok tt }) w → KnowsFirstLimits w s
 
 -- so in each run of events alone both ends know them
 abbrev pub EventRunsTell : Type 0
@@ -125,7 +127,7 @@ pub record IsDelivered (h : History) (w : World) (s : Side) (n : ℕ) (l : SendL
   -- no limit holds it back: all that was written was sent (section 4.1)
   pub is_sent : l.sent_end ≡ l.written
   -- and read, unless the reader stopped (section 2.2)
-  pub is_read : stopped_in n (own_calls (other s) h) ≡ false → read (other s) n h ≡ written s n h
+  pub is_read : stopped (other s) n h ≡ false → read (other s) n h ≡ written s n h
   -- and once its owner finished, the end too was acknowledged, and told to the reader (sections 3.1 and 3.2)
   pub is_ended : l.finished ≡ true → IsReadAtBoth w s n
 

@@ -25,3 +25,4 @@ pub mod Lasting
 pub mod Stays
 pub mod Examples
 pub mod Exclusions
+pub mod Scripts
