@@ -14,8 +14,8 @@ use Rattle.qs_world.specs.declared.report.Report.{Report}
 use Rattle.qs_world.specs.declared.report.PlayFault.{PlayFault}
 use Rattle.qs_world.specs.declared.report.PlayFault.TheVariants as faults
 use Rattle.qs_calls.specs.Events.{act_fits}
-use Rattle.qs_runs.specs.Logs.{Did, Log, happened, payload}
-use Rattle.qs_runs.specs.Worlds.{WorldStep}
+use Rattle.qs_runs.specs.Logs.{payload}
+use Rattle.qs_runs.specs.Events.{Log, happened, EventStep}
 use Rattle.qs_world.specs.Copies.{SameEvent, IsReportOf}
 use Rattle.qs_world.specs.Plays.{AgreeingRun, Played, IsMissing}
 use Rattle.qs_world.specs.PlayText.{play_text}
@@ -68,7 +68,7 @@ IsStranger s h datagram = (k : ℕ) → IsPacketOf s h k datagram → ⊥
 
 -- an event happens, and is logged with its answer
 abbrev pub Happens : Played → Event → Played → Type 0
-Happens old event new = (answer : Answer) × (new.log ≡ (event, answer) ∷ old.log) × WorldStep (happened old.log) old.ends (Did event answer) new.ends
+Happens old event new = (answer : Answer) × (new.log ≡ (event, answer) ∷ old.log) × EventStep old.log old.ends event answer new.ends
 
 -- An event happens, and no stranger's datagram came; or a packet that wasn't made was to be delivered; or there was no memory.
 abbrev pub StepsBy : Played → Event → Result Bool PlayFault → Played → Type 0

@@ -1,5 +1,5 @@
 -- What the items of each event tell, and so those of a whole log.
-use Rattle.std.proofs.Common.{◌≡◌, ℕ, Bool, true, false, not, ◌&&◌, List, [], ◌∷◌, ◌++◌, reverse, Some, Ok, Err, refl, sym, ap, ◌∙◌, append-nil, if◌then◌else◌}
+use Rattle.std.proofs.Common.{◌≡◌, ℕ, Bool, true, false, List, [], ◌∷◌, ◌++◌, reverse, Some, Ok, Err, refl, sym, ap, ◌∙◌, append-nil, if◌then◌else◌}
 use Rattle.std.specs.List.{flat_map}
 use Rattle.std.proofs.lemmas.Grind.{flat_map-append, reverse_onto}
 use Rattle.std.proofs.lemmas.List.Concat.{flat_map-cons}
@@ -14,7 +14,9 @@ use Rattle.qs_calls.specs.declared.event.Act.TheVariants as acts
 use Rattle.qs_calls.specs.declared.event.Event.{Event}
 use Rattle.qs_calls.specs.declared.answer.Answer.{Answer}
 use Rattle.qs_calls.specs.declared.answer.Answer.TheVariants as answers
-use Rattle.qs_runs.specs.Logs.{Log, happened, same_side, made_by, made}
+use Rattle.qs_runs.specs.Logs.{effects, same_side, made}
+use Rattle.qs_runs.specs.Events.{Log, happened}
+use Rattle.qs_runs.proofs.Scripts.{made_by, made_more}
 use Rattle.qs_trace.specs.declared.item.Turn.{Turn}
 use Rattle.qs_trace.specs.declared.item.Turn.TheVariants.{Ready, Recv}
 use Rattle.qs_trace.specs.Items.{Item, turned, if_bidi, own_items, peer_items, effect_items, open_items, accept_items, write_items, reset_items, read_items, make_items, claim_items, lose_items, items_of, traced}
@@ -248,10 +250,6 @@ lost_is_declared s log = each_told lost_by (declared_at s) s (λ x. lost_at x.0.
 
 -- what an event makes goes behind what was made before
 
-made_after : (s : Side) (x : Event × Answer) (h : Log) → made s (happened (x ∷ h)) ≡ made s (happened h) ++ (if same_side s x.0.end then made_by x.0.act x.1 else [])
-unfolding made
-made_after s x h = refl
-
 traced_last : (s : Side) (h : Log) (x : Event × Answer) → flat_map sent_by (traced s (reverse h ++ x ∷ [])) ≡ flat_map sent_by (traced s (reverse h)) ++ flat_map sent_by (items_of s x)
 traced_last s h x =
     ap (flat_map sent_by) (flat_map-append (items_of s) (reverse h) (x ∷ [])
@@ -259,11 +257,11 @@ traced_last s h x =
     ∙ flat_map-append sent_by (traced s (reverse h)) (items_of s x)
 
 pub sent_is_made : SentIsMade
-unfolding made
+unfolding effects
 sent_is_made s [] = refl
 sent_is_made s (x ∷ h) =
     ap (λ log. flat_map sent_by (traced s log)) (reverse_onto h x [])
     ∙ (traced_last s h x
     ∙ (ap (λ t. t ++ flat_map sent_by (items_of s x)) (sent_is_made s h)
     ∙ (ap (λ t. made s (happened h) ++ t) (sent_at x.0.act x.1 (same_side s x.0.end))
-    ∙ sym (made_after s x h))))
+    ∙ sym (made_more s x h))))

@@ -9,7 +9,8 @@ use Rattle.qs_calls.specs.declared.event.Act.TheVariants as acts
 use Rattle.qs_calls.specs.declared.event.Event.{Event}
 use Rattle.qs_calls.specs.declared.answer.Answer.{Answer}
 use Rattle.qs_calls.specs.declared.answer.Answer.TheVariants as answers
-use Rattle.qs_runs.specs.Logs.{Log, happened, same_side, made}
+use Rattle.qs_runs.specs.Logs.{same_side, made}
+use Rattle.qs_runs.specs.Events.{Log, happened}
 use Rattle.qs_trace.specs.Items.{Item, sent, received, lost, traced}
 
 -- the payload of an item that tells of a packet sent

@@ -13,7 +13,8 @@ use Rattle.qs_world.specs.declared.draws.Kind.TheVariants as kinds
 use Rattle.qs_world.specs.declared.report.PlayFault.{PlayFault}
 use Rattle.qs_world.specs.declared.report.PlayFault.TheVariants as faults
 use Rattle.qs_world.specs.Draws.{draw, after, end_of_stream, of_packets, IsChosen, IsDrawn}
-use Rattle.qs_runs.specs.Logs.{Log, happened, made}
+use Rattle.qs_runs.specs.Logs.{made}
+use Rattle.qs_runs.specs.Events.{Log, happened}
 use Rattle.qs_world.specs.Plays.{Played, IsMissing, IsMissingBy, PlayStep}
 
 draw_below : (m : ℕ) (g : Lcg) → 0 < m → draw m g < m

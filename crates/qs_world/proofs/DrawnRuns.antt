@@ -9,7 +9,8 @@ use Rattle.qs_calls.specs.declared.settings.Settings.{Settings}
 use Rattle.qs_calls.specs.declared.settings.SetupFault.{SetupFault}
 use Rattle.qs_machine.specs.Examples.{standard}
 use Rattle.qs_calls.specs.Events.{fits}
-use Rattle.qs_runs.specs.Worlds.{World, world_made}
+use Rattle.qs_runs.specs.Events.{world_made}
+use Rattle.qs_runs.specs.Worlds.{World}
 use Rattle.qs_world.specs.Plays.{Played, begun}
 use Rattle.qs_world.specs.Randoms.{DrawnStep, IsDrawnRun, IsRandomScript}
 

@@ -12,8 +12,11 @@ use Rattle.qs_wire.specs.declared.stream_id.Dir.TheVariants.{Bidi}
 use Rattle.qs_calls.specs.declared.event.Side.TheVariants.{A}
 use Rattle.qs_calls.specs.declared.event.Act.TheVariants as acts
 use Rattle.qs_calls.specs.declared.answer.Answer.TheVariants as answers
-use Rattle.qs_runs.specs.Logs.{Did}
-use Rattle.qs_runs.specs.Worlds.{World, WorldStep, EventRun}
+use Rattle.qs_machine.specs.EndStep.{Open}
+use Rattle.qs_runs.specs.Logs.{Happening}
+use Rattle.qs_runs.specs.Events.{EventRun}
+use Rattle.qs_runs.specs.Worlds.{World, WorldStep}
+use Rattle.std.proofs.lemmas.Option.{same_Some}
 use Rattle.std.specs.Fmt.{digits}
 use Rattle.qs_world.specs.Examples.{StreamsBeginAtZero, ReportLines, Examples}
 
@@ -34,11 +37,12 @@ same_world : (v w : World) → ◌≡◌ {A = Result World SetupFault} (Ok v) (O
 same_world v w e = cc
 
 not_four : (w : World) → EventRun standard standard ((record { end = A; act = acts.OpenStream Bidi }, answers.OpenStream (Ok 4)) ∷ []) w → ⊥
-not_four w (v, first, step) =
+not_four w (v, first, (x, is, step)) =
     let begins : World = record { a = new_end Client standard default_tuning (limits_of standard); b = new_end Server standard default_tuning (limits_of standard) } in
     let same : begins ≡ v = same_world begins v first in
-    let at : WorldStep [] begins (Did (record { end = A; act = acts.OpenStream Bidi }) (answers.OpenStream (Ok 4))) w = subst (λ x. WorldStep [] x (Did (record { end = A; act = acts.OpenStream Bidi }) (answers.OpenStream (Ok 4))) w) (sym same) step in
-    elim at.0 [
+    let opens_four : Happening = record { end = A; call = Open Bidi; answer = Ok 4 } in
+    let at : WorldStep [] begins opens_four w = subst (λ y. WorldStep [] y opens_four w) (sym same) (subst (λ y. WorldStep [] v y w) (sym (same_Some opens_four x is)) step) in
+    elim at.step [
       | inl none ↦ four_is_not 9 (ap number_in none.0) (omega arith)
       | inr opened ↦ four_is_not 0 (ap number_in opened.0) (omega arith)
     ]
@@ -48,7 +52,7 @@ unfolding client_begins server_begins
 opened_zero =
     record {
       world = record { a = settle (opens 0 client_begins); b = server_begins };
-      runs = (record { a = client_begins; b = server_begins }, refl, (inr (refl, refl), refl));
+      runs = (record { a = client_begins; b = server_begins }, refl, (record { end = A; call = Open Bidi; answer = Ok 0 }, refl, record { step = inr (refl, refl); still = refl; may = λ unclosed. tt }));
       not_four = not_four;
     }
 

@@ -19,8 +19,11 @@ use Rattle.qs_calls.specs.declared.event.Act.TheVariants as acts
 use Rattle.qs_calls.specs.declared.event.Event.{Event}
 use Rattle.qs_calls.specs.declared.answer.Answer.{Answer}
 use Rattle.qs_calls.specs.declared.answer.Answer.TheVariants as answers
-use Rattle.qs_runs.specs.Logs.{History, happened}
-use Rattle.qs_runs.specs.Worlds.{World, end_of, EventStep}
+use Rattle.qs_machine.specs.EndStep.{ReadUpTo, Make}
+use Rattle.qs_runs.specs.Logs.{Happening, History}
+use Rattle.qs_runs.specs.Events.{call_of, happened}
+use Rattle.qs_runs.specs.Worlds.{World, end_of, WorldStep}
+use Rattle.std.proofs.lemmas.Option.{none-some, same_Some}
 use Rattle.qs_world.specs.Buffers.{room_of, bytes_of, LastFits}
 use Rattle.qs_world.specs.Plays.{Played, PlayStep}
 
@@ -52,16 +55,18 @@ made_short None e new first delay room (Err making.NoMemory) text (sendable, non
 made_short None e new first delay room (Err making.Closed) text step = absurd step
 made_short None e new first delay room (Err making.Exhausted) text step = absurd step
 
-answer_short : (h : History) (old new : World) (s : Side) (act : Act) (answer : Answer) → EventStep h old s act answer new → length (bytes_of answer) ≤ room_of act
-answer_short h old new s (acts.ReadUpTo n size) (answers.ReadUpTo r bytes) (step, same) = read_short (recv_refusal (is_read_no_more (end_of old s)) (end_of old s) n) _ _ n size r bytes.items step
-answer_short h old new s (acts.Make room) (answers.Make r text) ((first, delay, step), same) = made_short (make_refusal (end_of old s)) _ _ first delay room r text.items step
-answer_short h old new s (acts.Deliver k) (answers.ReadUpTo r bytes) step = absurd step
-answer_short h old new s (acts.Deliver k) (answers.Make r text) step = absurd step
-answer_short h old new s act (answers.ReadUpTo r bytes) (step, same) = absurd step
-answer_short h old new s act (answers.Make r text) (step, same) = absurd step
-answer_short h old new s act answer step = omega arith
+answer_short : (h : History) (old new : World) (s : Side) (act : Act) (answer : Answer) (x : Happening) → call_of h s act answer ≡ Some x → WorldStep h old x new → length (bytes_of answer) ≤ room_of act
+answer_short h old new s (acts.ReadUpTo n size) (answers.ReadUpTo r bytes) x is step =
+    let call : Happening = record { end = s; call = ReadUpTo n size; answer = (r, bytes.items) } in
+    read_short (recv_refusal (is_read_no_more (end_of old s)) (end_of old s) n) _ _ n size r bytes.items (subst (λ y. WorldStep h old y new) (sym (same_Some call x is)) step).step
+answer_short h old new s (acts.Make room) (answers.Make r text) x is step =
+    let call : Happening = record { end = s; call = Make 0 0 room; answer = (r, text.items) } in
+    made_short (make_refusal (end_of old s)) _ _ 0 0 room r text.items (subst (λ y. WorldStep h old y new) (sym (same_Some call x is)) step).step
+answer_short h old new s act (answers.ReadUpTo r bytes) x is step = absurd (none-some x is)
+answer_short h old new s act (answers.Make r text) x is step = absurd (none-some x is)
+answer_short h old new s act answer x is step = omega arith
 
 -- so it has room in a vector of that capacity
 pub last_fits : (old new : Played) (event : Event) (capacity : ℕ) → capacity ≡ room_of event.act → PlayStep {X = ⊤} old event (Ok tt) new → LastFits capacity new.log
-last_fits old new event capacity is (answer, log, step) =
-    subst (LastFits capacity) (sym log) (rw is (answer_short (happened old.log) old.ends new.ends event.end event.act answer step))
+last_fits old new event capacity is (answer, log, (x, at, step)) =
+    subst (LastFits capacity) (sym log) (rw is (answer_short (happened old.log) old.ends new.ends event.end event.act answer x at step))

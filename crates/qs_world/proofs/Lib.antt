@@ -14,3 +14,4 @@ pub mod PlayedCopies
 pub mod PlayedRuns
 pub mod ReadCuts
 pub mod Sides
+pub mod Untold

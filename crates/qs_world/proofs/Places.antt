@@ -8,18 +8,11 @@ use Rattle.qs_calls.specs.declared.event.Act.TheVariants as acts
 use Rattle.qs_calls.specs.declared.event.Event.{Event}
 use Rattle.qs_calls.specs.declared.answer.Answer.{Answer}
 use Rattle.qs_calls.specs.declared.answer.Answer.TheVariants as answers
-use Rattle.qs_runs.specs.Logs.{Log, happened, payload, same_side, made, made_by, ping_text}
+use Rattle.qs_runs.specs.Logs.{effects, payload, same_side, made, ping_text}
+use Rattle.qs_runs.specs.Events.{Log, happened}
+use Rattle.qs_runs.proofs.Scripts.{made_by, made_more}
 use Rattle.qs_world.specs.Places.{makes, makes_by, text_of, IsPlace, ArePlaces, IsPlaceOf}
 use Rattle.qs_runs.proofs.Lists.{slice_get-append, slice_get-last}
-
--- the payload that an event made at an end
-abbrev pub made_at : Side → Event → Answer → List (List ℕ)
-made_at s event answer = if same_side s event.end then made_by event.act answer else []
-
--- what an end made, after one event more
-pub made_more : (s : Side) (event : Event) (answer : Answer) (h : Log) → made s (happened ((event, answer) ∷ h)) ≡ made s (happened h) ++ made_at s event answer
-unfolding made
-made_more s event answer h = refl
 
 -- Places
 
@@ -76,7 +69,7 @@ pub places_kept : (s : Side) (log : List (Event × Answer)) (places : List ℕ) 
     ArePlaces (log ++ (event, answer) ∷ []) (if makes s event answer then places ++ length log ∷ [] else places) (made s (happened (reverse (log ++ (event, answer) ∷ []))))
 places_kept s log places event answer h =
     subst (λ r. ArePlaces (log ++ (event, answer) ∷ []) (if makes s event answer then places ++ length log ∷ [] else places) (made s (happened r))) (sym (reverse-append log ((event, answer) ∷ [])))
-    (subst (λ ts. ArePlaces (log ++ (event, answer) ∷ []) (if makes s event answer then places ++ length log ∷ [] else places) ts) (sym (made_more s event answer (reverse log)))
+    (subst (λ ts. ArePlaces (log ++ (event, answer) ∷ []) (if makes s event answer then places ++ length log ∷ [] else places) ts) (sym (made_more s (event, answer) (reverse log)))
     (go (same_side s event.end) _ refl))
   where
     old : ArePlaces (log ++ (event, answer) ∷ []) places (made s (happened (reverse log)))
@@ -104,7 +97,7 @@ kept_by s log new places after event answer place noted h is_new is_after is_not
 
 -- where nothing has happened
 pub no_places : (s : Side) (log : List (Event × Answer)) (places : List ℕ) → log ≡ [] → places ≡ [] → ArePlaces log places (made s (happened (reverse log)))
-unfolding made
+unfolding effects
 no_places s log places e f =
     subst (λ x. ArePlaces x places (made s (happened (reverse x)))) (sym e) (subst (λ x. ArePlaces [] x (made s (happened []))) (sym f) tt)
 

@@ -11,7 +11,8 @@ use Rattle.qs_world.specs.declared.report.PlayFault.{PlayFault}
 use Rattle.qs_world.specs.declared.report.PlayFault.TheVariants.{NoMemory, Setup}
 use Rattle.qs_world.specs.Copies.{SameAct, SameEvent, SameEvents, HasPlayedCopies, PlayOfCopies}
 use Rattle.qs_world.specs.Plays.{Played, HasPlayed, PlayStep, begun}
-use Rattle.qs_runs.specs.Worlds.{World, world_made}
+use Rattle.qs_runs.specs.Events.{world_made}
+use Rattle.qs_runs.specs.Worlds.{World}
 use Rattle.qs_world.proofs.PlayedRuns.{played_more, play_stops}
 
 -- Copies

@@ -13,8 +13,8 @@ use Rattle.qs_world.specs.declared.report.Report.{Report}
 use Rattle.qs_world.specs.declared.report.PlayFault.{PlayFault}
 use Rattle.qs_world.specs.declared.report.PlayFault.TheVariants as faults
 use Rattle.qs_calls.specs.Events.{fits}
-use Rattle.qs_runs.specs.Logs.{Log}
-use Rattle.qs_runs.specs.Worlds.{World, world_made}
+use Rattle.qs_runs.specs.Events.{Log, world_made}
+use Rattle.qs_runs.specs.Worlds.{World}
 use Rattle.qs_world.specs.Reports.{IsReport}
 use Rattle.qs_world.specs.Plays.{events_of, AgreeingRun, Played, HasPlayed, begun, PlayStep, PlayOf}
 use Rattle.qs_world.proofs.OneMore.{run_agrees, one_more}

@@ -10,7 +10,7 @@ use Rattle.qs_calls.specs.declared.event.Act.{Act}
 use Rattle.qs_calls.specs.declared.event.Act.TheVariants.{ReadUpTo, Make}
 use Rattle.qs_calls.specs.declared.answer.Answer.{Answer}
 use Rattle.qs_calls.specs.declared.answer.Answer.TheVariants as answers
-use Rattle.qs_runs.specs.Logs.{Log}
+use Rattle.qs_runs.specs.Events.{Log}
 
 -- the most bytes with which an act is answered
 abbrev pub room_of : Act → ℕ

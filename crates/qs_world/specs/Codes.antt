@@ -6,7 +6,7 @@ use Rattle.qs_machine.specs.EndCodes.{end_code}
 use Rattle.qs_machine.specs.Ends.{End}
 use Rattle.qs_calls.specs.declared.event.Event.{Event}
 use Rattle.qs_calls.specs.declared.answer.Answer.{Answer}
-use Rattle.qs_runs.specs.Logs.{Log}
+use Rattle.qs_runs.specs.Events.{Log}
 use Rattle.qs_world.specs.Plays.{Played}
 
 abbrev pub played_code : Coded Event → Coded Answer → Coded Played

@@ -9,7 +9,7 @@ use Rattle.qs_calls.specs.declared.answer.Answer.{Answer}
 use Rattle.qs_calls.specs.declared.answer.Answer.TheVariants as answers
 use Rattle.qs_world.specs.declared.report.Report.{Report}
 use Rattle.qs_world.specs.declared.report.PlayFault.{PlayFault}
-use Rattle.qs_runs.specs.Logs.{Log}
+use Rattle.qs_runs.specs.Events.{Log}
 use Rattle.qs_world.specs.Plays.{Played, HasPlayed, PlayOf}
 use Rattle.qs_world.specs.Reports.{all_lanes, end_totals}
 

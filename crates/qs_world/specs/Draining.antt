@@ -13,8 +13,9 @@ use Rattle.qs_calls.specs.declared.event.Act.TheVariants as acts
 use Rattle.qs_calls.specs.declared.event.Event.{Event}
 use Rattle.qs_calls.specs.declared.answer.Answer.{Answer}
 use Rattle.qs_calls.specs.declared.answer.Answer.TheVariants as answers
-use Rattle.qs_runs.specs.Logs.{Did, History, Log, happened, same_side}
-use Rattle.qs_runs.specs.Worlds.{World, end_of, WorldStep}
+use Rattle.qs_runs.specs.Logs.{History, same_side}
+use Rattle.qs_runs.specs.Events.{Log, happened, EventStep}
+use Rattle.qs_runs.specs.Worlds.{World, end_of}
 use Rattle.qs_rest.specs.Resting.{KnowsItsLimits, CreditIsWhole, HasCreditAhead, ResetsAreFinal, AllIsDelivered}
 use Rattle.qs_world.specs.declared.report.PlayFault.{PlayFault}
 use Rattle.qs_world.specs.declared.report.PlayFault.TheVariants as faults
@@ -99,7 +100,7 @@ Passes (suc n) w first turn = (before : Turn) × Passes n w first before × IsOv
 abbrev pub PlainStep : Turn → Played → Turn → Played → Type 0
 PlainStep turn old after new =
     (event : Event) × (answer : Answer) × (AreIdle old.ends → ⊥) × IsOf turn old event
-    × (new.log ≡ (event, answer) ∷ old.log) × WorldStep (happened old.log) old.ends (Did event answer) new.ends × (after ≡ turn_after turn answer)
+    × (new.log ≡ (event, answer) ∷ old.log) × EventStep old.log old.ends event answer new.ends × (after ≡ turn_after turn answer)
 
 -- so many plain events happened, turn by turn, from A's losses on; and whose turn it is then
 abbrev pub PlainSteps : Played → ℕ → Turn → Played → Type 0

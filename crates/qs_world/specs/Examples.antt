@@ -6,7 +6,8 @@ use Rattle.qs_calls.specs.declared.event.Side.TheVariants.{A, B}
 use Rattle.qs_calls.specs.declared.event.Act.TheVariants as acts
 use Rattle.qs_calls.specs.declared.answer.Answer.TheVariants as answers
 use Rattle.qs_machine.specs.Examples.{standard}
-use Rattle.qs_runs.specs.Worlds.{World, EventRun}
+use Rattle.qs_runs.specs.Events.{EventRun}
+use Rattle.qs_runs.specs.Worlds.{World}
 use Rattle.qs_world.specs.PlayText.{lane_text, end_text}
 
 pub record ReportLines : Type 0 where

@@ -6,6 +6,7 @@ pub mod Plays
 pub mod Codes
 pub mod Draining
 pub mod Copies
+pub mod Owners
 pub mod Places
 pub mod Buffers
 pub mod PlayText

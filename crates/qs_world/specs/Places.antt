@@ -8,7 +8,8 @@ use Rattle.qs_calls.specs.declared.event.Act.TheVariants as acts
 use Rattle.qs_calls.specs.declared.event.Event.{Event}
 use Rattle.qs_calls.specs.declared.answer.Answer.{Answer}
 use Rattle.qs_calls.specs.declared.answer.Answer.TheVariants as answers
-use Rattle.qs_runs.specs.Logs.{Log, happened, same_side, payload, ping_text}
+use Rattle.qs_runs.specs.Logs.{same_side, payload, ping_text}
+use Rattle.qs_runs.specs.Events.{Log, happened}
 
 -- what happened, and whether there is room for one event more
 pub record Logged : Type 0 where

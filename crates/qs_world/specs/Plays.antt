@@ -14,9 +14,10 @@ use Rattle.qs_calls.specs.declared.answer.Answer.{Answer}
 use Rattle.qs_world.specs.declared.report.Report.{Report}
 use Rattle.qs_world.specs.declared.report.PlayFault.{PlayFault}
 use Rattle.qs_world.specs.declared.report.PlayFault.TheVariants as faults
-use Rattle.qs_runs.specs.Logs.{Did, Log, happened, payload}
-use Rattle.qs_runs.specs.Worlds.{World, world_made, WorldStep}
-use Rattle.qs_runs.specs.Agree.{Agree, StepAgrees}
+use Rattle.qs_runs.specs.Logs.{payload}
+use Rattle.qs_runs.specs.Events.{Log, happened, EventStep, EventAgrees, world_made}
+use Rattle.qs_runs.specs.Worlds.{World}
+use Rattle.qs_runs.specs.Agree.{Agree}
 use Rattle.qs_world.specs.Reports.{IsReport}
 
 -- the events of a log, in its order
@@ -30,7 +31,7 @@ events_of log = map (λ x. x.0) log
 abbrev pub AgreeingRun : Settings → Settings → Log → World → Type 0
 AgreeingRun a b [] w = (world_made a b ≡ Ok w) × Agree [] w
 AgreeingRun a b (x ∷ log) w =
-    (v : World) × AgreeingRun a b log v × WorldStep (happened log) v (Did x.0 x.1) w × StepAgrees (happened log) v (Did x.0 x.1) w × Agree (happened (x ∷ log)) w
+    (v : World) × AgreeingRun a b log v × EventStep log v x.0 x.1 w × EventAgrees log v x.0 x.1 w × Agree (happened (x ∷ log)) w
 
 -- two ends, and what happened to them, the newest first
 pub record Played : Type 0 where
@@ -62,7 +63,7 @@ IsMissing log event = IsMissingBy log event.end event.act
 
 -- One more event: it happened, and is logged with its answer; or a packet that wasn't made was to be delivered; or the log found no memory.
 abbrev pub PlayStep : {X : Type 0} → Played → Event → Result X PlayFault → Played → Type 0
-PlayStep old event (Ok done) new = (answer : Answer) × (new.log ≡ (event, answer) ∷ old.log) × WorldStep (happened old.log) old.ends (Did event answer) new.ends
+PlayStep old event (Ok done) new = (answer : Answer) × (new.log ≡ (event, answer) ∷ old.log) × EventStep old.log old.ends event answer new.ends
 PlayStep old event (Err (faults.NoSuchPacket k)) new = (new ≡ old) × IsMissing old.log event × (k ≡ suc (length old.log))
 PlayStep old event (Err faults.NoMemory) new = (new ≡ old) × (IsMissing old.log event → ⊥)
 PlayStep old event (Err (faults.Setup fault)) new = ⊥

@@ -9,8 +9,9 @@ use Rattle.qs_calls.specs.declared.event.Event.{Event}
 use Rattle.qs_world.specs.Draws.{draw, after, side_drawn, kind_of, IsDrawn}
 use Rattle.qs_calls.specs.declared.answer.Answer.{Answer}
 use Rattle.qs_calls.specs.Events.{fits}
-use Rattle.qs_runs.specs.Logs.{Did, Log, happened, made}
-use Rattle.qs_runs.specs.Worlds.{World, EventRun, WorldStep}
+use Rattle.qs_runs.specs.Logs.{made}
+use Rattle.qs_runs.specs.Events.{Log, happened, EventStep, EventRun}
+use Rattle.qs_runs.specs.Worlds.{World}
 use Rattle.qs_world.specs.Plays.{Played}
 
 -- the generator that a seed determines
@@ -31,7 +32,7 @@ IsDrawnLog first (x ∷ h) last = (g : Lcg) × IsDrawnLog first h g × IsNext h 
 abbrev pub DrawnStep : Played → Lcg → Played → Lcg → Type 0
 DrawnStep old g new last =
     (event : Event) × (answer : Answer)
-    × (new.log ≡ (event, answer) ∷ old.log) × WorldStep (happened old.log) old.ends (Did event answer) new.ends × IsNext old.log g event last × (fits event ≡ true)
+    × (new.log ≡ (event, answer) ∷ old.log) × EventStep old.log old.ends event answer new.ends × IsNext old.log g event last × (fits event ≡ true)
 
 -- So many events happened, each of which fits, between two ends of the standard settings: they were drawn one after the other from the
 -- first generator on.

@@ -15,7 +15,8 @@ use Rattle.qs_calls.specs.declared.event.Side.TheVariants.{A, B}
 use Rattle.qs_world.specs.declared.report.LaneTotals.{LaneTotals}
 use Rattle.qs_world.specs.declared.report.EndTotals.{EndTotals}
 use Rattle.qs_world.specs.declared.report.Report.{Report}
-use Rattle.qs_runs.specs.Logs.{Log, other}
+use Rattle.qs_runs.specs.Logs.{other}
+use Rattle.qs_runs.specs.Events.{Log}
 use Rattle.qs_runs.specs.Worlds.{World, end_of}
 
 abbrev pub is_received : SendState → Bool

@@ -1,8 +1,8 @@
 //! Two ends, and what happened to them.
 ghost use Rattle.std.specs.Prelude.{◌≡◌, [], length, reverse, true, vec_capacity, Some, None, IfSome, IfNone, IfOk, IfErr};
 ghost use Rattle.qs_calls.specs.Events.{fits};
-ghost use Rattle.qs_runs.specs.Logs.{happened, made, payload};
-ghost use Rattle.qs_runs.specs.Worlds.{world_made};
+ghost use Rattle.qs_runs.specs.Logs.{made, payload};
+ghost use Rattle.qs_runs.specs.Events.{happened, world_made};
 ghost use Rattle.qs_world.specs.Reports.{IsReport};
 ghost use Rattle.qs_world.specs.Copies.{IsReportOf, IsLastAnswer};
 ghost use Rattle.qs_world.specs.Plays.{begun, PlayStep, HasAgreed};

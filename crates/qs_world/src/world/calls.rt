@@ -2,8 +2,7 @@
 ghost use Rattle.std.specs.Prelude.{◌≡◌, ◌≤◌, ◌<◌, ◌^◌, length, false, true};
 ghost use Rattle.qs_calls.specs.Events.{act_fits};
 ghost use Rattle.qs_calls.specs.declared.event.Act.TheVariants.{ReadUpTo, Make};
-ghost use Rattle.qs_runs.specs.Logs.{is_delivery};
-ghost use Rattle.qs_runs.specs.Worlds.{OwnStep};
+ghost use Rattle.qs_world.specs.Owners.{is_delivery, OwnStep};
 ghost use Rattle.qs_world.specs.Buffers.{room_of, count_read, count_made};
 
 use qs_calls::{Act, Answer};

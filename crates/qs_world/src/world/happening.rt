@@ -3,9 +3,9 @@ ghost use Rattle.std.specs.Prelude.{◌≡◌, ◌≤◌, ◌<◌, ◌^◌, List
 ghost use Rattle.qs_machine.specs.Receiving.{ReceiveStep};
 ghost use Rattle.qs_world.specs.Buffers.{room_of};
 ghost use Rattle.qs_calls.specs.Events.{act_fits, fits};
-ghost use Rattle.qs_runs.specs.Logs.{Did, happened, payload};
-ghost use Rattle.qs_world.specs.Plays.{IsMissing, IsMissingBy, world_by};
-ghost use Rattle.qs_runs.specs.Worlds.{WorldStep, EventStep};
+ghost use Rattle.qs_runs.specs.Logs.{payload};
+ghost use Rattle.qs_runs.specs.Events.{happened, EventStep};
+ghost use Rattle.qs_world.specs.Plays.{HasAgreed, IsMissing, IsMissingBy, world_by};
 
 use super::calls::own_call;
 use super::log::Log;
@@ -38,10 +38,11 @@ pub(crate) fn happen(
     event: &Event,
     buffer: Vec<u8>,
 ) -> Answer
+    requires agreed { HasAgreed (record { log = log.now.history; ends = record { a = a.old; b = b.old } }) }
     requires there { IsMissing log.now.history event.now → ⊥ }
     requires fits { fits event.now ≡ true }
     requires room { length buffer.items ≡ room_of event.now.act }
-    ensures { WorldStep (happened log.now.history) (record { a = a.old; b = b.old }) (Did event.now result) (record { a = a.new; b = b.new }) }
+    ensures { EventStep log.now.history (record { a = a.old; b = b.old }) event.now result (record { a = a.new; b = b.new }) }
 {
     match event.end {
         Side::A => happen_at(log, Side::A, a, b, &event.act, buffer),
@@ -59,10 +60,11 @@ fn happen_at(
     act: &Act,
     buffer: Vec<u8>,
 ) -> Answer
+    requires agreed { HasAgreed (record { log = log.now.history; ends = world_by side own.old peer.old }) }
     requires there { IsMissingBy log.now.history side act.now → ⊥ }
     requires fits { act_fits act.now ≡ true }
     requires room { length buffer.items ≡ room_of act.now }
-    ensures { EventStep (happened log.now.history) (world_by side own.old peer.old) side act.now result (world_by side own.new peer.new) }
+    ensures { EventStep log.now.history (world_by side own.old peer.old) (record { end = side; act = act.now }) result (world_by side own.new peer.new) }
 {
     match act {
         Act::Deliver(number) => Answer::Deliver(deliver(log, side, peer, *number)),

@@ -1,6 +1,7 @@
 //! The log of a world, in which a payload is found by its number.
 ghost use Rattle.std.specs.Prelude.{◌≡◌, ◌+◌, ◌<◌, ◌≤◌, ◌^◌, ◌++◌, ◌∷◌, [], length, reverse, true, Some, None, IfSome, IfNone, OnOk, OnErr, vec_len, vec_capacity, slice_get, if◌then◌else◌};
-ghost use Rattle.qs_runs.specs.Logs.{happened, made, payload, same_side, ping_text};
+ghost use Rattle.qs_runs.specs.Logs.{made, payload, same_side, ping_text};
+ghost use Rattle.qs_runs.specs.Events.{happened};
 ghost use Rattle.qs_world.specs.Places.{ArePlaces, IsPlaceOf, makes, makes_by, text_of};
 
 use qs_calls::{Act, Answer, Event, Side};
@@ -20,7 +21,8 @@ pub(crate) struct Log {
 impl Model for Log {
     ghost use Rattle.std.specs.Prelude.{◌&&◌, reverse, nat_lt, vec_len, vec_capacity};
     ghost use Rattle.qs_calls.specs.declared.event.Side.TheVariants.{A, B};
-    ghost use Rattle.qs_runs.specs.Logs.{happened, made};
+    ghost use Rattle.qs_runs.specs.Logs.{made};
+    ghost use Rattle.qs_runs.specs.Events.{happened};
     ghost use Rattle.qs_world.specs.Places.{Logged, logged_code, ArePlaces};
     ghost use Rattle.qs_calls.specs.contracts.event.Event as event;
     ghost use Rattle.qs_calls.specs.contracts.answer.Answer as answer;

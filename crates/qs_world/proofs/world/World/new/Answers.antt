@@ -3,7 +3,8 @@ use Rattle.qs_calls.specs.Settings.{limits_of}
 use Rattle.qs_wire.specs.declared.stream_id.Role.TheVariants.{Client, Server}
 use Rattle.qs_calls.specs.declared.settings.SetupFault.{SetupFault}
 use Rattle.qs_machine.specs.Ends.{End, end_made}
-use Rattle.qs_runs.specs.Worlds.{both_made, world_made}
+use Rattle.qs_runs.specs.Events.{world_made}
+use Rattle.qs_runs.specs.Worlds.{both_made}
 use Rattle.qs_world.specs.Plays.{begun}
 use Rattle.qs_world.proofs.OneMore.{agreed_new}
 use Rattle.qs_world.proofs.world.World.new.Goals as goal

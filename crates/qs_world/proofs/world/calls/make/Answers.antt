@@ -20,8 +20,5 @@ returns c =
     let same : length out ≡ length c.args.buffer.items = search rules in
     let whole = kept out c.args.buffer.items c.args.buffer.len same len in
     let text : c.truncate.new.self.items ≡ made_text r out = c.truncate.ensures.items ∙ ap (take c.count_made.result) whole ∙ ap (λ n. take n out) c.count_made.ensures ∙ cut_is r out in
-    let step = rw c.deref_mut.ensures.value at c.make_packet-answer.ensures.step in (
-      0,
-      0,
-      subst (λ t. MakeStep c.args.end.now 0 0 (length c.args.buffer.items) r t c.make_packet-answer.new.self) (sym text) step,
-    )
+    let step = rw c.deref_mut.ensures.value at c.make_packet-answer.ensures.step in
+    subst (λ t. MakeStep c.args.end.now 0 0 (length c.args.buffer.items) r t c.make_packet-answer.new.self) (sym text) step
