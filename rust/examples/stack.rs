@@ -138,7 +138,7 @@ fn is_received(end: &Endpoint, stream: StreamId) -> bool {
     sending.is_some_and(|half| half.state == SendState::DataRecvd)
 }
 
-fn main() -> Result<(), Box<dyn Error>> {
+pub fn main() -> Result<(), Box<dyn Error>> {
     let settings = Settings::default();
     let mut client = Stack::new(Role::Client, settings)?;
     let mut server = Stack::new(Role::Server, settings)?;
