@@ -126,7 +126,7 @@ fn told(frame: &Frame<'_>) -> Told {
     }
 }
 
-/// An end whose calls are counted. What premises nothing is asked of it passes on.
+/// An end whose calls are written down and held against the premises.
 pub struct Endpoint {
     role: Role,
     end: layer::Endpoint,

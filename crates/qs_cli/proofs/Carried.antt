@@ -14,8 +14,9 @@ use Rattle.qs_world.specs.declared.report.PlayFault.{PlayFault}
 use Rattle.qs_world.specs.declared.report.PlayFault.TheVariants as faults
 use Rattle.qs_runs.specs.Events.{world_made}
 use Rattle.qs_runs.specs.Worlds.{World}
-use Rattle.qs_world.specs.Copies.{IsReportOf}
-use Rattle.qs_world.specs.Plays.{AgreeingRun, Played, begun}
+use Rattle.std.proofs.lemmas.Option.{none-some}
+use Rattle.qs_world.specs.Copies.{SameAct, SameEvent, IsReportOf}
+use Rattle.qs_world.specs.Plays.{AgreeingRun, IsMissing, IsMissingBy, Played, begun}
 use Rattle.qs_world.specs.PlayText.{play_text}
 use Rattle.qs_world.proofs.PlayedRuns.{played_none}
 use Rattle.qs_world.proofs.OneMore.{one_more}
@@ -23,7 +24,42 @@ use Rattle.qs_cli.specs.declared.status.Status.{Status}
 use Rattle.qs_cli.specs.declared.status.Status.TheVariants.{Success, FaultShown, BadUsage, NoMemory, Failed}
 use Rattle.qs_cli.specs.Runs.{Shows, missing_line, written}
 use Rattle.qs_cli.proofs.Answered.{by_shown}
-use Rattle.qs_cli.specs.Carrying.{Failings, Happens, Carried, Carries, CarryStep, CarryOf, HasCarried, ShowsWorld, AnswersCarried, counted, wire_line}
+use Rattle.qs_cli.specs.Carrying.{Failings, Happens, IsPacketOf, StepsBy, send_failed, Carried, Carries, CarryStep, CarryOf, HasCarried, ShowsWorld, AnswersCarried, counted, wire_line}
+
+-- One event
+
+-- the send failed, and the packet is lost
+pub lost_instead : (s : Side) (k : ℕ) (old new : Played) (f g : Failings) (event : Event) (result : Result Bool PlayFault) → event ≡ record { end = s; act = Lose k } → g ≡ send_failed f → StepsBy old event result new → CarryStep old f (record { end = s; act = Deliver k }) result new g
+lost_instead s k old new f g event (Ok stranger) is failed (none, happens) = inl (failed, none, subst (λ e. Happens old e new) is happens)
+lost_instead s k old new f g event (Err (faults.NoSuchPacket n)) is failed (same, missing, place) = absurd (subst (IsMissing old.log) is missing)
+lost_instead s k old new f g event (Err faults.NoMemory) is failed step = tt
+lost_instead s k old new f g event (Err (faults.Setup fault)) is failed step = absurd step
+
+-- a packet arrives
+pub arrives : (s : Side) (k j : ℕ) (old new : Played) (f g : Failings) (event : Event) (datagram : List ℕ) (result : Result Bool PlayFault) → event ≡ record { end = s; act = Deliver j } → g ≡ f → IsPacketOf s old.log j datagram → StepsBy old event result new
+    → CarryStep old f (record { end = s; act = Deliver k }) result new g
+arrives s k j old new f g event datagram (Ok stranger) is same packet (none, happens) = inr (inr (inr (same, none, j, subst (λ e. Happens old e new) is happens)))
+arrives s k j old new f g event datagram (Err (faults.NoSuchPacket n)) is same packet (stays, missing, place) = absurd (none-some _ (sym (subst (IsMissing old.log) is missing) ∙ packet.3))
+arrives s k j old new f g event datagram (Err faults.NoMemory) is same packet step = tt
+arrives s k j old new f g event datagram (Err (faults.Setup fault)) is same packet step = absurd step
+
+-- and any other event happens as it was handed in
+not_missing : (old : Played) (copy event : Event) → ((k : ℕ) → event.act ≡ Deliver k → ⊥) → SameEvent copy event → IsMissing old.log copy → ⊥
+not_missing old copy event other same missing = go copy.act same.1 missing
+  where
+    go : (act : Act) → SameAct act event.act → IsMissingBy old.log copy.end act → ⊥
+    go (Deliver k) is none = other k (sym is)
+    go act is none = none
+
+pub as_handed_in : (old new : Played) (f : Failings) (copy event : Event) (result : Result Bool PlayFault) → ((k : ℕ) → event.act ≡ Deliver k → ⊥) → SameEvent copy event → StepsBy old copy result new → CarryStep old f event result new f
+as_handed_in old new f copy event (Ok stranger) other same (none, happens) = go event.act refl
+  where
+    go : (act : Act) → event.act ≡ act → Carries event.end act old f stranger new f
+    go (Deliver k) is = absurd (other k is)
+    go act is = (refl, none, copy, subst (λ a. SameEvent copy (record { end = event.end; act = a })) is same, happens)
+as_handed_in old new f copy event (Err (faults.NoSuchPacket n)) other same (stays, missing, place) = absurd (not_missing old copy event other same missing)
+as_handed_in old new f copy event (Err faults.NoMemory) other same step = tt
+as_handed_in old new f copy event (Err (faults.Setup fault)) other same step = absurd step
 
 -- Events that were handed in
 

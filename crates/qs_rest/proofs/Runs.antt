@@ -59,7 +59,7 @@ use Rattle.qs_runs.proofs.NewEnds.{first_world, made_first, ends_made}
 use Rattle.qs_runs.proofs.OwnMoves.{allowed_at}
 use Rattle.qs_runs.proofs.Standing.{certain_cases}
 use Rattle.qs_runs.proofs.Frames.{MayCome}
-use Rattle.qs_runs.proofs.Histories.{two_sides, past_there, told}
+use Rattle.qs_runs.proofs.Histories.{two_sides, past_there}
 use Rattle.qs_runs.proofs.Past.{Confirmed-more}
 use Rattle.qs_runs.proofs.PeerMoves.{with_theirs}
 use Rattle.qs_runs.proofs.Runs.{run_keeps}
@@ -324,7 +324,7 @@ step_rests a b h v w x ok rests step =
     (subst (λ p. RestOk p (end_of w x.end)) (sym (past_goes x h))
     (call_rests (effects x.end h) (effects (other x.end) h) (end_of v x.end) (end_of w x.end) (ok.sound x.end) (ok.sent x.end) (ok.ends x.end) (rests x.end) x.call x.answer (λ unclosed. heard h v x.end x.call (step.may unclosed)) step.step))
     (subst (λ p. RestOk p (end_of w (other x.end))) (sym (past_there x h))
-    (subst (RestOk (with_theirs (past (other x.end) h) (packets_in (told x h)))) (sym step.still) (peer_rests (past (other x.end) h) (packets_in (told x h)) (end_of v (other x.end)) (rests (other x.end)))))
+    (subst (RestOk (with_theirs (past (other x.end) h) (packets_in (effects_of x.call x.answer)))) (sym step.still) (peer_rests (past (other x.end) h) (packets_in (effects_of x.call x.answer)) (end_of v (other x.end)) (rests (other x.end)))))
 
 pub every_run_keeps : EveryRunKeeps
 every_run_keeps a b [] w begins = first_ends a b w begins
