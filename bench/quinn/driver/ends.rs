@@ -143,7 +143,8 @@ impl End {
                 Frame::StopSending(frame) => self
                     .streams
                     .received_stop_sending(frame.id, frame.error_code),
-                Frame::Padding | Frame::Ping => {}
+                // Its connection only writes to its log that the peer is blocked.
+                Frame::Padding | Frame::Ping | Frame::StreamDataBlocked { .. } => {}
                 other => panic!("{:?}", other),
             }
         }
