@@ -114,9 +114,9 @@ BOUNDS = {
         sizes=(60, 252, 1020),
         heap=(1 << 21) + 100 * 1020,
         heap_why="a ring of the least power of two that reaches to the last page, and a run for each byte",
-        growth=0.55,
-        growth_why="the frame that fills the gap moves all pages into the ring, and for each the records of those behind it: it is to fall",
-        count=30_700,
+        growth=0.15,
+        growth_why="the frame that fills the gap moves all pages into the ring, each once; pages are found by halves",
+        count=13_000,
     ),
     "window-downwards": Bound(
         sizes=(1 << 15, 1 << 16, 1 << 17),

@@ -1,6 +1,5 @@
 //! Queues and maps whose every growth can fail.
 
-use super::Vec;
 use super::alloc::{AllocError, AllocFailed, Global};
 use super::heap::collections::VecDeque as HeapDeque;
 use super::heap::collections::vec_deque::{Drain, Iter};
@@ -147,9 +146,10 @@ impl<T> IndexMut<usize> for VecDeque<T> {
     }
 }
 
-/// A map, kept as a vector of its entries in the order of their keys: `alloc`'s tree has no insert that can fail.
+/// A map, kept as a queue of its entries in the order of their keys: `alloc`'s tree has no insert that can fail. A queue, since a peer's
+/// pages leave at the front and may come there, and a vector would move all behind them.
 pub struct BTreeMap<K, V> {
-    entries: Vec<(K, V)>,
+    entries: VecDeque<(K, V)>,
 }
 
 impl<K: Ord, V> BTreeMap<K, V> {
@@ -157,7 +157,7 @@ impl<K: Ord, V> BTreeMap<K, V> {
     #[inline]
     pub const fn new(alloc: Global) -> Self {
         BTreeMap {
-            entries: Vec::new(alloc),
+            entries: VecDeque::new(alloc),
         }
     }
 
@@ -191,7 +191,7 @@ impl<K: Ord, V> BTreeMap<K, V> {
     #[inline]
     pub fn remove(&mut self, key: &K) -> Option<V> {
         let place = self.place_of(key).ok()?;
-        Some(self.entries.remove(place).1)
+        Some(self.entries.remove(place)?.1)
     }
 
     /// Puts a value at a key, and answers the one that was there.
@@ -211,6 +211,8 @@ impl<K: Ord, V> BTreeMap<K, V> {
 
     #[inline]
     fn place_of(&self, key: &K) -> Result<usize, usize> {
-        self.entries.binary_search_by(|entry| entry.0.cmp(key))
+        self.entries
+            .items
+            .binary_search_by(|entry| entry.0.cmp(key))
     }
 }
