@@ -31,9 +31,8 @@ impl Endpoint {
         self.make(Fill::all().first, 0, out)
     }
 
-    /// Makes the next packet, as `make_packet` does, but for two things: bytes go in from stream `first` on, lower streams first, and
-    /// then those of the streams below it; and an ACK tells this delay, in the unit that the peer was told (RFC 9000, sections 2.3, 18.2
-    /// and 19.3).
+    /// Makes the next packet, as `make_packet` does, with bytes from stream `first` on and with this delay in an ACK: lower streams go
+    /// first, and then those below `first`; the delay is in the unit that the peer was told (RFC 9000, sections 2.3, 18.2 and 19.3).
     pub fn make_packet_from(
         &mut self,
         first: StreamId,
