@@ -1,4 +1,4 @@
-/* What the library is, and what its statuses mean. The Makefile says how it is built: GV_KIND. */
+/* What the library is, and what its statuses mean. The Makefile says how it was built (GV_KIND), since both kinds share this file. */
 #include "gotsavena.h"
 
 int gv_version(void) { return GV_VERSION; }

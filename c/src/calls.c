@@ -1,11 +1,11 @@
-/* The public calls. Each tests its pointers, copies between the public structs and those of the library below, which tests the numbers,
- * and has the memory of its end used while it runs. */
+/* The public calls. Each checks its pointers and copies between the public structs and those of the library below, which checks the
+ * numbers. So the public structs may grow, no proof has to be done again for that, and what is proved only ever gets whole, written values. */
 #include <stdalign.h>
 #include <string.h>
 
 #include "hearing.h"
 
-/* No later field may stand where a struct of today has nothing. */
+/* A field that a later version adds must not lie in today's padding, which a program may leave unwritten. */
 #define ENDS_WITH(type, field) _Static_assert(sizeof(type) == UP_TO(type, field), #type " ends with " #field)
 ENDS_WITH(gv_settings, lifetime_uni);
 ENDS_WITH(gv_tuning, spare);
@@ -22,7 +22,7 @@ ENDS_WITH(gv_frame, token);
 ENDS_WITH(gv_fault, place);
 ENDS_WITH(gv_peeked, back);
 
-/* An end. */
+/* An endpoint. */
 
 gv_status gv_settings_init(gv_settings *settings, size_t size) {
   const gv_settings first = {size, 1 << 20, 1 << 18, 1 << 18, 1 << 18, 1 << 18, 100, 100, 1 << 21, 1 << 21};
@@ -276,7 +276,7 @@ gv_status gv_accept_of(gv_endpoint *end, gv_dir dir, uint64_t *stream) { return 
 gv_status gv_write(gv_endpoint *end, uint64_t stream, const uint8_t *bytes, size_t len, size_t *count) {
   size_t got = 0;
   if (end == NULL || count == NULL || !is_slice(bytes, len)) return GV_INVALID;
-  /* A write that couldn't be noted holds the next one up, and what else refuses that goes before. */
+  /* A write that couldn't be noted holds the next one up, lest its event never comes. Any other error has priority over the want of memory. */
   bool is_noted = catch_up(end);
   size_t most = is_noted ? len : 0;
   gv_status status = leave(end, gvp_write(enter(end), stream, read_from(bytes, most), most, &got));
@@ -367,7 +367,6 @@ gv_status gv_next_sendable(const gv_endpoint *end, uint64_t from, uint64_t *stre
 
 gv_status gv_next_ended(const gv_endpoint *end, uint64_t from, uint64_t *stream) { return ask_of(gvp_next_ended, end, from, stream); }
 
-/* How a stream stands: GV_NO_SUCH_STREAM where it isn't open. */
 static gv_status lane_of(const gv_endpoint *end, uint64_t stream, gvp_lane *lane) {
   memset(lane, 0, sizeof *lane);
   gv_status status = leave(end, gvp_lane_report(enter(end), stream, lane));
@@ -501,7 +500,6 @@ gv_status gv_last_stream(const uint8_t *payload, size_t len, uint64_t *stream) {
   return status;
 }
 
-/* A frame of a payload. */
 static gv_frame frame_in(const uint8_t *payload, const gvp_frame *f) {
   gv_frame got;
   memset(&got, 0, sizeof got);
@@ -530,7 +528,6 @@ static gv_frame frame_in(const uint8_t *payload, const gvp_frame *f) {
   return got;
 }
 
-/* A frame to be written, or handed in. */
 static gvp_frame frame_of(const gv_frame *f) {
   gvp_frame given;
   memset(&given, 0, sizeof given);
@@ -617,21 +614,21 @@ gv_status gv_put_ack(const gv_range *ranges, size_t count, uint64_t delay, uint8
   return GV_OK;
 }
 
-/* Frames and tokens of an end. */
+/* Frames and tokens. */
 
-/* Whether a frame is of streams or of flow control, which an end takes in without its packet. */
+/* Whether a frame is of streams or flow control. The others are passed over here, so that they need no room below. */
 static bool is_of_end(const gvp_frame *frame) {
   return frame->kind == GV_FRAME_RESET_STREAM || frame->kind == GV_FRAME_STOP_SENDING ||
          (frame->kind >= GV_FRAME_STREAM && frame->kind <= GV_FRAME_STREAMS_BLOCKED);
 }
 
-/* Whether a frame is of a kind and of a direction, and its stream has a number. */
+/* Conditions of the calls below, which check them no more. */
 static bool is_given(const gvp_frame *frame) {
   return frame->kind <= GV_FRAME_HANDSHAKE_DONE && frame->dir <= GV_DIR_UNI && frame->stream <= MOST_NUMBER;
 }
 
-/* The frames of the end's own kinds as the library below has them, and how many these are; false where one of all isn't a struct of the first
- * one's size, or no frame. */
+/* Copies the frames of streams and flow control for the library below, and counts them; false if one isn't a struct of the first one's
+ * size, or no frame. All are checked before any takes effect, so that GV_INVALID changes nothing. */
 static bool take_given(gvp_given *to, const gv_frame *frames, size_t count, size_t *ours) {
   *ours = 0;
   for (size_t i = 0; i < count; i++) {
@@ -647,7 +644,7 @@ static bool take_given(gvp_given *to, const gv_frame *frames, size_t count, size
   return true;
 }
 
-/* Takes frames in. What they say to hold the peer back is noted behind, for which there has to be room before. */
+/* Blocked frames are noted after they took effect, so the room for the notes is taken before: none is lost for want of memory. */
 static gv_status take_all(gv_endpoint *end, const gvp_given *given, size_t count, gv_taken *taken) {
   uint32_t got = GV_TAKEN_NOT_OURS;
   gv_status status = GV_OK;
@@ -673,7 +670,7 @@ gv_status gv_take_frames(gv_endpoint *end, const gv_frame *frames, size_t count,
   if (count > 1 && size_of(frames) % alignof(gv_frame) != 0) return GV_INVALID;
   bool is_few = count <= FEW;
   if (!take_given(is_few ? few : NULL, frames, count, &ours)) return GV_INVALID;
-  /* A closed end says so before memory is asked for, which one frame mostly doesn't need. */
+  /* Before memory is asked for, so that a closed endpoint never returns GV_NO_MEMORY. A single frame mostly needs none. */
   if (ours != 1 || !is_few || says_blocked(&few->frame)) status = ask_open(end);
   if (status != GV_OK) return status;
   if (is_few || ours == 0) return take_all(end, few, ours, taken);

@@ -1,5 +1,5 @@
-/* An end's handle, and what the public calls have in common: how structs are copied, how a call begins and ends, and the shapes of calls
- * that a number or a bool answers. */
+/* An endpoint's handle, and what the public calls have in common: how structs are copied, how a call begins and ends, and the shapes of
+ * calls that return a number or a bool. */
 #ifndef GOTSAVENA_CALLS_H
 #define GOTSAVENA_CALLS_H
 
@@ -10,7 +10,6 @@
 #include "memory.h"
 #include "proved.h"
 
-/* Numbers, in memory of the end. */
 typedef struct numbers {
   uint64_t *at;
   size_t room; /* how many have a place */
@@ -30,12 +29,13 @@ struct gv_endpoint {
   uint64_t unnoted;          /* the stream of a write that was cut short, for which there was no memory to note it, else NO_STREAM */
 };
 
-/* What a struct takes up to a field, and it: what it took in the version of which this was the last field. */
+/* The size of a struct up to a field and with it: what it had in the version of which this was the last field. So callers of that version
+ * are known by their size. */
 #define UP_TO(type, field) (offsetof(type, field) + sizeof((type *)0)->field)
 
 enum { MOST_SIZE = 4096, TOKEN_LEN = 16 };
 
-/* The greatest number that a frame has (section 16). */
+/* Two bits of eight bytes say the length (section 16). */
 #define MOST_NUMBER ((UINT64_C(1) << 62) - 1)
 
 static size_t least(size_t a, size_t b) { return a < b ? a : b; }
@@ -46,10 +46,11 @@ static size_t size_of(const void *at) {
   return size;
 }
 
-/* Whether a caller's struct is there, and has a size that one may have: at least that of version 0.1. */
+/* At least the size of version 0.1, and not so large that it is surely no size. */
 static bool is_sized(const void *at, size_t first) { return at != NULL && size_of(at) >= first && size_of(at) <= MOST_SIZE; }
 
-/* Copies a caller's struct. What it hasn't is 0; false where it has something that isn't known here. */
+/* Copies a caller's struct. What it lacks is 0, which means 'as before'. False if it has something that isn't known here: to ignore a
+ * setting silently would be worse. */
 static bool copy_in(void *to, size_t known, const void *from, size_t first) {
   static const uint8_t zeros[MOST_SIZE];
   if (!is_sized(from, first)) return false;
@@ -59,18 +60,17 @@ static bool copy_in(void *to, size_t known, const void *from, size_t first) {
   return size <= known || memcmp((const uint8_t *)from + known, zeros, size - known) == 0;
 }
 
-/* Copies to a caller's struct what it has room for, but for its size. */
+/* Copies to a caller's struct what it has room for, and leaves its size. */
 static void copy_out(void *to, const void *from, size_t known) {
   size_t skipped = sizeof(size_t);
   memcpy((uint8_t *)to + skipped, (const uint8_t *)from + skipped, least(size_of(to), known) - skipped);
 }
 
-/* A slice of no bytes may have no address, and the library below wants one. */
+/* A slice without bytes may be null in C, and the library below needs an address. */
 static uint8_t none[1];
 
 static uint64_t no_numbers[1];
 
-/* No stream has this number. */
 #define NO_STREAM UINT64_MAX
 
 static bool is_slice(const void *at, size_t len) { return (at != NULL || len == 0) && len <= (size_t)PTRDIFF_MAX; }
@@ -79,14 +79,15 @@ static const uint8_t *read_from(const uint8_t *at, size_t len) { return len == 0
 
 static uint8_t *written_to(uint8_t *at, size_t len) { return len == 0 ? none : at; }
 
-/* A call of an end begins: until leave() memory is the end's. A question is no other: its end is const in the header alone. */
+/* A call begins: until leave() the thread's memory is the endpoint's. Questions do that too, since the library below has no call without a
+ * handle that may change; only the header says const. */
 static gvp_handle *enter(const gv_endpoint *end) {
   gv_endpoint *own = (gv_endpoint *)end;
   own->outer = gvp_take_from(&own->memory);
   return &own->handle;
 }
 
-/* The same for a call that wants what was heard alone. */
+/* The same for a call that needs the notes of events alone. */
 static gvp_heard *enter_heard(gv_endpoint *end) {
   (void)enter(end);
   return &end->heard;
@@ -103,7 +104,7 @@ static void free_numbers(gv_endpoint *end, numbers *all) {
   all->room = 0;
 }
 
-/* So many numbers have a place, and those that had one are gone; false where memory is refused, and then nothing changed. */
+/* Gives so many numbers a place, and drops those that had one; false if memory is refused, and then nothing changed. */
 static bool has_room(gv_endpoint *end, numbers *all, size_t wanted) {
   if (wanted <= all->room) return true;
   uint64_t *at = end->memory.allocate(end->memory.context, wanted * sizeof *at, alignof(uint64_t));
@@ -114,7 +115,7 @@ static bool has_room(gv_endpoint *end, numbers *all, size_t wanted) {
   return true;
 }
 
-/* The shapes of calls that a number or a bool answers. */
+/* The shapes of calls that return a number or a bool, so that each is written once. */
 
 static gv_status ask(uint32_t (*call)(gvp_handle *, uint64_t *), const gv_endpoint *end, uint64_t *answer) {
   uint64_t got = 0;

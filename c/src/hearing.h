@@ -1,14 +1,15 @@
-/* What an owner hears of, and what is noted for that: writes that were cut short, streams that were read, and frames that say what holds the
- * peer back. */
+/* What was reported to the application, and what is noted for that: writes that were cut short, streams that were read, and blocked frames.
+ * The proved notes need these calls made, so the library makes them. */
 #ifndef GOTSAVENA_HEARING_H
 #define GOTSAVENA_HEARING_H
 
 #include "calls.h"
 
-/* What was heard is kept from the first note on; false where there is no memory for it. */
+/* Notes are made with the first thing to note, since they take 2.9 KB, more than half of what an endpoint does, and many applications want
+ * no events. False if there is no memory for them. */
 static bool listens(gv_endpoint *end) { return end->heard.live || leave(end, gvp_heard_new(enter_heard(end))) == GV_OK; }
 
-/* A write that was cut short is noted, for which there was no memory before: its owner is about to write the rest. False where there is none
+/* Notes a write that was cut short and found no memory for it before: the application is about to write the rest. False if there is none
  * again. */
 static bool catch_up(gv_endpoint *end) {
   if (end->unnoted == NO_STREAM) return true;
@@ -18,13 +19,13 @@ static bool catch_up(gv_endpoint *end) {
   return true;
 }
 
-/* A stream was read, or stopped: where nothing is left to read it is heard of again once something is. */
+/* After a read or a stop the stream may become readable again, so the notes forget that it was reported. */
 static gv_status read_on(gv_endpoint *end, uint64_t stream, gv_status status) {
   if (end->heard.live) (void)leave(end, gvp_was_read(&end->heard, enter(end), stream));
   return status;
 }
 
-/* An end that is closed says so, to a frame that does nothing else: it takes no memory. */
+/* A PING changes nothing and takes no memory, and a closed endpoint answers it with the very status that is wanted. */
 static gv_status ask_open(gv_endpoint *end) {
   gvp_frame ping;
   uint32_t taken = 0;
@@ -33,10 +34,9 @@ static gv_status ask_open(gv_endpoint *end) {
   return leave(end, gvp_take_frame(enter(end), &ping, none, 0, &taken));
 }
 
-/* Whether a frame says what holds the peer back (sections 19.12 to 19.14). */
 static bool says_blocked(const gvp_frame *frame) { return frame->kind >= GV_FRAME_DATA_BLOCKED && frame->kind <= GV_FRAME_STREAMS_BLOCKED; }
 
-/* What found no memory to be noted is. A stream whose length came to be known meanwhile waits for no limit. */
+/* Notes what found no memory before. A stream whose length became known meanwhile waits for no limit, so it is left out. */
 static bool note_said(gv_endpoint *end) {
   enum { FEW_SAID = 512 };
   gvp_frame frame;
@@ -51,18 +51,16 @@ static bool note_said(gv_endpoint *end) {
   return true;
 }
 
-/* Before frames take effect, so many of which say what holds the peer back: takes the room that their notes may want, so that none of them is
- * lost behind. */
+/* Takes the room for the notes of so many frames before they take effect, so that none is lost for want of memory. */
 static bool expect(gv_endpoint *end, size_t count) {
   return count == 0 || (listens(end) && note_said(end) && has_room(end, &end->said, count));
 }
 
-/* Such a frame took effect, for which there is room. */
 static void note_blocked(gv_endpoint *end, const gvp_frame *frame) {
   if (leave(end, gvp_was_told(&end->heard, enter(end), frame, none, 0)) == GV_NO_MEMORY) end->said.at[end->said_count++] = frame->stream;
 }
 
-/* How many frames of a payload, up to its first fault, say what holds the peer back; each of them is noted, or they are counted alone. */
+/* Counts the blocked frames of a payload, up to its first fault, where gv_receive() ends too; or notes each. */
 static size_t look_through(gv_endpoint *end, const uint8_t *payload, size_t len, bool is_noted) {
   gvp_frame frame;
   gvp_fault fault = {0, 0, 0, 0};
@@ -76,8 +74,7 @@ static size_t look_through(gv_endpoint *end, const uint8_t *payload, size_t len,
   return count;
 }
 
-/* A payload is about to be taken in: how many frames of it are to be noted behind, which is done where it was; false where there is no room for
- * them. */
+/* Counts, before a payload is processed, the frames to be noted afterwards, and takes room for their notes; false if there is none. */
 static bool expect_payload(gv_endpoint *end, const uint8_t *payload, size_t len, size_t *count) {
   *count = 0;
   if (!end->looks || ask_open(end) != GV_OK) return true;

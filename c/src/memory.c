@@ -1,11 +1,11 @@
-/* The three functions from which the library below has its memory, over the allocator of the call that runs. Alignments are at most
- * that of max_align_t. */
+/* The three functions from which the library below has its memory, over the allocator of the call that runs. Alignments are at most that of
+ * max_align_t. */
 #include "memory.h"
 
 #include <stdlib.h>
 #include <string.h>
 
-/* An address where is_some is 1. Else it means nothing, but isn't null. */
+/* An address if is_some is 1. Else it means nothing, but isn't null, as the proved library lays out what may be missing. */
 struct got {
   uint64_t is_some;
   void *at;
@@ -51,7 +51,8 @@ static struct got got(void *at) {
   return answer;
 }
 
-/* The proved library doesn't say how large a block is as it gives it back. So where memory is the caller's its size stands before it. */
+/* The proved library doesn't say how large a block is when it gives it back, and a caller's allocator wants to know. So the size stands
+ * before the block. */
 typedef struct head {
   _Alignas(max_align_t) size_t size;
 } head;
@@ -91,7 +92,7 @@ struct got rattle_realloc(void *at, size_t was, size_t size, size_t align) {
   return got(behind(from->reallocate(from->context, old, old->size, size, _Alignof(head)), size));
 }
 
-/* Only the address is sure to be told. */
+/* Only the address is sure to be right, which is why the size is kept before the block. */
 void rattle_dealloc(void *at, size_t size, size_t align) {
   const gv_allocator *from = current;
   (void)size;

@@ -4,10 +4,10 @@
 
 #include "gotsavena.h"
 
-/* The C library's memory. */
 extern const gv_allocator gvp_of_c;
 
-/* Has this thread take memory from there, and answers from where it took it before. */
+/* By thread, for the length of a call: the library below knows one allocator alone, so that it needs no other type for a box of another's
+ * memory. */
 const gv_allocator *gvp_take_from(const gv_allocator *allocator);
 
 #endif

@@ -1,81 +1,83 @@
-//! What the calls of an end answer.
+//! What the calls of an endpoint return.
 
 use crate::proved::{qs_calls as calls, qs_conn as conn, qs_recv as recv, qs_send as send};
 use core::error::Error;
 use core::fmt;
 
-/// Why this end closed the connection: the peer broke a rule (RFC 9000, sections 10.2 and 20.1).
+/// Why this endpoint closed the connection: the peer broke a rule (RFC 9000, sections 10.2 and 20.1).
 ///
-/// [`Endpoint::close_payload`](crate::Endpoint::close_payload) writes the CONNECTION_CLOSE that tells the peer.
+/// [`Endpoint::close_payload`](crate::Endpoint::close_payload) writes it as the CONNECTION_CLOSE for the peer.
 #[derive(Clone, Copy, Debug, PartialEq, Eq)]
 pub struct Closing {
     /// The transport error code of section 20.1.
     pub code: u64,
-    /// The type of the frame that offended, 0 where none was read.
+    /// The type of the frame that offended, 0 if none was read: section 19.19 has a field for it, so that a peer's log can name the fault.
     pub frame_type: u64,
-    /// Where the frame's first byte stands in its payload, counted in bytes from 0.
+    /// Where the frame's first byte stands in its payload, counted in bytes from 0. It isn't sent: it is for this side's log.
     pub place: usize,
 }
 
-/// A side of the connection, as an end sees it.
+/// A side of the connection, seen from this endpoint.
 #[derive(Clone, Copy, Debug, PartialEq, Eq)]
 pub enum Closer {
-    /// This side.
+    /// This endpoint.
     Us,
     /// The other one.
     Peer,
 }
 
-/// Of what kind a close is. The codes of the two kinds have nothing to do with each other (RFC 9000, section 20).
+/// Who closed in the sense of section 20 of RFC 9000. The codes of the two kinds are numbered apart, so a code alone means nothing.
 #[derive(Clone, Copy, Debug, PartialEq, Eq)]
 pub enum CloseKind {
-    /// By the transport: a CONNECTION_CLOSE of type 0x1c, or a time that ran out (RFC 9000, sections 10.1 and 19.19).
+    /// The transport: a CONNECTION_CLOSE of type 0x1c, or an idle timeout (RFC 9000, sections 10.1 and 19.19).
     Transport,
-    /// By the application: a CONNECTION_CLOSE of type 0x1d (RFC 9000, section 19.19).
+    /// The application: a CONNECTION_CLOSE of type 0x1d (RFC 9000, section 19.19).
     Application,
 }
 
-/// A close that an end was told of by [`Endpoint::tell_closed`](crate::Endpoint::tell_closed).
+/// A close that [`Endpoint::tell_closed`](crate::Endpoint::tell_closed) noted: one that never came through this endpoint.
 #[derive(Clone, Copy, Debug, PartialEq, Eq)]
 pub struct ToldClose {
     /// Who closed.
     pub by: Closer,
-    /// How.
+    /// The kind, without which the code can't be read.
     pub kind: CloseKind,
-    /// With which code. That of a time that ran out is 0.
+    /// The error code. An idle timeout has none, so it counts as 0.
     pub code: u64,
 }
 
-/// What came of a payload that didn't make this end close.
+/// What came of a payload that didn't make this endpoint close.
 #[derive(Clone, Copy, Debug, PartialEq, Eq)]
 pub enum Received {
-    /// All frames took effect, and the packet number is kept. If the layer beneath makes ACKs of its own, they may name
-    /// only numbers that were answered so.
+    /// All frames took effect, and the packet number is kept. A stack that writes ACKs itself may name only these numbers: what it
+    /// acknowledges the peer never sends again.
     Done,
-    /// The packet number was processed before. Nothing changed. A payload that was answered by `NoMemory` wasn't: it comes again
-    /// as one that is new.
+    /// The packet number was processed before, so nothing changed. After `NoMemory` a number doesn't count as processed: its payload may
+    /// come again and is then new.
     Duplicate,
-    /// The packet number lies below those that are still told apart (RFC 9000, section 13.2.3). Nothing changed.
+    /// The packet number is below those whose history is kept (RFC 9000, section 13.2.3). It may be a repeat, so it was dropped. Nothing
+    /// changed.
     BelowFloor,
-    /// The peer closed the connection, now or before, with this code. The frames before its CONNECTION_CLOSE took
-    /// effect, but bytes that weren't read before can't be read any more: `read` answers `Closed`.
+    /// The peer closed the connection, now or before, with this code. The frames before its CONNECTION_CLOSE took effect, but `read`
+    /// returns `Closed`: all streams end with the connection, unless [`Tuning::reads_when_closed`](crate::Tuning::reads_when_closed) was
+    /// chosen.
     PeerClosed(u64),
-    /// Memory was refused. The first frames took effect, or none, the number isn't kept or acknowledged, and the same payload
+    /// Memory was refused. Some first frames took effect, or none. The number isn't kept, so it isn't acknowledged, and the same payload
     /// may come again.
     NoMemory,
 }
 
-/// What came of a frame that came without its packet.
+/// What came of a single frame ([`Endpoint::take_frame`](crate::Endpoint::take_frame)).
 #[derive(Clone, Copy, Debug, PartialEq, Eq)]
 pub enum Taken {
     /// It took effect, and changed something.
     Took,
-    /// It changed nothing: what it carries came before, or it raises nothing. Many of these tell of a peer that only makes
-    /// work, but not those that say what holds it back: a DATA_BLOCKED, a STREAMS_BLOCKED and a STREAM_DATA_BLOCKED of an open
-    /// stream never change anything, and an honest peer sends them wherever it waits for credit (RFC 9000, sections 19.12 to
-    /// 19.14). They aren't to be counted.
+    /// It changed nothing: its content came before, or it raises no limit. Count these against a peer that only makes work.
+    ///
+    /// Don't count DATA_BLOCKED, STREAMS_BLOCKED, and STREAM_DATA_BLOCKED of an open stream: an honest peer sends them whenever it waits
+    /// for credit, and they never change anything (RFC 9000, sections 19.12 to 19.14).
     Unchanged,
-    /// It is of a kind that is the stack's own affair, and changed nothing: not of streams, and not of flow control.
+    /// It is neither of streams nor of flow control, so it is for the stack, and nothing changed here.
     NotOurs,
 }
 
@@ -89,73 +91,73 @@ impl Taken {
     }
 }
 
-/// What a reader is told (RFC 9000, section 2.2).
+/// What a read returns (RFC 9000, section 2.2).
 #[derive(Clone, Copy, Debug, PartialEq, Eq)]
 pub enum Read {
-    /// So many bytes were read, at the slice's front: 0 only into an empty slice.
+    /// So many bytes were read into the slice's front. 0 only if the slice is empty, so that a loop never takes 0 for the end.
     Bytes(usize),
-    /// The stream ended: all its bytes were read before, or thrown away by a stop.
+    /// The stream ended: all its bytes were read before, or discarded by a stop.
     End,
-    /// The peer broke the stream off, with this code.
+    /// The peer reset the stream, with this code.
     Reset(u64),
-    /// Nothing is there to read now.
+    /// Nothing can be read now. [`Event::Readable`](crate::Event::Readable) says when to try again.
     Wait,
 }
 
-/// What a look at a stream tells, which reads nothing ([`Endpoint::peek`](crate::Endpoint::peek)).
+/// What [`Endpoint::peek`](crate::Endpoint::peek) shows. Nothing counts as read by it.
 #[derive(Clone, Copy, Debug, PartialEq, Eq)]
 pub enum Peek<'a> {
-    /// The bytes that are next, in order: those of the first slice and then those of the second, which may be empty. The first
-    /// has one at least.
+    /// The bytes that are next, in order: those of the first slice, which has at least one, and then those of the second. There are two
+    /// because the receive buffer is a ring; the second is empty unless the bytes go around its edge.
     Bytes(&'a [u8], &'a [u8]),
-    /// The stream ended: all its bytes were read before, or thrown away by a stop.
+    /// The stream ended: all its bytes were read before, or discarded by a stop.
     End,
-    /// The peer broke the stream off, with this code.
+    /// The peer reset the stream, with this code.
     Reset(u64),
-    /// Nothing is there to read now.
+    /// Nothing can be read now.
     Wait,
 }
 
-/// What came of bytes that were taken without a copy ([`Endpoint::consume`](crate::Endpoint::consume)).
+/// What [`Endpoint::consume`](crate::Endpoint::consume) returns: bytes that count as read, and weren't copied.
 #[derive(Clone, Copy, Debug, PartialEq, Eq)]
 #[non_exhaustive]
 pub struct Consumed {
-    /// What a read of so many bytes tells.
+    /// What a read of so many bytes would have returned.
     pub read: Read,
-    /// Whether the end of the stream is reached, and so counts as told: it needs no further call. It is beside `End`, too, and
-    /// not beside `Wait` or `Reset`.
+    /// Whether the stream ends with these bytes. Then the end counts as read, so that no further call is needed. It is also true beside
+    /// `End`, and never beside `Wait` or `Reset`.
     pub at_end: bool,
 }
 
 /// A packet that was made.
 #[derive(Clone, Copy, Debug, PartialEq, Eq)]
 pub struct Made {
-    /// Its number, below 2^62 (RFC 9000, section 12.3). The packet is to be sent under this one.
+    /// Its packet number, below 2^62. Send the packet under this one: ACKs will name it (RFC 9000, section 12.3).
     pub number: u64,
     /// The length of its payload in bytes.
     pub len: usize,
-    /// Whether it asks for an ACK: it holds a frame other than an ACK (RFC 9000, section 13.2.1). One that doesn't isn't in
-    /// flight for congestion control (RFC 9002, section 2), and can't be declared lost.
+    /// Whether it asks for an ACK: it holds a frame other than ACK (RFC 9000, section 13.2.1). One that doesn't isn't in flight for
+    /// congestion control (RFC 9002, section 2), and has nothing to retransmit, so it can't be declared lost.
     pub is_ack_eliciting: bool,
 }
 
-/// The token of a packet: by it the end is told that the packet was acknowledged or lost
-/// ([`Endpoint::acked`](crate::Endpoint::acked), [`Endpoint::lost`](crate::Endpoint::lost)). It is the number under which
-/// the end keeps what the packet carries (RFC 9000, section 13.3), or several that follow one another, beside the epoch of
-/// the end, which takes no token of another one.
+/// Names what [`Endpoint::fill`](crate::Endpoint::fill) put into a packet of the stack's. With it the stack reports that packet as
+/// acknowledged or lost ([`Endpoint::acked`](crate::Endpoint::acked), [`Endpoint::lost`](crate::Endpoint::lost)). It holds one packet
+/// number of the endpoint's own, or several in a row, and the endpoint's epoch, so that no token of another endpoint is mistaken for one of
+/// this.
 #[derive(Clone, Copy, Debug, PartialEq, Eq, Hash)]
 pub struct Token {
-    /// That of the end ([`Tuning::epoch`](crate::Tuning::epoch)).
+    /// The epoch of its endpoint ([`Tuning::epoch`](crate::Tuning::epoch)).
     pub epoch: u64,
-    /// The lowest of the numbers. A token in which it is above `number` is `NotGiven`.
+    /// The lowest of its numbers. A token whose `first` is above `number` is `NotGiven`.
     pub first: u64,
-    /// The highest of them. A packet that was filled at once has one: that of [`Made`].
+    /// The highest of its numbers. What was filled at once has one number alone: that of [`Made`].
     pub number: u64,
 }
 
 impl Token {
-    /// One token for what this one names and what was filled in next, so that a packet that is filled in parts has one.
-    /// `None` where the numbers of the next one don't follow, or another end gave it.
+    /// Joins this token with that of what was filled in next, so that a packet filled in parts has one token to keep. `None` if their
+    /// numbers don't follow one another or their epochs differ.
     ///
     /// ```
     /// use gotsavena::{Dir, Endpoint, Fill, Role, Settings};
@@ -196,55 +198,57 @@ impl Token {
     }
 }
 
-/// How much memory an end takes for the bytes of its streams, in bytes.
+/// How much memory an endpoint uses for the bytes of its streams, in bytes.
 #[derive(Clone, Copy, Debug, PartialEq, Eq)]
 pub struct Held {
-    /// What the rings take in which bytes wait to be read.
+    /// By receive buffers, for bytes that wait to be read.
     pub receiving: u64,
-    /// What the buffers take in which bytes wait to be acknowledged.
+    /// By sending buffers, for bytes that wait to be acknowledged.
     pub sending: u64,
 }
 
-/// How the halves of a stream stand at an end.
+/// The states of a stream's halves at this endpoint.
 #[derive(Clone, Copy, Debug, PartialEq, Eq)]
 pub struct StreamReport {
-    /// The sending half, where the stream has one here.
+    /// The sending half; `None` for a unidirectional stream of the peer.
     pub send: Option<SendReport>,
-    /// The receiving half, where the stream has one here.
+    /// The receiving half; `None` for a unidirectional stream of this endpoint.
     pub recv: Option<RecvReport>,
 }
 
-/// How a sending half stands (RFC 9000, section 3.1).
+/// A sending half (RFC 9000, section 3.1).
 #[derive(Clone, Copy, Debug, PartialEq, Eq)]
 pub struct SendReport {
-    /// Its state.
+    /// Its state. `DataRecvd` is what a sender waits for: the peer has everything.
     pub state: SendState,
     /// How many bytes were accepted.
     pub written: u64,
-    /// The final size in bytes, once it is declared.
+    /// The final size in bytes, once it is declared by a FIN or a reset.
     pub final_size: Option<u64>,
-    /// The code of the reset, once there was one: the owner's, or that of the peer's STOP_SENDING (section 3.5).
+    /// The code of its reset, if there was one: the application's, or that of the peer's STOP_SENDING (section 3.5).
     pub reset_code: Option<u64>,
     /// The limit on offsets that the peer granted.
     pub limit: u64,
 }
 
-/// How a receiving half stands (RFC 9000, section 3.2).
+/// A receiving half (RFC 9000, section 3.2).
 #[derive(Clone, Copy, Debug, PartialEq, Eq)]
 pub struct RecvReport {
     /// Its state.
     pub state: RecvState,
     /// How many bytes were read.
     pub read_count: u64,
-    /// The final size if it is known, else one more than the largest offset that came, or 0.
+    /// The final size if it is known, else one more than the largest offset received, or 0. Flow control counts this, not the bytes that
+    /// arrived.
     pub highest: u64,
     /// The limit on offsets that the peer was granted.
     pub limit: u64,
     /// The final size in bytes, once it is known.
     pub final_size: Option<u64>,
-    /// The code of the peer's reset, once it was taken.
+    /// The code of the peer's reset, if one took effect.
     pub reset_code: Option<u64>,
-    /// The code with which the owner stopped it first (RFC 9000, section 3.5).
+    /// The code with which the application stopped it first; a second one changes nothing, since the peer may have acted on the first (RFC
+    /// 9000, section 3.5).
     pub stop_code: Option<u64>,
 }
 
@@ -253,32 +257,32 @@ pub struct RecvReport {
 pub enum SendState {
     /// Nothing was sent.
     Ready,
-    /// Something was sent; the end wasn't.
+    /// Something was sent, but not the FIN.
     Send,
-    /// The end was sent.
+    /// The FIN was sent. Lost bytes may still be sent again.
     DataSent,
-    /// All was acknowledged, the end too.
+    /// Everything was acknowledged, the FIN too.
     DataRecvd,
-    /// It was broken off.
+    /// It was reset, by the application or by a STOP_SENDING.
     ResetSent,
-    /// The peer knows that it was broken off.
+    /// The reset was acknowledged.
     ResetRecvd,
 }
 
 /// The states of a receiving half (RFC 9000, section 3.2).
 #[derive(Clone, Copy, Debug, PartialEq, Eq)]
 pub enum RecvState {
-    /// Bytes come, and the final size isn't known.
+    /// Bytes arrive, and the final size isn't known.
     Recv,
-    /// The final size is known; bytes are missing.
+    /// The final size is known, but bytes are missing.
     SizeKnown,
-    /// All bytes came.
+    /// All bytes arrived. Not all are read, or the end isn't.
     DataRecvd,
-    /// All bytes were read, and the reader was told so.
+    /// All bytes were read, and `read` returned the end.
     DataRead,
-    /// The peer broke it off.
+    /// The peer reset it.
     ResetRecvd,
-    /// The reader was told that the peer broke it off.
+    /// `read` returned the peer's reset, so the stream is over.
     ResetRead,
 }
 

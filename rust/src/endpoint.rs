@@ -1,22 +1,22 @@
-//! One end of a connection.
+//! One endpoint of a connection.
 
 use crate::proved::qs_conn as conn;
 use core::fmt;
 use hearing::Hearing;
 
-/// The least room of a packet's payload, in bytes.
+/// The least room for a packet's payload, in bytes: an ACK and the longest control frame fit.
 pub const MIN_ROOM: usize = 128;
 
-/// The most room of a packet's payload, in bytes.
+/// The most room for a packet's payload, in bytes: with it each length in a frame fits a number of two bytes.
 pub const MAX_ROOM: usize = 16_383;
 
-/// The most bytes of a payload that comes.
+/// The most bytes of a payload that is received: no UDP datagram has more.
 pub const MAX_PAYLOAD: usize = 65_535;
 
-/// One end of a connection: its streams, its credit, and what its packets carry (RFC 9000, sections 2 to 4 and 13).
+/// One endpoint of a connection: its streams, its flow control, and what its packets carry (RFC 9000, sections 2 to 4 and 13).
 ///
-/// It takes in the payloads of packets and makes packets, and its owner opens, accepts, writes, finishes, resets, reads
-/// and stops streams, and tells which packets were lost. It has no clock, no socket and no thread.
+/// It receives payloads and makes packets. The application opens, accepts, writes, finishes, resets, reads and stops streams; the transport
+/// says which packets were lost. It has no clock, socket or thread, so that any stack can drive it.
 ///
 /// ```
 /// use gotsavena::{Dir, Endpoint, Read, Received, Role, Settings};
@@ -41,11 +41,11 @@ pub const MAX_PAYLOAD: usize = 65_535;
 /// # Ok::<(), Box<dyn std::error::Error>>(())
 /// ```
 ///
-/// In the examples of the calls `client` and `server` are such endpoints, and `deliver` hands each packet that the first one
-/// makes to the second.
+/// In the examples of the calls `client` and `server` are such endpoints, and `deliver` passes each packet that the first one makes to the
+/// second.
 pub struct Endpoint {
     inner: conn::Endpoint,
-    // It stands beside the end, which has no state for it.
+    // Beside the endpoint, and not in it: what is proved of an endpoint doesn't change by what its application has heard of.
     hearing: Hearing,
 }
 
@@ -60,7 +60,7 @@ impl fmt::Debug for Endpoint {
     }
 }
 
-// The documents show the calls in this order.
+// In this order, which the documentation shows.
 mod setup;
 
 mod packets;

@@ -5,13 +5,13 @@ use crate::proved::qs_calls as calls;
 use core::error::Error;
 use core::fmt;
 
-/// Why no end can be made.
+/// Why no endpoint can be made.
 #[derive(Clone, Copy, Debug, PartialEq, Eq)]
 #[non_exhaustive]
 pub enum SetupFault {
-    /// A setting lies outside its range, or a limit of the peer above 2^62-1.
+    /// A setting is out of range, or a limit of the peer is above 2^62-1, which no frame could carry.
     OutOfRange,
-    /// The peer grants more than 2^60 streams of one direction: TRANSPORT_PARAMETER_ERROR (RFC 9000, section 4.6).
+    /// The peer grants more than 2^60 streams of one direction: close with TRANSPORT_PARAMETER_ERROR (RFC 9000, section 4.6).
     TooManyStreams,
 }
 
@@ -19,23 +19,23 @@ pub enum SetupFault {
 #[derive(Clone, Copy, Debug, PartialEq, Eq)]
 #[non_exhaustive]
 pub enum RaiseFault {
-    /// The connection is closed.
+    /// The connection is closed, so limits mean nothing any more.
     Closed,
-    /// No end can be made of such limits, for this reason.
+    /// No endpoint can be made with such limits, for this reason.
     Refused(SetupFault),
 }
 
-/// Why nothing was set anew. Nothing changed.
+/// Why a setting wasn't changed. Nothing changed.
 #[derive(Clone, Copy, Debug, PartialEq, Eq)]
 #[non_exhaustive]
 pub enum SetFault {
-    /// The connection is closed.
+    /// The connection is closed, so limits mean nothing any more.
     Closed,
-    /// The value lies outside the range that [`Endpoint::new_wide`](crate::Endpoint::new_wide) has for it.
+    /// The value is out of the range that [`Endpoint::new_wide`](crate::Endpoint::new_wide) has for it.
     OutOfRange,
     /// No stream of that number is open.
     NoSuchStream,
-    /// The stream has no half of that kind at this end.
+    /// The stream has no such half here: it is unidirectional.
     WrongDirection,
 }
 
@@ -43,10 +43,10 @@ pub enum SetFault {
 #[derive(Clone, Copy, Debug, PartialEq, Eq)]
 #[non_exhaustive]
 pub enum OpenFault {
-    /// As many streams were opened, ended ones too, as the peer allows so far: so many (RFC 9000, section 4.6). The peer
-    /// is told by a STREAMS_BLOCKED. It allows more as streams end, up to what it allows in all.
+    /// So many streams were opened, ended ones too, which is the peer's count so far (RFC 9000, section 4.6). A STREAMS_BLOCKED tells it to
+    /// the peer. It permits more as streams end; [`Event::Available`](crate::Event::Available) says when.
     Blocked(u64),
-    /// The connection is closed.
+    /// The connection is closed, and all streams end with it.
     Closed,
     /// Memory was refused. Nothing changed.
     NoMemory,
@@ -58,18 +58,18 @@ pub enum OpenFault {
 pub enum UseFault {
     /// No stream of that number is open.
     NoSuchStream,
-    /// The stream has no half of that kind at this end.
+    /// The stream has no such half here: it is unidirectional.
     WrongDirection,
-    /// The end of the stream was asked for already.
+    /// The stream was finished already, so its length is fixed.
     Finished,
-    /// The sending half was broken off, by this end or by the peer's STOP_SENDING, whose code
-    /// [`stopped_with`](crate::Endpoint::stopped_with) and [`Event::Stopped`](crate::Event::Stopped) tell.
+    /// The sending half was reset, by this endpoint or by the peer's STOP_SENDING. Its code is in
+    /// [`stopped_with`](crate::Endpoint::stopped_with) and [`Event::Stopped`](crate::Event::Stopped).
     WasReset,
-    /// The connection is closed.
+    /// The connection is closed, and all streams end with it.
     Closed,
-    /// Memory was refused.
+    /// Memory was refused. The same call may succeed later.
     NoMemory,
-    /// A code of 2^62 or more, which no frame can tell (RFC 9000, section 16).
+    /// A code of 2^62 or more, which no frame can carry (RFC 9000, section 16).
     Invalid,
 }
 
@@ -77,69 +77,70 @@ pub enum UseFault {
 #[derive(Clone, Copy, Debug, PartialEq, Eq)]
 #[non_exhaustive]
 pub enum MakeFault {
-    /// The connection is closed.
+    /// The connection is closed. Its last packets carry [`close_payload`](crate::Endpoint::close_payload) under numbers of
+    /// [`claim_number`](crate::Endpoint::claim_number).
     Closed,
-    /// Memory was refused.
+    /// Memory was refused. The same call may succeed later.
     NoMemory,
-    /// The last packet number was used (RFC 9000, section 12.3).
+    /// The last packet number was used, and no number may be used twice (RFC 9000, section 12.3): the connection is over.
     Exhausted,
     /// The room isn't of 128 to 16,383 bytes, or a delay is 2^62 or more.
     Invalid,
 }
 
-/// Why a packet wasn't declared lost, or not in whole.
+/// Why a packet wasn't declared lost, or not wholly.
 #[derive(Clone, Copy, Debug, PartialEq, Eq)]
 #[non_exhaustive]
 pub enum LostFault {
-    /// No such packet is outstanding: it wasn't made, it is acknowledged or lost, or it holds an ACK alone, which needs
-    /// no answer. Nothing changed.
+    /// No such packet is outstanding: it wasn't made, it is acknowledged or lost already, or it has an ACK alone, which nobody
+    /// acknowledges. Nothing changed.
     NotOutstanding,
-    /// Memory was refused. Some of what the packet carried may be due again; the call may be made again.
+    /// Memory was refused. Some of what the packet carried may be pending again; the call may be made again.
     NoMemory,
-    /// The connection is closed. Nothing changed.
+    /// The connection is closed, so nothing will be sent again. Nothing changed.
     Closed,
 }
 
-/// Why a token wasn't told to be acknowledged or lost, or not in whole.
+/// Why a token wasn't acknowledged or lost, or not wholly.
 #[derive(Clone, Copy, Debug, PartialEq, Eq)]
 #[non_exhaustive]
 pub enum TokenFault {
     /// Not all of its packets were made yet, it is of another epoch, or its first number is above its last. Nothing changed.
     NotGiven,
-    /// Memory was refused. Some of what the packet carried may be told; the call may be made again.
+    /// Memory was refused. Some of what the packet carried may be done; the call may be made again.
     NoMemory,
-    /// The connection is closed. Nothing changed.
+    /// The connection is closed, so nothing will be sent again. Nothing changed.
     Closed,
 }
 
-/// Why no news was told. Nothing changed.
+/// Why no event was returned. Nothing changed.
 #[derive(Clone, Copy, Debug, PartialEq, Eq)]
 #[non_exhaustive]
 pub enum EventFault {
-    /// Memory was refused.
+    /// Memory was refused for the note that it was reported. The same event comes again.
     NoMemory,
 }
 
-/// Why a payload wasn't taken in.
+/// Why a payload wasn't processed.
 #[derive(Clone, Copy, Debug, PartialEq, Eq)]
 #[non_exhaustive]
 pub enum ReceiveFault {
-    /// This end closed the connection, now or before, since a frame offended.
+    /// This endpoint closed the connection, now or before, because a frame offended.
     Closing(Closing),
-    /// A packet number of 2^62 or more, or a payload of more than 65,535 bytes. Nothing changed.
+    /// A packet number of 2^62 or more, or a payload of more than 65,535 bytes: neither exists in QUIC. Nothing changed.
     Invalid,
 }
 
-/// Why a frame that came without its packet wasn't taken.
+/// Why a single frame wasn't processed.
 #[derive(Clone, Copy, Debug, PartialEq, Eq)]
 #[non_exhaustive]
 pub enum TakeFault {
-    /// This end closed the connection, now or before, since a frame offended.
+    /// This endpoint closed the connection, now or before, because a frame offended.
     Closing(Closing),
-    /// The end saw its peer close before, with this code. Nothing changed.
+    /// The peer closed before, with this code. Nothing changed.
     PeerClosed(u64),
-    /// Memory was refused. Of [`take_frame`](crate::Endpoint::take_frame) nothing changed; of
-    /// [`take_frames`](crate::Endpoint::take_frames) the frames before took effect. The same may come again.
+    /// Memory was refused. By [`take_frame`](crate::Endpoint::take_frame) nothing changed; by [`take_frames`](crate::Endpoint::take_frames)
+    /// the frames before it took effect. The same may come again.
     NoMemory,
 }
 
@@ -147,15 +148,16 @@ pub enum TakeFault {
 #[derive(Clone, Copy, Debug, PartialEq, Eq)]
 #[non_exhaustive]
 pub enum PutFault {
-    /// It doesn't fit the slice.
+    /// It doesn't fit the slice. A longer one takes it.
     Full,
-    /// No payload can spell it: a number of 2^62 or more, a count of streams above 2^60, an identifier, token or
-    /// challenge of a wrong length, or ranges that aren't those of an ACK (RFC 9000, sections 16 and 19).
+    /// No payload can spell it: a number of 2^62 or more, a count of streams above 2^60, a connection ID, token or challenge of a wrong
+    /// length, or ranges that aren't those of an ACK (RFC 9000, sections 16 and 19).
     Invalid,
 }
 
 impl SetupFault {
-    /// The code with which the connection is refused, where the peer is at fault (RFC 9000, section 20.1).
+    /// The code to refuse the connection with, if the peer is at fault (RFC 9000, section 20.1). The other fault is in this side's
+    /// settings, which the peer needn't know.
     pub fn code(self) -> Option<u64> {
         match self {
             SetupFault::OutOfRange => calls::SetupFault::OutOfRange.code(),

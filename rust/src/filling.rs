@@ -1,23 +1,23 @@
-//! What a stack that owns its packets asks to be filled in, and what went in.
+//! What a stack with packets of its own asks to be filled in, and what went in.
 
 use crate::answers::Token;
 use crate::ids::StreamId;
 use crate::proved::qs_calls as calls;
 
-/// With so many bytes of room [`Endpoint::fill`](crate::Endpoint::fill) puts something in wherever something may go that
-/// it was asked for, within the cap of [`Fill::at_most`]: no control item is longer than a RESET_STREAM, with a byte for its type and eight for each of its
+/// With so many bytes of room [`Endpoint::fill`](crate::Endpoint::fill) puts something in whenever anything that it was asked for may go,
+/// within the cap of [`Fill::at_most`]. It is the longest control frame, a RESET_STREAM: a byte for its type and eight for each of its
 /// three numbers (RFC 9000, section 19.4).
 pub const MIN_FILL: usize = calls::MIN_FILL;
 
-/// What [`Endpoint::fill`](crate::Endpoint::fill) is to put in. Control items come first, in the order in which a packet
-/// takes them; then bytes and ends of streams, lower streams first.
+/// What [`Endpoint::fill`](crate::Endpoint::fill) is to put in. Control frames come first, in the order of a packet, since the peer may
+/// wait for credit; then data and FINs of streams, lower streams first.
 #[derive(Clone, Copy, Debug, PartialEq, Eq)]
 pub struct Fill {
     inner: calls::Fill,
 }
 
 impl Fill {
-    /// All that is due, from stream 0 on.
+    /// All that is pending, from stream 0 on.
     #[must_use]
     pub fn all() -> Fill {
         Fill {
@@ -25,7 +25,8 @@ impl Fill {
         }
     }
 
-    /// Control items alone: limits, resets, STOP_SENDING and what is blocked (RFC 9000, section 13.3).
+    /// Control frames alone: limits, resets, STOP_SENDING and blocked frames (RFC 9000, section 13.3). For packets whose data a stack
+    /// chooses itself.
     #[must_use]
     pub fn control() -> Fill {
         Fill {
@@ -33,7 +34,7 @@ impl Fill {
         }
     }
 
-    /// Bytes and ends of streams alone, from stream 0 on.
+    /// Data and FINs of streams alone, from stream 0 on.
     #[must_use]
     pub fn data() -> Fill {
         Fill {
@@ -41,8 +42,8 @@ impl Fill {
         }
     }
 
-    /// The same, with streams from this one on, and then those below it (RFC 9000, section 2.3). Where it is one stream
-    /// [alone](Fill::only) it stays that one.
+    /// The same, beginning with this stream, and going around to those below it (RFC 9000, section 2.3). After [`only`](Fill::only) it
+    /// stays that one stream.
     #[must_use]
     pub fn from(self, stream: StreamId) -> Fill {
         if self.inner.alone {
@@ -53,7 +54,7 @@ impl Fill {
         }
     }
 
-    /// The same, with this stream alone, whatever was chosen of streams before.
+    /// The same, of this stream alone, whatever streams were chosen before: for a stack that goes through its streams itself.
     #[must_use]
     pub fn only(self, stream: StreamId) -> Fill {
         Fill {
@@ -61,8 +62,9 @@ impl Fill {
         }
     }
 
-    /// The same, with so many bytes of streams at most: the chunk that would pass that is cut, and then no stream has another
-    /// turn. With 0 no byte goes in, and an end only where all bytes of its stream went and no stream before it has any.
+    /// The same, with so many bytes of data at most, so that one packet doesn't take a share that others should have. The chunk that would
+    /// pass that is cut, and no other stream has a turn. With 0 no byte goes in; a FIN does if all bytes of its stream were sent and no
+    /// stream before it has any.
     #[must_use]
     pub fn at_most(self, bytes: usize) -> Fill {
         Fill {
@@ -78,14 +80,14 @@ impl Fill {
 /// What went into a slice.
 #[derive(Clone, Copy, Debug, PartialEq, Eq)]
 pub struct Filled {
-    /// By this the end is told that the frames were acknowledged or lost.
+    /// Names it when the packet is acknowledged or lost.
     pub token: Token,
     /// How many bytes of the slice are filled.
     pub len: usize,
-    /// The stream of the last STREAM frame, if there is one. An owner whose streams send by turns goes on behind it.
+    /// The stream of the last STREAM frame, if there is one. For round-robin, go on behind it.
     pub last_stream: Option<StreamId>,
-    /// Whether more of what was asked for is due that may go. What the cap of [`Fill::at_most`] holds back isn't counted: once
-    /// that is used up, control items alone are.
+    /// Whether more of what was asked for is pending and may go. What the cap of [`Fill::at_most`] holds back isn't counted: once that is
+    /// used up, only control frames are, because another call would put in nothing else.
     pub more: bool,
 }
 

@@ -10,10 +10,10 @@ use core::ops::Range;
 
 mod between;
 
-/// A frame (RFC 9000, section 19), whose bytes are a part of the payload.
+/// A frame (RFC 9000, section 19). Its bytes are lent by the payload, so reading copies nothing.
 #[derive(Clone, Copy, Debug, PartialEq, Eq)]
 pub enum Frame<'a> {
-    /// Section 19.1. Each byte is a frame of its own.
+    /// Section 19.1. Each byte is a frame of its own, so a padded payload has many.
     Padding,
     /// Section 19.2.
     Ping,
@@ -21,27 +21,27 @@ pub enum Frame<'a> {
     Ack {
         /// The largest number that is acknowledged.
         largest: u64,
-        /// The delay, as the payload tells it: in microseconds divided by two to the power of `ack_delay_exponent`
-        /// (section 18.2).
+        /// The delay as in the payload: in microseconds divided by two to the power of `ack_delay_exponent` (section 18.2), which only the
+        /// transport knows.
         delay: u64,
-        /// The length of the first range, and then of each next one the gap before it and its length, as the payload
-        /// spells them. [`AckRanges`] reads them.
+        /// The length of the first range, and then of each next one the gap before it and its length, as the payload spells them: an ACK
+        /// may have many. [`AckRanges`] reads them.
         ranges: &'a [u8],
         /// The counts of a frame of type 0x03.
         ecn: Option<EcnCounts>,
     },
     /// Section 19.4.
     ResetStream {
-        /// The stream that is broken off.
+        /// The stream that is reset.
         stream: StreamId,
         /// The application's code.
         code: u64,
-        /// How many bytes the stream has, as far as credit goes.
+        /// How many bytes the stream has for flow control, sent or not.
         final_size: u64,
     },
     /// Section 19.5.
     StopSending {
-        /// The stream whose reader gave up.
+        /// The stream that isn't read any more.
         stream: StreamId,
         /// The application's code.
         code: u64,
@@ -64,54 +64,54 @@ pub enum Frame<'a> {
         stream: StreamId,
         /// The offset of the first byte.
         offset: u64,
-        /// Whether the stream ends behind these bytes.
+        /// Whether the stream ends with these bytes.
         fin: bool,
         /// The bytes.
         bytes: &'a [u8],
     },
     /// Section 19.9.
     MaxData {
-        /// How many bytes the other end may send on all streams together.
+        /// How many bytes the receiver of this frame may send on all streams together.
         maximum: u64,
     },
     /// Section 19.10.
     MaxStreamData {
         /// The stream.
         stream: StreamId,
-        /// How many bytes the other end may send on it.
+        /// How many bytes the receiver of this frame may send on it.
         maximum: u64,
     },
     /// Section 19.11, of both types: one for each direction.
     MaxStreams {
         /// The direction of the streams.
         dir: Dir,
-        /// How many of them the other end may open, at most 2^60.
+        /// How many of them the receiver of this frame may open, at most 2^60.
         count: u64,
     },
     /// Section 19.12.
     DataBlocked {
-        /// The limit that holds bytes back.
+        /// The limit that blocks the sender.
         limit: u64,
     },
     /// Section 19.13.
     StreamDataBlocked {
         /// The stream.
         stream: StreamId,
-        /// The limit that holds its bytes back.
+        /// The limit that blocks the sender.
         limit: u64,
     },
     /// Section 19.14, of both types: one for each direction.
     StreamsBlocked {
         /// The direction of the streams.
         dir: Dir,
-        /// The count that holds a stream back, at most 2^60.
+        /// The count that blocks the sender, at most 2^60.
         count: u64,
     },
     /// Section 19.15.
     NewConnectionId {
-        /// The identifier's number.
+        /// The number of the connection ID.
         sequence: u64,
-        /// Identifiers of lower numbers are to be retired.
+        /// Connection IDs of lower numbers are to be retired.
         retire: u64,
         /// 1 to 20 bytes.
         identifier: &'a [u8],
@@ -120,7 +120,7 @@ pub enum Frame<'a> {
     },
     /// Section 19.16.
     RetireConnectionId {
-        /// The identifier's number.
+        /// The number of the connection ID.
         sequence: u64,
     },
     /// Section 19.17.
@@ -133,16 +133,16 @@ pub enum Frame<'a> {
         /// 8 bytes.
         bytes: &'a [u8],
     },
-    /// Section 19.19, of the type that QUIC itself closes with.
+    /// Section 19.19, type 0x1c: the transport closes.
     ConnectionClose {
         /// The code of section 20.1.
         code: u64,
-        /// The type of the frame that was at fault, 0 where none was.
+        /// The type of the frame that offended, 0 if none did.
         frame_type: u64,
         /// Why, in words.
         reason: &'a [u8],
     },
-    /// Section 19.19, of the type that an application closes with.
+    /// Section 19.19, type 0x1d: the application closes. Its codes are numbered apart.
     ApplicationClose {
         /// The application's code.
         code: u64,
@@ -153,7 +153,7 @@ pub enum Frame<'a> {
     HandshakeDone,
 }
 
-/// How many packets came with each mark of congestion (RFC 9000, section 19.3.2).
+/// How many packets came with each mark of congestion (RFC 9000, section 19.3.2): for the transport's congestion control.
 #[derive(Clone, Copy, Debug, PartialEq, Eq)]
 pub struct EcnCounts {
     /// Packets that came with ECT(0).
@@ -164,25 +164,25 @@ pub struct EcnCounts {
     pub ce: u64,
 }
 
-/// A frame as it stands in a payload.
+/// A frame and its place in a payload.
 #[derive(Clone, Copy, Debug, PartialEq, Eq)]
 pub struct Placed<'a> {
     /// Where its first byte stands, counted in bytes from 0.
     pub place: usize,
     /// The frame.
     pub frame: Frame<'a>,
-    /// The number of its type, as it was read.
+    /// The number of its type as it was read. A STREAM has eight, which `frame` doesn't tell apart, and a close names the one read.
     pub frame_type: u64,
 }
 
-/// What is wrong with a payload, or with the frame at a place in it.
+/// What is wrong with a payload, or with a frame in it.
 #[derive(Clone, Copy, Debug, PartialEq, Eq)]
 pub enum FaultKind {
     /// The payload has no frame (RFC 9000, section 12.4).
     Empty,
-    /// A frame type has a shorter spelling (section 12.4).
+    /// A frame type isn't in its shortest spelling, which is required so that frames are told apart by their first byte (section 12.4).
     LongType,
-    /// No frame has this type (section 12.4).
+    /// No frame has this type (section 12.4). It has no length either, so what follows can't be read.
     UnknownType,
     /// A field, or the bytes that it counts, end past the payload.
     Truncated,
@@ -192,30 +192,30 @@ pub enum FaultKind {
     CountTooLarge,
     /// An ACK names a number below zero (section 19.3.1).
     BelowZero,
-    /// A connection identifier has no byte or more than 20 (section 19.15).
+    /// A connection ID has no byte or more than 20 (section 19.15).
     IdentifierLength,
 }
 
-/// The first fault of a payload: it stands in place of a frame.
+/// The first fault of a payload. It stands in place of a frame, and nothing behind it is read.
 #[derive(Clone, Copy, Debug, PartialEq, Eq)]
 pub struct WireFault {
     /// What is wrong.
     pub kind: FaultKind,
     /// Where the frame's first byte stands, counted in bytes from 0.
     pub place: usize,
-    /// The code that QUIC closes a connection with (RFC 9000, section 20.1).
+    /// The code to close the connection with (RFC 9000, section 20.1).
     pub code: u64,
-    /// The frame's type, 0 where none was read.
+    /// The frame's type, 0 if none was read.
     pub frame_type: u64,
 }
 
-/// The frames of a payload, one after the other. [`frames`] makes it.
+/// The frames of a payload, one after the other, from [`frames`].
 #[derive(Debug)]
 pub struct Frames<'a> {
     payload: &'a [u8],
-    // Where the reading of `rest` began.
+    // Where the reader of `rest` began: its places are counted from there, and a clone begins anew.
     base: usize,
-    // Where the frame stands that was given last.
+    // Where the last returned frame stands, since the proved reader can't be cloned but at a place.
     last: Option<usize>,
     rest: wire::Frames<'a>,
     faulty: bool,
@@ -234,7 +234,7 @@ impl<'a> Frames<'a> {
 }
 
 impl Clone for Frames<'_> {
-    // The frame that was given last is read again.
+    // Reads the last returned frame once more, to stand behind it as the original does.
     fn clone(&self) -> Self {
         let mut clone = Frames::from(self.payload, self.last.unwrap_or(self.base));
         if self.last.is_some() {
@@ -245,11 +245,10 @@ impl Clone for Frames<'_> {
     }
 }
 
-/// The frames of a payload in order, each with its place; then the fault that stands in place of a frame, if there is
-/// one (RFC 9000, sections 12.4 and 19).
+/// The frames of a payload in order, each with its place, up to the first fault, which comes last (RFC 9000, sections 12.4 and 19).
 ///
-/// Frames of extensions aren't known: a layer beneath that takes them itself writes PADDING over them first, which has
-/// no effect, and PING where they ask for an ACK.
+/// Frames of extensions aren't known, and no reader can skip a frame whose length it doesn't know. A transport that has some overwrites
+/// them with PADDING, which does nothing, or with PING if they ask for an ACK.
 ///
 /// ```
 /// use gotsavena::{Frame, StreamId, frames};
@@ -273,7 +272,7 @@ pub fn frames(payload: &[u8]) -> Frames<'_> {
     Frames::from(payload, 0)
 }
 
-/// The ranges of an ACK as smallest and largest packet number, the highest first (RFC 9000, section 19.3.1).
+/// The ranges of an ACK as lowest and highest packet number, the highest first (RFC 9000, section 19.3.1).
 ///
 /// ```
 /// use gotsavena::{AckRanges, Frame, frames};
@@ -290,13 +289,12 @@ pub fn frames(payload: &[u8]) -> Frames<'_> {
 pub struct AckRanges<'a> {
     largest: u64,
     ranges: &'a [u8],
-    // How many were given.
+    // A clone reads so many again: the proved reader can't be copied.
     given: usize,
     rest: wire::AckRanges<'a>,
 }
 
 impl Clone for AckRanges<'_> {
-    // The ranges that were given are read again.
     fn clone(&self) -> Self {
         let mut rest = wire::AckRanges::new(self.largest, self.ranges);
         for _ in 0..self.given {
@@ -307,8 +305,8 @@ impl Clone for AckRanges<'_> {
 }
 
 impl<'a> AckRanges<'a> {
-    /// The ranges below a frame's largest number; `None` where that is 2^62 or more. Of bytes that no frame has that was
-    /// read, a range that falls below zero begins at 0.
+    /// The ranges below a frame's largest number; `None` if that is 2^62 or more. It never fails on bytes that no frame was read from: a
+    /// range that falls below zero begins at 0.
     #[must_use]
     pub fn new(largest: u64, ranges: &'a [u8]) -> Option<AckRanges<'a>> {
         if largest > MAX_VARINT {
@@ -362,9 +360,9 @@ impl<'a> Iterator for Frames<'a> {
 
 impl FusedIterator for Frames<'_> {}
 
-/// Writes the canonical text of a frame at the slice's front and answers its length in bytes: each number in its
-/// shortest spelling; of a STREAM frame the length always, and the offset where it isn't 0 (RFC 9000, sections 16
-/// and 19). Of a frame that is no text or doesn't fit nothing is written.
+/// Writes the canonical text of a frame at the slice's front and returns its length in bytes. Each number is in its shortest spelling; a
+/// STREAM has its length always, so that another frame may follow, and its offset if that isn't 0 (RFC 9000, sections 16 and 19). If the
+/// frame can't be spelled or doesn't fit, nothing is written.
 ///
 /// ```
 /// use gotsavena::{Frame, PutFault, put};
@@ -378,7 +376,7 @@ impl FusedIterator for Frames<'_> {}
 ///
 /// # Errors
 ///
-/// `Invalid` where no payload can spell the frame, and else `Full` where it doesn't fit.
+/// `Invalid` if no payload can spell the frame, else `Full` if it doesn't fit.
 pub fn put(frame: &Frame<'_>, out: &mut [u8]) -> Result<usize, PutFault> {
     if !frame.has_text() {
         return Err(PutFault::Invalid);
@@ -386,8 +384,8 @@ pub fn put(frame: &Frame<'_>, out: &mut [u8]) -> Result<usize, PutFault> {
     wire::put(&frame.inner(), out).map_err(|_full| PutFault::Full)
 }
 
-/// Writes an ACK frame without delay and ECN counts, of as many ranges as fit, at the slice's front, and answers how
-/// many and the frame's length in bytes (RFC 9000, section 19.3.1). The ranges are half-open, the highest first.
+/// Writes an ACK without delay and ECN counts at the slice's front, of as many ranges as fit, and returns how many and the length in bytes
+/// (RFC 9000, section 19.3.1). The ranges are half-open, the highest first, so that those left out are the oldest.
 ///
 /// ```
 /// use gotsavena::{PutFault, put_ack};
@@ -401,8 +399,8 @@ pub fn put(frame: &Frame<'_>, out: &mut [u8]) -> Result<usize, PutFault> {
 ///
 /// # Errors
 ///
-/// `Invalid` where there are no ranges or more than 32, one is empty or goes above 2^62-1, or a number is lacking
-/// between two; and else `Full` where not even the first fits. Then nothing is written.
+/// `Invalid` if there are no ranges or more than 32, one is empty or goes above 2^62-1, or two touch: they would be one; else `Full` if not
+/// even the first fits. Then nothing is written.
 pub fn put_ack(ranges: &[Range<u64>], out: &mut [u8]) -> Result<(usize, usize), PutFault> {
     let mut pairs = [(0, 0); MAX_RANGES];
     let Some(pairs) = pairs.get_mut(..ranges.len()) else {
@@ -422,41 +420,38 @@ pub fn put_ack(ranges: &[Range<u64>], out: &mut [u8]) -> Result<(usize, usize), 
     wire::put_ack(pairs, out).map_err(|_full| PutFault::Full)
 }
 
-/// The stream of the last STREAM frame that is read in a payload, up to its end or to the first fault; `None` where there
-/// is none. An owner whose streams send by turns goes on behind it
-/// ([`Endpoint::make_packet_from`](crate::Endpoint::make_packet_from)).
+/// The stream of the last STREAM frame in a payload, up to its end or its first fault; `None` if there is none. For round-robin, go on
+/// behind it ([`Endpoint::make_packet_from`](crate::Endpoint::make_packet_from)).
 #[must_use]
 pub fn last_stream(payload: &[u8]) -> Option<StreamId> {
     wire::last_stream(payload).map(StreamId::of)
 }
 
-/// The number at the front of the bytes, and how many bytes it takes; `None` where the bytes end before it does
-/// (RFC 9000, section 16).
+/// The number at the front of the bytes, and how many bytes it takes; `None` if the bytes end before it does (RFC 9000, section 16).
 #[must_use]
 pub fn read_varint(bytes: &[u8]) -> Option<(u64, usize)> {
     wire::read_varint(bytes)
 }
 
-/// Writes the shortest spelling of a number at the slice's front, and answers its length in bytes (RFC 9000, section
-/// 16). `None` where the number is 2^62 or more or the spelling doesn't fit; then nothing is written.
+/// Writes the shortest spelling of a number at the slice's front and returns its length in bytes (RFC 9000, section 16). `None` if the
+/// number is 2^62 or more or doesn't fit; then nothing is written.
 pub fn write_varint(value: u64, out: &mut [u8]) -> Option<usize> {
     wire::write_varint(value, out)
 }
 
-/// The greatest number that a frame can hold (RFC 9000, section 16).
+/// The greatest number that a frame can hold: two bits of eight bytes say the length (RFC 9000, section 16).
 pub(crate) const MAX_VARINT: u64 = (1 << 62) - 1;
 
-/// The most streams of a direction (RFC 9000, section 4.6).
+/// More would have stream numbers above 2^62-1 (RFC 9000, section 4.6).
 const MAX_STREAMS: u64 = 1 << 60;
 
-/// The most ranges of an ACK that is written.
+/// As many as an endpoint keeps.
 const MAX_RANGES: usize = 32;
 
 fn fits(value: u64) -> bool {
     value <= MAX_VARINT
 }
 
-/// Whether bytes from an offset on end at 2^62-1 or before.
 fn run_fits(offset: u64, bytes: &[u8]) -> bool {
     match offset.checked_add(bytes.len() as u64) {
         Some(end) => fits(end),
@@ -464,7 +459,8 @@ fn run_fits(offset: u64, bytes: &[u8]) -> bool {
     }
 }
 
-/// Whether the bytes spell the length of a range, and then gaps and lengths by turns, none of which goes below zero.
+/// Checked before a frame is written, since its ranges come from the caller as bytes: the length of a range, then gaps and lengths in turn,
+/// none below zero.
 fn are_ranges(largest: u64, ranges: &[u8]) -> bool {
     let mut left = largest + 1;
     let mut rest = ranges;
@@ -489,13 +485,12 @@ fn has_ack_text(largest: u64, delay: u64, ranges: &[u8], ecn: Option<EcnCounts>)
     fits(largest) && fits(delay) && are_ranges(largest, ranges) && counts_fit
 }
 
-/// Whether an identifier and its token have lengths that a frame can have (RFC 9000, section 19.15).
 fn are_id_fields(identifier: &[u8], reset_token: &[u8]) -> bool {
     (1..=20).contains(&identifier.len()) && reset_token.len() == 16
 }
 
 impl<'a> Frame<'a> {
-    /// Whether some payload spells the frame.
+    /// Whether some payload spells the frame: the condition of the proved writer, which the caller of `put` needn't know.
     fn has_text(&self) -> bool {
         match *self {
             Frame::Padding | Frame::Ping | Frame::HandshakeDone => true,

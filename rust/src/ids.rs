@@ -1,31 +1,31 @@
-//! Ends, directions and the numbers of streams.
+//! Endpoints, directions and the numbers of streams.
 
 use crate::proved::qs_wire as wire;
 use core::cmp::Ordering;
 use core::fmt;
 use core::hash::{Hash, Hasher};
 
-/// An end of a connection (RFC 9000, section 2.1).
+/// Which of the two endpoints of a connection (RFC 9000, section 2.1). Stream numbers carry it, so that the two never open the same one.
 #[derive(Clone, Copy, Debug, PartialEq, Eq, Hash, PartialOrd, Ord)]
 pub enum Role {
-    /// The end that opened the connection.
+    /// The one that opened the connection.
     Client,
-    /// The end that answered it.
+    /// The one that accepted it.
     Server,
 }
 
-/// Whether both ends of a stream send (RFC 9000, section 2.1).
+/// Who sends on a stream (RFC 9000, section 2.1).
 #[derive(Clone, Copy, Debug, PartialEq, Eq, Hash, PartialOrd, Ord)]
 pub enum Dir {
-    /// Both ends send.
+    /// Both endpoints.
     Bidi,
-    /// The end that opens the stream sends; the other one reads.
+    /// The one that opens the stream; the other one reads.
     Uni,
 }
 
 /// The number of a stream, below 2^62 (RFC 9000, section 2.1).
 ///
-/// Its two lowest bits tell who opens it and its direction, the rest counts the streams of that type.
+/// Its two lowest bits are its type: who opens it, and its direction. The rest is its index among the streams of that type.
 ///
 /// ```
 /// use gotsavena::{Dir, Role, StreamId};
@@ -39,37 +39,37 @@ pub enum Dir {
 pub struct StreamId(wire::StreamId);
 
 impl StreamId {
-    /// The stream of that number; `None` where it is 2^62 or more.
+    /// The stream of that number; `None` if it is 2^62 or more.
     #[must_use]
     pub fn new(value: u64) -> Option<StreamId> {
         wire::StreamId::new(value).map(StreamId)
     }
 
-    /// The stream of that type with that index, counted from 0; `None` where the index is 2^60 or more.
+    /// The stream of that type with that index, from 0; `None` if the index is 2^60 or more, since the type takes two of the 62 bits.
     #[must_use]
     pub fn from_parts(initiator: Role, dir: Dir, index: u64) -> Option<StreamId> {
         wire::StreamId::from_parts(initiator.inner(), dir.inner(), index).map(StreamId)
     }
 
-    /// The number.
+    /// The number, as in frames.
     #[must_use]
     pub fn value(self) -> u64 {
         self.0.value()
     }
 
-    /// The end that opens the stream.
+    /// The endpoint that opens the stream.
     #[must_use]
     pub fn initiator(self) -> Role {
         Role::of(self.0.initiator())
     }
 
-    /// Whether both ends send on it.
+    /// The direction.
     #[must_use]
     pub fn dir(self) -> Dir {
         Dir::of(self.0.dir())
     }
 
-    /// How many streams of its type have a lower number.
+    /// How many streams of its type have a lower number. The peer's count permits indices below it (section 4.6).
     #[must_use]
     pub fn index(self) -> u64 {
         self.0.index()
@@ -139,7 +139,7 @@ impl fmt::Display for Dir {
 }
 
 impl Role {
-    /// The other end.
+    /// The other endpoint.
     #[must_use]
     pub fn peer(self) -> Role {
         match self {

@@ -1,9 +1,9 @@
-//! The stream layer of a QUIC version 1 endpoint (RFC 9000, sections 2, 3, 4, 13.3, 16 and the stream and flow control
-//! frames of 19): **the proved source with its ghosts erased**.
+//! The stream layer of a QUIC version 1 endpoint (RFC 9000, sections 2, 3, 4, 13.3, 16 and the stream and flow control frames of 19): **the
+//! proved source with its contracts removed**.
 //!
-//! It turns packets that may be lost, repeated and reordered into ordered byte streams, each with its own credit, its
-//! own end and its own abort. Payloads of packets go in and come out. Handshake, packet protection, loss detection,
-//! congestion control and timers lie beneath and are not here; nor is a socket, a clock or a thread.
+//! It turns packets that may be lost, repeated and reordered into ordered byte streams, each with its own credit, its own end and its own
+//! abort. Payloads of packets go in and come out. It has no handshake, packet protection, loss detection, congestion control or timers, and
+//! no socket, clock or thread: that is the transport's.
 //!
 //! ```
 //! use gotsavena::{Dir, Endpoint, Read, Role, Settings};
@@ -35,7 +35,7 @@
 //! | [`SendStream`], [`RecvStream`] | the halves of a stream, with std's `Write` and `Read` |
 //! | [`Read`], [`Peek`], [`Consumed`] | what reading returns |
 //! | [`StreamReport`], [`SendReport`], [`RecvReport`], [`SendState`], [`RecvState`] | the states of a stream's halves |
-//! | [`Event`] | what happened, as `next_event` tells it |
+//! | [`Event`] | what happened, from `next_event` |
 //! | [`Made`], [`Received`] | a packet that was made, and what came of a payload |
 //! | [`Fill`], [`Filled`], [`Token`], [`Taken`] | frames and tokens, for a stack that owns its packet numbers and its ACKs |
 //! | [`Frame`], [`Frames`], [`Placed`], [`AckRanges`], [`EcnCounts`], [`WireFault`], [`FaultKind`] | the frames of a payload, which `frames`, `put` and `put_ack` read and write without an endpoint |
@@ -43,12 +43,11 @@
 //! | [`Held`] | how much memory an endpoint takes for bytes of streams |
 //! | [`SetupFault`], [`OpenFault`], [`UseFault`], [`MakeFault`], [`ReceiveFault`], [`LostFault`], [`TakeFault`], [`TokenFault`], [`EventFault`], [`SetFault`], [`RaiseFault`], [`PutFault`] | why a call was refused: each is an `Error`, and takes no memory |
 //!
-//! An [`Endpoint`] is one end. [`Endpoint::receive`] takes a payload in, [`Endpoint::make_packet`] makes the next one,
-//! [`Endpoint::declare_lost`] tells that one was lost. The owner [opens](Endpoint::open) and
-//! [accepts](Endpoint::accept) streams, [writes](Endpoint::write), [finishes](Endpoint::finish),
-//! [resets](Endpoint::reset), [reads](Endpoint::read) and [stops](Endpoint::stop) them, and [`Endpoint::next_event`] tells
-//! it what became of them; [`SendStream`] and [`RecvStream`] are one stream's halves, and std's `Write` and `Read`.
-//! [`frames`], [`put`] and [`put_ack`] read and write payloads without an end.
+//! An [`Endpoint`] is one side of a connection. [`Endpoint::receive`] processes a payload, [`Endpoint::make_packet`] makes the next one,
+//! [`Endpoint::declare_lost`] says that one was lost. The application [opens](Endpoint::open) and [accepts](Endpoint::accept) streams,
+//! [writes](Endpoint::write), [finishes](Endpoint::finish), [resets](Endpoint::reset), [reads](Endpoint::read) and [stops](Endpoint::stop)
+//! them, and [`Endpoint::next_event`] returns what became of them. [`SendStream`] and [`RecvStream`] are one stream's halves, and std's
+//! `Write` and `Read`. [`frames`], [`put`] and [`put_ack`] read and write payloads without an endpoint.
 //!
 //! # The loop of a server
 //!
@@ -56,43 +55,40 @@
 #![doc = include_str!("../examples/loop.rs")]
 //! ```
 //!
-//! # What the layer beneath brings
+//! # What the transport brings
 //!
-//! Each payload that it hands to `receive` is that of an authenticated packet of the application's number space, with
-//! its full packet number. It sends each payload that was made under the number that was told, in a packet of its own,
-//! once; and it declares a packet lost (RFC 9002, section 6) so that what it carried goes out again. It calls
-//! `make_packet` only where the congestion window allows a packet; where it doesn't, a packet of an ACK alone may go still
-//! ([`Endpoint::make_ack`]). The limits of each end go to the other one in the handshake ([`Settings::limits`],
-//! [`PeerLimits`]).
+//! Each payload that it passes to `receive` is that of an authenticated packet of the application's number space, with its full packet
+//! number. It sends each payload that was made under its number, in a packet of its own, once. It declares packets lost (RFC 9002, section
+//! 6), so that what they carried goes out again. It calls `make_packet` only if the congestion window permits a packet; if not, a packet
+//! with an ACK alone may still go ([`Endpoint::make_ack`]). The limits of each endpoint go to the other one in the handshake
+//! ([`Settings::limits`], [`PeerLimits`]).
 //!
 //! # What was proved, and of what
 //!
-//! The source of this crate's `proved` modules is written in Rattle, Rust with contracts, and there each of its
-//! functions is proved to meet its contract, to be safe and to end. Of that source it is proved, among more, that
+//! The source of this crate's `proved` modules is written in Rattle, Rust with contracts. There each of its functions is proved to meet its
+//! contract, to be safe and to end. Of that source it is proved, among more, that
 //!
-//! - `receive` takes effect exactly as the frames that the bytes spell say, one after the other, or closes with the code,
-//!   the frame type and the place of the first frame that offends;
-//! - a packet that is made is the canonical text of lawful frames, and spends no credit that wasn't granted;
-//! - no more is stored than was granted beyond what was taken, whatever the peer sends, and that is at most a window;
-//! - each refusal leaves what is stated, want of memory too: every allocation may fail, and is answered `NoMemory`;
-//! - of two such ends, whatever the network loses, repeats and reorders, what is read is a prefix of what was written,
-//!   a stream counted as received was taken in whole, and neither end closes.
+//! - `receive` takes effect exactly as the frames in the bytes say, one after the other, or closes with the code, the frame type and the
+//!   place of the first frame that offends;
+//! - a packet that is made is the canonical text of permitted frames, and spends no credit that wasn't granted;
+//! - no more is stored than was granted beyond what was consumed, whatever the peer sends, and that is at most a window;
+//! - each refusal leaves what is stated, refused memory too: every allocation may fail, and returns `NoMemory`;
+//! - of two such endpoints, whatever the network loses, repeats and reorders, what is read is a prefix of what was written, a stream
+//!   counted as received was taken in whole, and neither closes.
 //!
-//! The modules here are that text, token by token, with contracts and other ghosts taken out by a script. No proof
-//! speaks of them. Whoever compiles them trusts anew, beside what the proof rests on:
+//! The modules here are that text, token by token, with the contracts removed by a tool. No proof covers them. Whoever compiles them
+//! trusts, beside what the proof rests on:
 //!
-//! - **the eraser** (`rust/erase`), which an audit with a lexer of its own (`rust/audit`) holds against the source, token
-//!   by token: each difference is of a kind on a committed list;
-//! - **the shim** (`shim`), a few hundred lines in which the containers of Rattle's library stand over those of `alloc`,
-//!   with `try_reserve`;
-//! - **this front**: the types of this page, and the tests that stand for what the contracts require of a caller;
+//! - **the tool** (`rust/erase`), which an audit with a lexer of its own (`rust/audit`) checks against the source, token by token: each
+//!   difference is of a kind on a committed list;
+//! - **the shim** (`shim`), a few hundred lines that put the containers of Rattle's library over those of `alloc`, with `try_reserve`;
+//! - **this wrapper**: the types of this page, and the tests in place of what the contracts require of a caller;
 //! - **rustc**, its `core` and its `alloc`, where the proof trusts Rattle's compiler.
 //!
 //! # Calls
 //!
-//! No call panics, whatever its arguments: what a contract requires of its caller is tested first, and answered
-//! `Invalid`, with nothing changed. No call allocates but fallibly. There is no `unsafe` code. The crate needs `alloc`
-//! and a 64-bit target.
+//! No call panics, whatever its arguments: what a contract requires of its caller is checked first, and refused as `Invalid`, with nothing
+//! changed. Every allocation may fail. There is no `unsafe` code. The crate needs `alloc` and a 64-bit target.
 //!
 //! # Features
 //!

@@ -1,12 +1,12 @@
-//! What an end is set to, and what it knows of its peer's limits.
+//! What an endpoint grants, and what it knows of its peer's limits.
 
 use crate::proved::qs_calls as calls;
 
-/// The credit that an end grants, and the size of its sending buffers.
+/// The credit that an endpoint grants, and the size of its sending buffers.
 ///
-/// [`Settings::default`] are those of a server: 100 streams of each direction at a time and 2^21 in all, windows of
-/// 256 KiB for each stream and of 1 MiB for the connection, and sending buffers of 256 KiB. What a peer can make such an
-/// end hold stands in docs/LIMITS.md. What differs is set by name:
+/// [`Settings::default`] are those of a server: 100 streams of each direction at a time and 2^21 in all, windows of 256 KiB for each stream
+/// and of 1 MiB for the connection, and sending buffers of 256 KiB. What a peer can make such an endpoint hold stands in docs/LIMITS.md.
+/// Change what differs by name, so that no number is taken for another:
 ///
 /// ```
 /// use gotsavena::Settings;
@@ -16,24 +16,24 @@ use crate::proved::qs_calls as calls;
 /// assert_eq!(settings.limits().streams_bidi, 100);
 /// ```
 ///
-/// Whether each value lies in its range is told by [`Endpoint::new`](crate::Endpoint::new).
+/// [`Endpoint::new`](crate::Endpoint::new) checks the ranges, all at once, so that the order of these calls doesn't matter.
 #[derive(Clone, Copy, Debug, PartialEq, Eq)]
 pub struct Settings(calls::Settings);
 
-/// The limits that an end begins with, as its peer grants them: the transport parameters of RFC 9000, section 18.2.
+/// The limits that an endpoint begins with, as its peer grants them: the transport parameters of RFC 9000, section 18.2.
 ///
-/// `local` and `remote` are seen from the end that grants, as in the standard. What this end grants is told by
-/// [`Settings::limits`]; the layer beneath carries both ways in the handshake.
+/// `local` and `remote` are seen from the endpoint that grants, as in the standard. What this endpoint grants is in [`Settings::limits`];
+/// the handshake carries both ways.
 ///
-/// A client knows the peer's limits only after the handshake: it makes its end then. With 0-RTT it makes the end with
-/// the remembered limits; the new ones aren't lower for a server that accepts 0-RTT (section 7.4.1).
+/// A client knows the peer's limits only after the handshake, so make its endpoint then. With 0-RTT make it with the remembered limits, and
+/// [raise](crate::Endpoint::raise_limits) them later: those of a server that accepts 0-RTT are no lower (section 7.4.1).
 #[derive(Clone, Copy, Debug, Default, PartialEq, Eq)]
 pub struct PeerLimits {
     /// `initial_max_data`: bytes on all streams together, below 2^62.
     pub max_data: u64,
-    /// `initial_max_stream_data_bidi_local`: bytes on each bidirectional stream that the granting end opens, below 2^62.
+    /// `initial_max_stream_data_bidi_local`: bytes on each bidirectional stream that the granting endpoint opens, below 2^62.
     pub bidi_local: u64,
-    /// `initial_max_stream_data_bidi_remote`: the same for each one that the other end opens, below 2^62.
+    /// `initial_max_stream_data_bidi_remote`: the same for each one that the other endpoint opens, below 2^62.
     pub bidi_remote: u64,
     /// `initial_max_stream_data_uni`: the same for each unidirectional stream, below 2^62.
     pub uni: u64,
@@ -60,9 +60,9 @@ impl Default for Settings {
 }
 
 impl Settings {
-    /// The standard settings of scripts, for trying: a connection window of 4,096 bytes, windows of 1,024 bytes for each
-    /// stream, a sending buffer of 2,048 bytes for each stream, and eight streams of each direction, in all: once a peer
-    /// opened eight, its `open` answers `Blocked` for good.
+    /// Small settings, as in the scripts of `qstream`, so that a test soon meets every limit: a connection window of 4,096 bytes, windows
+    /// of 1,024 bytes for each stream, a sending buffer of 2,048 bytes for each stream, and eight streams of each direction in all. Once a
+    /// peer opened eight, its `open` returns `Blocked` for good.
     #[must_use]
     pub fn small() -> Settings {
         Settings(calls::Settings {
@@ -78,15 +78,15 @@ impl Settings {
         })
     }
 
-    /// How far the bytes received on all streams may run ahead of those taken: 1 to 2^40 bytes (RFC 9000, section 4.1).
-    /// At most so many bytes are stored.
+    /// How many bytes may be received on all streams beyond those consumed: 1 to 2^40 (RFC 9000, section 4.1). No more are ever stored, so
+    /// it bounds the memory of a connection.
     #[must_use]
     pub fn conn_window(mut self, bytes: u64) -> Settings {
         self.0.conn_window = bytes;
         self
     }
 
-    /// The same for each bidirectional stream that this end opens: 1 to 2^30 bytes.
+    /// The same for each bidirectional stream that this endpoint opens: 1 to 2^30 bytes.
     #[must_use]
     pub fn bidi_local_window(mut self, bytes: u64) -> Settings {
         self.0.bidi_local = bytes;
@@ -115,15 +115,15 @@ impl Settings {
             .uni_window(bytes)
     }
 
-    /// How many bytes that aren't acknowledged each sending half keeps: 1 to 2^30.
+    /// How many unacknowledged bytes each sending half keeps, because they may have to be sent again: 1 to 2^30.
     #[must_use]
     pub fn send_buffer(mut self, bytes: usize) -> Settings {
         self.0.send_buffer = bytes;
         self
     }
 
-    /// How many streams of each direction the peer may open at first (0 to 2^17), and in all, as those that it opened
-    /// come to their end (the first number to 2^21; RFC 9000, section 4.6).
+    /// How many streams of each direction the peer may open at first (0 to 2^17), and in all, as its streams end (from the first number to
+    /// 2^21; RFC 9000, section 4.6). In all, because an ended stream still keeps some bytes.
     #[must_use]
     pub fn streams(self, at_first: u64, in_all: u64) -> Settings {
         self.bidi_streams(at_first, in_all)
@@ -146,7 +146,7 @@ impl Settings {
         self
     }
 
-    /// What the other end is told of these settings (RFC 9000, section 18.2).
+    /// The transport parameters for the peer (RFC 9000, section 18.2).
     #[must_use]
     pub fn limits(&self) -> PeerLimits {
         let limits = self.0.limits();

@@ -5,12 +5,11 @@ use crate::endpoint::Endpoint;
 use crate::faults::UseFault;
 use crate::ids::StreamId;
 
-/// The sending half of a stream at an end (RFC 9000, section 3.1).
+/// The sending half of a stream of an endpoint (RFC 9000, section 3.1).
 ///
-/// With the feature `std` it is a [`Write`](std::io::Write): a write that finds the stream's buffer full is
-/// `WouldBlock`, and what is refused is an error of a kind alone, which takes no memory: `BrokenPipe` where the stream was
-/// finished or reset, `NotConnected` where the end is closed. [`try_write`](SendStream::try_write) answers the [`UseFault`].
-/// `write` tells how many bytes were accepted; `write_all` doesn't where the buffer becomes full.
+/// With the feature `std` it is a [`Write`](std::io::Write). A full buffer is `WouldBlock`; other errors are a kind alone, which takes no
+/// memory: `BrokenPipe` if the stream was finished or reset, `NotConnected` if the endpoint is closed. [`try_write`](SendStream::try_write)
+/// returns the [`UseFault`]. Use `write`, which says how many bytes were accepted; `write_all` doesn't if the buffer gets full.
 ///
 /// ```
 /// # #[cfg(feature = "std")] {
@@ -34,13 +33,12 @@ pub struct SendStream<'a> {
     stream: StreamId,
 }
 
-/// The receiving half of a stream at an end (RFC 9000, section 3.2).
+/// The receiving half of a stream of an endpoint (RFC 9000, section 3.2).
 ///
-/// With the feature `std` it is a [`Read`](std::io::Read): `WouldBlock` where nothing is there, 0 at the end, and
-/// `ConnectionReset` where the peer broke the stream off. An error tells its kind alone, which takes no memory:
-/// [`report`](RecvStream::report) has the peer's code, and [`try_read`](RecvStream::try_read) answers the [`UseFault`].
-/// `read_to_end` keeps the bytes that came before `WouldBlock`; `read_to_string` loses them where they end amid a
-/// character.
+/// With the feature `std` it is a [`Read`](std::io::Read): `WouldBlock` if nothing is there, 0 at the end, and `ConnectionReset` if the
+/// peer reset the stream. An error is a kind alone, which takes no memory: [`report`](RecvStream::report) has the peer's code, and
+/// [`try_read`](RecvStream::try_read) returns the [`UseFault`]. `read_to_end` keeps the bytes that came before `WouldBlock`;
+/// `read_to_string` loses them if they end amid a character.
 ///
 /// ```
 /// # #[cfg(feature = "std")] {
@@ -80,7 +78,7 @@ impl<'a> SendStream<'a> {
         self.stream
     }
 
-    /// Accepts the front of the bytes for sending, as [`Endpoint::write`] does.
+    /// Accepts the front of the bytes for sending, as [`Endpoint::write`] does. Unlike `write` of std it returns 0 for a full buffer.
     ///
     /// # Errors
     ///
@@ -89,7 +87,7 @@ impl<'a> SendStream<'a> {
         self.end.write(self.stream, bytes)
     }
 
-    /// Asks for the end of the stream, as [`Endpoint::finish`] does.
+    /// Ends the stream after the bytes written so far, as [`Endpoint::finish`] does.
     ///
     /// # Errors
     ///
@@ -98,7 +96,7 @@ impl<'a> SendStream<'a> {
         self.end.finish(self.stream)
     }
 
-    /// Breaks the sending half off, as [`Endpoint::reset`] does.
+    /// Resets the sending half, as [`Endpoint::reset`] does.
     ///
     /// # Errors
     ///
@@ -107,7 +105,7 @@ impl<'a> SendStream<'a> {
         self.end.reset(self.stream, code)
     }
 
-    /// How the half stands; `None` where there is none.
+    /// The half's state; `None` if there is none.
     #[must_use]
     pub fn report(&self) -> Option<SendReport> {
         self.end.report(self.stream)?.send
@@ -125,7 +123,7 @@ impl<'a> RecvStream<'a> {
         self.stream
     }
 
-    /// Reads the bytes that are next, as [`Endpoint::read`] does.
+    /// Reads the next bytes, as [`Endpoint::read`] does. Unlike `read` of std it tells the end, a reset and nothing apart.
     ///
     /// # Errors
     ///
@@ -134,7 +132,7 @@ impl<'a> RecvStream<'a> {
         self.end.read(self.stream, into)
     }
 
-    /// Takes the bytes that are next, at most so many, without a copy, as [`Endpoint::consume`] does.
+    /// Consumes the next bytes, at most so many, without a copy, as [`Endpoint::consume`] does.
     ///
     /// # Errors
     ///
@@ -143,7 +141,7 @@ impl<'a> RecvStream<'a> {
         self.end.consume(self.stream, most)
     }
 
-    /// Throws the stream's bytes away, as [`Endpoint::stop`] does.
+    /// Discards the stream's bytes, as [`Endpoint::stop`] does.
     ///
     /// # Errors
     ///
@@ -152,7 +150,7 @@ impl<'a> RecvStream<'a> {
         self.end.stop(self.stream, code)
     }
 
-    /// How the half stands; `None` where there is none.
+    /// The half's state; `None` if there is none.
     #[must_use]
     pub fn report(&self) -> Option<RecvReport> {
         self.end.report(self.stream)?.recv

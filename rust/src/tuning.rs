@@ -1,8 +1,8 @@
-//! What the owner of an end may choose.
+//! What an application may choose about an endpoint.
 
 use crate::proved::qs_calls as calls;
 
-/// A part of a window, or of a grant.
+/// A part of a window, or of a count of streams.
 #[derive(Clone, Copy, Debug, PartialEq, Eq)]
 pub enum Share {
     /// One half.
@@ -15,7 +15,7 @@ pub enum Share {
     Sixteenth,
 }
 
-/// How an end goes about what its owner may choose: see [`Endpoint::new_wide`](crate::Endpoint::new_wide).
+/// What an application may choose about an endpoint: see [`Endpoint::new_wide`](crate::Endpoint::new_wide).
 ///
 /// [`Tuning::default`] is what [`Endpoint::new`](crate::Endpoint::new) has.
 ///
@@ -38,18 +38,18 @@ impl Default for Tuning {
 }
 
 impl Tuning {
-    /// How much of its window, as it is set at the time, has to be taken until a limit on bytes moves (RFC 9000, section 4.2):
-    /// a half by default. A smaller share tells the peer of new credit earlier and more often, so that a fast and long path stays full.
+    /// How much of its window, as it is set at the time, has to be consumed until a limit on bytes moves (RFC 9000, section 4.2): a half by
+    /// default. A smaller share grants new credit earlier and more often, so that a long fast path stays full, at the cost of a frame for
+    /// each step.
     #[must_use]
     pub fn credit_step(mut self, share: Share) -> Tuning {
         self.0.credit_step = share.inner();
         self
     }
 
-    /// How many of its grant's streams have to end until a count of streams moves (section 4.6). `None`, the default:
-    /// each one moves it, which costs a frame for each. With a share the count moves by whole steps of that share of the
-    /// grant, as it is set at the time, of one stream at least, also with a grant of 0; so no peer waits for ever, since a
-    /// step is no more than the grant.
+    /// How many of the streams permitted at once have to end until a count of streams moves (section 4.6). `None`, the default: each one
+    /// moves it, which costs a frame for each. With a share the count moves by whole steps of that share, as it is set at the time, and of
+    /// one stream at least. A step is never more than may be open, so no peer waits for ever.
     ///
     /// ```
     /// use gotsavena::{Dir, Endpoint, Role, Settings, Share, Tuning};
@@ -66,47 +66,46 @@ impl Tuning {
         self
     }
 
-    /// Whether a write takes no more bytes than may be sent at once, by the stream's limit and the connection's (RFC 9000,
-    /// section 4.1), so that none waits for credit: then [`room`](crate::Endpoint::room) tells how many it takes. Not by
-    /// default.
+    /// Whether a write accepts no more bytes than may be sent at once under the stream's limit and the connection's (RFC 9000, section
+    /// 4.1). Then none waits for credit, and [`room`](crate::Endpoint::room) returns how many it accepts: for a proxy that would rather
+    /// leave bytes where they are. Not by default.
     #[must_use]
     pub fn within_credit(mut self, is_chosen: bool) -> Tuning {
         self.0.within_credit = is_chosen;
         self
     }
 
-    /// Whether the owner answers a STOP_SENDING (RFC 9000, section 3.5): the event [`Stopped`](crate::Event::Stopped) tells it, and the
-    /// stream goes on until its owner resets it, with a code of its own, or finishes it. Else, and by default, the end resets the
-    /// stream at once with the peer's code. Where no owner answers, a peer that stopped reading waits for good.
+    /// Whether the application answers a STOP_SENDING (RFC 9000, section 3.5). Then the event [`Stopped`](crate::Event::Stopped) says that
+    /// it came, and the stream goes on until the application resets it, with a code of its own, or finishes it. By default the endpoint
+    /// resets the stream at once with the peer's code, since a peer that stopped reading waits for good if nobody answers.
     #[must_use]
     pub fn answers_stops(mut self, is_chosen: bool) -> Tuning {
         self.0.answers_stops = is_chosen;
         self
     }
 
-    /// Whether what came in is read on once the end closed: [`read`](crate::Endpoint::read),
-    /// [`peek`](crate::Endpoint::peek), [`consume`](crate::Endpoint::consume) and
-    /// [`next_readable`](crate::Endpoint::next_readable) answer then as before the closing, and
-    /// [`next_event`](crate::Endpoint::next_event) tells [`Readable`](crate::Event::Readable). Nothing else does. Not by
-    /// default.
+    /// Whether received bytes can still be read after the endpoint closed: then [`read`](crate::Endpoint::read),
+    /// [`peek`](crate::Endpoint::peek), [`consume`](crate::Endpoint::consume) and [`next_readable`](crate::Endpoint::next_readable) go on
+    /// as before, and [`next_event`](crate::Endpoint::next_event) returns [`Readable`](crate::Event::Readable). Nothing else does. Not by
+    /// default, since all streams end with the connection (section 10.2); TCP would let them be read.
     #[must_use]
     pub fn reads_when_closed(mut self, is_chosen: bool) -> Tuning {
         self.0.reads_when_closed = is_chosen;
         self
     }
 
-    /// A number that stands in each token that the end gives: it takes none of another epoch. 0 by default. An end that
-    /// takes the place of one whose 0-RTT was refused gets another one.
+    /// A number in each token of the endpoint, which takes no token of another epoch. 0 by default. Give another one to an endpoint that
+    /// replaces one whose 0-RTT was refused: late news of the old packets then can't be taken for those of the new.
     #[must_use]
     pub fn epoch(mut self, epoch: u64) -> Tuning {
         self.0.epoch = epoch;
         self
     }
 
-    /// How many bytes all streams together keep until they are acknowledged (RFC 9000, section 13.3), beside what each of them
-    /// keeps by [`send_buffer`](crate::Settings::send_buffer): a [`write`](crate::Endpoint::write) takes no more than that
-    /// leaves beside [`kept_sum`](crate::Endpoint::kept_sum), and [`room`](crate::Endpoint::room) tells how many those are.
-    /// `None`, the default: each stream keeps what it may keep alone.
+    /// How many bytes all streams together keep until they are acknowledged (RFC 9000, section 13.3), beside the bound of each
+    /// ([`send_buffer`](crate::Settings::send_buffer)). A [`write`](crate::Endpoint::write) accepts no more than that leaves beside
+    /// [`kept_sum`](crate::Endpoint::kept_sum), and [`room`](crate::Endpoint::room) returns how many those are. With many streams it is
+    /// what bounds the memory of a connection. `None`, the default: each stream keeps what it may keep alone.
     ///
     /// ```
     /// use gotsavena::{Dir, Endpoint, Role, Settings, Tuning};

@@ -1,4 +1,5 @@
-//! What C calls. A reference is a pointer that isn't null, to a whole value; two numbers, an address and a count, are a slice.
+//! What C calls. A reference is a pointer that isn't null, to a whole value; two numbers, an address and a count, are a slice. So no struct
+//! of Rust's has to be laid out as C's.
 
 use crate::proved::qs_c;
 use crate::proved::qs_c::acks::GvRange;
@@ -16,15 +17,16 @@ use crate::shim::alloc::Global;
 use core::mem::MaybeUninit;
 use core::slice;
 
-/// Exports a call of each name: what C passes, and what the proved call is handed.
+/// Exports a call of each name: the parameters of C, and the arguments for the proved call. One macro, so that the list below can be made
+/// from the contracts.
 macro_rules! exports {
     ($($name:ident ($($param:ident: $kind:ty),*) = ($($given:expr),*);)*) => {$(
         /// The proved call of this name.
         ///
         /// # Safety
         ///
-        /// Each address is of as many values as the count behind it says, which nothing writes during the call, or, where the call
-        /// writes them, nothing else reads.
+        /// Each address is of as many values as the count behind it says. Nothing writes them during the call, or, if the call writes them,
+        /// nothing else reads them. `c/src/calls.c` checks null and sizes.
         #[unsafe(no_mangle)]
         pub unsafe extern "C" fn $name($($param: $kind),*) -> u32 {
             qs_c::$name($($given),*)
@@ -32,18 +34,16 @@ macro_rules! exports {
     )*};
 }
 
-/// The values that C passes.
 macro_rules! read {
     ($at:ident, $count:ident) => {
-        // SAFETY: as the export asks.
+        // SAFETY: as the export requires.
         unsafe { slice::from_raw_parts($at, $count) }
     };
 }
 
-/// Those that a call writes.
 macro_rules! write {
     ($at:ident, $count:ident) => {
-        // SAFETY: as the export asks.
+        // SAFETY: as the export requires.
         unsafe { slice::from_raw_parts_mut($at, $count) }
     };
 }
@@ -142,20 +142,20 @@ exports! {
         = (Global, end, stream, read!(bytes, bytes_len), count);
 }
 
-/// A slice, and the words that it is.
+/// A slice and the words that it is made of.
 union Slice {
     bytes: &'static [u8],
     words: [MaybeUninit<usize>; 2],
 }
 
-// C passes a slice in a struct as its address and then its length, which Rust's slices are, though it promises it nowhere.
+// C passes a slice in a struct as its address and then its length. Rust's slices are that, but nothing promises it, so the build checks.
 // SAFETY: the second word is a number.
 const _: () = assert!(unsafe { Slice { bytes: b"abc" }.words[1].assume_init() } == 3);
 
-/// What a call answers that did what it says.
+/// As in the header.
 const DONE: u32 = 0;
 
-/// Bytes of a stream, in two pieces of memory, as C has their addresses.
+/// Bytes of a stream in two pieces, with addresses as C has them.
 #[repr(C)]
 pub struct GvPieces {
     front: *const u8,
@@ -164,7 +164,8 @@ pub struct GvPieces {
     back_len: usize,
 }
 
-/// Tells what a read would. The bytes stay where they are until the next call that changes the end.
+/// What a read would return. The bytes stay where they are until the next call that changes the endpoint: in the proved library that is the
+/// borrow of the handle, which is why it is `&mut` though nothing changes.
 #[unsafe(no_mangle)]
 pub extern "C" fn gvp_peek(
     end: &mut Handle,
@@ -188,13 +189,11 @@ pub extern "C" fn gvp_peek(
     status
 }
 
-/// Drops the end that a handle holds.
 #[unsafe(no_mangle)]
 pub extern "C" fn gvp_free(end: &mut Handle) {
     qs_c::gvp_free(Global, end);
 }
 
-/// Drops what a handle of what was heard holds.
 #[unsafe(no_mangle)]
 pub extern "C" fn gvp_heard_drop(heard: &mut ListenerHandle) {
     qs_c::gvp_heard_drop(Global, heard);

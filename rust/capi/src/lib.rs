@@ -1,9 +1,9 @@
-//! The calls `gvp_*`, over which `c/src/calls.c` offers the library for C: those of `crates/qs_c`, **the proved source with its ghosts
-//! erased**. `c/src/proved.h` declares them.
+//! The calls `gvp_*`, over which `c/src/calls.c` offers the library for C: those of `crates/qs_c`, **the proved source with its contracts
+//! removed**. `c/src/proved.h` declares them.
 //!
-//! `unsafe` stands in this package alone: where C's pointers are read ([`exports`]), where memory comes from C ([`memory`]), where a box is
-//! made of its address (`shim::Box`), and where the proved source does that (`loose`) or lends what lies there (`lending`). Nothing of std
-//! is in it.
+//! `unsafe` stands in this package alone, so that the Rust crate forbids it: where C's pointers are read ([`exports`]), where memory comes
+//! from C ([`memory`]), where a box is made from its address (`shim::Box`), and where the proved source does that (`loose`) or lends what
+//! lies there (`lending`). It has no std, so the archive needs no unwinder and no thread library.
 #![no_std]
 #![deny(missing_docs)]
 

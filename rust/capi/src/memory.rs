@@ -1,10 +1,10 @@
-//! Memory, which the C of the library gives, and what is done where Rust can't go on.
+//! Memory, which the C side provides, and what happens if Rust can't go on.
 
 use core::alloc::{GlobalAlloc, Layout};
 use core::panic::PanicInfo;
 use core::ptr::null_mut;
 
-/// An address, or none: it means something where `is_some` is 1.
+/// An address if `is_some` is 1. The layout is that of an `Option` in the proved library, so that one C file serves both.
 #[repr(C)]
 struct Got {
     is_some: u64,
@@ -27,7 +27,7 @@ fn address(got: Got) -> *mut u8 {
     if got.is_some == 1 { got.at } else { null_mut() }
 }
 
-// SAFETY: these functions of c/src give memory of the size and the alignment that they are asked for.
+// SAFETY: these functions of c/src give memory of the size and alignment asked for.
 unsafe impl GlobalAlloc for OfC {
     unsafe fn alloc(&self, layout: Layout) -> *mut u8 {
         address(unsafe { rattle_alloc(layout.size(), layout.align()) })
@@ -42,7 +42,7 @@ unsafe impl GlobalAlloc for OfC {
     }
 }
 
-/// No call panics: what would is proved not to come about.
+/// No call panics, which is proved of the source. So ending the program here loses nothing, and needs no unwinding.
 #[panic_handler]
 fn panicked(_why: &PanicInfo<'_>) -> ! {
     abort()

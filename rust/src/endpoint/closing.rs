@@ -5,7 +5,7 @@ use crate::answers::{Closing, ToldClose};
 
 /// # Closing
 impl Endpoint {
-    /// Why this end closed; `None` where it is open or saw its peer close (RFC 9000, section 10.2).
+    /// Why this endpoint closed; `None` while it is open, and if the peer closed (RFC 9000, section 10.2).
     ///
     /// ```
     /// # use gotsavena::{Endpoint, Role, Settings};
@@ -24,9 +24,9 @@ impl Endpoint {
         self.inner.closing().map(Closing::of)
     }
 
-    /// Writes the payload that tells of this end's own closing: a CONNECTION_CLOSE with an empty reason (RFC 9000,
-    /// section 10.2). Answers its length in bytes. `None` where this end didn't close, or where it doesn't fit; then
-    /// nothing is written.
+    /// Writes the payload for this endpoint's own close and returns its length: a CONNECTION_CLOSE with an empty reason
+    /// (RFC 9000, section 10.2). `None` if this endpoint didn't close, or if it doesn't fit;
+    /// then nothing is written.
     ///
     /// ```
     /// # use gotsavena::{Endpoint, Received, Role, Settings};
@@ -44,8 +44,7 @@ impl Endpoint {
         self.inner.close_payload(out)
     }
 
-    /// The code with which the peer closed by a frame that came to this end, `None` where it didn't (RFC 9000, section
-    /// 10.2).
+    /// The code with which the peer closed by a frame that was received here; `None` if it didn't (RFC 9000, section 10.2).
     ///
     /// ```
     /// # use gotsavena::{Endpoint, Role, Settings};
@@ -65,11 +64,13 @@ impl Endpoint {
         self.inner.peer_closed()
     }
 
-    /// Tells the end of a close that the stack above the packets saw or made itself, either side's, by the transport or by
-    /// the application (RFC 9000, sections 10.2 and 19.19). The end is closed from then on, as after any close, and
-    /// [`told_close`](Endpoint::told_close) tells with what. It has no [`close_payload`](Endpoint::close_payload): such a
-    /// stack tells its peer itself. `receive` and `take_frame` say so again: the peer's close by its code, its own as a
-    /// [`Closing`](crate::Closing) of frame type 0 at place 0. An end that closed before stays as it is.
+    /// Notes a close that this endpoint didn't see: the stack's own, the application's, or the peer's if the stack reads CONNECTION_CLOSE
+    /// itself (RFC 9000, sections 10.2 and 19.19). Without it streams would go on as if the connection were open.
+    ///
+    /// The endpoint is then closed as after any close, and [`told_close`](Endpoint::told_close) returns what was noted. There is no
+    /// [`close_payload`](Endpoint::close_payload): such a stack sends its close itself. `receive` and `take_frame` return it again: a close
+    /// of the peer's by its code, one of this side as a [`Closing`](crate::Closing) of frame type 0 at place 0. An endpoint that closed
+    /// before stays as it is, since the first close is the one that peers know.
     ///
     /// ```
     /// use gotsavena::{CloseKind, Closer, Endpoint, Role, Settings, ToldClose, UseFault, Dir, OpenFault};
@@ -87,8 +88,7 @@ impl Endpoint {
         self.inner.tell_closed(close.inner());
     }
 
-    /// The close that the end was told of by [`tell_closed`](Endpoint::tell_closed), `None` where it closed otherwise or is
-    /// open.
+    /// The close that [`tell_closed`](Endpoint::tell_closed) noted; `None` if it is open, or closed in another way.
     ///
     /// ```
     /// # use gotsavena::{CloseKind, Closer, Endpoint, Role, Settings, ToldClose};

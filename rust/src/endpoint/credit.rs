@@ -1,4 +1,4 @@
-//! Credit: limits and windows, and what they let go.
+//! Flow control: limits and windows, and what they permit.
 
 use super::Endpoint;
 use crate::answers::Held;
@@ -6,12 +6,11 @@ use crate::faults::{RaiseFault, SetFault};
 use crate::ids::{Dir, StreamId};
 use crate::settings::PeerLimits;
 
-/// # Credit
+/// # Flow control
 impl Endpoint {
-    /// Takes in limits of the peer that weren't known as the end was made: a client that began with those that it
-    /// remembered, for 0-RTT, hands in those of the handshake (RFC 9000, section 7.4.1). Each limit becomes the greater
-    /// one of what stands and what comes, of open streams too, and streams that open later begin with it; none falls.
-    /// That the server lowered a limit, which that section forbids, the caller sees itself.
+    /// Raises the peer's limits to those of the handshake. A client that sends 0-RTT begins with the limits it remembered (RFC 9000,
+    /// section 7.4.1). Each limit becomes the greater of the two, for open streams too, and streams that open later begin with it; none
+    /// falls. A server that lowered a limit broke that section, which the caller has to check: only it has both.
     ///
     /// ```
     /// # use gotsavena::{Dir, Endpoint, PeerLimits, Role, Settings};
@@ -26,18 +25,17 @@ impl Endpoint {
     ///
     /// # Errors
     ///
-    /// `Closed`; and `Refused` with what [`new`](Endpoint::new) answers for such limits.
+    /// `Closed`; `Refused` for limits that [`new`](Endpoint::new) would refuse.
     pub fn raise_limits(&mut self, limits: PeerLimits) -> Result<(), RaiseFault> {
         self.inner
             .raise_limits(&limits.inner())
             .map_err(RaiseFault::of)
     }
 
-    /// Sets the connection's window anew, in bytes: how far what is received on all streams may run ahead of what is
-    /// taken (RFC 9000, section 4.1). A greater window moves the connection's limit at once, be it by less than a step
-    /// of [`Tuning::credit_step`](crate::Tuning::credit_step), and the next packet tells it. Under a smaller one the limit
-    /// stands until so much was taken that it moves again: no limit falls. What the peer was told as the end was made,
-    /// [`Settings`](crate::Settings), stays.
+    /// Sets the connection's window, in bytes: how much may be received on all streams beyond what was consumed (RFC 9000, section 4.1). A
+    /// greater window raises the limit at once, even by less than a step of [`Tuning::credit_step`](crate::Tuning::credit_step): whoever
+    /// asks for it has a reason. The next packet carries the new limit. Under a smaller window the limit stays until enough is consumed,
+    /// since no limit may fall. The first limits that the peer was given ([`Settings`](crate::Settings)) stay what they were.
     ///
     /// ```
     /// use gotsavena::{Endpoint, Role, SetFault, Settings};
@@ -54,17 +52,15 @@ impl Endpoint {
     ///
     /// # Errors
     ///
-    /// `Closed`; and `OutOfRange` where the window is 0 or above 2^40.
+    /// `Closed`; `OutOfRange` if the window is 0 or above 2^40.
     pub fn set_conn_window(&mut self, window: u64) -> Result<(), SetFault> {
         self.inner.set_conn_window(window).map_err(SetFault::of)
     }
 
-    /// Sets anew how many streams of a direction the peer may have open (RFC 9000, section 4.6). A greater grant moves
-    /// the count of its streams at once, beside those that came to their end, up to the lifetime's, and the next packet
-    /// tells it. Streams that ended count each there, also where counts move by steps
-    /// ([`count_step`](crate::Tuning::count_step)). Under a smaller one, 0 even, the count stands until so many streams ended
-    /// that it moves again: no count falls. What the peer was told as the end was made, [`Settings`](crate::Settings), stays,
-    /// and so does the lifetime.
+    /// Sets how many streams of a direction the peer may have open (RFC 9000, section 4.6). A greater number permits more at once, beside
+    /// those that ended, up to the lifetime's count, and the next packet says so. Streams that ended count one by one there, also if counts
+    /// move by steps ([`count_step`](crate::Tuning::count_step)). Under a smaller number, even 0, the count stays until enough streams
+    /// ended, since no count may fall. The first limits and the lifetime's count stay.
     ///
     /// ```
     /// use gotsavena::{Dir, Endpoint, Role, SetFault, Settings};
@@ -81,23 +77,22 @@ impl Endpoint {
     ///
     /// # Errors
     ///
-    /// `Closed`; and `OutOfRange` above 2^17.
+    /// `Closed`; `OutOfRange` above 2^17.
     pub fn set_grant(&mut self, dir: Dir, streams: u64) -> Result<(), SetFault> {
         self.inner
             .set_grant(dir.inner(), streams)
             .map_err(SetFault::of)
     }
 
-    /// Sets the window of the stream's receiving half anew, from 1 to 2^30 bytes (RFC 9000, section 4.1): how far what comes
-    /// may run ahead of what is taken of it. A greater window moves the stream's limit at once, be it by less than a step,
-    /// and the next packet tells it. Under a smaller one the limit stands until so much was taken that it moves again: no
-    /// limit falls, and none moves once the stream's length is known. A stream that opens later begins with the window that
-    /// the peer was told as the end was made. It takes no memory, and gives none back.
+    /// Sets the window of one stream's receiving half, 1 to 2^30 bytes (RFC 9000, section 4.1): how much may arrive beyond what was
+    /// consumed. A greater window raises the limit at once, even by less than a step, and the next packet carries it. Under a smaller one
+    /// it stays until enough is consumed, since no limit may fall. No limit moves once the stream's length is known, since nobody needs it.
+    /// Streams that open later begin with the window of the settings, which is what the peer counts with. It neither takes nor frees
+    /// memory.
     ///
     /// # Errors
     ///
-    /// `Closed`; `OutOfRange`; `NoSuchStream` or `WrongDirection` where the stream has no receiving half here. Then nothing
-    /// changed.
+    /// `Closed`; `OutOfRange`; `NoSuchStream` or `WrongDirection` if the stream has no receiving half here. Then nothing changed.
     ///
     /// ```
     /// # use gotsavena::{Dir, Endpoint, Role, Settings};
@@ -117,7 +112,7 @@ impl Endpoint {
             .map_err(SetFault::of)
     }
 
-    /// The connection's limit in bytes that the peer was granted (RFC 9000, section 4.1).
+    /// The limit in bytes on the whole connection that the peer was granted (RFC 9000, section 4.1).
     ///
     /// ```
     /// # use gotsavena::{Endpoint, Role, Settings};
@@ -133,8 +128,8 @@ impl Endpoint {
         self.inner.granted()
     }
 
-    /// How many bytes of that limit the peer used up: the sum of the highest offsets of all streams (RFC 9000, section
-    /// 4.1).
+    /// How many bytes of that limit the peer used: the sum of the highest offsets of all streams (RFC 9000, section 4.1). Gaps count, so
+    /// that a peer gains nothing by leaving some.
     ///
     /// ```
     /// # use gotsavena::{Dir, Endpoint, Role, Settings};
@@ -160,8 +155,8 @@ impl Endpoint {
         self.inner.spent()
     }
 
-    /// How many bytes wait to be read: at most what was granted and isn't taken, and that is at most the connection's
-    /// window (RFC 9000, section 4.1).
+    /// How many bytes wait to be read. It is at most what was granted beyond what was consumed, which is at most the connection's window
+    /// (RFC 9000, section 4.1).
     ///
     /// ```
     /// # use gotsavena::{Dir, Endpoint, Role, Settings};
@@ -189,12 +184,11 @@ impl Endpoint {
         self.inner.stored()
     }
 
-    /// How many bytes of a stream count as taken: those that were read, or those up to the highest offset that came, gaps
-    /// among them, once its owner stopped it, or its final size once the peer reset it (RFC 9000, sections 3.5 and 4.2). The
-    /// stream's limit is at most a window above them. `None` where the stream has no receiving half here. It takes constant
-    /// time.
+    /// How many bytes of a stream count as consumed, which its limit follows: those that were read; after a stop all up to the highest
+    /// offset received, gaps too; after the peer's reset its final size (RFC 9000, sections 3.5 and 4.2). `None` if the stream has no
+    /// receiving half here. Constant time.
     ///
-    /// An owner that looks now and then tells how fast a window is used up.
+    /// Compare it from time to time to see how fast a window is used up, and so whether a greater one would help.
     ///
     /// ```
     /// use gotsavena::{Dir, Endpoint, Read, Role, Settings};
@@ -218,8 +212,8 @@ impl Endpoint {
         self.inner.taken(stream.inner())
     }
 
-    /// How many bytes of all streams count as taken: the sum of what [`taken`](Endpoint::taken) tells of each, which the
-    /// connection's limit follows (RFC 9000, section 4.2). It takes constant time.
+    /// How many bytes of all streams count as consumed: the sum of [`taken`](Endpoint::taken) over all, which the connection's limit
+    /// follows (RFC 9000, section 4.2). Constant time.
     ///
     /// ```
     /// # use gotsavena::{Dir, Endpoint, Role, Settings};
@@ -246,13 +240,11 @@ impl Endpoint {
         self.inner.taken_sum()
     }
 
-    /// How many runs the offsets make that came, on all streams whose end their reader wasn't told and that weren't reset:
-    /// one for each on which some came, and one more for each gap between them (RFC 9000, section 2.2). It takes constant
-    /// time.
+    /// Into how many runs the received offsets fall, on all streams whose end wasn't read and that weren't reset: one for each with some,
+    /// and one more for each gap (RFC 9000, section 2.2). Constant time.
     ///
-    /// Each run beyond two of a stream takes 16 to 32 bytes for as long as the gaps are there: also of a stream that was
-    /// stopped, whose peer gets its credit back, so that no setting bounds them. The layer beneath closes a connection in
-    /// which this number gets too great.
+    /// Watch it: each run beyond two of a stream takes 16 to 32 bytes while the gap is there, and no setting bounds that for streams that
+    /// were stopped, since their peer gets its credit back. The transport closes a connection whose number gets too great.
     ///
     /// ```
     /// use gotsavena::{Endpoint, Frame, Role, Settings, StreamId};
@@ -270,14 +262,14 @@ impl Endpoint {
         self.inner.noted()
     }
 
-    /// How much memory the rings and the buffers of streams take, by a walk over all streams that were opened: for a look now
-    /// and then, and not for each packet.
+    /// How much memory the buffers of streams take. It walks over all streams that were opened, so ask from time to time and not for each
+    /// packet.
     ///
-    /// The rings take at least what is [`stored`](Self::stored). A peer can't make them take more than four times the
-    /// widest window of the connection that was set, and 4,096 bytes for each receiving half that wasn't read to its end, reset or
-    /// stopped. A buffer takes at most twice the most that was set for it ([`send_buffer`](crate::Settings::send_buffer),
-    /// [`set_send_buffer`](Endpoint::set_send_buffer)), no more than 4,096 bytes where all of it is acknowledged, and nothing
-    /// where the end is too, or the stream was reset.
+    /// Receive buffers take at least what is [`stored`](Self::stored). A peer can't make them take more than four times the widest window
+    /// that the connection had, and 4,096 bytes for each receiving half that wasn't read to its end, reset or stopped. A sending buffer
+    /// takes at most twice the most that was set for it ([`send_buffer`](crate::Settings::send_buffer),
+    /// [`set_send_buffer`](Endpoint::set_send_buffer)). Once all of it is acknowledged it takes at most 4,096 bytes, and none once the FIN
+    /// is too, or after a reset.
     ///
     /// ```
     /// use gotsavena::{Dir, Endpoint, Held, Role, Settings};
@@ -296,9 +288,9 @@ impl Endpoint {
         Held::of(self.inner.held())
     }
 
-    /// How many streams of a direction the peer may open: the grant, and one more for each of its streams that came to
-    /// its end, up to the settings' count of all, and no fewer than before (RFC 9000, section 4.6). Where counts move by steps
-    /// ([`count_step`](crate::Tuning::count_step)) whole steps of those count alone.
+    /// How many streams of a direction the peer may open so far: the first count, and one more for each of its streams that ended, up to
+    /// the lifetime's count, and never fewer than before (RFC 9000, section 4.6). If counts move by steps
+    /// ([`count_step`](crate::Tuning::count_step)), only whole steps count.
     ///
     /// ```
     /// # use gotsavena::{Dir, Endpoint, Read, Role, Settings};
@@ -326,8 +318,8 @@ impl Endpoint {
         self.inner.granted_streams(dir.inner())
     }
 
-    /// How many streams of a direction the peer may open in all time to come: the settings' count of all, without those
-    /// that it opened. Where none is left, a new connection is needed (RFC 9000, section 4.6).
+    /// How many streams of a direction the peer may still open in the life of this connection. The count is bounded because a few bytes of
+    /// each ended stream are kept; at 0 a new connection is needed (RFC 9000, section 4.6).
     ///
     /// ```
     /// # use gotsavena::{Dir, Endpoint, Role, Settings};
@@ -354,8 +346,8 @@ impl Endpoint {
         self.inner.streams_left(dir.inner())
     }
 
-    /// How many streams of a direction [`open`](Endpoint::open) may open by the count that the peer told last (RFC 9000,
-    /// section 4.6). What the peer grants later, this end can't know.
+    /// How many streams of a direction [`open`](Endpoint::open) may open by the peer's latest count (RFC 9000, section 4.6). What the peer
+    /// permits later can't be known here.
     ///
     /// ```
     /// # use gotsavena::{Dir, Endpoint, Role, Settings};
@@ -372,8 +364,8 @@ impl Endpoint {
         self.inner.open_left(dir.inner())
     }
 
-    /// How many bytes beyond all that were sent the peer's limit on the connection lets go (RFC 9000, section 4.1). Bytes
-    /// that were lost need no credit, and written ones use it up as they are sent: see [`unsent`](Endpoint::unsent).
+    /// How many new bytes the peer's limit on the connection permits (RFC 9000, section 4.1). Lost bytes need no credit, since they were
+    /// counted when first sent. Written bytes use it up only as they are sent: see [`unsent`](Endpoint::unsent).
     ///
     /// ```
     /// # use gotsavena::{Dir, Endpoint, Role, Settings};
@@ -392,9 +384,8 @@ impl Endpoint {
         self.inner.credit_left()
     }
 
-    /// How many bytes were written to all streams that are still to be sent for the first time: the sum of what
-    /// [`unsent`](Endpoint::unsent) tells of each (RFC 9000, sections 2.2 and 3.1). A sum that is no u64 is the greatest
-    /// one. It takes constant time.
+    /// How many bytes written to all streams weren't sent yet: the sum of [`unsent`](Endpoint::unsent) over all (RFC 9000, sections 2.2 and
+    /// 3.1). Beyond the greatest u64 it stays at that. Constant time.
     ///
     /// ```
     /// use gotsavena::{Dir, Endpoint, Role, Settings};
@@ -412,10 +403,10 @@ impl Endpoint {
         self.inner.unsent_sum()
     }
 
-    /// How many bytes of all streams are kept until they are acknowledged (RFC 9000, section 13.3): of each those from the
-    /// lowest offset on that isn't, and none after a reset. A sum that is no u64 is the greatest one. It takes constant time.
-    /// Where all streams together are bounded ([`send_window`](crate::Tuning::send_window)) a write takes no more than that
-    /// leaves beside this sum.
+    /// How many bytes of all streams are kept until they are acknowledged (RFC 9000, section 13.3): of each stream all from its lowest
+    /// unacknowledged offset on, since the buffer frees only at its front, and none after a reset. Beyond the greatest u64 it stays at
+    /// that. Constant time. With [`send_window`](crate::Tuning::send_window) a write accepts no more than the window leaves beside this
+    /// sum.
     ///
     /// ```
     /// use gotsavena::{Dir, Endpoint, Role, Settings};

@@ -7,25 +7,22 @@ use crate::proved::qs_ranges::NoMemory;
 
 /// # Events
 ///
-/// What an endpoint tells by itself, so that the application asks no stream in vain.
+/// What happened, so that the application needn't ask each stream.
 impl Endpoint {
-    /// Tells the next piece of news, each once; `None` only where there is none. What an owner waits for comes so, without a
-    /// search of its own and without a queue: what is told is a function of how the end stands and of what was told before (RFC
-    /// 9000, sections 2 to 4), and of what the peer said to hold it back.
+    /// Returns the next event, each once; `None` if there is none. There is no queue, which a peer could fill: an event is a condition that
+    /// holds now and wasn't reported yet (RFC 9000, sections 2 to 4), or a blocked frame of the peer's that was noted.
     ///
-    /// News come by kind, in the order in which [`Event`] has the kinds (`Finished` and `ResetAcked` are one), and of a kind
-    /// those of lower streams first, or of bidirectional ones. What isn't so any more as it would be told isn't told: bytes that
-    /// were read meanwhile, or a stream that was reset before it could be written to again. Of a closed end come no
-    /// [`Writable`](Event::Writable), no [`Available`](Event::Available) and nothing that holds the peer back, and
-    /// [`Readable`](Event::Readable) only where [`reads_when_closed`](crate::Tuning::reads_when_closed) was chosen; all others
-    /// come still.
+    /// Events come in the order in which [`Event`] lists the kinds (`Finished` and `ResetAcked` are one), and of a kind those of lower
+    /// streams first, or of bidirectional ones. A condition that no longer holds isn't reported: bytes that were read meanwhile, or a
+    /// stream that was reset before it could be written to again. A closed endpoint reports no [`Writable`](Event::Writable), no
+    /// [`Available`](Event::Available) and no blocked frame, since none could be acted on. It reports [`Readable`](Event::Readable) only
+    /// with [`reads_when_closed`](crate::Tuning::reads_when_closed), and all others.
     ///
-    /// An owner calls it after each call that takes in what came from the peer, and after its own reads, writes, resets and
-    /// settings, until it answers `None`. It needn't call it at all, or may begin late: then it is told all that still is so.
+    /// Call it after each call that received something, and after reads, writes, resets and changed settings, until it returns `None`. An
+    /// application may also begin late, or never: all conditions that still hold are reported then.
     ///
-    /// What was told is kept as a bit for each stream and kind, up to the highest such stream of its type, beside some 3 KB. Of an
-    /// end whose owner never asks it is noted of which streams a write was cut short, so, and nothing else: whoever begins late
-    /// waits for no news in vain.
+    /// Reported events cost a bit for each stream and kind, up to the highest such stream of its type, and some 3 KB. An endpoint that is
+    /// never asked only notes which streams had a write cut short, so that one who begins late doesn't wait in vain.
     ///
     /// ```
     /// use gotsavena::{Dir, Endpoint, Event, Read, Role, Settings};
@@ -67,8 +64,8 @@ impl Endpoint {
     ///
     /// # Errors
     ///
-    /// `NoMemory` where there was none to note what is told, or what is still to be noted. Then nothing changed, and the same
-    /// comes again. Where there was none for the notes as a whole the end counts as never asked.
+    /// `NoMemory` if there was none for the notes of what is reported. Then nothing changed, and the same event comes again. If there was
+    /// none for the first note, the endpoint counts as never asked.
     pub fn next_event(&mut self) -> Result<Option<Event>, EventFault> {
         match self.hearing.next(&self.inner) {
             Ok(news) => Ok(news.map(Event::of)),
@@ -76,16 +73,16 @@ impl Endpoint {
         }
     }
 
-    /// Chooses whether [`receive`](Endpoint::receive) and [`receive_telling`](Endpoint::receive_telling) look each payload
-    /// through for what the peer says to hold it back (RFC 9000, sections 19.12 to 19.14): the events
-    /// [`DataBlocked`](Event::DataBlocked), [`StreamDataBlocked`](Event::StreamDataBlocked) and
-    /// [`StreamsBlocked`](Event::StreamsBlocked). Not by default, as the payload is read a second time for it, and a third
-    /// time where it says so. [`take_frame`](Endpoint::take_frame) and [`take_frames`](Endpoint::take_frames) note it once an
-    /// event was asked for, and also before where this is chosen.
+    /// Chooses whether [`receive`](Endpoint::receive) and [`receive_telling`](Endpoint::receive_telling) look through each payload for what
+    /// holds the peer back (RFC 9000, sections 19.12 to 19.14): the events [`DataBlocked`](Event::DataBlocked),
+    /// [`StreamDataBlocked`](Event::StreamDataBlocked) and [`StreamsBlocked`](Event::StreamsBlocked). Not by default: it costs a second
+    /// reading of each payload, and a third if there is such a frame. [`take_frame`](Endpoint::take_frame) and
+    /// [`take_frames`](Endpoint::take_frames), which read nothing twice, note them once an event was asked for, and before that too if this
+    /// is chosen.
     ///
-    /// A limit that rose since the peer met it is passed over, also one that the same packet moved. What is noted is told once,
-    /// and again only where the peer says it in a later packet. Room for the notes is asked for before the payload takes effect:
-    /// where there is none `receive` answers `NoMemory`, nothing changed, and the same payload may come again.
+    /// A limit that rose since the peer met it isn't reported, nor one that the same packet moved: the peer isn't blocked any more. A note
+    /// is reported once, and again only if the peer says it in a later packet. Memory for notes is taken before the payload takes effect.
+    /// If it is refused, `receive` returns `NoMemory`, nothing changed, and the same payload may come again.
     ///
     /// ```
     /// use gotsavena::{Dir, Endpoint, Event, Role, Settings};

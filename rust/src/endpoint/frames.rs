@@ -1,4 +1,4 @@
-//! Frames and tokens: for a stack that owns its packets.
+//! Frames and tokens: for a stack with packets of its own.
 
 use super::Endpoint;
 use crate::answers::{Taken, Token};
@@ -10,20 +10,20 @@ use crate::shim::Vec;
 use crate::shim::alloc::Global;
 use core::{array, slice};
 
-// So many frames are handed over together without memory.
+// So many frames are passed on from the stack: more than a packet of 1,200 bytes mostly holds, so the usual packet takes no memory.
 const FEW_FRAMES: usize = 16;
 
 /// # Frames and tokens
 ///
-/// For a stack that owns its packet numbers and its ACKs: it hands frames in, and has what is pending written as frames.
+/// For a stack that has packet numbers and ACKs of its own: it passes frames in, and has pending frames written.
 impl Endpoint {
-    /// Takes in a frame that comes without its packet, for a stack that owns its packet numbers and its ACKs (RFC 9000,
-    /// section 13.1). A frame of streams or of flow control takes effect as in a payload, and then the limits move; one of
-    /// any other kind changes nothing: an ACK (tell its packets by [`Endpoint::acked`]), a CONNECTION_CLOSE, PADDING.
-    /// `Took` and `Unchanged` say whether anything changed: a frame that came before, carries no new byte or raises nothing
-    /// doesn't, and a stack counts these against a peer that only makes work, but for DATA_BLOCKED, STREAM_DATA_BLOCKED and
-    /// STREAMS_BLOCKED, which an honest peer sends and which change nothing ([`Taken::Unchanged`]). Acknowledge a packet to the
-    /// peer only once each of its frames was taken.
+    /// Processes one frame without its packet, for a stack that has packet numbers and ACKs of its own (RFC 9000, section 13.1). A frame of
+    /// streams or flow control takes effect as in a payload, and then limits move. Any other changes nothing: for an ACK call
+    /// [`Endpoint::acked`] for its packets.
+    ///
+    /// `Took` and `Unchanged` say whether anything changed. A frame that came before, brings no new byte or raises no limit doesn't. Count
+    /// those against a peer that only makes work, except blocked frames, which an honest peer sends and which never change anything
+    /// ([`Taken::Unchanged`]). Acknowledge a packet only once each of its frames was taken: what you acknowledge is never sent again.
     ///
     /// ```
     /// use gotsavena::{Dir, Endpoint, Read, Role, Settings, Taken, frames};
@@ -48,10 +48,10 @@ impl Endpoint {
     ///
     /// # Errors
     ///
-    /// `Closing` where the frame breaks a rule (sections 4, 19 and 20.1), or has values that no text has
-    /// (FRAME_ENCODING_ERROR); the end is closed from now on, and [`Endpoint::close_payload`] tells the peer so. It names the
-    /// type of the frame's canonical text, and place 0. `NoMemory`: nothing changed, and the frame may come again. An end that is
-    /// closed says so again, before it asks for memory: `Closing`, or `PeerClosed` with the peer's code.
+    /// `Closing` if the frame breaks a rule (sections 4, 19 and 20.1), or has values that can't be spelled (FRAME_ENCODING_ERROR). The
+    /// endpoint is closed from now on, and [`Endpoint::close_payload`] writes the close. It names the type of the frame's canonical text
+    /// and place 0, since there is no payload to point into. `NoMemory`: nothing changed, and the frame may come again. A closed endpoint
+    /// says so before it asks for memory: `Closing`, or `PeerClosed` with the peer's code.
     #[inline]
     pub fn take_frame(&mut self, frame: &Frame<'_>) -> Result<Taken, TakeFault> {
         if let Frame::Stream {
@@ -69,13 +69,12 @@ impl Endpoint {
         self.take_heard(slice::from_ref(&frame.inner()))
     }
 
-    /// Takes in the frames of one packet, as [`take_frame`](Endpoint::take_frame) each of them, one after the other, but that
-    /// limits move once, as the call ends: what [`receive`](Endpoint::receive) does with them (RFC 9000, sections 4.1 and
-    /// 12.4). Frames of other kinds are passed over. Up to 16 frames are handed on without memory, and any number of those of
-    /// other kinds.
+    /// Processes the frames of one packet, each as [`take_frame`](Endpoint::take_frame) does, but limits move once, as the call ends: so it
+    /// is what [`receive`](Endpoint::receive) does with them (RFC 9000, sections 4.1 and 12.4). Other frames are passed over. Up to 16
+    /// frames of streams and flow control take no memory on the way, and any number of others.
     ///
-    /// It answers [`Taken::Took`] where one of them changed something, else [`Taken::Unchanged`] where one was taken, and
-    /// [`Taken::NotOurs`] where none was, as of no frame.
+    /// Returns [`Taken::Took`] if one of them changed something, else [`Taken::Unchanged`] if one was taken, and [`Taken::NotOurs`] if none
+    /// was.
     ///
     /// ```
     /// use gotsavena::{Dir, Endpoint, Role, Settings, Taken, frames};
@@ -98,15 +97,15 @@ impl Endpoint {
     ///
     /// # Errors
     ///
-    /// As of [`take_frame`](Endpoint::take_frame), by the first frame that is refused: those before it took effect. After
-    /// `NoMemory` none of them took effect, or some first ones, and the same frames may come again.
+    /// As of [`take_frame`](Endpoint::take_frame), by the first frame that is refused: those before it took effect. After `NoMemory` some
+    /// first frames took effect, or none, and the same frames may come again.
     pub fn take_frames(&mut self, frames: &[Frame<'_>]) -> Result<Taken, TakeFault> {
         if frames.len() <= FEW_FRAMES {
             let few: [_; FEW_FRAMES] =
                 array::from_fn(|place| frames.get(place).unwrap_or(&Frame::Ping).inner());
             return self.take_heard(&few[..frames.len()]);
         }
-        // A closed end says so before memory is asked for, and frames of other kinds want none.
+        // Before memory is asked for, so that a closed endpoint never returns `NoMemory`; and frames of other kinds need none.
         self.ask_open()?;
         let ours = || frames.iter().filter(|frame| frame.is_of_end());
         let Ok(mut all) = Vec::with_capacity(Global, ours().count()) else {
@@ -118,7 +117,7 @@ impl Endpoint {
         self.take_heard(&all)
     }
 
-    // Takes frames in. What they say to hold the peer back is noted behind, for which there has to be room before.
+    // Blocked frames are noted after they took effect, so the room for the notes is taken before: none is lost for want of memory.
     fn take_heard(&mut self, frames: &[wire::Frame<'_>]) -> Result<Taken, TakeFault> {
         let blocked = || frames.iter().filter(|frame| says_blocked(frame));
         if !self.hearing.is_heard() || blocked().next().is_none() {
@@ -138,7 +137,7 @@ impl Endpoint {
         taken.map(Taken::of).map_err(TakeFault::of)
     }
 
-    // An end that is closed says so, to a frame that does nothing else.
+    // A PING changes nothing, and a closed endpoint answers it with the very fault that is wanted.
     pub(super) fn ask_open(&mut self) -> Result<(), TakeFault> {
         match self.inner.take_frame(&wire::Frame::Ping) {
             Ok(_passed) => Ok(()),
@@ -146,15 +145,13 @@ impl Endpoint {
         }
     }
 
-    /// Fills a slice with frames of what is due and asked for, for a packet of a stack that owns its packets: never an ACK,
-    /// which stays due. Control items come first, and then bytes of streams by turns (RFC 9000, sections 2.3, 4, 12.4 and
-    /// 13.3). `None` where nothing that is asked for may go, within the cap ([`Fill::at_most`](crate::Fill::at_most)), or the
-    /// room is too little: with [`MIN_FILL`](crate::MIN_FILL) bytes it says that nothing may. The slice may have any length; of
-    /// it changes only what is filled, and that is the payload of a packet: under its token's number a peer's
-    /// [`receive`](Endpoint::receive) takes it, too.
+    /// Writes pending frames that are asked for into a slice, for a packet of a stack that has packets of its own: never an ACK, which the
+    /// stack writes. Control frames come first, then data of streams in turn (RFC 9000, sections 2.3, 4, 12.4 and 13.3). `None` if nothing
+    /// that is asked for may go within the cap ([`Fill::at_most`](crate::Fill::at_most)), or if the room is too small; with
+    /// [`MIN_FILL`](crate::MIN_FILL) bytes it is never too small. The slice may have any length, and only what is filled changes. That is a
+    /// whole payload: under its token's number a peer's [`receive`](Endpoint::receive) accepts it too.
     ///
-    /// What went in has a token, which takes the place of a packet number that the stack keeps to itself: it is told to be
-    /// acknowledged or lost.
+    /// What went in has a token. It stands for the packet number, which the stack needn't share, when the packet is acknowledged or lost.
     ///
     /// ```
     /// use gotsavena::{Dir, Endpoint, Fill, Frame, Role, Settings, frames};
@@ -180,8 +177,8 @@ impl Endpoint {
     ///
     /// # Errors
     ///
-    /// `Closed`; `Exhausted` where the last number was used (section 12.3); and `NoMemory`, where something that is asked
-    /// for may go. Then nothing changed.
+    /// `Closed`; `Exhausted` if the last number was used (section 12.3); `NoMemory`, only if something that is asked for may go. Then
+    /// nothing changed.
     pub fn fill(&mut self, out: &mut [u8], want: &Fill) -> Result<Option<Filled>, MakeFault> {
         match self.inner.fill(out, want.inner()) {
             Ok(filled) => Ok(filled.map(Filled::of)),
@@ -189,8 +186,8 @@ impl Endpoint {
         }
     }
 
-    /// The token of a packet that [`make_packet`](Endpoint::make_packet) made, by the number of [`Made`](crate::Made), for a
-    /// stack that tells its packets by tokens.
+    /// The token of a packet that [`make_packet`](Endpoint::make_packet) made, by the number of [`Made`](crate::Made), for a stack that
+    /// reports all packets by token.
     ///
     /// ```
     /// # use gotsavena::{Dir, Endpoint, Role, Settings};
@@ -209,10 +206,9 @@ impl Endpoint {
         Token::of(self.inner.token_of(number))
     }
 
-    /// The peer acknowledged the packet of a token: what an ACK of that packet alone does, in time or after it was declared
-    /// lost (RFC 9000, section 13.3). A stack that owns its ACKs calls it in the place of handing ACK frames in, and only
-    /// where the peer acknowledged the packet. Of a packet that is done it changes nothing. Of several tokens that were
-    /// joined ([`Token::and`]) it is an ACK of all of them; it takes a turn for each number.
+    /// The peer acknowledged the packet of a token, in time or after it was lost: what an ACK of that packet alone does (RFC 9000, section
+    /// 13.3). Call it instead of passing ACK frames in, and only if the peer did acknowledge the packet: the bytes are freed. For a packet
+    /// that is done it changes nothing. For joined tokens ([`Token::and`]) it is an ACK of all of them, at a cost for each number.
     ///
     /// ```
     /// use gotsavena::{Dir, Endpoint, Role, Settings, TokenFault};
@@ -232,15 +228,15 @@ impl Endpoint {
     ///
     /// # Errors
     ///
-    /// `Closed`; `NotGiven` where not all of its packets were made yet, or the token is of another epoch; and `NoMemory`:
-    /// then some of what they carried may be acknowledged already, and the call may be made again.
+    /// `Closed`; `NotGiven` if not all of its packets were made yet, or the token is of another epoch; `NoMemory`: some of what they
+    /// carried may be acknowledged already, and the call may be made again.
     pub fn acked(&mut self, token: Token) -> Result<(), TokenFault> {
         self.inner.acked(token.inner()).map_err(TokenFault::of)
     }
 
-    /// The packet of a token is lost, as [`Endpoint::declare_lost`] tells it: what it carried and is still of use is due
-    /// again, and an `acked` that comes late still counts (RFC 9000, section 13.3). Of a packet that is done it changes
-    /// nothing. Of several tokens that were joined each is lost.
+    /// The packet of a token is lost, as by [`Endpoint::declare_lost`]: what it carried is pending again as far as it is still needed, and
+    /// a late `acked` still counts (RFC 9000, section 13.3). For a packet that is done it changes nothing, so a stack needn't remember
+    /// which are. Of joined tokens each is lost.
     ///
     /// ```
     /// # use gotsavena::{Dir, Endpoint, Fill, Role, Settings};
@@ -258,14 +254,13 @@ impl Endpoint {
     ///
     /// # Errors
     ///
-    /// `Closed`; `NotGiven` where not all of its packets were made yet, or the token is of another epoch; and `NoMemory`:
-    /// then some of what they carried may be due again already, and the call may be made again.
+    /// `Closed`; `NotGiven` if not all of its packets were made yet, or the token is of another epoch; `NoMemory`: some of what they
+    /// carried may be pending again already, and the call may be made again.
     pub fn lost(&mut self, token: Token) -> Result<(), TokenFault> {
         self.inner.lost(token.inner()).map_err(TokenFault::of)
     }
 }
 
-// Whether a frame says what holds the peer back (RFC 9000, sections 19.12 to 19.14).
 pub(super) fn says_blocked(frame: &wire::Frame<'_>) -> bool {
     matches!(
         frame,

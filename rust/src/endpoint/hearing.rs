@@ -1,4 +1,5 @@
-//! What an end tells of by itself, and what is noted for that.
+//! What was reported to the application, and what is noted for that. The proved `Heard` below needs four things noted by whoever uses
+//! an endpoint; this makes those notes, so that no application has to.
 
 use crate::frame::MAX_VARINT;
 use crate::ids::{Dir, StreamId};
@@ -6,38 +7,37 @@ use crate::proved::{qs_conn as conn, qs_ranges::NoMemory, qs_wire as wire};
 use crate::shim::alloc::Global;
 use crate::shim::{Box, Vec};
 
-/// What an owner heard of at its end. An end whose owner asks for no events, and of which no write was cut short, pays a few
-/// words.
+/// An endpoint whose application asks for no events, and of which no write was cut short, pays a few words for it.
 pub(super) struct Hearing {
     notes: Option<Box<Notes>>,
-    // The stream of a write that was cut short, which there was no memory to note.
+    // The stream of a write that was cut short and found no memory to be noted. One is enough: the next write waits for it.
     unnoted: Option<StreamId>,
-    // The directions of which an open was blocked. They are handed on as an event is asked for, so that `open` needs no memory
-    // to be refused.
+    // The directions of which an open was blocked. They are passed on when an event is asked for, so that `open` needs no memory for
+    // being refused.
     wanted: [bool; 2],
-    // Whether payloads are looked through for what holds the peer back.
+    // Off by default, since each payload is read twice for it.
     pub(super) looks: bool,
-    // The streams whose limits the peer said to, of frames that took effect and found no memory to be noted. They are before anything
-    // else is: so they are those of one call.
+    // Streams whose blocked frames took effect and found no memory for their note. They are noted before anything else happens, so they
+    // are those of one call.
     said: Vec<StreamId>,
 }
 
-// So many of them keep their place once they are noted.
+// A packet names fewer streams; what one call needed beyond that is given back, so that a peer can't make it stay.
 const FEW_SAID: usize = 512;
 
 struct Notes {
     heard: conn::Heard,
-    // Whether something was told: before that nothing is to be told again.
+    // Before that nothing has to be reported again, so reads needn't look.
     has_told: bool,
-    // Numbers of streams of which it is noted that a write was cut short, each in a place that it gives itself: so it costs little to note
-    // it again.
+    // A cache: streams of which it is known that a write was cut short, each at a place that its number gives. So a writer that fills
+    // its buffer again and again makes the note once.
     short: [u64; 64],
 }
 
-// No stream has this number.
+// An empty place.
 const NO_STREAM: u64 = u64::MAX;
 
-// The place of a stream.
+// Each type begins 16 places further, so that few streams of each type don't share a place.
 fn place(stream: StreamId) -> usize {
     let number = stream.value();
     (number / 4 + number % 4 * 16) as usize % 64
@@ -73,7 +73,8 @@ impl Hearing {
         news
     }
 
-    /// A write to a stream took less than it was offered. Where that can't be noted now, it is before the next write.
+    /// A write took less than it was offered. If there is no memory to note it, it is noted before the next write, so that no wait is in
+    /// vain.
     #[inline]
     pub(super) fn was_cut_short(&mut self, end: &conn::Endpoint, stream: StreamId) {
         if let Some(notes) = &self.notes {
@@ -85,7 +86,6 @@ impl Hearing {
         let _ = self.note(end);
     }
 
-    /// Nothing is left to be noted.
     #[inline]
     pub(super) fn catch_up(&mut self, end: &conn::Endpoint) -> Result<(), NoMemory> {
         match self.unnoted {
@@ -100,19 +100,19 @@ impl Hearing {
             return Ok(());
         };
         let notes = self.notes()?;
-        // The owner is about to write the rest: more than any stream has room for, as there may be some again.
+        // The application is about to write the rest: more than any buffer has room for, because some may be free again by now.
         notes.heard.will_write(end, stream.inner(), usize::MAX)?;
         notes.short[place(stream)] = stream.value();
         self.unnoted = None;
         Ok(())
     }
 
-    /// No stream of a direction may be opened, and one is wanted.
+    /// An open was blocked, so one is wanted.
     pub(super) fn wants(&mut self, dir: Dir) {
         self.wanted[usize::from(dir == Dir::Uni)] = true;
     }
 
-    /// A stream was read, or stopped.
+    /// The stream was read or stopped, so it may become readable again.
     #[inline]
     pub(super) fn was_read(&mut self, end: &conn::Endpoint, stream: StreamId) {
         if let Some(notes) = &mut self.notes {
@@ -122,20 +122,18 @@ impl Hearing {
         }
     }
 
-    /// Whether what frames say to hold the peer back is noted: once an event was asked for, or where that was chosen.
+    /// Once an event was asked for, or if it was chosen: others pay nothing for the notes.
     #[inline]
     pub(super) fn is_heard(&self) -> bool {
         self.looks || self.notes.as_ref().is_some_and(|notes| notes.has_told)
     }
 
-    /// Whether payloads are looked through for that.
     #[inline]
     pub(super) fn is_looking(&self) -> bool {
         self.looks
     }
 
-    /// Before frames take effect, so many of which say what holds the peer back: takes the room that their notes may want, so that none
-    /// of them is lost behind.
+    /// Takes the memory for the notes of so many frames before they take effect, so that none is lost afterwards.
     pub(super) fn expect(&mut self, end: &conn::Endpoint, count: usize) -> Result<(), NoMemory> {
         if count == 0 {
             return Ok(());
@@ -145,7 +143,7 @@ impl Hearing {
         self.said.reserve_exact(count).map_err(|_refused| NoMemory)
     }
 
-    /// A frame took effect, for which there is room.
+    /// A frame took effect; its memory was taken by `expect`.
     pub(super) fn was_told(&mut self, end: &conn::Endpoint, frame: &wire::Frame<'_>) {
         let Some(notes) = &mut self.notes else {
             return;
@@ -157,7 +155,7 @@ impl Hearing {
         }
     }
 
-    // What found no memory to be noted is. A stream whose length came to be known meanwhile waits for no limit.
+    // A stream whose length became known meanwhile waits for no limit, so it is left out.
     fn note_said(&mut self, end: &conn::Endpoint) -> Result<(), NoMemory> {
         while let Some(stream) = self.said.as_slice().last() {
             let frame = wire::Frame::StreamDataBlocked {
@@ -173,7 +171,7 @@ impl Hearing {
         Ok(())
     }
 
-    // They are made as there is something to note first.
+    // Made with the first note: most endpoints never need it.
     fn notes(&mut self) -> Result<&mut Notes, NoMemory> {
         match &mut self.notes {
             Some(notes) => Ok(notes),

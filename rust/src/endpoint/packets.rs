@@ -1,4 +1,4 @@
-//! Packets: payloads come in and are made.
+//! Packets: payloads are received and made.
 
 use super::frames::says_blocked;
 use super::{Endpoint, MAX_PAYLOAD, MAX_ROOM, MIN_ROOM};
@@ -10,14 +10,14 @@ use crate::proved::{qs_conn as conn, qs_wire as wire};
 
 /// # Packets
 ///
-/// Payloads come in and are made. A stack that owns its packet numbers and its ACKs uses frames and tokens in their place.
+/// Payloads are received and made. A stack that has packet numbers and ACKs of its own uses frames and tokens instead.
 impl Endpoint {
-    /// Takes in the payload of a packet: its frames take effect, one after the other (RFC 9000, sections 12.3, 12.4 and
-    /// 13.1). `number` is the packet's number, below 2^62; `payload` is all bytes of its frames, at most 65,535
-    /// ([`MAX_PAYLOAD`]).
+    /// Processes the payload of a packet: its frames take effect one after the other (RFC 9000, sections 12.3, 12.4 and 13.1). `number` is
+    /// the packet's number, below 2^62; `payload` is all of its frames, at most 65,535 bytes ([`MAX_PAYLOAD`]). Only pass what packet
+    /// protection accepted: a number counts once, so a forged packet would block the true one.
     ///
-    /// It may come in any order, again and after it was declared lost. An end that is closed answers as it did when it
-    /// closed.
+    /// Packets may arrive in any order, more than once, and after they were declared lost. A closed endpoint returns again what it returned
+    /// as it closed.
     ///
     /// ```
     /// # use gotsavena::{Dir, Endpoint, Received, Role, Settings};
@@ -35,9 +35,9 @@ impl Endpoint {
     ///
     /// # Errors
     ///
-    /// `Closing` where the bytes are no frames (section 12.4) or a frame breaks a rule (sections 4, 13.1, 19 and 20.1).
-    /// The frames before it took effect; the end is closed from now on, and [`Endpoint::close_payload`] tells the peer
-    /// so (section 10.2). `Invalid` where the number or the payload's length isn't so; then nothing changed.
+    /// `Closing` if the bytes are no frames (section 12.4) or a frame breaks a rule (sections 4, 13.1, 19 and 20.1). The frames before it
+    /// took effect. The endpoint is closed from now on, and [`Endpoint::close_payload`] writes the close for the peer (section 10.2).
+    /// `Invalid` if the number or the payload's length isn't as said; then nothing changed.
     pub fn receive(&mut self, number: u64, payload: &[u8]) -> Result<Received, ReceiveFault> {
         if number > MAX_VARINT || payload.len() > MAX_PAYLOAD {
             return Err(ReceiveFault::Invalid);
@@ -45,17 +45,15 @@ impl Endpoint {
         self.hearing_through(payload, |end| answer_of(end.receive(number, payload)))
     }
 
-    /// As [`Endpoint::receive`], and `told` is told each packet that the payload newly acknowledges, once: one that was
-    /// outstanding, that an ACK of the payload names, and that isn't outstanding any more (RFC 9000, section 13.3). They are
-    /// told in the order of the ACKs, of each ACK the highest number first; congestion control goes on from there (RFC 9002,
-    /// section 7). The payload is read once.
+    /// As [`Endpoint::receive`], and `told` is called for each packet that the payload newly acknowledges, once: one that was outstanding,
+    /// that an ACK of the payload names, and that isn't outstanding any more (RFC 9000, section 13.3). They come in the order of the ACKs,
+    /// of each ACK the highest number first, as congestion control wants them (RFC 9002, section 7). The payload is read once.
     ///
-    /// After [`Received::NoMemory`] none was told that is outstanding still: the same payload may come again, and tells the
-    /// others.
+    /// After [`Received::NoMemory`] none was named that is still outstanding: the same payload may come again, and names the others.
     ///
     /// # Errors
     ///
-    /// As of [`Endpoint::receive`]. Whatever was told was taken as acknowledged.
+    /// As of [`Endpoint::receive`]. Every packet that was named counts as acknowledged even so.
     ///
     /// # Example
     ///
@@ -93,7 +91,8 @@ impl Endpoint {
         })
     }
 
-    // Takes a payload in, and looks it through where that is chosen: before, so that there is room for each note, and behind.
+    // If it was chosen, the payload is looked through twice: before, so that there is room for each note, and after, since only what took
+    // effect is noted.
     #[inline]
     fn hearing_through(
         &mut self,
@@ -114,12 +113,11 @@ impl Endpoint {
         answer
     }
 
-    /// Makes the next packet: writes its payload at the slice's front. `None` where nothing is to be sent that the
-    /// limits allow. What is due goes in as far as there is room: an ACK, control items, bytes of streams (RFC 9000,
-    /// sections 4, 13.2 and 13.3).
+    /// Makes the next packet: writes its payload at the slice's front. `None` if nothing pending may go under the limits. What is pending
+    /// goes in as far as there is room: an ACK, control frames, data of streams (RFC 9000, sections 4, 13.2 and 13.3).
     ///
-    /// The packet's number is used up: it is to be sent, or to be declared lost. One that holds an ACK alone asks for
-    /// no ACK, and needn't be declared lost. `out` has 128 to 16,383 bytes ([`MIN_ROOM`], [`MAX_ROOM`]).
+    /// The number is used up, so send the packet or declare it lost: otherwise what it carries counts as in flight for good. A packet with
+    /// an ACK alone asks for no ACK and needn't be declared lost. `out` has 128 to 16,383 bytes ([`MIN_ROOM`], [`MAX_ROOM`]).
     ///
     /// ```
     /// # use gotsavena::{Dir, Endpoint, Role, Settings};
@@ -138,8 +136,8 @@ impl Endpoint {
     ///
     /// # Errors
     ///
-    /// `Invalid` where the room isn't so; `Closed`; `Exhausted` where the last packet number was used (section 12.3);
-    /// and `NoMemory`. Then nothing changed.
+    /// `Invalid` if the room isn't as said; `Closed`; `Exhausted` if the last packet number was used (section 12.3); `NoMemory`. Then
+    /// nothing changed.
     pub fn make_packet(&mut self, out: &mut [u8]) -> Result<Option<Made>, MakeFault> {
         if out.len() < MIN_ROOM || out.len() > MAX_ROOM {
             return Err(MakeFault::Invalid);
@@ -150,13 +148,11 @@ impl Endpoint {
         }
     }
 
-    /// Makes the next packet, as [`Endpoint::make_packet`] does, but for two things. Bytes go in from stream `first` on,
-    /// lower streams first, and then those of the streams below it; which of them goes first is the owner's to say (RFC
-    /// 9000, section 2.3). And an ACK tells this delay, below 2^62, in the unit of the ack_delay_exponent that the peer
-    /// was told (sections 18.2 and 19.3).
+    /// As [`Endpoint::make_packet`], with two choices. Data goes in from stream `first` on, lower streams first, and then from those below
+    /// it: which stream goes first is for the application to say (RFC 9000, section 2.3). And an ACK carries this delay, below 2^62, in
+    /// units of the ack_delay_exponent that the peer was given (sections 18.2 and 19.3).
     ///
-    /// An owner whose streams send by turns moves `first` on behind the [`last_stream`](crate::last_stream) of which a
-    /// packet carried bytes.
+    /// For round-robin, move `first` past the [`last_stream`](crate::last_stream) of which a packet carried data.
     ///
     /// ```
     /// use gotsavena::{Dir, Endpoint, Role, Settings, last_stream};
@@ -177,7 +173,7 @@ impl Endpoint {
     ///
     /// # Errors
     ///
-    /// As of [`Endpoint::make_packet`]; `Invalid` for a delay of 2^62 or more, too.
+    /// As of [`Endpoint::make_packet`], and `Invalid` for a delay of 2^62 or more.
     pub fn make_packet_from(
         &mut self,
         first: StreamId,
@@ -193,10 +189,10 @@ impl Endpoint {
         }
     }
 
-    /// Makes the next packet, of an ACK alone; `None` where none is due. It names the highest numbers that came, as many
-    /// ranges as there is room for, and tells this delay, below 2^62, in the unit of the ack_delay_exponent that the peer
-    /// was told (RFC 9000, sections 13.2 and 19.3). Such a packet isn't in flight, so it may go where the congestion window
-    /// is full (RFC 9002, sections 2 and 7), and it can't be declared lost. What else is due stays due. It takes no memory.
+    /// Makes the next packet with an ACK alone; `None` if none is pending. It names the highest numbers received, as many ranges as there
+    /// is room for, and carries this delay, below 2^62, in units of the ack_delay_exponent that the peer was given (RFC 9000, sections 13.2
+    /// and 19.3). Such a packet isn't in flight, so it may go when the congestion window is full (RFC 9002, sections 2 and 7), and it can't
+    /// be declared lost. What else is pending stays so. It takes no memory.
     ///
     /// ```
     /// # use gotsavena::{Dir, Endpoint, Role, Settings};
@@ -223,8 +219,8 @@ impl Endpoint {
     ///
     /// # Errors
     ///
-    /// `Invalid` where the room isn't of 128 to 16,383 bytes, or the delay is 2^62 or more; `Closed`; and `Exhausted` where
-    /// the last packet number was used (section 12.3). Then nothing changed.
+    /// `Invalid` if the room isn't of 128 to 16,383 bytes, or the delay is 2^62 or more; `Closed`; `Exhausted` if the last packet number
+    /// was used (section 12.3). Then nothing changed.
     pub fn make_ack(&mut self, delay: u64, out: &mut [u8]) -> Result<Option<Made>, MakeFault> {
         if out.len() < MIN_ROOM || out.len() > MAX_ROOM || delay > MAX_VARINT {
             return Err(MakeFault::Invalid);
@@ -235,8 +231,8 @@ impl Endpoint {
         }
     }
 
-    /// Whether an ACK is due: from the first packet that came and asks for one on, until one was made (RFC 9000, section
-    /// 13.2).
+    /// Whether an ACK is pending: from the first packet received that asks for one, until one was made (RFC 9000, section 13.2). When to
+    /// send it is for the transport, which has the clock.
     ///
     /// ```
     /// # use gotsavena::{Dir, Endpoint, Role, Settings};
@@ -264,8 +260,8 @@ impl Endpoint {
         self.inner.ack_is_due()
     }
 
-    /// Whether a packet would carry more than an ACK: a control item is due, or bytes or the end of a stream that no
-    /// limit holds back (RFC 9000, sections 4.1 and 13.3). Of an end that closed nothing goes.
+    /// Whether a packet would carry more than an ACK: a control frame is pending, or data or a FIN that no limit holds back (RFC 9000,
+    /// sections 4.1 and 13.3). Ask it to spare the call of `make_packet` and its buffer. A closed endpoint sends nothing.
     ///
     /// ```
     /// # use gotsavena::{Dir, Endpoint, Role, Settings};
@@ -283,9 +279,9 @@ impl Endpoint {
         self.inner.is_sendable()
     }
 
-    /// Uses up the next packet number for a packet that the layer beneath makes by itself, and answers it (RFC 9000,
-    /// section 12.3). To this end it is a packet without content: an ACK may name it, and it can't be declared lost.
-    /// It works on a closed end, too.
+    /// Uses up the next packet number, for a packet that the transport writes itself, and returns it (RFC 9000, section 12.3). Numbers have
+    /// one home, so that none is used twice. Here it is a packet without content: an ACK may name it, and it can't be declared lost. A
+    /// closed endpoint gives numbers too, for the packets with its CONNECTION_CLOSE.
     ///
     /// ```
     /// # use gotsavena::{Endpoint, Received, Role, Settings};
@@ -301,13 +297,12 @@ impl Endpoint {
     ///
     /// # Errors
     ///
-    /// `Exhausted` where the last packet number was used. Then nothing changed.
+    /// `Exhausted` if the last packet number was used. Then nothing changed.
     pub fn claim_number(&mut self) -> Result<u64, MakeFault> {
         self.inner.claim_number().map_err(MakeFault::of)
     }
 
-    /// The number that the next packet will have: one more than the last that was used, 0 at first (RFC 9000, section
-    /// 12.3).
+    /// The number that the next packet will have: one more than the last that was used, 0 at first (RFC 9000, section 12.3).
     ///
     /// ```
     /// # use gotsavena::{Endpoint, Role, Settings};
@@ -324,8 +319,8 @@ impl Endpoint {
         self.inner.next_number()
     }
 
-    /// Declares the packet of a number lost: what it carried and is still of use is due again (RFC 9000, section 13.3).
-    /// An acknowledgement that comes late still counts, of the 256 packets that were declared lost last.
+    /// Declares the packet of this number lost: what it carried is pending again as far as it is still needed (RFC 9000, section 13.3). A
+    /// late ACK still counts for the 256 packets that were declared lost last, so a wrong guess costs little.
     ///
     /// ```
     /// # use gotsavena::{Dir, Endpoint, Role, Settings};
@@ -343,15 +338,15 @@ impl Endpoint {
     ///
     /// # Errors
     ///
-    /// `Closed`; `NotOutstanding` where no such packet is outstanding; and `NoMemory`: then some first pieces of the
-    /// packet may be due again already, and the call may be made again.
+    /// `Closed`; `NotOutstanding` if no such packet is outstanding; `NoMemory`: some first pieces of the packet may be pending again
+    /// already, and the call may be made again.
     pub fn declare_lost(&mut self, number: u64) -> Result<(), LostFault> {
         self.inner.declare_lost(number).map_err(LostFault::of)
     }
 
-    /// The least number from one on of a packet that is outstanding: it was made, asks for an ACK, and is neither
-    /// acknowledged nor declared lost (RFC 9000, section 13.3). It looks at each number on the way there, from the least
-    /// outstanding one on.
+    /// The lowest number at or above `from` of an outstanding packet: it was made, asks for an ACK, and is neither acknowledged nor
+    /// declared lost (RFC 9000, section 13.3). It looks at each number from the lowest outstanding one on, so walk upwards instead of
+    /// asking for each.
     ///
     /// ```
     /// # use gotsavena::{Dir, Endpoint, Role, Settings};
@@ -371,15 +366,14 @@ impl Endpoint {
         self.inner.next_outstanding(from)
     }
 
-    /// The least number at or above `from` of a packet that is outstanding and that an ACK of the payload names, by a reading
-    /// of the whole payload for each answer: [`Endpoint::receive_telling`] tells all of them in one. [`Endpoint::receive`] of
-    /// that payload takes it as acknowledged (RFC 9000, section 13.3). `None` where there is none. It is asked before
-    /// `receive`, which may end earlier.
+    /// The lowest number at or above `from` of an outstanding packet that an ACK of the payload names. [`Endpoint::receive`] of that
+    /// payload will acknowledge it (RFC 9000, section 13.3), so ask before it: afterwards they are gone. `None` if there is none.
+    /// [`Endpoint::receive_telling`] names all of them in one reading, and is better.
     ///
-    /// The reading ends at the first bytes that are no frame, and at a CONNECTION_CLOSE, as that of `receive` does. It
-    /// asks nothing else of the payload: not whether its number was processed before, nor whether a frame breaks a rule.
+    /// The reading ends at the first bytes that are no frame, and at a CONNECTION_CLOSE, as `receive` does. Nothing else of the payload is
+    /// checked: not whether its number was processed before, nor whether a frame breaks a rule.
     ///
-    /// Each answer reads the payload once, and once more for each gap between the ranges that it passes over.
+    /// Each call reads the payload once, and once more for each gap between the ranges that it passes.
     ///
     /// ```
     /// # use gotsavena::{Dir, Endpoint, Role, Settings};
@@ -401,7 +395,7 @@ impl Endpoint {
     }
 }
 
-// What is told goes to a closure. It is of one type, so that the crate has one copy of what takes a payload in.
+// One type for all closures, so that the crate has one copy of the code that receives a payload.
 struct Telling<'a>(&'a mut dyn FnMut(u64));
 
 impl conn::Told for Telling<'_> {
@@ -410,7 +404,7 @@ impl conn::Told for Telling<'_> {
     }
 }
 
-// Each such frame of a payload, up to its first fault.
+// Up to the first fault, where `receive` ends, too.
 #[cold]
 fn each_blocked(payload: &[u8], mut act: impl FnMut(&wire::Frame<'_>)) {
     let mut frames = wire::Frames::new(payload);

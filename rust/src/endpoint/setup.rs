@@ -1,4 +1,4 @@
-//! An endpoint is made.
+//! Making an endpoint.
 
 use super::Endpoint;
 use super::hearing::Hearing;
@@ -9,10 +9,10 @@ use crate::settings::{PeerLimits, Settings};
 use crate::shim::alloc::Global;
 use crate::tuning::Tuning;
 
-/// # An endpoint
+/// # Making one
 impl Endpoint {
-    /// A new end. `settings` are its own; `peer` is what the other end grants: its transport parameters (RFC 9000,
-    /// section 18.2). It takes no memory.
+    /// A new endpoint. `settings` are its own; `peer` is what the other endpoint grants: its transport parameters (RFC 9000, section 18.2).
+    /// It takes no memory, so it can't fail for want of it.
     ///
     /// ```
     /// # use gotsavena::{Dir, Endpoint, PeerLimits, Role, Settings};
@@ -25,14 +25,13 @@ impl Endpoint {
     ///
     /// # Errors
     ///
-    /// `OutOfRange` where a setting or a limit of the peer lies outside its range, and `TooManyStreams` where the peer
-    /// grants more than 2^60 streams of a direction (section 4.6).
+    /// `OutOfRange` if a setting or a limit of the peer is out of range; `TooManyStreams` if the peer grants more than 2^60 streams of a
+    /// direction, which has an error code of its own (section 4.6).
     pub fn new(role: Role, settings: Settings, peer: PeerLimits) -> Result<Endpoint, SetupFault> {
         Endpoint::new_wide(role, settings, Tuning::default(), peer)
     }
 
-    /// The same of an end that is tuned as its owner likes. Tuning changes when limits move and what calls take, and no
-    /// rule of the standard.
+    /// The same with [`Tuning`]: choices that change when limits move and what calls accept, and no rule of the standard.
     ///
     /// ```
     /// use gotsavena::{Endpoint, Role, Settings, Share, Tuning};

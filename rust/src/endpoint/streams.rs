@@ -9,8 +9,8 @@ use crate::streams::{RecvStream, SendStream};
 
 /// # Streams
 impl Endpoint {
-    /// Opens the next stream of that direction, and answers its number (RFC 9000, sections 2.1 and 4.6). The peer learns
-    /// of it with its first byte, its end or its reset.
+    /// Opens the next stream of that direction and returns its number (RFC 9000, sections 2.1 and 4.6). Nothing is sent for it: the peer
+    /// learns of it by its first byte, its FIN or its reset.
     ///
     /// ```
     /// # use gotsavena::{Dir, Endpoint, Role, Settings};
@@ -25,18 +25,19 @@ impl Endpoint {
     ///
     /// # Errors
     ///
-    /// `Closed`; `Blocked` with the peer's count where as many were opened; and `NoMemory`, and then nothing changed.
+    /// `Closed`; `Blocked` with the peer's count if so many were opened; `NoMemory`, and then nothing changed.
     pub fn open(&mut self, dir: Dir) -> Result<StreamId, OpenFault> {
         let opened = self.inner.open(dir.inner()).map_err(OpenFault::of);
         if matches!(opened, Err(OpenFault::Blocked(_))) {
-            // The end doesn't know that its owner waits from now on.
+            // The endpoint keeps the count that blocked it, for STREAMS_BLOCKED, and not that somebody waits.
             self.hearing.wants(dir);
         }
         opened.map(StreamId::of)
     }
 
-    /// Gives out each stream that the peer opened, once: bidirectional ones first, lower numbers first. `None` where
-    /// there is none, or the connection is closed.
+    /// Returns each stream that the peer opened, once: bidirectional ones first, lower numbers first. `None` if there is none, or the
+    /// connection is closed. A stream may be used before it is accepted, so an application may go by
+    /// [`Event::Opened`](crate::Event::Opened) instead.
     ///
     /// ```
     /// # use gotsavena::{Dir, Endpoint, Role, Settings};
@@ -62,9 +63,8 @@ impl Endpoint {
         self.inner.accept().map(StreamId::of)
     }
 
-    /// Gives out each stream of one direction that the peer opened, once: lower numbers first. What this call gave out
-    /// [`accept`](Endpoint::accept) doesn't, and the other way round. `None` where there is none, or the connection is
-    /// closed (RFC 9000, section 2.1).
+    /// As [`accept`](Endpoint::accept), of one direction, for an application that handles the two apart. What one of the two calls returned
+    /// the other doesn't. `None` if there is none, or the connection is closed (RFC 9000, section 2.1).
     ///
     /// ```
     /// # use gotsavena::{Dir, Endpoint, Role, Settings};
@@ -90,13 +90,11 @@ impl Endpoint {
         self.inner.accept_of(dir.inner()).map(StreamId::of)
     }
 
-    /// Accepts the front of the bytes for sending, as many as there is room for in the stream's buffer, and answers how
-    /// many: 0 where the buffer is full. Where writes keep within credit
-    /// ([`within_credit`](crate::Tuning::within_credit)) it takes no more than may be sent at once: by the stream's limit
-    /// and the connection's, beside all that waits to be sent (RFC 9000, section 4.1). Then no byte waits for credit, so no
-    /// STREAM_DATA_BLOCKED or DATA_BLOCKED is due: the answer tells that the write was cut short. Where all streams together
-    /// are bounded ([`send_window`](crate::Tuning::send_window)) it takes no more than that leaves beside all that they keep
-    /// ([`kept_sum`](Endpoint::kept_sum)).
+    /// Accepts the front of the bytes for sending, as many as the stream's buffer has room for, and returns how many: 0 if the buffer is
+    /// full. Bytes beyond the peer's limits are accepted too, and wait. With [`within_credit`](crate::Tuning::within_credit) no more is
+    /// accepted than may be sent at once under both limits (RFC 9000, section 4.1), so nothing waits and no blocked frame is sent: that the
+    /// write was cut short is the sign. With [`send_window`](crate::Tuning::send_window) no more than that leaves beside what all streams
+    /// keep ([`kept_sum`](Endpoint::kept_sum)).
     ///
     /// ```
     /// # use gotsavena::{Dir, Endpoint, Role, Settings};
@@ -111,13 +109,12 @@ impl Endpoint {
     ///
     /// # Errors
     ///
-    /// `Closed`; `NoSuchStream` or `WrongDirection` where the stream has no sending half here; `WasReset`; `Finished`;
-    /// and `NoMemory`, also where it is still to be noted for [`next_event`](Endpoint::next_event) that the write before was
-    /// cut short. Then nothing changed.
+    /// `Closed`; `NoSuchStream` or `WrongDirection` if the stream has no sending half here; `WasReset`; `Finished`; `NoMemory`, also if it
+    /// still has to be noted for [`next_event`](Endpoint::next_event) that the last write was cut short. Then nothing changed.
     #[inline]
     pub fn write(&mut self, stream: StreamId, bytes: &[u8]) -> Result<usize, UseFault> {
-        // A write that was cut short is noted for `next_event` behind it, where that is known. One that couldn't be noted holds the
-        // next one up: what else refuses that goes before the want of memory.
+        // A write that couldn't be noted holds the next one up, lest its `Writable` never comes. Any other error has priority over the want
+        // of memory.
         let is_noted = self.hearing.catch_up(&self.inner).is_ok();
         let offered = if is_noted { bytes } else { &[] };
         match self.inner.write(stream.inner(), offered) {
@@ -134,16 +131,15 @@ impl Endpoint {
         }
     }
 
-    /// Sets how many bytes that aren't acknowledged the stream's sending half keeps at most, in the range of
-    /// [`Settings::send_buffer`](crate::Settings::send_buffer) of wide ends: 1 to 2^30. Streams that open later begin with
-    /// the setting. What is kept stays: where that is more, [`write`](Endpoint::write) accepts nothing until enough of it is
-    /// acknowledged (RFC 9000, section 2.2, leaves the buffer open). Of a stream that was finished or reset it changes the
-    /// number alone. It takes no memory, and gives none back that bytes stand in.
+    /// Sets how many unacknowledged bytes the stream's sending half keeps at most, in the range of
+    /// [`Settings::send_buffer`](crate::Settings::send_buffer). Streams that open later begin with the setting. Nothing that was accepted
+    /// is given up, since it is promised to the reader: if more is kept, [`write`](Endpoint::write) accepts nothing until enough is
+    /// acknowledged (RFC 9000, section 2.2, leaves the buffer open). On a stream that was finished or reset it changes the number alone. It
+    /// takes no memory, and frees none in which bytes stand.
     ///
     /// # Errors
     ///
-    /// `Closed`; `OutOfRange`; `NoSuchStream` or `WrongDirection` where the stream has no sending half here. Then nothing
-    /// changed.
+    /// `Closed`; `OutOfRange`; `NoSuchStream` or `WrongDirection` if the stream has no sending half here. Then nothing changed.
     ///
     /// ```
     /// # use gotsavena::{Dir, Endpoint, Role, Settings};
@@ -161,7 +157,7 @@ impl Endpoint {
             .map_err(SetFault::of)
     }
 
-    /// Asks for the end of the stream after the bytes written so far.
+    /// Ends the stream after the bytes written so far: a FIN goes out with the last of them, or alone.
     ///
     /// ```
     /// # use gotsavena::{Dir, Endpoint, Role, Settings, UseFault};
@@ -182,7 +178,8 @@ impl Endpoint {
         self.inner.finish(stream.inner()).map_err(UseFault::of)
     }
 
-    /// Breaks the stream's sending half off with the application's code, below 2^62 (RFC 9000, sections 3.1 and 20.2).
+    /// Resets the stream's sending half with the application's code, below 2^62 (RFC 9000, sections 3.1 and 20.2). Bytes that weren't sent
+    /// are given up, and none is sent again.
     ///
     /// ```
     /// # use gotsavena::{Dir, Endpoint, Read, Role, Settings};
@@ -207,7 +204,8 @@ impl Endpoint {
     ///
     /// # Errors
     ///
-    /// As of [`Endpoint::write`]; `Finished` only once all was acknowledged; `Invalid` for a code of 2^62 or more.
+    /// As of [`Endpoint::write`]; `Finished` only once everything was acknowledged, since until then a reset still means something;
+    /// `Invalid` for a code of 2^62 or more.
     pub fn reset(&mut self, stream: StreamId, code: u64) -> Result<(), UseFault> {
         if code > MAX_VARINT {
             return Err(UseFault::Invalid);
@@ -215,11 +213,10 @@ impl Endpoint {
         self.inner.reset(stream.inner(), code).map_err(UseFault::of)
     }
 
-    /// Reads the bytes that are next into the slice's front, or tells how the stream stands (RFC 9000, section 2.2).
+    /// Reads the next bytes into the slice's front, or says how the stream stands (RFC 9000, section 2.2).
     ///
-    /// A stream of the peer gives its place to a new one once it was read to `End` or `Reset` (section 4.6), one that
-    /// was stopped too: read on until then. Where both ends send, its sending half here has to be over as well: finished
-    /// or reset, or stopped by the peer, and that acknowledged.
+    /// Read every stream of the peer to `End` or `Reset`, stopped ones too: only then may the peer open another in its place (section 4.6).
+    /// If both sides send, the sending half here has to be over as well: finished or reset, or stopped by the peer, and that acknowledged.
     ///
     /// ```
     /// # use gotsavena::{Dir, Endpoint, Read, Role, Settings};
@@ -246,8 +243,8 @@ impl Endpoint {
     ///
     /// # Errors
     ///
-    /// `Closed`, but where [`reads_when_closed`](crate::Tuning::reads_when_closed) was chosen; `NoSuchStream` or
-    /// `WrongDirection` where the stream has no receiving half here. Then nothing changed.
+    /// `Closed`, unless [`reads_when_closed`](crate::Tuning::reads_when_closed) was chosen; `NoSuchStream` or `WrongDirection` if the
+    /// stream has no receiving half here. Then nothing changed.
     #[inline]
     pub fn read(&mut self, stream: StreamId, into: &mut [u8]) -> Result<Read, UseFault> {
         let read = self.inner.read(stream.inner(), into);
@@ -255,11 +252,10 @@ impl Endpoint {
         read.map(Read::of).map_err(UseFault::of)
     }
 
-    /// Tells what [`Endpoint::read`] would, and changes nothing: the bytes that are next stay where they are, in one piece of
-    /// memory or two, until [`Endpoint::consume`] takes them (RFC 9000, section 2.2). What lies behind a gap isn't in.
+    /// Shows what [`Endpoint::read`] would return, and changes nothing: the next bytes stay where they are, in one piece of memory or two,
+    /// until [`Endpoint::consume`] takes them (RFC 9000, section 2.2). So a parser can look without a copy.
     ///
-    /// Where bytes are next it shows all of them: an owner takes what it saw, and looks again once it hears of more. It takes
-    /// no memory.
+    /// It shows all bytes up to the next gap. Consume what you used, and look again at the next `Readable`. It takes no memory.
     ///
     /// ```
     /// use gotsavena::{Dir, Endpoint, Peek, Role, Settings};
@@ -294,9 +290,9 @@ impl Endpoint {
             .map_err(UseFault::of)
     }
 
-    /// Takes the bytes that are next, at most so many, as [`Endpoint::read`] into a slice of that length does, and copies
-    /// none: to pass over what isn't wanted. Where that reaches the final size `at_end` says so, and the end counts as told:
-    /// the stream needs no further call (RFC 9000, sections 2.2, 3.2 and 4.5).
+    /// Consumes the next bytes, at most so many, as [`Endpoint::read`] into a slice of that length does, but copies none: after a `peek`,
+    /// or to skip. If that reaches the final size, `at_end` is true and the end counts as read, so that no further call is needed (RFC
+    /// 9000, sections 2.2, 3.2 and 4.5).
     ///
     /// ```
     /// use gotsavena::{Dir, Endpoint, Read, Role, Settings};
@@ -330,9 +326,9 @@ impl Endpoint {
         consumed.map(Consumed::of).map_err(UseFault::of)
     }
 
-    /// Throws the stream's bytes away, those stored and those still to come, and asks the peer to stop sending with the
-    /// application's code, below 2^62 (RFC 9000, sections 3.5 and 20.2). The first code stays. From then on
-    /// [`Endpoint::read`] answers `Wait`, and `End` or `Reset` once all the bytes or the reset came.
+    /// Discards the stream's bytes, those stored and those still to come, and asks the peer to stop sending, with the application's code,
+    /// below 2^62 (RFC 9000, sections 3.5 and 20.2). The first code stays. From then on [`Endpoint::read`] returns `Wait`, and `End` or
+    /// `Reset` once all the bytes or the reset arrived: read on until then, so that the stream is over.
     ///
     /// ```
     /// # use gotsavena::{Dir, Endpoint, Role, Settings};
@@ -364,17 +360,16 @@ impl Endpoint {
             return Err(UseFault::Invalid);
         }
         let stopped = self.inner.stop(stream.inner(), code);
-        // What came before is thrown away, so what comes next is news.
+        // What came before is discarded, so whatever comes next is a new event.
         self.hearing.was_read(&self.inner, stream);
         stopped.map_err(UseFault::of)
     }
 
-    /// Stops the stream as [`Endpoint::stop`] does, and tells nothing more of it: it counts as read to its end as soon as
-    /// its last byte comes, or a reset (RFC 9000, sections 3.2, 3.5 and 4.6). So its owner needn't read on for the peer to
-    /// be granted another stream; a stream of both directions counts as over once its sending half is, too. The code is the
-    /// application's, below 2^62, and the first one stays.
+    /// As [`Endpoint::stop`], for an application that never wants to hear of the stream again: it counts as read to its end as soon as its
+    /// last byte or a reset arrives (RFC 9000, sections 3.2, 3.5 and 4.6). So the peer gets another stream without another read here. A
+    /// bidirectional stream is over once its sending half is, too. The first code stays, below 2^62.
     ///
-    /// [`Endpoint::next_readable`] passes it over from now on. [`Endpoint::read`] answers as after a stop, and
+    /// [`Endpoint::next_readable`] passes it over from now on. [`Endpoint::read`] returns what it does after a stop, and
     /// [`Endpoint::next_ended`] finds the stream once it is over.
     ///
     /// ```
@@ -407,17 +402,16 @@ impl Endpoint {
         if code > MAX_VARINT {
             return Err(UseFault::Invalid);
         }
-        // (it is no news to a reader any more)
         self.inner
             .stop_and_forget(stream.inner(), code)
             .map_err(UseFault::of)
     }
 
-    /// The least stream at or above `from` at which a read of one byte tells something new: bytes, or an end or a reset that
-    /// wasn't told yet (RFC 9000, sections 2.2 and 3.2). Of a stopped stream the end and a reset are told, too. `None` where
-    /// there is none, and of a closed end, but where [`reads_when_closed`](crate::Tuning::reads_when_closed) was chosen.
+    /// The lowest stream at or above `from` at which a read of one byte returns something new: bytes, or the end or a reset that wasn't read
+    /// yet (RFC 9000, sections 2.2 and 3.2), of a stopped stream too, since it isn't over before that. `None` if there is none, and of a
+    /// closed endpoint, unless [`reads_when_closed`](crate::Tuning::reads_when_closed) was chosen.
     ///
-    /// A loop over all of them goes on from the number behind each; it costs a look at one word for 64 streams:
+    /// A loop over all of them goes on from the number after each; it costs a look at one word for 64 streams:
     ///
     /// ```
     /// use gotsavena::{Dir, Endpoint, Read, Role, Settings, StreamId};
@@ -449,10 +443,10 @@ impl Endpoint {
         self.inner.next_readable(from.inner()).map(StreamId::of)
     }
 
-    /// The least stream at or above `from` that wasn't finished, reset or stopped by the peer, and whose own buffer has room
-    /// (RFC 9000, sections 2.2 and 2.4): a write of one byte is accepted, if there is memory for it. `None` where there is none,
-    /// and of a closed end. It asks neither for credit nor for what other streams keep: where writes keep within credit, or
-    /// all streams together are bounded ([`send_window`](crate::Tuning::send_window)), [`room`](Endpoint::room) tells whether
+    /// The lowest stream at or above `from` that wasn't finished, reset or stopped by the peer, and whose own buffer has room (RFC 9000,
+    /// sections 2.2 and 2.4): a write of one byte is accepted, if there is memory for it. `None` if there is none, and of a closed
+    /// endpoint. What holds all streams alike isn't looked at, since that would cost a look at each: with
+    /// [`within_credit`](crate::Tuning::within_credit) or [`send_window`](crate::Tuning::send_window) ask [`room`](Endpoint::room) whether
     /// such a stream takes a byte.
     ///
     /// ```
@@ -471,9 +465,9 @@ impl Endpoint {
         self.inner.next_writable(from.inner()).map(StreamId::of)
     }
 
-    /// The least stream at or above `from` of which bytes or the end are due, which the stream's own limit lets go; whether
-    /// the connection's credit does isn't asked (RFC 9000, sections 4.1 and 13.3). `None` where there is none, and of a
-    /// closed end.
+    /// The lowest stream at or above `from` with pending data or a pending FIN that the stream's own limit permits, whatever the
+    /// connection's limit says (RFC 9000, sections 4.1 and 13.3): that one holds all alike. `None` if there is none, and of a closed
+    /// endpoint.
     ///
     /// ```
     /// # use gotsavena::{Dir, Endpoint, Role, Settings};
@@ -491,8 +485,8 @@ impl Endpoint {
         self.inner.next_sendable(from.inner()).map(StreamId::of)
     }
 
-    /// The least stream at or above `from` whose every half here came to its end: the end or the reset was told to the
-    /// reader, and all that was sent is acknowledged, or the reset (RFC 9000, section 3). `None` where there is none.
+    /// The lowest stream at or above `from` that is over: each half that it has here is. Its end or reset was read, and all that was sent
+    /// was acknowledged, or the reset (RFC 9000, section 3). `None` if there is none.
     ///
     /// ```
     /// # use gotsavena::{Dir, Endpoint, Role, Settings};
@@ -520,7 +514,7 @@ impl Endpoint {
         self.inner.next_ended(from.inner()).map(StreamId::of)
     }
 
-    /// How the halves of a stream stand at this end; `None` where it was never opened (RFC 9000, section 3).
+    /// The states of a stream's halves at this endpoint; `None` if it was never opened (RFC 9000, section 3).
     ///
     /// ```
     /// # use gotsavena::{Dir, Endpoint, Role, SendState, Settings};
@@ -538,11 +532,10 @@ impl Endpoint {
         self.inner.lane_report(stream.inner()).map(StreamReport::of)
     }
 
-    /// How many bytes [`write`](Endpoint::write) accepts of a stream now, however many are written: 0 where it is refused,
-    /// as where the stream has no sending half here (RFC 9000, sections 2.2 and 2.4). Credit doesn't count, and what is
-    /// written beyond it waits; but where writes keep within credit ([`within_credit`](crate::Tuning::within_credit)) it
-    /// does (section 4.1). What other streams keep counts where all together are bounded
-    /// ([`send_window`](crate::Tuning::send_window)).
+    /// How many bytes [`write`](Endpoint::write) accepts of a stream now, however many are offered: 0 if it would be refused, or if the
+    /// stream has no sending half here (RFC 9000, sections 2.2 and 2.4). The peer's limits don't count, since bytes beyond them wait,
+    /// unless [`within_credit`](crate::Tuning::within_credit) was chosen (section 4.1). With [`send_window`](crate::Tuning::send_window)
+    /// what other streams keep counts too.
     ///
     /// ```
     /// use gotsavena::{Dir, Endpoint, Role, Settings};
@@ -561,8 +554,8 @@ impl Endpoint {
         self.inner.room(stream.inner())
     }
 
-    /// How many bytes were written to a stream that are still to be sent for the first time: 0 after a reset, since none
-    /// are sent then (RFC 9000, sections 2.2 and 3.1), and where the stream has no sending half here.
+    /// How many bytes of a stream weren't sent yet: 0 after a reset, since none will be (RFC 9000, sections 2.2 and 3.1), and if the stream
+    /// has no sending half here.
     ///
     /// ```
     /// # use gotsavena::{Dir, Endpoint, Role, Settings};
@@ -581,9 +574,8 @@ impl Endpoint {
         self.inner.unsent(stream.inner())
     }
 
-    /// The lowest offset of a stream that isn't acknowledged, in bytes from its start: all below it are (RFC 9000, section
-    /// 13.3). Where it is the count written, every byte is. An acknowledgement that comes after a reset moves it still. `None`
-    /// where the stream has no sending half here.
+    /// The lowest offset of a stream that isn't acknowledged, in bytes from its start: all below it are (RFC 9000, section 13.3). If it is
+    /// the count written, all bytes are. Late ACKs move it even after a reset. `None` if the stream has no sending half here.
     ///
     /// ```
     /// # use gotsavena::{Dir, Endpoint, Role, Settings};
@@ -611,9 +603,8 @@ impl Endpoint {
         self.inner.acked_below(stream.inner())
     }
 
-    /// Whether bytes were written to the stream that weren't sent, and credit alone holds them back: the stream's limit
-    /// is reached, or the connection's credit is used up (RFC 9000, section 4.1). Bytes that were lost need no credit. Of
-    /// an end that closed nothing waits.
+    /// Whether unsent bytes of the stream wait for credit alone: its limit is reached, or the connection's is (RFC 9000, section 4.1). Lost
+    /// bytes need no credit, since they were counted when first sent. At a closed endpoint nothing waits.
     ///
     /// ```
     /// # use gotsavena::{Dir, Endpoint, Role, Settings};
@@ -633,9 +624,8 @@ impl Endpoint {
         self.inner.is_blocked(stream.inner())
     }
 
-    /// The code of the peer's STOP_SENDING for a stream, of the first one that came while the sending half could be reset;
-    /// `None` where none did. It stays, whatever becomes of the half: reset by the STOP_SENDING itself or by its owner, or
-    /// acknowledged whole (RFC 9000, section 3.5).
+    /// The code of the peer's first STOP_SENDING that came while the sending half could be reset; `None` if there was none. It stays,
+    /// whatever becomes of the half, so that an application that comes late still learns why (RFC 9000, section 3.5).
     ///
     /// ```
     /// # use gotsavena::{Dir, Endpoint, Role, Settings};
@@ -664,7 +654,7 @@ impl Endpoint {
         self.inner.stopped_with(stream.inner())
     }
 
-    /// The sending half of a stream, to write to. Whether it is one is told as it is used.
+    /// The sending half of a stream, to write to. Whether the stream has one is checked as it is used, so that this needs no error.
     ///
     /// ```
     /// # use gotsavena::{Dir, Endpoint, Role, Settings};
@@ -681,7 +671,7 @@ impl Endpoint {
         SendStream::new(self, stream)
     }
 
-    /// The receiving half of a stream, to read from. Whether it is one is told as it is used.
+    /// The receiving half of a stream, to read from. Whether the stream has one is checked as it is used.
     ///
     /// ```
     /// # use gotsavena::{Dir, Endpoint, Read, Role, Settings};

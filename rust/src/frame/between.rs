@@ -1,11 +1,12 @@
-//! Frames of this crate and those of the proved source, the one as the other.
+//! Frames of this crate and of the proved source, each as the other. Two types, so that the public one can keep its names when the source's
+//! change.
 
 use super::{EcnCounts, Frame};
 use crate::ids::{Dir, StreamId};
 use crate::proved::qs_wire as wire;
 
 impl<'a> Frame<'a> {
-    /// Whether it is of streams or of flow control, which an end takes in without its packet.
+    /// Whether it is of streams or flow control, so that an endpoint takes it alone.
     pub(crate) fn is_of_end(&self) -> bool {
         matches!(
             self,

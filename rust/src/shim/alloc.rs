@@ -1,4 +1,4 @@
-//! The allocator, and what comes where it refuses memory.
+//! The allocator, and what is returned when memory is refused. Rattle's library has an allocator in each constructor; here there is one.
 
 /// The global allocator.
 #[derive(Clone, Copy, Debug, PartialEq, Eq)]

@@ -1,10 +1,10 @@
-//! A box whose making can fail.
+//! A box that can fail to be made.
 
 use super::alloc::{AllocError, Global};
 use super::heap::{boxed::Box as HeapBox, vec::Vec as HeapVec};
 use core::ops::{Deref, DerefMut};
 
-/// A value in memory of its own: a row of one, since of Rust's own calls that take memory only a row's can fail.
+/// A value in memory of its own, as a vector of one: in stable Rust only a vector's allocation can fail.
 pub struct Box<T> {
     row: HeapBox<[T; 1]>,
 }

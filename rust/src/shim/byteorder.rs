@@ -1,4 +1,4 @@
-//! Numbers in the order of bytes of the network.
+//! The part of the crate `byteorder` that the proved source uses, so that the library has no dependency.
 
 pub trait ByteOrder {
     fn read_u16(bytes: &[u8]) -> u16;
@@ -9,7 +9,6 @@ pub trait ByteOrder {
     fn write_u64(bytes: &mut [u8], value: u64);
 }
 
-/// The most significant byte first.
 pub enum BigEndian {}
 
 impl ByteOrder for BigEndian {

@@ -5,13 +5,12 @@ use super::heap::collections::VecDeque as HeapDeque;
 use super::heap::collections::vec_deque::{Drain, Iter};
 use core::ops::{Index, IndexMut, RangeBounds};
 
-/// A queue with two ends. Where memory is refused it stays as it was.
+/// A queue open at the front and the back. If memory is refused, it stays as it was.
 pub struct VecDeque<T> {
     items: HeapDeque<T>,
 }
 
 impl<T> VecDeque<T> {
-    /// An empty queue. It takes no memory.
     #[inline]
     pub const fn new(_alloc: Global) -> Self {
         VecDeque {
@@ -19,7 +18,6 @@ impl<T> VecDeque<T> {
         }
     }
 
-    /// Makes room for so many items more.
     #[inline]
     pub fn reserve(&mut self, count: usize) -> Result<(), AllocError> {
         match self.items.try_reserve(count) {
@@ -39,7 +37,8 @@ impl<T> VecDeque<T> {
         }
     }
 
-    /// Puts an item behind the last, for which there is room. Without room the item is let go; that no caller does is proved.
+    /// Puts an item behind the last, in room that was reserved. Without room the item is dropped, since a shim mustn't panic; that no
+    /// caller gets there is proved.
     #[inline]
     pub fn push_back_reserved(&mut self, value: T) {
         debug_assert!(self.items.len() < self.items.capacity());
@@ -153,7 +152,6 @@ pub struct BTreeMap<K, V> {
 }
 
 impl<K: Ord, V> BTreeMap<K, V> {
-    /// An empty map. It takes no memory.
     #[inline]
     pub const fn new(alloc: Global) -> Self {
         BTreeMap {
@@ -194,7 +192,6 @@ impl<K: Ord, V> BTreeMap<K, V> {
         Some(self.entries.remove(place)?.1)
     }
 
-    /// Puts a value at a key, and answers the one that was there.
     #[inline]
     pub fn insert(&mut self, key: K, value: V) -> Result<Option<V>, AllocFailed<(K, V)>> {
         match self.place_of(&key) {

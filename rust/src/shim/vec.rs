@@ -5,13 +5,12 @@ use super::heap::vec::{Drain, IntoIter, Vec as HeapVec};
 use core::fmt;
 use core::ops::{Deref, DerefMut, RangeBounds};
 
-/// A vector. Where memory is refused it stays as it was.
+/// A vector. If memory is refused, it stays as it was.
 pub struct Vec<T> {
     items: HeapVec<T>,
 }
 
 impl<T> Vec<T> {
-    /// An empty vector. It takes no memory.
     #[inline]
     pub const fn new(_alloc: Global) -> Self {
         Vec {
@@ -19,7 +18,6 @@ impl<T> Vec<T> {
         }
     }
 
-    /// An empty vector with room for so many items.
     #[inline]
     pub fn with_capacity(alloc: Global, count: usize) -> Result<Self, AllocError> {
         let mut made = Vec::new(alloc);
@@ -36,7 +34,6 @@ impl<T> Vec<T> {
         Ok(made)
     }
 
-    /// Makes room for so many items more.
     #[inline]
     pub fn reserve(&mut self, count: usize) -> Result<(), AllocError> {
         match self.items.try_reserve(count) {
@@ -45,7 +42,7 @@ impl<T> Vec<T> {
         }
     }
 
-    /// The same, and for no more where memory is taken.
+    /// The same without spare room, for buffers whose size is bounded by a contract.
     #[inline]
     pub fn reserve_exact(&mut self, count: usize) -> Result<(), AllocError> {
         match self.items.try_reserve_exact(count) {
@@ -111,8 +108,8 @@ impl<T> Vec<T> {
         self.items.drain(range)
     }
 
-    /// Gives memory back that isn't used, but for room for so many items. Where the lesser memory is refused, the vector keeps what it
-    /// has.
+    /// Frees unused memory, except for so many items. If the smaller block is refused, the vector keeps what it has: a call that frees
+    /// mustn't fail.
     #[inline]
     pub fn shrink_to(&mut self, count: usize) {
         let room = self.items.len().max(count);
@@ -123,7 +120,6 @@ impl<T> Vec<T> {
         }
     }
 
-    /// The allocator that it was made with.
     #[inline]
     pub fn allocator(&self) -> &Global {
         &Global
@@ -153,7 +149,6 @@ impl<T: Copy> Vec<T> {
         Ok(made)
     }
 
-    /// So many times the same item.
     #[inline]
     pub fn from_elem(alloc: Global, item: T, count: usize) -> Result<Self, AllocError> {
         let mut made = Vec::with_capacity(alloc, count)?;
@@ -228,9 +223,8 @@ impl<'a, T> IntoIterator for &'a Vec<T> {
     }
 }
 
-/// The calls of a slice that take memory.
+/// The calls of a slice that take memory, which Rust's own slice makes without an error.
 pub trait SliceCalls<T> {
-    /// A vector of the same items.
     fn copied_in(&self, alloc: Global) -> Result<Vec<T>, AllocError>;
 }
 

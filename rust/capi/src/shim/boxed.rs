@@ -1,10 +1,10 @@
-//! A box whose making can fail, and that C may hold by its address.
+//! A box that can fail to be made, and that C may hold by its address.
 
 use super::alloc::{AllocError, Allocator, Global};
 use super::heap::{boxed::Box as HeapBox, vec::Vec as HeapVec};
 use core::ops::{Deref, DerefMut};
 
-/// A value in memory of its own: a row of one, since of Rust's own calls that take memory only a row's can fail.
+/// A value in memory of its own, as a vector of one: in stable Rust only a vector's allocation can fail.
 pub struct Box<T, A: Allocator = Global> {
     row: HeapBox<[T; 1]>,
     alloc: A,

@@ -1,5 +1,5 @@
-//! What stands for the parts of Rattle's standard library that the proved source uses: that of the library for Rust, and what the calls
-//! for C need beside it.
+//! What stands for the parts of Rattle's standard library that the proved source uses: that of the Rust library, and what the calls for C
+//! need beside it.
 
 extern crate alloc as heap;
 
@@ -14,7 +14,7 @@ pub use core::ptr;
 pub mod alloc {
     pub use super::base::alloc::*;
 
-    /// What gives memory: here `Global` alone.
+    /// The proved source is generic over allocators; C's memory is global here, so one type is enough.
     pub trait Allocator {}
 
     impl Allocator for Global {}
