@@ -9,17 +9,15 @@ use super::*;
 
 const LATENCY: Duration = Duration::from_millis(10);
 
-/// What the application of one end knows.
 struct App {
     ch: ConnectionHandle,
-    // Streams that it opened or accepted, and how many bytes it wrote to each and read of it.
+    // Kept here, since no call lists them: the streams it opened or accepted, and how many bytes it wrote to each and read of it.
     known: Vec<StreamId>,
     written: BTreeMap<StreamId, usize>,
     taken: BTreeMap<StreamId, usize>,
-    // Streams of which a write was refused, and of which there was nothing to read.
+    // An application that waits hears of these; events of others aren't compared, as quinn reports each frame.
     to_write: BTreeSet<StreamId>,
     to_read: BTreeSet<StreamId>,
-    // Those that it reset or finished.
     ended: BTreeSet<StreamId>,
 }
 
@@ -28,16 +26,14 @@ struct Script {
     random: StdRng,
     pair: Pair,
     apps: [App; 2],
-    // So many of 100 datagrams are dropped.
     drops: u32,
-    // Whether the connection's window holds writers back. Then no stream is broken off.
+    // Then no stream is reset: quinn and the layer give credit back at different times.
     is_narrow: bool,
-    // How many streams the peer may open at a time, and how many bytes may be under way.
     grant: u32,
     window: u32,
 }
 
-// The bytes of a stream from an offset on.
+// By number and offset, so that any byte can be checked alone.
 fn bytes_of(id: StreamId, from: usize, len: usize) -> Vec<u8> {
     let salt = VarInt::from(id).into_inner() as usize;
     (from..from + len).map(|offset| (offset * 7 + salt + offset / 256) as u8).collect()
@@ -89,7 +85,7 @@ impl Script {
         }
     }
 
-    // Until nothing is under way. What is dropped doesn't depend on what came before.
+    // What is dropped doesn't depend on what came before, so that both implementations lose the same.
     fn rest(&mut self, seed: u64) {
         let mut random = StdRng::seed_from_u64(seed);
         for _ in 0..3_000 {
@@ -107,7 +103,7 @@ impl Script {
         panic!("{}: the ends don't come to rest", self.key);
     }
 
-    // One of the latest streams with a half that sends, or receives, or one that isn't open.
+    // One of the latest, so that streams meet; or one that isn't open, so that errors are compared too.
     fn pick(&mut self, side: usize, sends: bool) -> StreamId {
         let own = [Side::Client, Side::Server][side];
         let is_so = |id: &&StreamId| id.dir() == Dir::Bi || (id.initiator() == own) == sends;
@@ -141,7 +137,6 @@ impl Script {
         self.say(format!("{} accepts {:?}: {:?}", side, dir, id));
     }
 
-    // Writes until all is taken or a write is refused.
     fn write(&mut self, side: usize, id: StreamId, len: usize) {
         let at = self.apps[side].written.get(&id).copied().unwrap_or(0);
         let (bytes, mut done) = (bytes_of(id, at, len), 0);
@@ -165,7 +160,7 @@ impl Script {
         }
     }
 
-    // The same of chunks, and one write more where not all was taken.
+    // Once more if not all was taken, so that the refusal is compared.
     fn write_chunks(&mut self, side: usize, id: StreamId) {
         let at = self.apps[side].written.get(&id).copied().unwrap_or(0);
         let sizes: Vec<usize> = (0..3).map(|_| self.random.gen_range(0..900)).collect();
@@ -190,7 +185,6 @@ impl Script {
         }
     }
 
-    // Reads so many bytes, or as many as there are.
     fn read(&mut self, side: usize, id: StreamId, most: usize) {
         let mut got = Vec::new();
         let mut half = self.conn(side).recv_stream(id);
@@ -237,7 +231,7 @@ impl Script {
         self.say(format!("{} {}: {}", side, id, answer));
     }
 
-    // (where another stream may be opened quinn tells the peer so only as the next packet comes)
+    // (quinn grants another stream only as the next packet comes)
     fn use_receiver(&mut self, side: usize, id: StreamId) {
         let code = self.code();
         let answer = self.conn(side).recv_stream(id).stop(code).ok();
@@ -246,11 +240,11 @@ impl Script {
     }
 
     fn use_connection(&mut self, side: usize) {
-        // (quinn forgets a greater count that is set again or lowered before it was told, and adds to a window that shrank)
+        // (quinn forgets a greater count that is set again or lowered before it was sent, and adds to a window that shrank)
         self.grant += self.random.gen_range(1..3);
         self.window += self.random.gen_range(0..4_000);
         let (dir, grant, window) = (self.dir(), self.grant, self.window);
-        // (which datagrams are dropped isn't the same)
+        // (with losses the two send different datagrams, so the answers would differ)
         let call = self.random.gen_range(0..if self.drops == 0 { 5 } else { 3 });
         let conn = self.conn(side);
         let answer = match call {
@@ -277,7 +271,7 @@ impl Script {
         match self.random.gen_range(0..20) {
             0..=2 => drop(self.open(side)),
             3..=5 => self.accept(side),
-            // (without credit of the connection quinn answers that first)
+            // (without credit on the connection quinn answers that first)
             6..=9 if self.is_narrow && self.apps[side].ended.contains(&to) => {}
             6..=8 => self.write(side, to, len),
             9 => self.write_chunks(side, to),
@@ -288,8 +282,8 @@ impl Script {
         }
     }
 
-    // What the application hears: of a stream only where it waits, as quinn tells of each frame; that it was stopped is news to its
-    // writer, too, and none where it was reset before.
+    // Of a stream only if the application waits for it, since quinn reports each frame; that it was stopped only to its writer, and not if
+    // it was reset before.
     fn hear(&mut self, side: usize) {
         let events: Vec<_> = std::iter::from_fn(|| self.conn(side).poll()).collect();
         let app = &mut self.apps[side];
@@ -364,14 +358,13 @@ fn random_scripts() {
     println!("sum milliseconds: {}", took.as_millis());
 }
 
-// Scenes. Where they differ `expected` says why.
+// One kind of call each. `expected` says why if they differ.
 
 fn scene(key: &str, change: impl Fn(&mut TransportConfig)) -> Script {
     Script::new(key, 0, change)
 }
 
 impl Script {
-    // A stream of the client's of which so many bytes came, and which the server accepted.
     fn stream(&mut self, dir: Dir, len: usize) -> StreamId {
         let id = self.conn(0).streams().open(dir).unwrap();
         assert_eq!(self.conn(0).send_stream(id).write(&bytes_of(id, 0, len)), Ok(len));
@@ -381,7 +374,6 @@ impl Script {
         id
     }
 
-    // All events of both, in their order.
     fn events(&mut self) -> [Vec<String>; 2] {
         [0, 1].map(|side| {
             std::iter::from_fn(|| self.conn(side).poll())
@@ -390,13 +382,11 @@ impl Script {
         })
     }
 
-    // How many bytes a new stream of the client's takes.
     fn room(&mut self) -> usize {
         let id = self.conn(0).streams().open(Dir::Uni).unwrap();
         self.conn(0).send_stream(id).write(&[0; 100_000]).unwrap_or(0)
     }
 
-    // What the server reads: how long each chunk is, and why there is none more.
     fn chunks(&mut self, id: StreamId, ordered: bool) -> String {
         let mut half = self.conn(1).recv_stream(id);
         let mut chunks = match half.read(ordered) {
@@ -578,7 +568,7 @@ fn news() {
     script.say(text);
 }
 
-// A client that comes again with 0-RTT, which a server with other protocols refuses, or after a Retry.
+// After a Retry, or a server with other protocols that refuses 0-RTT: then nothing that was sent before counts.
 fn zero_rtt(key: &str, is_refused: bool) {
     let mut crypto = server_crypto();
     crypto.alpn_protocols = vec!["one".into(), "other".into()];

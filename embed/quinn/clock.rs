@@ -9,7 +9,6 @@ use super::*;
 
 const CODE: u32 = 7;
 
-/// What one end does: it opens streams of its own by turns, and reads those of its peer.
 struct Half {
     ch: ConnectionHandle,
     is_client: bool,
@@ -20,7 +19,6 @@ struct Half {
     writing: HashMap<StreamId, usize>,
     ready: VecDeque<StreamId>,
     came: HashMap<StreamId, u64>,
-    // When each stream was read to its end, and what is the time.
     ends: Vec<(StreamId, Duration)>,
     now: Duration,
     sent_done: u64,
@@ -38,7 +36,7 @@ fn byte_at(id: StreamId, offset: u64) -> u8 {
     (mixed(id) ^ offset ^ (offset >> 8)) as u8
 }
 
-// One in eight is reset by its writer, one in eight stopped by its reader.
+// By number, so that both sides know it without a word.
 fn is_reset(id: StreamId) -> bool {
     mixed(id) % 8 == 1
 }
@@ -91,7 +89,7 @@ impl Half {
                 Event::Stream(StreamEvent::Stopped { id, error_code }) => {
                     assert!(breaks && is_stopped(id) && error_code == VarInt::from(CODE));
                     self.writing.remove(&id);
-                    // (one that was reset before isn't told)
+                    // (it was reset before)
                     conn.send_stream(id).reset(CODE.into()).unwrap();
                     self.sent_done += 1;
                 }
@@ -151,7 +149,7 @@ impl Half {
         let size = (self.size)(id) as u64;
         let at = match self.came.get_mut(&id) {
             Some(at) => at,
-            // (it ended, or was stopped; or it wasn't accepted yet)
+            // (it is over, was stopped, or wasn't accepted yet)
             None => return,
         };
         let mut half = conn.recv_stream(id);
@@ -187,9 +185,8 @@ impl Half {
         }
     }
 
-    // All of the stream was read, or as much as is to be.
     fn leave(&mut self, conn: &mut Connection, id: StreamId, breaks: bool) {
-        // (one that is over already isn't there any more)
+        // (one that is over isn't there any more)
         let _ = breaks && is_stopped(id) && conn.recv_stream(id).stop(CODE.into()).is_ok();
         self.came.remove(&id);
         self.ends.push((id, self.now));
@@ -201,16 +198,14 @@ struct Play {
     name: &'static str,
     streams: [u64; 2],
     size: fn(StreamId) -> usize,
-    // A stream of a higher one goes first.
     priority: Option<fn(StreamId) -> i32>,
     breaks: bool,
-    // So many of 100 datagrams are dropped.
     drops: u32,
     latency: Duration,
     seed: u64,
 }
 
-// How long this thread was on a processor.
+// Of this thread alone, since other load on the machine would count else.
 fn processor_ms() -> f64 {
     let stat = std::fs::read_to_string("/proc/thread-self/schedstat").unwrap_or_default();
     let ns = stat.split(' ').next().and_then(|field| field.parse::<f64>().ok());
@@ -270,7 +265,6 @@ fn drive(play: &Play, pair: &mut Pair, halves: &mut [Half; 2]) -> (u64, u64) {
     }
 }
 
-// Tells when the streams ended that the server read, in that order.
 fn play(play: Play, transport: impl Fn(&mut TransportConfig)) -> Vec<(StreamId, Duration)> {
     let (mut pair, mut halves) = begin(&play, transport);
     let (start, began) = (pair.time, processor_ms());
@@ -289,7 +283,6 @@ fn play(play: Play, transport: impl Fn(&mut TransportConfig)) -> Vec<(StreamId, 
     server.ends
 }
 
-// One datagram is sent so often.
 const BEAT: Duration = Duration::from_millis(5);
 
 fn datagram(number: u32) -> Vec<u8> {
@@ -297,7 +290,6 @@ fn datagram(number: u32) -> Vec<u8> {
     number.to_be_bytes().into_iter().chain(rest).collect()
 }
 
-/// The unreliable datagrams of one side: how many it sent, and how long each waited that came.
 #[derive(Default)]
 struct Beats {
     sent: u32,
@@ -312,7 +304,7 @@ impl Beats {
         }
     }
 
-    // They come whole and in order, since the link drops none.
+    // Whole and in order, since the link drops none.
     fn receive(&mut self, conn: &mut Connection, now: Duration) {
         while let Some(bytes) = conn.datagrams().recv() {
             let number = self.waits.len() as u32;
@@ -333,7 +325,7 @@ impl Beats {
     }
 }
 
-// Sets the clock to where something happens, at the latest to that time.
+// No further than that time, so that a side that waits is asked in time.
 fn advance(pair: &mut Pair, latest: Option<Instant>) {
     let times = [pair.client.next_wakeup(), pair.server.next_wakeup(), latest];
     pair.time = pair.time.max(times.into_iter().flatten().min().expect("not stuck"));
@@ -405,7 +397,7 @@ fn bulk_beside_datagrams() {
     let start = pair.time;
     let mut beats = [Beats::default(), Beats::default()];
     let mut took = None;
-    // Once the transfer is over none is sent any more, and those that are under way come.
+    // Those under way still come, so that each wait is counted.
     while took.is_none() || !beats.iter().all(Beats::are_there) {
         let now = pair.time - start;
         for (half, beats) in halves.iter_mut().zip(&mut beats) {
@@ -428,7 +420,7 @@ fn bulk_beside_datagrams() {
     beats[1].tell("datagrams to the client beside 32 MiB");
 }
 
-// All differ, and don't follow the order in which the streams open.
+// All differ, and not in the order of opening, which would hide a sender that ignores them.
 fn priority_of(id: StreamId) -> i32 {
     (id.index() * 7 % 10) as i32 - 5
 }

@@ -26,7 +26,6 @@ fn open(end: &mut StreamsState) -> Option<StreamId> {
     Streams { state: end, conn_state: &crate::connection::State::Established }.open(Dir::Uni)
 }
 
-// What the packet's end answers.
 fn code(end: &mut StreamsState) -> Option<TransportErrorCode> {
     end.take_max_streams_dirty(Dir::Bi).err().map(|error| error.code)
 }
@@ -40,7 +39,6 @@ fn take(end: &mut StreamsState, id: StreamId, offset: u64) -> Result<(), Transpo
     end.received(frame::Stream { id, offset, fin: false, data }, 1).map(drop)
 }
 
-// The first allocation of the call is refused.
 fn refused<T>(call: impl FnOnce() -> T) -> T {
     IS_CALLED.with(|is_called| is_called.set(true));
     ASKED.with(|asked| asked.set(0));
@@ -50,7 +48,7 @@ fn refused<T>(call: impl FnOnce() -> T) -> T {
     answer
 }
 
-// Every second of many packets is told so, and one of them asks for memory, which is refused.
+// Every second, so that a refusal falls among packets that are done and ones that aren't.
 fn one_is_refused(tell: fn(&mut StreamsState, Carried)) {
     let mut client = make(Side::Client);
     let id = open(&mut client).unwrap();

@@ -8,7 +8,7 @@ use super::{
 };
 use crate::{frame, Dir, Side, StreamId};
 
-/// The receiving halves that aren't over, those that the peer may open too.
+/// Those that the peer may open count too, as quinn makes them in advance.
 pub struct Halves<'a>(&'a StreamsState);
 
 impl Halves<'_> {
@@ -38,7 +38,7 @@ impl std::ops::Index<usize> for Carried {
     }
 }
 
-/// Of how many priorities streams wait to send, and 1 where none does.
+/// Of how many priorities streams wait to send, and 1 if none does, as quinn always has a level.
 pub struct Levels(usize);
 
 impl Levels {
@@ -52,7 +52,6 @@ impl StreamsState {
         self.end.next_sendable(ours(StreamId(0))).is_some()
     }
 
-    /// The news that the application would be told.
     pub fn events(&mut self) -> &mut VecDeque<StreamEvent> {
         self.hear();
         &mut self.events
@@ -75,7 +74,6 @@ impl StreamsState {
         self.window
     }
 
-    /// The limit that the peer would be told now: a window beyond what was taken, or what it was told before.
     pub fn local_max_data(&self) -> u64 {
         self.end.granted().max(self.window + self.end.taken_sum())
     }
@@ -90,7 +88,7 @@ impl StreamsState {
         [bidi > first.streams_bidi, uni > first.streams_uni]
     }
 
-    /// The control frames that a packet would carry now. They stay due.
+    /// They stay pending, since a look must change nothing.
     pub fn due(&mut self) -> Retransmits {
         let (mut frames, mut due) = (Vec::new(), Retransmits::default());
         self.fill(&mut frames, 1200, &Fill::control());
@@ -114,12 +112,11 @@ impl StreamsState {
         due
     }
 
-    /// By how much that lies above a window beyond what was taken.
+    /// By how much the limit is above a window beyond what was consumed: no limit falls.
     pub fn receive_window_shrink_debt(&self) -> u64 {
         self.local_max_data() - self.window - self.end.taken_sum()
     }
 
-    /// So many bytes come on a stream of the peer, and are read.
     pub fn add_read_credits(&mut self, credits: u64) -> ShouldTransmit {
         let stream = ours(StreamId::new(!self.side, Dir::Uni, 0));
         let mut bytes = [0; 1024];

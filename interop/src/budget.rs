@@ -4,19 +4,15 @@
 use std::sync::Arc;
 use std::sync::atomic::{AtomicU64, Ordering};
 
-/// Of a stream.
 pub const OF_STREAM: usize = 1 << 18;
 
-/// Of a connection.
 pub const OF_CONNECTION: u64 = 1 << 20;
 
-/// Of all connections.
 pub const OF_ALL: u64 = 256 << 20;
 
 /// What an answer takes beside the bytes of it that are kept: a piece of its file, and what is known of its stream.
 const OF_ANSWER: u64 = 24 << 10;
 
-/// What all connections together have left.
 #[derive(Clone, Debug)]
 pub struct Budget {
     left: Arc<AtomicU64>,

@@ -14,7 +14,6 @@ use std::net::{Ipv4Addr, Ipv6Addr};
 use std::os::unix::fs::OpenOptionsExt;
 use std::path::Path;
 
-/// A certificate, those that lead on from it, and its private key, all as DER.
 #[derive(Debug)]
 pub struct Identity {
     pub certificates: Vec<Vec<u8>>,
@@ -42,7 +41,6 @@ const SUBJECT_ALT_NAME: &[u8] = &[0x06, 3, 0x55, 0x1d, 0x11];
 const NAME: &[u8] = b"localhost";
 
 impl Identity {
-    /// A new key, and a certificate of it.
     pub fn new() -> Result<Identity, Unspecified> {
         let random = SystemRandom::new();
         let algorithm = &ECDSA_P256_SHA256_ASN1_SIGNING;
@@ -58,7 +56,6 @@ impl Identity {
         })
     }
 
-    /// That of two files.
     pub fn read(certificate: &Path, key: &Path) -> Result<Identity, Refusal> {
         let certificates = items(certificate)?
             .into_iter()
@@ -141,7 +138,6 @@ fn write_pem(path: &Path, what: &str, der: &[u8]) -> io::Result<()> {
     writeln!(file, "-----END {what}-----")
 }
 
-/// The content of the first value, which is taken off the front: its tag, its length and as many bytes.
 fn content<'a>(rest: &mut &'a [u8]) -> Option<&'a [u8]> {
     let [_, first, after @ ..] = *rest else {
         return None;
@@ -159,7 +155,6 @@ fn content<'a>(rest: &mut &'a [u8]) -> Option<&'a [u8]> {
     Some(content)
 }
 
-/// One value: its tag, its length and its parts.
 fn der(tag: u8, parts: &[&[u8]]) -> Vec<u8> {
     let len = parts.iter().map(|part| part.len()).sum::<usize>();
     let mut out = vec![tag];

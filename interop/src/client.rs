@@ -17,7 +17,6 @@ const PATIENCE: Duration = Duration::from_secs(3);
 /// How long a client waits for streams alone.
 const STREAM_PATIENCE: Duration = Duration::from_secs(1);
 
-/// A socket to a server.
 pub fn connect(server: SocketAddr) -> io::Result<UdpSocket> {
     let own = match server {
         SocketAddr::V4(_) => "0.0.0.0:0",
@@ -54,7 +53,6 @@ pub fn visit<A: Application>(
     Err(Refusal::failure("a server without an address"))
 }
 
-// One that has no wish.
 struct Nothing;
 
 impl Application for Nothing {
@@ -104,7 +102,6 @@ pub fn connect_often(
     Ok(())
 }
 
-// Sends what there is, takes in what came, and doesn't wait.
 fn go_on(socket: &UdpSocket, connection: &mut Connection) -> io::Result<()> {
     let now = Instant::now();
     turn(connection, &mut Nothing, &mut Vec::new(), |bytes| {
@@ -123,7 +120,6 @@ fn go_on(socket: &UdpSocket, connection: &mut Connection) -> io::Result<()> {
 pub trait Errand: Application {
     fn is_over(&self) -> bool;
 
-    /// How much of it is done.
     fn done(&self) -> usize;
 
     /// Goes on with a new connection: what wasn't answered is asked for again.
@@ -258,7 +254,6 @@ mod tests {
         }
     }
 
-    // The address of a server of files, which goes with the test.
     fn begin_server() -> SocketAddr {
         let socket = UdpSocket::bind("127.0.0.1:0").unwrap();
         let address = socket.local_addr().unwrap();

@@ -30,7 +30,6 @@ pub struct Cubic {
     may_exceed: bool,
 }
 
-/// A stage of congestion avoidance.
 #[derive(Clone, Debug)]
 struct Stage {
     /// When it began, later by all time in which the window wasn't used (section 5.8).
@@ -64,7 +63,6 @@ impl Cubic {
         }
     }
 
-    /// In bytes.
     pub fn window(&self) -> usize {
         (self.window * self.datagram as f64).round() as usize
     }
@@ -103,7 +101,6 @@ impl Cubic {
         self.may_exceed = false;
     }
 
-    /// A packet is in flight no more, and nothing is to be learned of that.
     pub fn forget(&mut self, size: usize) {
         self.in_flight = self.in_flight.saturating_sub(size);
     }
@@ -112,7 +109,6 @@ impl Cubic {
         self.recovery_began.is_some_and(|began| sent_at <= began)
     }
 
-    /// A packet is acknowledged.
     pub fn acked(&mut self, size: usize, sent_at: Instant, now: Instant, round_trip: Duration) {
         self.forget(size);
         if self.is_recovering(sent_at) {
@@ -189,7 +185,6 @@ impl Stage {
         }
     }
 
-    // How long it lasts, in seconds.
     fn age(&mut self, now: Instant) -> f64 {
         if let Some(since) = self.unused_since.take() {
             self.began += now.saturating_duration_since(since);
@@ -197,7 +192,6 @@ impl Stage {
         now.saturating_duration_since(self.began).as_secs_f64()
     }
 
-    // W_cubic.
     fn curve(&self, at: f64) -> f64 {
         C * (at - self.flat_after).powi(3) + self.plateau
     }

@@ -11,7 +11,6 @@ const MOST_AHEAD: u64 = 1 << 16;
 /// What a CRYPTO frame takes beside its bytes, at the most here.
 const FRAME_LEN: usize = 8;
 
-/// Bytes that go out.
 #[derive(Debug, Default)]
 pub struct CryptoOut {
     bytes: Vec<u8>,
@@ -19,7 +18,6 @@ pub struct CryptoOut {
     lost: Vec<Range<usize>>,
 }
 
-/// Bytes that come.
 #[derive(Debug, Default)]
 pub struct CryptoIn {
     read: u64,

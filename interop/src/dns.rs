@@ -37,10 +37,8 @@ const MOST_NAME: usize = 255;
 #[derive(Clone, PartialEq, Eq, Hash, PartialOrd, Ord)]
 pub struct Name(Vec<u8>);
 
-/// What is asked.
 #[derive(Debug)]
 struct Question<'a> {
-    /// As it was asked, in capitals or small letters.
     text: &'a [u8],
     name: Name,
     kind: u16,
@@ -48,7 +46,6 @@ struct Question<'a> {
 }
 
 impl Name {
-    /// The name of dotted text below another, which ends it where no dot does. `None` for what is no name.
     pub fn of_text(text: &str, origin: &Name) -> Option<Name> {
         if text == "@" {
             return Some(origin.clone());
@@ -70,7 +67,6 @@ impl Name {
         (out.len() <= MOST_NAME).then_some(Name(out))
     }
 
-    /// The name that stands in a record's data.
     pub fn of_wire(bytes: &[u8]) -> Name {
         Name(bytes.to_vec())
     }
@@ -140,7 +136,6 @@ impl fmt::Debug for Name {
 struct Head {
     id: u16,
     flags: u16,
-    /// How many questions, answers, records of authority and others there are.
     counts: [u16; 4],
 }
 
@@ -184,7 +179,6 @@ fn has_opt(mut rest: Reader<'_>, count: u16) -> bool {
     false
 }
 
-/// The number of a message; `None` where it is too short to have one.
 pub fn message_id(message: &[u8]) -> Option<u16> {
     Reader::new(message).u16()
 }
@@ -201,15 +195,12 @@ pub fn query(name: &Name, kind: u16) -> Vec<u8> {
     out
 }
 
-/// What an answer says.
 #[derive(Debug, PartialEq, Eq)]
 pub struct Reply {
     pub code: u16,
-    /// The types and data of its records.
     pub records: Vec<(u16, Vec<u8>)>,
 }
 
-/// Reads an answer; `None` where it is none.
 pub fn read_reply(message: &[u8]) -> Option<Reply> {
     let mut rest = Reader::new(message);
     let head = read_head(&mut rest)?;

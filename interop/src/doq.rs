@@ -21,7 +21,6 @@ pub const REQUEST_CANCELLED: u64 = 3;
 /// A message and its length of two bytes.
 const MOST_BYTES: usize = 2 + 65_535;
 
-/// What answers the queries of a connection.
 pub struct NameServer {
     zone: Arc<Zone>,
     queries: BTreeMap<StreamId, Query>,
@@ -30,7 +29,6 @@ pub struct NameServer {
 enum Query {
     Comes(Vec<u8>),
     IsAnswered(Outgoing),
-    /// All of the answer was written.
     IsWritten,
 }
 
@@ -92,7 +90,6 @@ impl Application for NameServer {
 }
 
 impl Query {
-    // Answers whether there is nothing more to do.
     fn progress(
         &mut self,
         zone: &Zone,
@@ -133,7 +130,6 @@ impl Query {
     }
 }
 
-// Whether the client knows all that was sent on a stream.
 fn is_known(end: &Endpoint, stream: StreamId) -> bool {
     let send = end.report(stream).and_then(|report| report.send);
     send.is_none_or(|send| matches!(send.state, SendState::DataRecvd | SendState::ResetRecvd))
@@ -225,7 +221,6 @@ impl Errand for Asker {
     }
 }
 
-// A message behind its length (RFC 9250, section 4.2).
 fn with_len(message: &[u8]) -> Vec<u8> {
     let mut out = (message.len() as u16).to_be_bytes().to_vec();
     out.extend_from_slice(message);
@@ -259,7 +254,6 @@ mod tests {
             }
         }
 
-        // What a server does with the bytes of a stream, and what comes back.
         fn ask(&mut self, bytes: &[u8]) -> Result<Vec<u8>, Close> {
             let stream = self.client.open(Dir::Bidi).unwrap();
             self.client.write(stream, bytes).unwrap();

@@ -2,7 +2,6 @@
 
 use std::fmt;
 
-/// What the transport closes a connection with (RFC 9000, section 20.1).
 #[derive(Clone, Debug, PartialEq, Eq)]
 pub struct Fault {
     pub code: u64,
@@ -30,7 +29,6 @@ impl Fault {
     }
 }
 
-/// What an application closes a connection with.
 #[derive(Clone, Debug, PartialEq, Eq)]
 pub struct Close {
     pub code: u64,
@@ -46,12 +44,9 @@ impl Close {
     }
 }
 
-/// How a connection ended.
 #[derive(Clone, Debug, PartialEq, Eq)]
 pub enum Outcome {
-    /// The application here closed it.
     Closed(Close),
-    /// The transport or the stream layer here closed it.
     Failed(Fault),
     /// The peer closed it, with a code of QUIC's or of the application.
     PeerClosed {

@@ -12,30 +12,25 @@ use std::time::SystemTime;
 /// The file of a folder that stands for the folder.
 const INDEX: &str = "index.html";
 
-/// A folder whose files are given out.
 #[derive(Clone, Debug)]
 pub struct Folder {
     root: PathBuf,
 }
 
-/// A file that is given out.
 #[derive(Debug)]
 pub struct Found {
     file: File,
     pub len: u64,
     pub modified: SystemTime,
-    /// What it holds, by the ending of its name.
     pub kind: String,
 }
 
-/// What stands in a folder.
 #[derive(Debug, PartialEq, Eq, PartialOrd, Ord)]
 pub struct Listed {
     pub name: Vec<u8>,
     pub is_folder: bool,
 }
 
-/// What a path of a URL names.
 #[derive(Debug)]
 pub enum Named {
     File(Found),
@@ -47,8 +42,6 @@ pub enum Named {
 
 impl Folder {
     /// # Errors
-    ///
-    /// That of the system where there is no such folder.
     pub fn open(root: &str) -> io::Result<Folder> {
         let root = Path::new(root).canonicalize()?;
         match root.is_dir() {
@@ -88,7 +81,6 @@ impl Folder {
         }
     }
 
-    /// The file of a path that is no URL's.
     ///
     /// # Errors
     ///
@@ -108,7 +100,6 @@ impl Folder {
 }
 
 impl Found {
-    /// Its bytes from one place to another, to be sent.
     ///
     /// # Errors
     ///
@@ -194,7 +185,6 @@ fn decoded(part: &[u8]) -> Option<Vec<u8>> {
 mod tests {
     use super::*;
 
-    // A folder for a test, which goes with it.
     struct Room(PathBuf);
 
     impl Room {

@@ -15,11 +15,9 @@ struct PeerId {
     token: Option<[u8; 16]>,
 }
 
-/// The identifier in use, and those to be used after it.
 #[derive(Clone, Debug)]
 pub struct PeerIds {
     kept: Vec<PeerId>,
-    /// Identifiers of lower numbers are retired.
     retired_below: u64,
 }
 
@@ -36,7 +34,6 @@ impl PeerIds {
         }
     }
 
-    /// The identifier in use.
     pub fn current(&self) -> ConnectionId {
         self.kept.first().map(|kept| kept.id).unwrap_or_default()
     }
@@ -51,12 +48,10 @@ impl PeerIds {
         Some(retired)
     }
 
-    /// The peer chose another first identifier.
     pub fn replace_first(&mut self, id: ConnectionId) {
         self.kept[0].id = id;
     }
 
-    /// The token of the first identifier, which came with the transport parameters.
     pub fn set_first_token(&mut self, token: [u8; 16]) {
         if let Some(first) = self.kept.iter_mut().find(|kept| kept.sequence == 0) {
             first.token = Some(token);

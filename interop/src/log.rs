@@ -8,9 +8,7 @@ use std::time::{Duration, SystemTime, UNIX_EPOCH};
 /// How much of a path is told.
 const MOST_PATH: usize = 500;
 
-/// A request that was answered.
 pub struct Entry {
-    /// When it was answered, by whom it was asked, its method and its path.
     request: String,
     status: &'static str,
     len: u64,
@@ -37,12 +35,10 @@ impl Entry {
         }
     }
 
-    /// How long the answer's body is.
     pub fn body_len(&self) -> u64 {
         self.len
     }
 
-    /// All of the answer is acknowledged.
     pub fn whole(&self) {
         self.write(self.len, "whole");
     }
@@ -60,7 +56,6 @@ impl Entry {
         self.write(0, format_args!("malformed: code {code:#x}"));
     }
 
-    /// The connection ended before, after so many bytes of the answer.
     pub fn cut(&self, all_was_sent: bool, written: u64, outcome: &Outcome) {
         let how = match all_was_sent {
             true => "sent whole",
@@ -78,7 +73,6 @@ impl Entry {
     }
 }
 
-/// A connection came to nothing, or failed.
 pub fn trouble(peer: SocketAddr, what: &str, outcome: &Outcome) {
     let time = utc(SystemTime::now());
     say(format_args!("{time} {peer} {what}: {outcome}"));
@@ -86,7 +80,6 @@ pub fn trouble(peer: SocketAddr, what: &str, outcome: &Outcome) {
 
 #[cfg(test)]
 thread_local! {
-    /// What a test's thread said.
     pub static SAID: std::cell::RefCell<Vec<String>> = const { std::cell::RefCell::new(Vec::new()) };
 }
 

@@ -11,14 +11,12 @@ const BURST: usize = 2;
 /// What is due in so short a time goes at once: a program can hardly wait for less.
 const GRAIN: Duration = Duration::from_millis(1);
 
-/// How many bytes may go now.
 #[derive(Clone, Debug)]
 pub struct Pacer {
     datagram: usize,
     first_window: usize,
     credit: f64,
     since: Option<Instant>,
-    /// Until when the next datagram is held back.
     held: Option<Instant>,
 }
 
@@ -34,7 +32,6 @@ impl Pacer {
         }
     }
 
-    /// Whether a datagram may go now, with such a window and round trip.
     pub fn allows(&mut self, window: usize, round_trip: Duration, now: Instant) -> bool {
         let rate = AHEAD * window as f64 / round_trip.as_secs_f64().max(1e-6);
         let since = self.since.replace(now).unwrap_or(now);
@@ -48,7 +45,6 @@ impl Pacer {
         self.held.is_none()
     }
 
-    /// Datagrams have another length.
     pub fn resize(&mut self, datagram: usize) {
         self.datagram = datagram;
     }
@@ -62,12 +58,10 @@ impl Pacer {
         self.credit = self.credit.max(self.first_window as f64);
     }
 
-    /// When the datagram that is held back may go.
     pub fn held(&self) -> Option<Instant> {
         self.held
     }
 
-    /// None waits any more.
     pub fn release(&mut self) {
         self.held = None;
     }
@@ -79,7 +73,6 @@ mod tests {
 
     const DATAGRAM: usize = 1200;
 
-    // When so many datagrams go, of which as many wait as may go.
     fn sendings(
         pacer: &mut Pacer,
         window: usize,

@@ -4,7 +4,6 @@ use crate::bytes::{Reader, push_varint};
 use std::fmt;
 use std::ops::Range;
 
-/// QUIC version 1.
 pub const VERSION_1: u32 = 1;
 
 /// The length of each connection identifier that is given out here, in bytes.
@@ -13,7 +12,6 @@ pub const OWN_ID_LEN: usize = 8;
 /// How many bytes of a packet number are written: always as many.
 pub const NUMBER_LEN: usize = 4;
 
-/// What protection adds to a packet, in bytes.
 pub const TAG_LEN: usize = 16;
 
 const LONG: u8 = 0x80;
@@ -72,7 +70,6 @@ impl fmt::Debug for ConnectionId {
     }
 }
 
-/// Which packet it is.
 #[derive(Clone, Copy, Debug, PartialEq, Eq)]
 pub enum Kind {
     Protected(Level),
@@ -83,7 +80,6 @@ pub enum Kind {
     OtherVersion,
 }
 
-/// A packet at the front of some bytes of a datagram, still protected. Places are counted from its first byte.
 #[derive(Clone, Debug)]
 pub struct Packet {
     pub kind: Kind,
@@ -96,7 +92,6 @@ pub struct Packet {
     pub end: usize,
 }
 
-/// The packet at the front of the bytes; `None` where they are none.
 pub fn read_packet(bytes: &[u8]) -> Option<Packet> {
     let mut rest = Reader::new(bytes);
     let first = rest.byte()?;
@@ -184,7 +179,6 @@ pub fn full_number(written: u64, len: usize, expected: u64) -> u64 {
     }
 }
 
-/// What stands in a header that is written.
 pub struct Header<'a> {
     pub level: Level,
     pub version: u32,
@@ -195,19 +189,16 @@ pub struct Header<'a> {
     pub key_phase: bool,
 }
 
-/// Where the parts of a packet in the making stand in its datagram.
 #[derive(Clone, Copy, Debug)]
 pub struct Draft {
     pub level: Level,
     pub number: u64,
     pub start: usize,
     pub number_at: usize,
-    /// Where its frames end, and its tag begins.
     pub end: usize,
 }
 
 impl Draft {
-    /// Where its frames begin.
     pub fn payload_at(&self) -> usize {
         self.number_at + NUMBER_LEN
     }
@@ -228,7 +219,6 @@ impl Draft {
 }
 
 impl Header<'_> {
-    /// How many bytes the header takes, the number among them.
     pub fn len(&self) -> usize {
         let mut token = Vec::new();
         if self.level == Level::Initial {

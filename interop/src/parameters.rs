@@ -7,7 +7,6 @@ use gotsavena::{PeerLimits, Role};
 use std::collections::BTreeSet;
 use std::time::Duration;
 
-/// What an end tells of itself as the connection begins.
 #[derive(Clone, Debug)]
 pub struct Parameters {
     pub limits: PeerLimits,
@@ -16,7 +15,6 @@ pub struct Parameters {
     pub ack_delay_exponent: u64,
     pub max_ack_delay: Duration,
     pub active_ids: u64,
-    /// Whether the peer isn't to move to another address.
     pub stays: bool,
     pub initial_source: Option<ConnectionId>,
     pub original_destination: Option<ConnectionId>,
@@ -80,7 +78,6 @@ fn wrong(reason: &str) -> Fault {
 }
 
 impl Parameters {
-    /// Their text.
     pub fn write(&self) -> Vec<u8> {
         let mut out = Vec::new();
         let numbers = [
@@ -114,7 +111,6 @@ impl Parameters {
         out
     }
 
-    /// What a peer's text says.
     pub fn read(text: &[u8], from: Role) -> Result<Parameters, Fault> {
         let mut told = Parameters::default();
         let mut names = BTreeSet::new();
@@ -165,7 +161,6 @@ impl Parameters {
             ORIGINAL_DESTINATION => self.original_destination = Some(ConnectionId::new(value)?),
             RETRY_SOURCE => self.retry_source = Some(ConnectionId::new(value)?),
             RESET_TOKEN => self.reset_token = Some(value.try_into().ok()?),
-            // Another address isn't used.
             _ => {}
         }
         Some(())

@@ -12,7 +12,6 @@ const TRIES: usize = 3;
 #[derive(Clone, Debug)]
 pub struct PathSize {
     size: usize,
-    /// What the peer takes.
     pub most: u64,
     tried: usize,
     probe: Option<u64>,
@@ -28,12 +27,10 @@ impl PathSize {
         }
     }
 
-    /// How large datagrams are.
     pub fn size(&self) -> usize {
         self.size
     }
 
-    /// The size of the next probe, where one is due.
     pub fn due(&self) -> Option<usize> {
         let size = *SIZES.get(self.tried / TRIES)?;
         (self.probe.is_none() && size as u64 <= self.most).then_some(size)

@@ -4,7 +4,6 @@
 use gotsavena::{Endpoint, StreamId};
 use std::collections::{BTreeMap, BTreeSet};
 
-/// How soon a stream goes. Lower ones go first.
 #[derive(Clone, Copy, Debug, PartialEq, Eq, PartialOrd, Ord)]
 pub struct Priority {
     /// 0 to 7, 0 being the most urgent (RFC 9218, section 4.1).
@@ -20,7 +19,6 @@ pub struct Priorities {
 }
 
 impl Priorities {
-    /// That of a stream is this one from now on; or nothing is known of it any more.
     pub fn set(&mut self, stream: StreamId, priority: Option<Priority>) {
         if self.of.get(&stream) == priority.as_ref() {
             return;
@@ -42,7 +40,6 @@ impl Priorities {
         }
     }
 
-    /// Nothing is known any more of the streams of which this is so.
     pub fn forget(&mut self, is_over: impl Fn(&StreamId) -> bool) {
         let over: Vec<StreamId> = self.of.keys().copied().filter(is_over).collect();
         over.into_iter().for_each(|stream| self.set(stream, None));
@@ -59,7 +56,6 @@ impl Priorities {
     }
 }
 
-// The least of some streams, from one on, that has something to send.
 fn sendable(streams: &BTreeSet<StreamId>, end: &Endpoint, from: StreamId) -> Option<StreamId> {
     let mut from = from;
     loop {

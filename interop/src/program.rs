@@ -25,7 +25,6 @@ const MOST_STREAMS: u64 = 1 << 21;
 
 static TELLS_MORE: AtomicBool = AtomicBool::new(false);
 
-/// Why a program ends before its work is done.
 #[derive(Debug)]
 pub enum Refusal {
     /// The command line makes no sense: status 2.
@@ -40,7 +39,6 @@ impl Refusal {
     }
 }
 
-/// The words of a command line: options with their values, and the other words in order.
 #[derive(Debug, Default)]
 pub struct Words {
     options: BTreeMap<String, String>,
@@ -49,12 +47,10 @@ pub struct Words {
     pub rest: Vec<String>,
 }
 
-/// Writes a line on standard error.
 pub fn tell(line: &str) {
     eprintln!("{line}");
 }
 
-/// The same, where `--verbose` asks for it.
 pub fn tell_more(line: &str) {
     if TELLS_MORE.load(Ordering::Relaxed) {
         tell(line);
@@ -114,12 +110,10 @@ fn words(given: impl Iterator<Item = String>) -> Result<Words, Refusal> {
 }
 
 impl Words {
-    /// The value of an option, where it is given.
     pub fn option(&mut self, name: &str) -> Option<String> {
         self.options.remove(name)
     }
 
-    /// Whether an option is given.
     pub fn has(&self, name: &str) -> bool {
         self.options.contains_key(name)
     }
@@ -176,7 +170,6 @@ impl Words {
     }
 }
 
-/// The addresses that a text names, in the system's order.
 pub fn addresses(text: &str) -> Result<Vec<SocketAddr>, Refusal> {
     let found = text.to_socket_addrs().into_iter().flatten();
     let found: Vec<SocketAddr> = found.collect();
@@ -188,7 +181,6 @@ pub fn addresses(text: &str) -> Result<Vec<SocketAddr>, Refusal> {
     }
 }
 
-/// The first address that a text names.
 pub fn address(text: &str) -> Result<SocketAddr, Refusal> {
     addresses(text).map(|found| found[0])
 }
@@ -312,7 +304,6 @@ pub fn streams(words: &mut Words) -> Result<(u64, u64), Refusal> {
     Ok((streams.min(lifetime), lifetime))
 }
 
-/// A client's connection to a server of a name.
 pub fn client(
     protocol: &[u8],
     name: &str,
@@ -348,7 +339,6 @@ pub fn save(folder: &str, path: &str, bytes: &[u8]) -> Result<(), Refusal> {
         .map_err(|error| Refusal::Failure(format!("{} can't be written: {error}", file.display())))
 }
 
-/// Tells how much came in which time.
 pub fn tell_speed(bytes: usize, time: Duration) {
     let seconds = time.as_secs_f64().max(1e-9);
     let speed = bytes as f64 / 1e6 / seconds;

@@ -3,15 +3,12 @@
 use crate::packet::{Draft, NUMBER_LEN, Packet, TAG_LEN, full_number, write_length};
 use rustls::quic::{DirectionalKeys, HeaderProtectionKey, Keys, PacketKey, PacketKeySet, Secrets};
 
-/// A packet that was opened.
 pub struct Opened {
     pub number: u64,
-    /// Where its frames stand in the packet.
     pub payload: std::ops::Range<usize>,
     pub first_byte: u8,
 }
 
-/// The keys of 1-RTT, and those of the phases beside it.
 pub struct DataKeys {
     local_header: HeaderProtectionKey,
     remote_header: HeaderProtectionKey,
@@ -21,9 +18,7 @@ pub struct DataKeys {
     previous: Option<PacketKey>,
     secrets: Secrets,
     phase: bool,
-    /// The lowest number that came in this phase.
     first: u64,
-    /// How many phases began.
     pub updates: u64,
 }
 
@@ -122,7 +117,6 @@ impl DataKeys {
         }
     }
 
-    /// The bit that the packets of this phase have.
     pub fn phase(&self) -> bool {
         self.phase
     }

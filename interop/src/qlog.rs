@@ -23,17 +23,13 @@ pub fn write_into(folder: &str) {
     _ = FOLDER.set(PathBuf::from(folder));
 }
 
-/// The file of a connection. One that can't be written further is let go.
 pub struct Trace {
     file: Option<File>,
     begin: Instant,
-    /// How many bytes of each stream were written and read, as told.
     moved: BTreeMap<StreamId, Moved>,
-    /// The metrics that were told last.
     metrics: Vec<(&'static str, String)>,
 }
 
-/// A packet that was sent or came.
 pub struct Packet<'a> {
     pub level: Level,
     pub number: u64,
@@ -42,7 +38,6 @@ pub struct Packet<'a> {
     pub payload: &'a [u8],
 }
 
-/// How recovery stands. Round trips are known once one was measured.
 pub struct Metrics {
     pub round_trips: Option<RoundTrips>,
     pub probes: u32,
@@ -100,7 +95,6 @@ impl Trace {
         Some(trace)
     }
 
-    // A record (RFC 7464).
     fn put(&mut self, text: &str) {
         let record = format!("\u{1e}{text}\n");
         if let Some(file) = &mut self.file
@@ -163,7 +157,6 @@ impl Trace {
         self.event(now, "transport:parameters_set", &data);
     }
 
-    /// How recovery stands: what is new of it.
     pub fn metrics(&mut self, metrics: &Metrics, now: Instant) {
         let told = metrics.members();
         let new = told.iter().filter(|member| !self.metrics.contains(member));
@@ -386,7 +379,6 @@ fn dir_name(dir: Dir) -> &'static str {
     }
 }
 
-// What a frame on a stream's halves holds.
 fn put_stream_members(out: &mut String, frame: &Frame<'_>) {
     match *frame {
         Frame::ResetStream {
@@ -417,7 +409,6 @@ fn put_stream_members(out: &mut String, frame: &Frame<'_>) {
     }
 }
 
-// What a frame on credit holds.
 fn put_credit_members(out: &mut String, frame: &Frame<'_>) {
     match *frame {
         Frame::MaxData { maximum } => number(out, "maximum", maximum),

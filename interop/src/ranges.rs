@@ -14,12 +14,10 @@ pub struct Numbers {
 }
 
 impl Numbers {
-    /// The ranges, the highest first.
     pub fn as_slice(&self) -> &[Range<u64>] {
         &self.ranges
     }
 
-    /// One more than the largest number, or 0.
     pub fn end(&self) -> u64 {
         self.ranges.first().map_or(0, |range| range.end)
     }

@@ -21,7 +21,6 @@ fn internal(fault: UseFault) -> Close {
     Close::new(INTERNAL_ERROR, &fault.to_string())
 }
 
-/// A server's side.
 pub struct RawServer {
     folder: Folder,
     streams: BTreeMap<StreamId, Answer>,
@@ -42,7 +41,6 @@ impl RawServer {
 }
 
 impl Answer {
-    // Answers whether there is nothing more to do.
     fn progress(
         &mut self,
         folder: &Folder,
@@ -109,7 +107,6 @@ impl Application for RawServer {
     }
 }
 
-/// A client's side.
 pub struct RawClient {
     wanted: VecDeque<String>,
     running: BTreeMap<StreamId, (String, Vec<u8>)>,

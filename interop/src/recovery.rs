@@ -30,25 +30,21 @@ pub enum Control {
     },
 }
 
-/// A packet that was sent and is neither acknowledged nor lost.
 #[derive(Clone, Debug)]
 pub struct Sent {
     pub at: Instant,
     pub size: usize,
-    /// Whether it asks for an ACK.
     pub asks: bool,
     pub crypto: Vec<Range<usize>>,
     pub controls: Vec<Control>,
 }
 
-/// What an ACK or a timer brought.
 #[derive(Debug, Default)]
 pub struct News {
     pub acked: Vec<(u64, Sent)>,
     pub lost: Vec<(u64, Sent)>,
 }
 
-/// What is to be done as time is up.
 #[derive(Debug)]
 pub enum Due {
     Lost(Level, Vec<(u64, Sent)>),
@@ -93,7 +89,6 @@ pub struct Recovery {
 }
 
 impl Space {
-    // Answers the largest number that is acknowledged.
     fn take_acked(
         &mut self,
         ranges: impl Iterator<Item = (u64, u64)>,
@@ -149,7 +144,6 @@ impl Recovery {
         self.smoothed + (4 * self.variation).max(GRANULARITY) + delay
     }
 
-    /// How it stands, for a trace.
     pub fn metrics(&self) -> Metrics {
         let round_trips = self.least.map(|least| RoundTrips {
             smoothed: self.smoothed,
@@ -180,7 +174,6 @@ impl Recovery {
         space.sent.insert(number, sent);
     }
 
-    /// The packets of a level that are in flight.
     pub fn in_flight(&self, level: Level) -> impl Iterator<Item = (u64, &Sent)> {
         let sent = self.spaces[level as usize].sent.iter();
         sent.map(|(number, sent)| (*number, sent))
@@ -346,7 +339,6 @@ impl Recovery {
         false
     }
 
-    /// The keys of a level are gone, and its packets with them.
     pub fn discard(&mut self, level: Level) {
         let space = std::mem::take(&mut self.spaces[level as usize]);
         for sent in space.sent.values() {
@@ -417,7 +409,6 @@ impl Recovery {
         congestion.allows() && self.pacer.allows(congestion.window(), self.smoothed, now)
     }
 
-    /// Nothing is there to go, though it might.
     pub fn rest(&mut self) {
         self.congestion.leave_unused();
         if self.congestion.in_flight() == 0 {

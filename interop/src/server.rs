@@ -45,7 +45,6 @@ pub struct Server<A> {
     timers: Timers,
     ids: HashMap<ConnectionId, u64>,
     next: u64,
-    /// Connections that have more to send.
     busy: BTreeSet<u64>,
     phase: Phase,
 }
@@ -53,9 +52,7 @@ pub struct Server<A> {
 #[derive(Clone, Copy, PartialEq, Eq)]
 enum Phase {
     Serves,
-    /// Clients are told, and what is under way goes on.
     Stops,
-    /// Whatever is under way ends.
     Closes,
 }
 
@@ -63,9 +60,7 @@ enum Phase {
 struct Table<A> {
     // (boxed: a table that grew keeps its places)
     places: HashMap<u64, Box<Served<A>>>,
-    /// How often a connection was looked at.
     looks: u64,
-    /// How many there were at most since memory was given back.
     peak: usize,
 }
 
@@ -73,7 +68,6 @@ struct Served<A> {
     connection: Connection,
     peer: SocketAddr,
     application: A,
-    /// Whether the application was told how the connection ended.
     was_told: bool,
 }
 
@@ -349,7 +343,6 @@ impl<A: Application> Server<A> {
         Some(key)
     }
 
-    // A connection goes on. Answers whether there is more to send.
     fn go_on(&mut self, key: u64, out: &mut Vec<u8>) -> io::Result<bool> {
         let Some(served) = self.served.get(key) else {
             return Ok(false);
@@ -400,7 +393,6 @@ mod tests {
     const IDLE: usize = 30;
     const FILES: usize = 50;
 
-    // One that has no wish.
     struct Nothing;
 
     impl Application for Nothing {
@@ -411,7 +403,6 @@ mod tests {
         }
     }
 
-    // A server and its clients, which go on by turns.
     struct World {
         server: Server<RawServer>,
         config: Config,

@@ -9,7 +9,6 @@ use std::sync::Arc;
 use std::sync::atomic::{AtomicBool, Ordering};
 use std::thread;
 
-/// Whether the servers are to stop.
 #[derive(Clone, Debug, Default)]
 pub struct Stop {
     is_asked: Arc<AtomicBool>,
@@ -19,8 +18,6 @@ impl Stop {
     /// One that the signals ask for. A second signal ends the program at once.
     ///
     /// # Errors
-    ///
-    /// Of the system, which lets no signals be taken.
     pub fn by_signals(sockets: &[UdpSocket]) -> io::Result<Stop> {
         let stop = Stop::default();
         let asked = stop.clone();

@@ -13,8 +13,6 @@ pub trait Application {
     /// Reads and writes as far as it goes. It is called after datagrams came, and once as the handshake is done.
     ///
     /// # Errors
-    ///
-    /// What the connection is closed with: a client that has what it wanted closes it so, too.
     fn progress(&mut self, end: &mut Endpoint) -> Result<(), Close>;
 
     /// Whether it waits for nothing but streams that it may open.
@@ -29,8 +27,6 @@ pub trait Application {
     /// again and again until then.
     ///
     /// # Errors
-    ///
-    /// What the connection is closed with.
     fn stop(&mut self) -> Result<bool, Close> {
         Ok(true)
     }
@@ -39,16 +35,11 @@ pub trait Application {
     fn ended(&mut self, _end: Option<&Endpoint>, _outcome: &Outcome) {}
 }
 
-/// How a stream stands after what is there was read.
 #[derive(Clone, Copy, Debug, PartialEq, Eq)]
 pub enum Came {
-    /// More may come.
     Some,
-    /// All was read.
     All,
-    /// The peer broke it off, with this code.
     Reset(u64),
-    /// More came than was allowed for.
     TooMuch,
 }
 
@@ -89,7 +80,6 @@ pub struct Body {
 }
 
 impl Body {
-    /// So many bytes of a source.
     pub fn new(source: impl io::Read + 'static, len: u64) -> Body {
         Body {
             source: Box::new(source),
@@ -102,7 +92,6 @@ impl Body {
         Body::new(io::Cursor::new(bytes), len)
     }
 
-    /// The next piece; one without bytes where there are no more.
     ///
     /// # Errors
     ///
@@ -114,7 +103,6 @@ impl Body {
         Ok(piece)
     }
 
-    /// Whether all of it was read.
     pub fn is_over(&self) -> bool {
         self.left == 0
     }
@@ -123,7 +111,6 @@ impl Body {
 /// A body that is written to a stream and then ends it.
 pub struct Outgoing {
     body: Body,
-    /// What was read of the body, and how much of that was written.
     piece: Vec<u8>,
     written: usize,
 }

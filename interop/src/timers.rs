@@ -10,7 +10,6 @@ pub struct Timers {
 }
 
 impl Timers {
-    /// That of a number is this one from now on.
     pub fn set(&mut self, key: u64, time: Option<Instant>) {
         let before = match time {
             Some(time) => self.times.insert(key, time),
@@ -22,12 +21,10 @@ impl Timers {
         self.by_time.extend(time.map(|time| (time, key)));
     }
 
-    /// The next time.
     pub fn next(&self) -> Option<Instant> {
         self.by_time.first().map(|(time, _)| *time)
     }
 
-    /// Takes the numbers whose times have come.
     pub fn take_due(&mut self, now: Instant) -> Vec<u64> {
         let mut due = Vec::new();
         while let Some(time) = self.next()

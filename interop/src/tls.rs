@@ -12,7 +12,6 @@ use rustls::{
 use std::sync::Arc;
 use std::time::SystemTime;
 
-/// What TLS needs of a server: a certificate, and the names of the protocols that are spoken over the streams.
 pub fn server_config(
     identity: Identity,
     protocols: &[&[u8]],
@@ -55,7 +54,6 @@ impl ServerCertVerifier for AnyCertificate {
     }
 }
 
-/// One handshake.
 pub struct Session {
     inner: Connection,
 }
@@ -91,7 +89,6 @@ impl Session {
         })
     }
 
-    /// The next bytes of the handshake, of one level, and the keys of the level after them.
     pub fn write(&mut self, bytes: &mut Vec<u8>) -> Option<KeyChange> {
         self.inner.write_hs(bytes)
     }
@@ -100,12 +97,10 @@ impl Session {
         !self.inner.is_handshaking()
     }
 
-    /// The peer's transport parameters, once they came.
     pub fn peer_parameters(&self) -> Option<&[u8]> {
         self.inner.quic_transport_parameters()
     }
 
-    /// The name of the protocol over the streams that both ends agreed on.
     pub fn protocol(&self) -> Option<&[u8]> {
         self.inner.alpn_protocol()
     }

@@ -8,16 +8,13 @@ use gotsavena::{Dir, Endpoint, PeerLimits, Role, StreamId};
 use std::collections::BTreeMap;
 use std::time::{Duration, Instant};
 
-/// The windows of a connection.
 pub struct Windows {
     role: Role,
-    /// Those with which streams begin, as the peer was told.
     first: PeerLimits,
     /// How far that of a stream may grow; the connection's may be twice as wide.
     most: u64,
     conn: Window,
     streams: BTreeMap<StreamId, Window>,
-    /// Streams on which something came since the last look.
     came: Vec<StreamId>,
 }
 
@@ -122,7 +119,6 @@ mod tests {
     const ROUND_TRIP: Duration = Duration::from_millis(100);
     const FIRST: u64 = 1 << 10;
 
-    /// A server that reads all that its client writes.
     struct Pair {
         client: Endpoint,
         server: Endpoint,

@@ -6,7 +6,6 @@ use std::collections::{BTreeMap, BTreeSet};
 use std::fmt;
 use std::net::{Ipv4Addr, Ipv6Addr};
 
-/// A record of a zone.
 #[derive(Clone, Debug, PartialEq, Eq)]
 pub struct Record {
     pub name: Name,
@@ -15,7 +14,6 @@ pub struct Record {
     pub data: Vec<u8>,
 }
 
-/// A zone: the records of a name and of those below it.
 #[derive(Clone, Debug)]
 pub struct Zone {
     origin: Name,
@@ -23,7 +21,6 @@ pub struct Zone {
     names: BTreeSet<Name>,
 }
 
-/// What a zone has of a name and type.
 #[derive(Debug, PartialEq, Eq)]
 pub enum Found<'a> {
     Records(Vec<&'a Record>),
@@ -106,7 +103,6 @@ impl Zone {
         found.map_or(&[], Vec::as_slice)
     }
 
-    // All records of a name.
     fn all(&self, name: &Name) -> Found<'_> {
         let from = (name.clone(), 0)..=(name.clone(), u16::MAX);
         let records: Vec<&Record> = self.records.range(from).flat_map(|(_, of)| of).collect();
@@ -145,7 +141,6 @@ impl Zone {
     }
 }
 
-/// The words of an entry, and the line on which it begins.
 struct Entry {
     line: usize,
     /// Whether it begins with a blank, and so has the name of the entry before it.

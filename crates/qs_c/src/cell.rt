@@ -10,7 +10,7 @@ use crate::thing::Thing;
 use std::alloc::Global;
 use std::marker::Model;
 
-/// Room for a box's address. Where there is one it owns what the box owned.
+/// Room for a box's address, which C can lay out: a flag and a word. It owns what the box owned.
 #[repr(C)]
 #[derive(Drop)]
 pub struct Cell {

@@ -1,4 +1,4 @@
-//! An end is told that the connection closed, and tells it again.
+//! A close that the endpoint didn't see is noted, and returned.
 ghost use Rattle.std.specs.Prelude.{◌≡◌, ◌&&◌, true, option_map};
 ghost use Rattle.qs_machine.specs.Receiving.{told_closed};
 ghost use Rattle.qs_machine.specs.Asking.{told_closing};
@@ -12,7 +12,7 @@ use crate::thing::Thing;
 use qs_calls::{CloseKind, Closer, ToldClose};
 use std::alloc::Global;
 
-/// A close that the stack above the packets saw or made itself: 0 by this side or the transport, 1 by the peer or the application.
+/// By numbers, which C checks against nothing: 0 is this side or the transport, 1 the peer or the application, and another is refused.
 #[unsafe(no_mangle)]
 pub extern "C" fn gvp_tell_closed(
     alloc: Global,
@@ -31,7 +31,7 @@ pub extern "C" fn gvp_tell_closed(
     status
 }
 
-/// The close that the end was told of, as numbers of the same meaning.
+/// As numbers of the same meaning. One struct, so that one contract says all of it.
 #[unsafe(no_mangle)]
 pub extern "C" fn gvp_told_close(alloc: Global, end: &mut Handle, told: &mut GvTold) -> u32
     ensures { Asked end.old.cell.value end.new.cell.value true (Invalid result told.old told.new) (λ e. (result, told.new) ≡ found (option_map told_of (told_closing e.closed)) told.old) }

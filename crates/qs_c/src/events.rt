@@ -1,4 +1,5 @@
-//! What an owner hears of its end, and what it tells for that. What was heard has a handle of its own, beside that of the end.
+//! What was reported to an application, and what it notes for that. A handle of its own, beside that of the endpoint, so that no contract
+//! of another call speaks of it.
 ghost use Rattle.std.specs.Prelude.{◌≡◌, ℕ, true, [], Option, Some, None, Result, MatchBool, nat_eq};
 ghost use Rattle.qs_ranges.specs.declared.NoMemory.{NoMemory};
 ghost use Rattle.qs_calls.specs.declared.news.News.{News};
@@ -21,7 +22,8 @@ use qs_conn::{Endpoint, Heard};
 use qs_wire::StreamId;
 use std::alloc::Global;
 
-/// Takes the memory for what an owner heard: the handle holds it then, and nothing was heard. A handle that holds some loses it.
+/// Takes the memory for the notes, apart from the endpoint's: they take 2.9 KB, and many applications want no events. A handle that holds
+/// some loses it.
 #[unsafe(no_mangle)]
 pub extern "C" fn gvp_heard_new(alloc: Global, heard: &mut ListenerHandle) -> u32
     ensures { MatchBool (nat_eq result 0) (heard.new.cell.value ≡ Some heard_nothing) ((result ≡ 2) × (heard.new.cell.value ≡ heard.old.cell.value)) }
@@ -34,7 +36,6 @@ pub extern "C" fn gvp_heard_new(alloc: Global, heard: &mut ListenerHandle) -> u3
     OK
 }
 
-/// Drops what a handle holds.
 #[unsafe(no_mangle)]
 pub extern "C" fn gvp_heard_drop(alloc: Global, heard: &mut ListenerHandle)
     ensures { heard.new.cell.value ≡ None }
@@ -42,7 +43,7 @@ pub extern "C" fn gvp_heard_drop(alloc: Global, heard: &mut ListenerHandle)
     let _gone = heard.take(alloc);
 }
 
-/// Tells the first piece of news of an end, and notes that it was heard.
+/// Returns the first event and notes that it was reported.
 #[unsafe(no_mangle)]
 pub extern "C" fn gvp_next_news(
     alloc: Global,
@@ -60,7 +61,7 @@ pub extern "C" fn gvp_next_news(
     status
 }
 
-/// So many bytes are about to be written to a stream of the end.
+/// Before the write, since afterwards nobody knows what was offered.
 #[unsafe(no_mangle)]
 pub extern "C" fn gvp_will_write(
     alloc: Global,
@@ -79,7 +80,6 @@ pub extern "C" fn gvp_will_write(
     status
 }
 
-/// A stream of a direction is to be opened once one may.
 #[unsafe(no_mangle)]
 pub extern "C" fn gvp_wants(alloc: Global, heard: &mut ListenerHandle, dir: u32) -> u32
     ensures { CalledHeard heard.old.cell.value heard.new.cell.value (is_flag dir) (result ≡ 1) (λ g h. (result ≡ 0) × (h ≡ with_wants g (dir_of dir) true)) }
@@ -92,7 +92,6 @@ pub extern "C" fn gvp_wants(alloc: Global, heard: &mut ListenerHandle, dir: u32)
     status
 }
 
-/// A stream of the end was read, or stopped.
 #[unsafe(no_mangle)]
 pub extern "C" fn gvp_was_read(
     alloc: Global,
@@ -110,7 +109,7 @@ pub extern "C" fn gvp_was_read(
     status
 }
 
-/// A frame of these bytes was handed in, which may say what holds the peer back.
+/// A frame that was passed in, which may say what blocks the peer.
 #[unsafe(no_mangle)]
 pub extern "C" fn gvp_was_told(
     alloc: Global,

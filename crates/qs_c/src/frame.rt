@@ -1,4 +1,4 @@
-//! A frame, as C is told it.
+//! A frame as C gets it.
 ghost use Rattle.std.specs.Prelude.{◌≡◌};
 ghost use Rattle.qs_wire.specs.Layout.{view};
 ghost use Rattle.qs_c.specs.Frames.{of_kind, dir_number, with_counts, numbers_told, fault_of};
@@ -6,7 +6,8 @@ ghost use Rattle.qs_c.specs.Places.{fault_from};
 
 use qs_wire::{Dir, EcnCounts, Frame, WireFault};
 
-/// A frame of a kind: what a frame of its kind does not have is 0. Its bytes and its token are told by where they stand.
+/// One struct for all kinds, since C has no enum with fields: what a frame of its kind doesn't have is 0. Its bytes and its token are given
+/// by their places, so that nothing is lent.
 #[repr(C)]
 #[derive(Clone, Copy, Drop)]
 pub struct GvFrame {
@@ -44,7 +45,6 @@ pub struct GvFault {
 }
 
 impl GvFrame {
-    /// A frame's kind and numbers.
     pub(crate) fn of(frame: &Frame) -> GvFrame
         ensures { result ≡ numbers_told (view frame.now) }
     {
@@ -156,7 +156,6 @@ impl GvFrame {
     }
 }
 
-/// A frame of a kind that has no number.
 pub(crate) fn of_kind(kind: u32) -> GvFrame
     ensures { result ≡ of_kind kind }
 {
@@ -211,7 +210,7 @@ fn with_counts(ecn: Option<EcnCounts>, frame: GvFrame) -> GvFrame
 }
 
 impl GvFault {
-    /// The fault of what stands at a place, which was read as if it stood at the front.
+    /// It was read as if it stood at the front, so its place is added.
     pub(crate) fn of(fault: WireFault, place: usize) -> GvFault
         ensures { result ≡ fault_of (fault_from place fault) }
     {

@@ -1,4 +1,4 @@
-//! Frames of one packet are handed in.
+//! Frames of one packet are passed in.
 ghost use Rattle.std.specs.Prelude.{◌≡◌, ◌+◌, true, length, map, IfSome};
 ghost use Rattle.qs_wire.specs.Layout.{view};
 ghost use Rattle.qs_c.specs.Statuses.{Called, Tested, Invalid};
@@ -12,7 +12,6 @@ use crate::thing::Thing;
 use qs_wire::{Frame, StreamId};
 use std::alloc::Global;
 
-/// A frame with its bytes.
 #[repr(C)]
 #[derive(Clone, Copy, Drop)]
 pub struct GvGiven<'a> {
@@ -20,7 +19,7 @@ pub struct GvGiven<'a> {
     pub bytes: &'a [u8],
 }
 
-/// Hands frames in, after which the limits move once. It takes memory for them.
+/// Limits move once. It takes memory for the frames, since those of C are other structs.
 #[unsafe(no_mangle)]
 pub extern "C" fn gvp_take_frames(
     alloc: Global,
@@ -57,7 +56,7 @@ impl Thing {
     }
 }
 
-/// Whether each is a frame, of a stream that has a number.
+/// Before any takes effect, so that `Invalid` changes nothing.
 fn are_given(frames: &[GvGiven<'_>]) -> bool
     ensures { result ≡ are_given frames.now }
 {
@@ -69,7 +68,6 @@ fn are_given(frames: &[GvGiven<'_>]) -> bool
     true
 }
 
-/// The frames that C gives; `None` where there is no memory.
 fn given_in<'a>(alloc: Global, frames: &[GvGiven<'a>]) -> Option<Vec<Frame<'a>>>
     requires { are_given frames.now ≡ true }
     ensures { IfSome result (λ v. map view v.items ≡ map given_in frames.now) }

@@ -1,4 +1,4 @@
-//! A handle that C holds.
+//! A handle that C holds. It may hold nothing: C can't be kept from passing one that was freed and cleared.
 ghost use Rattle.std.specs.Prelude.{◌≡◌, Some, None, MatchOption, is_some};
 
 use crate::cell::Cell;
@@ -8,7 +8,6 @@ use std::alloc::Global;
 use std::mem::replace;
 use std::ptr::null_mut;
 
-/// An endpoint's handle, or none.
 #[repr(C)]
 #[derive(Drop)]
 pub struct Handle {
@@ -37,7 +36,7 @@ impl Handle {
         };
     }
 
-    /// The end that the handle holds, lent as long as the handle is.
+    /// Lent as long as the handle is, which is why C may use what a look shows until the next call.
     pub(crate) fn held(&mut self) -> Option<&Thing>
         ensures { MatchOption result (self.old.cell.value ≡ None) (λ thing. self.old.cell.value ≡ Some thing.now) }
     {

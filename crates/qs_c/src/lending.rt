@@ -7,7 +7,7 @@ use crate::cell::Cell;
 use crate::thing::Thing;
 
 impl Cell {
-    /// What the cell holds. It is the cell's again once the borrow ends.
+    /// It is the cell's again once the borrow ends, so nothing is taken out that could be lost on the way.
     pub(crate) fn lend(&mut self) -> &mut Thing
         requires { is_some self.old.value ≡ true }
         ensures* writes_back { sem 𝓛 (cell_follows self.entry result) }

@@ -1,7 +1,8 @@
-//! The calls of C: the front of Gotsavena's endpoint for the C layer in `c/src`, which offers them as `gv_*`.
+//! The calls of C: what the C layer in `c/src` offers as `gv_*` stands on them.
 //!
-//! Each takes a handle, tests what the endpoint's own call requires, and tells the answer by a number of `specs/Statuses` and through
-//! its pointers. Its contract is that of the endpoint's call, with how the answer is told.
+//! Each takes a handle, checks what the endpoint's own call requires, and answers by a number of `specs/Statuses` and through its pointers.
+//! Its contract is that of the endpoint's call, with how the answer is given. The C layer adds no number of its own, so what is proved here
+//! is what C gets.
 #![tactic(auto)]
 
 mod acks;
@@ -87,7 +88,7 @@ pub use sums::{gvp_kept_sum, gvp_taken, gvp_taken_sum, gvp_unsent_sum};
 pub use telling::gvp_receive_telling;
 pub use tokens::{gvp_token_acked, gvp_token_and, gvp_token_lost, gvp_token_of};
 
-/// Takes the memory for an end: the handle holds one then, which `gvp_new` makes another. A handle that holds one loses it.
+/// Apart from `gvp_new`, so that making an endpoint can't fail for memory once its settings passed. A handle that holds one loses it.
 #[unsafe(no_mangle)]
 pub extern "C" fn gvp_reserve(alloc: Global, end: &mut Handle) -> u32
     ensures { MatchBool (nat_eq result 0) (is_some end.new.cell.value ≡ true) ((result ≡ 2) × (end.new.cell.value ≡ end.old.cell.value)) }
@@ -95,7 +96,7 @@ pub extern "C" fn gvp_reserve(alloc: Global, end: &mut Handle) -> u32
     starts::reserve(alloc, end)
 }
 
-/// Makes the end that a handle holds a new one. It takes no memory.
+/// It takes no memory: `gvp_reserve` took it.
 #[unsafe(no_mangle)]
 pub extern "C" fn gvp_new(
     alloc: Global,
@@ -115,7 +116,6 @@ pub extern "C" fn gvp_new(
     status
 }
 
-/// Drops the end that a handle holds.
 #[unsafe(no_mangle)]
 pub extern "C" fn gvp_free(alloc: Global, end: &mut Handle)
     ensures { end.new.cell.value ≡ None }
@@ -734,7 +734,6 @@ pub extern "C" fn gvp_raise_limits(alloc: Global, end: &mut Handle, limits: &GvL
     status
 }
 
-/// The stream of the last STREAM frame in a payload.
 #[unsafe(no_mangle)]
 pub extern "C" fn gvp_last_stream(payload: &[u8], stream: &mut u64) -> u32
     ensures { (result, stream.new) ≡ found (last_stream_of None (frames_of (reading_of payload.now).left)) stream.old }
@@ -742,7 +741,7 @@ pub extern "C" fn gvp_last_stream(payload: &[u8], stream: &mut u64) -> u32
     of_stream(last_stream(payload), stream)
 }
 
-/// The frame that stands in a payload at a place, and the place behind it.
+/// The place behind it is returned, so that C keeps the walk and no handle is needed.
 #[unsafe(no_mangle)]
 pub extern "C" fn gvp_frames_next(
     payload: &[u8],
@@ -755,7 +754,7 @@ pub extern "C" fn gvp_frames_next(
     reads::next(payload, place, frame, fault)
 }
 
-/// Writes a frame of these bytes and this token.
+/// The token apart, since a frame's struct has only places.
 #[unsafe(no_mangle)]
 pub extern "C" fn gvp_put(
     frame: &GvFrame,
@@ -769,7 +768,6 @@ pub extern "C" fn gvp_put(
     puts::put_frame(frame, bytes, token, out, len)
 }
 
-/// Writes an ACK frame of as many of the ranges as fit.
 #[unsafe(no_mangle)]
 pub extern "C" fn gvp_put_ack(
     ranges: &[GvRange],
@@ -783,7 +781,6 @@ pub extern "C" fn gvp_put_ack(
     acks::put(ranges, delay, out, count, len)
 }
 
-/// The next range that the bytes of an ACK frame spell below a number.
 #[unsafe(no_mangle)]
 pub extern "C" fn gvp_ack_next(
     bytes: &[u8],

@@ -4,7 +4,7 @@ ghost use Rattle.std.specs.Prelude.{◌≡◌};
 use qs_conn::Heard;
 use std::marker::Model;
 
-/// What an owner heard of at its end, as one value of this crate.
+/// What was reported, as one value of this crate.
 #[derive(Drop)]
 pub struct Listener {
     pub(crate) heard: Heard,

@@ -10,7 +10,7 @@ use crate::loose::Loose;
 use std::alloc::Global;
 use std::marker::Model;
 
-/// As `Cell`, of what was heard.
+/// As `Cell`, of what was reported.
 #[repr(C)]
 #[derive(Drop)]
 pub struct ListenerCell {

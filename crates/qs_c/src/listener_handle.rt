@@ -8,7 +8,6 @@ use std::alloc::Global;
 use std::mem::replace;
 use std::ptr::null_mut;
 
-/// What an owner heard of at its end, or none.
 #[repr(C)]
 #[derive(Drop)]
 pub struct ListenerHandle {

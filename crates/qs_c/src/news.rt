@@ -1,4 +1,4 @@
-//! A piece of news, as C is told it.
+//! An event as C gets it.
 ghost use Rattle.std.specs.Prelude.{◌≡◌};
 ghost use Rattle.qs_c.specs.Events.{memory_status, dir_number, news_of, news_told};
 ghost use Rattle.qs_c.specs.Statuses.{status_of};
@@ -30,7 +30,7 @@ const STREAM_DATA_BLOCKED: u32 = 9;
 
 const STREAMS_BLOCKED: u32 = 10;
 
-/// What its kind hasn't is 0.
+/// What its kind doesn't have is 0, as in a frame's struct.
 #[repr(C)]
 #[derive(Clone, Copy, Drop)]
 pub struct GvNews {

@@ -1,4 +1,4 @@
-//! The bytes that are next are lent where they lie.
+//! The next bytes are lent where they are.
 ghost use Rattle.std.specs.Prelude.{◌≡◌, Result, MatchBool};
 ghost use Rattle.qs_recv.specs.declared.half.Peek.{Peek};
 ghost use Rattle.qs_calls.specs.declared.uses.UseFault.{UseFault};
@@ -11,7 +11,6 @@ use crate::handle::Handle;
 use crate::thing::Thing;
 use qs_wire::StreamId;
 
-/// Bytes of a stream, in two pieces of memory.
 #[repr(C)]
 #[derive(Clone, Copy, Drop)]
 pub struct GvPieces<'a> {
@@ -19,7 +18,8 @@ pub struct GvPieces<'a> {
     pub back: &'a [u8],
 }
 
-/// Tells what a read would. The pieces are lent as long as the handle is.
+/// The pieces are lent as long as the handle is: the rules on borrows say so, and no promise beside them. The price is a `&mut` for a call
+/// that changes nothing.
 #[unsafe(no_mangle)]
 pub extern "C" fn gvp_peek<'a>(
     end: &'a mut Handle,

@@ -10,7 +10,6 @@ use crate::answers::{FAULT, INVALID, NONE, OK};
 use crate::frame::{GvFault, GvFrame, of_kind};
 use qs_wire::{Frame, Frames, Placed, read_varint};
 
-/// Gives the frame that stands in a payload at a place, and moves on behind it.
 pub(crate) fn next(
     payload: &[u8],
     place: &mut usize,
@@ -42,7 +41,7 @@ pub(crate) fn next(
     }
 }
 
-/// The first frame of the bytes, which stand at a place, as C is told it, and the place behind it.
+/// By places in the payload, so that C's struct holds no pointer of Rust's.
 fn told_of(placed: &Placed, at: usize, bytes: &[u8]) -> (GvFrame, usize)
     requires first { (r : Reading) × (reading_of bytes.now ≡ with_first (view_placed placed.now) r) }
     requires room { at + length bytes.now < 2 ^ 63 }
@@ -88,7 +87,7 @@ fn lead(frame_type: u64) -> usize
     }
 }
 
-/// How many numbers of ranges a frame has, how many bytes, how many of a token, and how many numbers behind them.
+/// From these the places follow, since the fields of each kind have one order.
 fn sizes(frame: &Frame) -> (usize, usize, usize, usize)
     ensures { as_sizes result ≡ sizes_of (view frame.now) }
 {
@@ -112,7 +111,6 @@ fn sizes(frame: &Frame) -> (usize, usize, usize, usize)
     }
 }
 
-/// Where the bytes of a frame stand, how many of them are numbers of ranges, and where the frame ends.
 fn laid(
     lead: usize,
     mid: usize,
@@ -135,7 +133,6 @@ fn laid(
     Some((at, ranges, next + skip(trail, &bytes[next..])))
 }
 
-/// How many bytes so many numbers take at the front.
 pub(crate) fn skip(count: usize, bytes: &[u8]) -> usize
     ensures exact { result ≡ skip_of count bytes.now }
     ensures within { result ≤ length bytes.now }
@@ -153,7 +150,6 @@ pub(crate) fn skip(count: usize, bytes: &[u8]) -> usize
     at
 }
 
-/// How many numbers the bytes spell.
 pub(crate) fn numbers_in(bytes: &[u8]) -> usize
     ensures { result ≡ length (numbers_of bytes.now) }
 {

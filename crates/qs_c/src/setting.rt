@@ -1,4 +1,4 @@
-//! What an owner sets anew while the connection lasts.
+//! What an application changes while the connection lasts.
 ghost use Rattle.std.specs.Prelude.{◌≡◌, true, Result};
 ghost use Rattle.qs_calls.specs.declared.settings.SetFault.{SetFault};
 ghost use Rattle.qs_machine.specs.Setting.{ConnWindow, Grant, SendBuffer, StreamWindow, SetStep};
@@ -11,7 +11,6 @@ use crate::thing::Thing;
 use qs_wire::StreamId;
 use std::alloc::Global;
 
-/// The connection's window.
 #[unsafe(no_mangle)]
 pub extern "C" fn gvp_set_conn_window(alloc: Global, end: &mut Handle, window: u64) -> u32
     ensures { Called end.old.cell.value end.new.cell.value true (result ≡ 1) (λ e f. (a : Result (Unit {0}) SetFault) × (result ≡ status_of set_status a) × SetStep e (ConnWindow window) a f) }
@@ -24,7 +23,6 @@ pub extern "C" fn gvp_set_conn_window(alloc: Global, end: &mut Handle, window: u
     status
 }
 
-/// How many streams of a direction the peer may have open.
 #[unsafe(no_mangle)]
 pub extern "C" fn gvp_set_grant(alloc: Global, end: &mut Handle, dir: u32, streams: u64) -> u32
     ensures { Called end.old.cell.value end.new.cell.value (is_flag dir) (result ≡ 1) (λ e f. (a : Result (Unit {0}) SetFault) × (result ≡ status_of set_status a) × SetStep e (Grant (dir_of dir) streams) a f) }
@@ -37,7 +35,6 @@ pub extern "C" fn gvp_set_grant(alloc: Global, end: &mut Handle, dir: u32, strea
     status
 }
 
-/// How many bytes that aren't acknowledged a stream keeps.
 #[unsafe(no_mangle)]
 pub extern "C" fn gvp_set_send_buffer(
     alloc: Global,
@@ -55,7 +52,6 @@ pub extern "C" fn gvp_set_send_buffer(
     status
 }
 
-/// How far what comes of a stream may run ahead of what is taken of it.
 #[unsafe(no_mangle)]
 pub extern "C" fn gvp_set_stream_window(
     alloc: Global,

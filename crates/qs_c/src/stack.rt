@@ -1,4 +1,4 @@
-//! The calls of C for a stack that owns its packets: it hands frames in, and has what is due filled in.
+//! The calls of C for a stack with packets of its own: it passes frames in, and has pending ones filled in.
 ghost use Rattle.std.specs.Prelude.{◌≡◌, [], length, Option, Result};
 ghost use Rattle.qs_calls.specs.declared.filling.Filled.{Filled};
 ghost use Rattle.qs_calls.specs.declared.making.MakeFault.{MakeFault};
@@ -22,7 +22,7 @@ use qs_calls::Fill;
 use qs_wire::StreamId;
 use std::alloc::Global;
 
-/// Hands a frame of these bytes in. The token of a NEW_CONNECTION_ID isn't asked for: that frame is the stack's own.
+/// The token of a NEW_CONNECTION_ID isn't asked for: that frame is the stack's own.
 #[unsafe(no_mangle)]
 pub extern "C" fn gvp_take_frame(
     alloc: Global,
@@ -41,7 +41,6 @@ pub extern "C" fn gvp_take_frame(
     status
 }
 
-/// Fills a slice with what is due and wanted.
 #[unsafe(no_mangle)]
 pub extern "C" fn gvp_fill(
     alloc: Global,

@@ -1,4 +1,4 @@
-//! An end is made.
+//! Making an endpoint.
 ghost use Rattle.std.specs.Prelude.{◌≡◌, ◌&&◌, true, MatchBool, Some, None, Ok, is_some, nat_eq, if◌then◌else◌};
 ghost use Rattle.qs_machine.specs.Ends.{wide_end_made};
 ghost use Rattle.qs_c.specs.Statuses.{Tested, Starts, setup_status, is_flag, role_of};
@@ -12,7 +12,7 @@ use qs_conn::{Endpoint, PeerLimits, Settings};
 use qs_wire::Role;
 use std::alloc::Global;
 
-/// The least that an end may be set to. An end of it holds the memory until there is another one.
+/// The least settings: an endpoint of them holds the memory until the right one takes its place.
 const LEAST: Settings = Settings {
     conn_window: 1,
     bidi_local: 1,

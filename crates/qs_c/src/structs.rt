@@ -5,7 +5,6 @@ ghost use Rattle.qs_c.specs.Structs.{made_of, filled_of, numbers_of, token_in, c
 use qs_calls::{CloseKind, Closer, Filled, Token, ToldClose};
 use qs_conn::{Closing, Made, PeerLimits, Settings, Share, Tuning};
 
-/// The greatest number of a part.
 const SHARES: u32 = 4;
 
 #[repr(C)]
@@ -22,8 +21,8 @@ pub struct GvSettings {
     pub lifetime_uni: u64,
 }
 
-/// Parts are 1 for a half, 2 for a quarter, 3 for an eighth, 4 for a sixteenth; for none, where there may be none, 0. A window of 0
-/// stands for none, too.
+/// Shares are 1 for a half, 2 for a quarter, 3 for an eighth, 4 for a sixteenth; 0 for none, if there may be none. A window of 0 is none
+/// too, since a field that an older program doesn't know is 0.
 #[repr(C)]
 #[derive(Clone, Copy, Drop)]
 pub struct GvTuning {
@@ -55,7 +54,6 @@ pub struct GvMade {
     pub is_ack_eliciting: bool,
 }
 
-/// What is to be filled in.
 #[repr(C)]
 #[derive(Clone, Copy, Drop)]
 pub struct GvRequest {
@@ -92,7 +90,6 @@ pub struct GvClosing {
     pub place: usize,
 }
 
-/// 0 stands for this side and the transport, 1 for the peer and the application.
 #[repr(C)]
 #[derive(Clone, Copy, Drop)]
 pub struct GvTold {

@@ -1,4 +1,4 @@
-//! The calls of C for what an owner has to know of all streams: what waits to be sent, what is kept, and what was taken.
+//! The calls of C for what is counted over all streams: what waits to be sent, what is kept, and what was consumed.
 ghost use Rattle.std.specs.Prelude.{◌≡◌, ◌-◌, ◌^◌, true, min, MatchBool};
 ghost use Rattle.qs_machine.specs.Asking.{all_unsent, all_kept, taken};
 ghost use Rattle.qs_machine.specs.Credit.{all_taken};
@@ -10,7 +10,6 @@ use crate::thing::Thing;
 use qs_wire::StreamId;
 use std::alloc::Global;
 
-/// How many bytes of all streams wait to be sent for the first time.
 #[unsafe(no_mangle)]
 pub extern "C" fn gvp_unsent_sum(alloc: Global, end: &mut Handle, count: &mut u64) -> u32
     ensures { Asked end.old.cell.value end.new.cell.value true (Invalid result count.old count.new) (λ e. (result ≡ 0) × (count.new ≡ min (all_unsent e) (2 ^ 64 - 1))) }
@@ -23,7 +22,6 @@ pub extern "C" fn gvp_unsent_sum(alloc: Global, end: &mut Handle, count: &mut u6
     status
 }
 
-/// How many bytes of all streams are kept until they are acknowledged.
 #[unsafe(no_mangle)]
 pub extern "C" fn gvp_kept_sum(alloc: Global, end: &mut Handle, count: &mut u64) -> u32
     ensures { Asked end.old.cell.value end.new.cell.value true (Invalid result count.old count.new) (λ e. (result ≡ 0) × (count.new ≡ min (all_kept e) (2 ^ 64 - 1))) }
@@ -36,7 +34,6 @@ pub extern "C" fn gvp_kept_sum(alloc: Global, end: &mut Handle, count: &mut u64)
     status
 }
 
-/// How many bytes of a stream count as taken.
 #[unsafe(no_mangle)]
 pub extern "C" fn gvp_taken(alloc: Global, end: &mut Handle, stream: u64, count: &mut u64) -> u32
     ensures { Asked end.old.cell.value end.new.cell.value (is_small stream) (Invalid result count.old count.new) (λ e. (result, count.new) ≡ found (taken e stream) count.old) }
@@ -49,7 +46,6 @@ pub extern "C" fn gvp_taken(alloc: Global, end: &mut Handle, stream: u64, count:
     status
 }
 
-/// The same of all streams.
 #[unsafe(no_mangle)]
 pub extern "C" fn gvp_taken_sum(alloc: Global, end: &mut Handle, count: &mut u64) -> u32
     ensures { Asked end.old.cell.value end.new.cell.value true (Invalid result count.old count.new) (λ e. (result ≡ 0) × (count.new ≡ all_taken e)) }

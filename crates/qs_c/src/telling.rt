@@ -1,4 +1,4 @@
-//! A payload is taken in, and C is told which packets it newly acknowledges.
+//! A payload is processed, and C gets the packets that it newly acknowledges.
 ghost use Rattle.std.specs.Prelude.{◌≡◌, ◌≤◌, ◌↔◌, IsTrue, length};
 ghost use Rattle.std.specs.FinMap as fmap;
 ghost use Rattle.qs_c.specs.Statuses.{Called, Tested, Invalid, is_small};
@@ -13,7 +13,7 @@ use std::alloc::Global;
 
 const LIMIT: u64 = 1 << 62;
 
-/// Notes numbers in a slice, as long as it has room.
+/// Notes numbers in a slice that C lends, as long as it has room: a callback into C in the middle of a call could call the endpoint.
 #[derive(Drop)]
 pub(crate) struct Notes<'a> {
     room: &'a mut [u64],
@@ -31,8 +31,8 @@ impl Told for Notes<'_> {
     }
 }
 
-/// As `gvp_receive`, and writes the numbers of the packets that the payload newly acknowledges. Where `told` hasn't a place for each
-/// number from the least outstanding packet's to the greatest's, nothing changes.
+/// As `gvp_receive`, and writes the numbers of the packets that the payload newly acknowledges. If `told` hasn't a place for each number
+/// from the lowest outstanding to the highest, nothing changes: a number that finds no place would be lost.
 #[unsafe(no_mangle)]
 pub extern "C" fn gvp_receive_telling(
     alloc: Global,
@@ -79,7 +79,6 @@ impl Thing {
         of_received(answer, closing)
     }
 
-    // Whether the outstanding packets' numbers lie within so many in a row.
     #[tactic(auto, using(crate::proofs::Noting::none_fit))]
     fn lie_within(&self, room: usize) -> bool
         ensures exact { IsTrue result ↔ LieWithin self.now.outstanding room }

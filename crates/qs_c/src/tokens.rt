@@ -12,7 +12,6 @@ use crate::structs::GvToken;
 use crate::thing::Thing;
 use std::alloc::Global;
 
-/// The token of the packet of that number.
 #[unsafe(no_mangle)]
 pub extern "C" fn gvp_token_of(
     alloc: Global,
@@ -30,7 +29,6 @@ pub extern "C" fn gvp_token_of(
     OK
 }
 
-/// One token for two that follow one another.
 #[unsafe(no_mangle)]
 pub extern "C" fn gvp_token_and(token: &GvToken, next: &GvToken, both: &mut GvToken) -> u32
     ensures { (result, both.new) ≡ found (option_map numbers_of (joined (token_in token.now) (token_in next.now))) both.old }

@@ -1,4 +1,4 @@
-//! What the ends answer.
+//! What the endpoints of a run returned.
 
 use crate::closing::{Closing, Received};
 use crate::making::{LostFault, Made, MakeFault};
@@ -6,7 +6,7 @@ use crate::uses::{OpenFault, UseFault};
 use qs_recv::Read;
 use qs_wire::StreamId;
 
-/// What the call answered, for each act.
+/// One for each act.
 #[derive(Debug, PartialEq, Eq, Drop)]
 pub enum Answer {
     OpenStream(Result<StreamId, OpenFault>),

@@ -1,4 +1,4 @@
-//! What happens to two ends.
+//! What happens to two endpoints.
 
 ghost use Rattle.std.specs.Prelude.{◌≡◌};
 ghost use Rattle.qs_calls.specs.Events.{fits};
@@ -13,7 +13,7 @@ pub enum Side {
     B,
 }
 
-/// What an end's owner does, or what the network does with one of the end's packets.
+/// What an application does, or what the network does with one of the endpoint's packets.
 #[derive(Debug, PartialEq, Eq, Drop)]
 pub enum Act {
     OpenStream(Dir),
@@ -29,9 +29,10 @@ pub enum Act {
     Make(usize),
     /// The packet of that number is declared lost.
     Lose(u64),
-    /// The layer beneath claims the next packet number, and sends a packet of its own under it: a PING.
+    /// The transport claims the next packet number, and sends a packet of its own under it, a PING: a run without would leave out what
+    /// every transport does.
     Claim,
-    /// The payload that this end made under that number comes to the other end.
+    /// The payload that this endpoint made under that number comes to the other one.
     Deliver(u64),
 }
 
@@ -42,7 +43,7 @@ pub struct Event {
 }
 
 impl Event {
-    /// Whether each number is one that a script may name.
+    /// Whether each number is one that a script may name. A condition of calls: the theorems hold without it.
     pub fn fits(&self) -> bool
         ensures { result ≡ fits self.now }
     {

@@ -1,33 +1,33 @@
-//! What a stack that owns its packets asks to be filled in, and what went in.
+//! What a stack with packets of its own asks to be filled in, and what went in.
 
 ghost use Rattle.std.specs.Prelude.{◌≡◌, ◌-◌, ◌^◌, true, false};
 
 use crate::Token;
 use qs_wire::StreamId;
 
-/// With so many bytes of room a fill puts something in wherever something may go that it was asked for. No frame that goes in whole is
-/// longer than a RESET_STREAM, with a byte for its type and eight for each of its three numbers (RFC 9000, section 19.4); and a STREAM
-/// frame with one byte has 19 at most (section 19.8).
+/// With so many bytes of room a fill puts something in whenever anything that it was asked for may go. No control frame is longer than a
+/// RESET_STREAM, with a byte for its type and eight for each of its three numbers (RFC 9000, section 19.4); and a STREAM frame with one
+/// byte has 19 at most (section 19.8).
 pub const MIN_FILL: usize = 25;
 
-/// What is to be filled in. Control items come first, in the order in which a packet takes them; then bytes and ends of streams, lower
-/// streams first.
+/// What is to be filled in. Control frames come first, in the order of a packet, since the peer may wait for credit; then data and FINs of
+/// streams, lower streams first.
 #[derive(Clone, Copy, Debug, PartialEq, Eq, Drop)]
 pub struct Fill {
-    /// Control items: limits, resets, STOP_SENDING and what is blocked (RFC 9000, section 13.3).
+    /// Control frames: limits, resets, STOP_SENDING and blocked frames (RFC 9000, section 13.3).
     pub items: bool,
-    /// Bytes and ends of streams.
+    /// Data and FINs of streams.
     pub streams: bool,
     /// From this stream on, and then those below it.
     pub first: StreamId,
     /// Of that stream alone.
     pub alone: bool,
-    /// So many bytes of streams at most; `NO_CAP` stands for as many as fit. A chunk is cut where it would pass that, and then no stream
-    /// has another turn. With 0 no byte goes in, and an end only where all bytes of its stream went and no stream before it has any.
+    /// So many bytes of streams at most; `NO_CAP` stands for as many as fit. A chunk is cut if it would pass that, and then no stream has
+    /// another turn. With 0 no byte goes in, and a FIN only if all bytes of its stream went and no stream before it has any.
     pub most_bytes: usize,
 }
 
-/// As many bytes of streams as fit: a slice has fewer than that.
+/// As many bytes of streams as fit: a slice has fewer than that, so no flag is needed.
 pub const NO_CAP: usize = usize::MAX;
 
 impl Fill {
@@ -44,7 +44,7 @@ impl Fill {
         }
     }
 
-    /// Control items alone.
+    /// Control frames alone.
     pub fn control() -> Fill
         ensures { result ≡ record { items = true; streams = false; first = 0; alone = false; most_bytes = 2 ^ 64 - 1 } }
     {
@@ -57,7 +57,7 @@ impl Fill {
         }
     }
 
-    /// Bytes and ends of streams alone, from stream 0 on.
+    /// Data and FINs of streams alone, from stream 0 on.
     pub fn data() -> Fill
         ensures { result ≡ record { items = false; streams = true; first = 0; alone = false; most_bytes = 2 ^ 64 - 1 } }
     {
@@ -110,19 +110,18 @@ impl Fill {
     }
 }
 
-/// What went into a slice: the token by which that is told to be acknowledged or lost, and how many bytes it has.
+/// What went into a slice: the token that names it, and how many bytes it has.
 #[derive(Clone, Copy, Debug, PartialEq, Eq, Drop)]
 pub struct Filled {
     pub token: Token,
     pub len: usize,
-    /// The stream of the last STREAM frame, if there is one. An owner whose streams send by turns goes on behind it.
+    /// The stream of the last STREAM frame, if there is one. For round-robin, go on behind it.
     pub last_stream: Option<StreamId>,
-    /// Whether more of what was asked for is due that may go. What is held back by the cap of bytes isn't counted: once that is used up,
-    /// control items alone are.
+    /// Whether more of what was asked for is due and may go. What the cap holds back isn't counted: once that is used up, another call
+    /// would put in control frames alone.
     pub more: bool,
 }
 
-// Stream 0.
 fn first_stream() -> StreamId
     ensures { result ≡ 0 }
 {

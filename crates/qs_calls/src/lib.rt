@@ -1,4 +1,5 @@
-//! The calls of an end as values: what it is set to, what may be asked of it, and what it answers.
+//! The calls of an endpoint as values: its settings, what may be asked of it, and what it returns. Apart from its code, since the
+//! definitions below speak of them, too.
 #![tactic(auto)]
 
 mod answer;

@@ -3,7 +3,7 @@
 use thiserror::Error;
 
 /// A packet that was made: its number, the length of its payload in bytes, and whether it asks for an ACK: whether it holds a frame other
-/// than an ACK (RFC 9000, section 13.2.1).
+/// than an ACK (RFC 9000, section 13.2.1). All are known as it is made, and a caller would have to read the payload for them.
 #[derive(Clone, Copy, Debug, PartialEq, Eq, Drop)]
 pub struct Made {
     pub number: u64,
@@ -23,10 +23,10 @@ pub enum MakeFault {
     Exhausted,
 }
 
-/// Why a packet was not declared lost, or not in whole.
+/// Why a packet was not declared lost, or not wholly.
 #[derive(Clone, Copy, Debug, PartialEq, Eq, Drop, Error)]
 pub enum LostFault {
-    /// It was not made, or it is acknowledged or lost, or it needs no answer.
+    /// It wasn't made, it is acknowledged or lost, or nobody acknowledges it.
     #[error("no such packet is outstanding")]
     NotOutstanding,
     /// Some of what it carried is due again. The call may be made again.

@@ -1,12 +1,11 @@
-//! What a reader is told that takes bytes without a copy.
+//! What a reader gets that consumes bytes without a copy.
 
 use qs_recv::Read;
 
-/// What came of a call that took bytes without a copy.
 #[derive(Clone, Copy, Debug, PartialEq, Eq, Drop)]
 pub struct Consumed {
-    /// What a read of so many bytes tells.
+    /// What a read of so many bytes would return.
     pub read: Read,
-    /// Whether the end of the stream is reached, and so counts as told (RFC 9000, section 3.2).
+    /// Whether the stream ends with these bytes. Then that counts as read (RFC 9000, section 3.2), so that no further call is needed.
     pub at_end: bool,
 }

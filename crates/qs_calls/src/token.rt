@@ -1,4 +1,4 @@
-//! Frames that come without their packet, and tokens of packets, for a stack that owns its packet numbers and its ACKs.
+//! Frames without their packet, and tokens of packets, for a stack with packet numbers and ACKs of its own.
 
 ghost use Rattle.std.specs.Prelude.{◌≡◌};
 ghost use Rattle.qs_calls.specs.Tokens.{joined};
@@ -20,8 +20,8 @@ pub struct Token {
 }
 
 impl Token {
-    /// One token for what this one names and what was filled in next. `None` where its numbers don't follow this one's, or another end
-    /// gave it.
+    /// One token for what this one names and what was filled in next. `None` if its numbers don't follow this one's, or their epochs
+    /// differ.
     pub fn and(self, next: Token) -> Option<Token>
         ensures { result ≡ joined self next }
     {
@@ -36,24 +36,25 @@ impl Token {
     }
 }
 
-/// What came of a frame that was handed in, or of several.
+/// What came of one frame, or of several.
 #[derive(Clone, Copy, Debug, PartialEq, Eq, Drop)]
 pub enum Taken {
     /// It took effect, and changed something.
     Took,
-    /// It took effect before, or carries or raises nothing: nothing changed. Many of these tell of a peer that only makes work.
+    /// It took effect before, or carries or raises nothing: nothing changed. A stack counts many of these against a peer that only makes
+    /// work.
     Unchanged,
-    /// It is of a kind that is the stack's own affair, and changed nothing.
+    /// It is for the stack, and changed nothing.
     NotOurs,
 }
 
-/// Why a frame that was handed in took no effect.
+/// Why a frame took no effect.
 #[derive(Clone, Copy, Debug, PartialEq, Eq, Drop, Error)]
 pub enum TakeFault {
-    /// This end closed, for this frame or before (RFC 9000, section 10.2).
+    /// This endpoint closed, for this frame or before (RFC 9000, section 10.2).
     #[error("this end closed the connection")]
     Closing(Closing),
-    /// The end saw its peer close before, with this code.
+    /// The peer closed before, with this code.
     #[error("the peer closed the connection with code {0}")]
     PeerClosed(u64),
     /// The frame changed nothing, and may come again.
@@ -61,13 +62,13 @@ pub enum TakeFault {
     NoMemory,
 }
 
-/// Why a token was not told to be acknowledged or lost, or not in whole.
+/// Why a token wasn't acknowledged or lost, or not wholly.
 #[derive(Clone, Copy, Debug, PartialEq, Eq, Drop, Error)]
 pub enum TokenFault {
     /// Not all of its packets were made yet, or it is of another epoch.
     #[error("no packet has this token")]
     NotGiven,
-    /// Some of what the packet carried may be told already. The call may be made again.
+    /// Some of what the packet carried may be done already. The call may be made again.
     #[error("out of memory")]
     NoMemory,
     #[error("the connection is closed")]

@@ -5,7 +5,7 @@ use thiserror::Error;
 /// Why no stream was opened.
 #[derive(Clone, Copy, Debug, PartialEq, Eq, Drop, Error)]
 pub enum OpenFault {
-    /// As many streams are open as the peer allows.
+    /// As many streams were opened as the peer permits.
     #[error("the peer allows {0} streams")]
     Blocked(u64),
     #[error("the connection is closed")]
@@ -19,7 +19,6 @@ pub enum OpenFault {
 pub enum UseFault {
     #[error("the stream is not open")]
     NoSuchStream,
-    /// The stream has no half of that kind at this end.
     #[error("the stream goes the other way")]
     WrongDirection,
     #[error("the stream was finished")]

@@ -12,7 +12,8 @@ ghost use Rattle.qs_conn.specs.Named.{with_range, with_ranges, with_frames};
 use crate::seen::{SeenFrame, seen};
 use qs_wire::{AckRanges, Frames};
 
-/// The least number from one on that an ACK of the payload names. The reading ends at the first fault, and at a CONNECTION_CLOSE.
+/// The reading ends at the first fault and at a CONNECTION_CLOSE, as that of `receive` does. It takes no memory, so each question reads the
+/// payload again.
 pub(crate) fn next_named(payload: &[u8], from: u64) -> Option<u64>
     ensures { IsLeast (λ n. payload_acks payload.now n ≡ true) from result }
 {
@@ -38,7 +39,6 @@ fn least_of_frames(payload: &[u8], from: u64) -> Option<u64>
     }
 }
 
-// With the ranges of an ACK.
 fn with_ranges(from: u64, largest: u64, ranges: &[u8], least: Option<u64>) -> Option<u64>
     requires { largest < 2 ^ 62 }
     ensures { result ≡ with_ranges from (ack_ranges_of largest (numbers_of ranges.now)) least }
@@ -51,7 +51,6 @@ fn with_ranges(from: u64, largest: u64, ranges: &[u8], least: Option<u64>) -> Op
     found
 }
 
-// With one range.
 fn with_range(from: u64, low: u64, high: u64, least: Option<u64>) -> Option<u64>
     ensures { result ≡ with_range from (low, high) least }
 {

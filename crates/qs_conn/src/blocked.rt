@@ -1,4 +1,4 @@
-//! What the peer says to hold it back, until its owner is told.
+//! What the peer said blocks it, until the application is notified. It is no state of an endpoint, so it is kept beside.
 ghost use Rattle.std.specs.Prelude.{◌≡◌, ◌<◌, ◌^◌, true, None, OnOk, OnErr};
 ghost use Rattle.qs_machine.specs.Heard.{nothing_blocked, is_held_back, with_held_back, is_told, IsToldBeside, IsForgotten};
 ghost use Rattle.qs_machine.specs.News.{IsLeast};
@@ -14,7 +14,8 @@ use qs_wire::{Dir, StreamId};
 use std::alloc::Global;
 use std::marker::Model;
 
-/// A flag for the connection and for each direction, and a mark for each stream.
+/// A flag for the connection and for each direction, and a mark for each stream: a second frame changes nothing, so a peer can't fill a
+/// queue.
 #[derive(Drop)]
 pub(crate) struct BlockedMarks {
     conn: bool,
@@ -33,12 +34,10 @@ impl Model for BlockedMarks {
 
     ghost view = { λ b. record { conn = b.conn; streams = b.streams; bidi = b.dirs.bidi; uni = b.dirs.uni } };
 
-    // What has a mark is a stream.
     ghost invariant = { λ b. (n : ℕ) → is_told b.streams n ≡ true → n < 2 ^ 62 };
 }
 
 impl BlockedMarks {
-    /// Nothing was said.
     pub(crate) fn new(alloc: Global) -> Self
         ensures { result ≡ nothing_blocked }
     {
@@ -49,28 +48,28 @@ impl BlockedMarks {
         }
     }
 
-    /// Whether the connection's limit was said to.
+    /// Whether the peer reported DATA_BLOCKED and the application wasn't notified yet.
     pub(crate) fn has_conn(&self) -> bool
         ensures { result ≡ self.now.conn }
     {
         self.conn
     }
 
-    /// The connection's limit was said to, or its owner is told.
+    /// Sets or clears that.
     pub(crate) fn set_conn(&mut self, is_said: bool)
         ensures { self.new ≡ record self.old { conn = is_said } }
     {
         self.conn = is_said;
     }
 
-    /// A direction's count was said to, or its owner is told.
+    /// The same for STREAMS_BLOCKED of a direction.
     pub(crate) fn set_dir(&mut self, dir: Dir, is_said: bool)
         ensures { self.new ≡ with_held_back self.old dir is_said }
     {
         self.dirs.set(dir, is_said);
     }
 
-    /// A stream's limit was said to. It takes memory where the stream is the highest of its type so far.
+    /// The same for a stream. Marks take memory only for the highest stream of its type so far.
     pub(crate) fn tell(&mut self, stream: StreamId) -> Result<(), NoMemory>
         ensures ok { OnOk result (IsToldBeside stream self.old.streams self.new.streams × (self.new ≡ record self.old { streams = self.new.streams })) }
         ensures err { OnErr result (self.new ≡ self.old) }
@@ -79,7 +78,6 @@ impl BlockedMarks {
         self.streams.tell(stream)
     }
 
-    /// Its owner is told.
     pub(crate) fn forget(&mut self, stream: StreamId)
         ensures forgotten { IsForgotten stream self.old.streams self.new.streams }
         ensures rest { self.new ≡ record self.old { streams = self.new.streams } }
@@ -87,7 +85,6 @@ impl BlockedMarks {
         self.streams.forget(stream);
     }
 
-    /// The first direction whose count was said to.
     pub(crate) fn next_dir(&self) -> Option<Dir>
         ensures { IsFirstDir (λ d. is_held_back self.now d ≡ true) result }
     {
@@ -100,7 +97,6 @@ impl BlockedMarks {
         None
     }
 
-    /// The least stream whose limit was said to.
     pub(crate) fn next_stream(&self) -> Option<StreamId>
         ensures { IsLeast (λ n. is_told self.now.streams n ≡ true) 0 result }
     {
@@ -109,7 +105,6 @@ impl BlockedMarks {
         lesser(bidi, uni)
     }
 
-    // The least one of a type.
     fn next_of(&self, stream_type: usize) -> Option<StreamId>
         requires { stream_type < 4 }
         ensures { IsLeast (IsToldOf self.now.streams stream_type) 0 result }

@@ -4,7 +4,7 @@ ghost use Rattle.qs_conn.specs.ByDir.{of_dir, with_dir};
 
 use qs_wire::Dir;
 
-/// One of each direction of streams (RFC 9000, section 2.1).
+/// One of each direction of streams (RFC 9000, section 2.1): what is said of one direction is so written once.
 #[derive(Clone, Copy, Drop)]
 pub(crate) struct ByDir<T> {
     pub bidi: T,
@@ -18,7 +18,6 @@ impl<T: Copy> ByDir<T> {
         ByDir { bidi, uni }
     }
 
-    /// The one of a direction.
     #[inline(always)]
     pub(crate) fn of(&self, dir: Dir) -> T
         ensures { result ≡ of_dir self.now dir }
@@ -29,7 +28,6 @@ impl<T: Copy> ByDir<T> {
         }
     }
 
-    /// Puts another in place of the one of a direction.
     pub(crate) fn set(&mut self, dir: Dir, value: T)
         ensures { self.new ≡ with_dir dir value self.old }
     {

@@ -7,16 +7,15 @@ use crate::by_dir::ByDir;
 use crate::endpoint::is_uni;
 use qs_wire::StreamId;
 
-// How many streams of the peer came to their end, of each direction (RFC 9000, sections 3 and 4.6).
+// Counted as streams change, since counts of streams follow it at every call (RFC 9000, sections 3 and 4.6).
 impl ByDir<u64> {
-    /// Whether the counts are the same as others.
     pub(crate) fn is_same(&self, other: ByDir<u64>) -> bool
         ensures { result ≡ true → self.now ≡ other }
     {
         self.bidi == other.bidi && self.uni == other.uni
     }
 
-    /// Counts a stream anew, which was at its end or wasn't, and is now or isn't.
+    /// What the stream added before goes first, so that it isn't counted twice.
     pub(crate) fn recount(&mut self, stream: StreamId, was: bool, is: bool)
         requires small { (self.old.bidi ≤ 2 ^ 60) × (self.old.uni ≤ 2 ^ 60) }
         requires part { one_if was ≤ (if is_uni stream then self.old.uni else self.old.bidi) }
@@ -30,7 +29,6 @@ impl ByDir<u64> {
     }
 }
 
-// A count with what a stream adds, and without what it added.
 fn moved(count: u64, was: bool, is: bool) -> u64
     requires small { count ≤ 2 ^ 60 }
     requires part { one_if was ≤ count }

@@ -1,4 +1,4 @@
-//! One end of a connection.
+//! One endpoint of a connection.
 ghost use Rattle.std.specs.Prelude.{◌≡◌, ◌+◌, ◌≤◌, ◌<◌, length, max, min, Some, None};
 ghost use Rattle.qs_ranges.specs.Numbers.{MAX_VARINT};
 ghost use Rattle.qs_recv.specs.Lane.{MAX_WINDOW, next_limit};
@@ -50,15 +50,15 @@ mod taking;
 mod telling;
 mod tokens;
 
-/// One end of a connection. It takes in the payloads of packets and makes packets, and its owner opens, accepts, writes,
-/// finishes, resets, reads and stops streams, and declares packets lost (RFC 9000, sections 2 to 4 and 13).
+/// One endpoint of a connection. It processes payloads and makes packets. The application opens, accepts, writes, finishes, resets, reads
+/// and stops streams; the transport declares packets lost (RFC 9000, sections 2 to 4 and 13).
 ///
-/// Contracts see the end as a record.
+/// Contracts see it as a record.
 #[derive(Drop)]
 pub struct Endpoint {
     core: Core,
     peer: PeerLimits,
-    // Whether nothing that the limits and the counts of streams follow has moved since they were looked at.
+    // A call that moved nothing which limits and counts follow looks at none of them as it ends.
     is_settled: bool,
     accepted: ByDir<u64>,
     done: RangeSet,
@@ -114,8 +114,8 @@ impl Model for Endpoint {
 }
 
 impl Endpoint {
-    /// A new end. Refused where a setting is out of its range, or where the peer allows more streams than have a number (RFC 9000,
-    /// section 4.6).
+    /// A new endpoint. Refused if a setting is out of its range, or if the peer permits more streams than have a number (RFC 9000, section
+    /// 4.6).
     pub fn new(
         alloc: Global,
         role: Role,
@@ -130,8 +130,8 @@ impl Endpoint {
         }
     }
 
-    /// The same with wider ranges: windows of streams and sending buffers of up to 2^30 bytes, a connection's window of up to 2^40,
-    /// grants of up to 2^17 streams of a direction and lifetimes of up to 2^21; and tuned. What [`new`](Endpoint::new) makes this makes, too.
+    /// The same with wider ranges: windows of streams and sending buffers of up to 2^30 bytes, a connection's window of up to 2^40, grants
+    /// of up to 2^17 streams of a direction and lifetimes of up to 2^21; and tuned. What [`new`](Endpoint::new) makes this makes, too.
     pub fn new_wide(
         alloc: Global,
         role: Role,
@@ -147,7 +147,6 @@ impl Endpoint {
         }
     }
 
-    // The end that begins with such settings.
     fn begun(
         alloc: Global,
         role: Role,
@@ -192,7 +191,7 @@ impl Endpoint {
         }
     }
 
-    /// How many bytes are stored: at most what was granted and isn't taken.
+    /// How many bytes are stored: at most what was granted beyond what was consumed.
     pub fn stored(&self) -> u64
         ensures exact { result ≡ all_stored self.now }
         ensures within { IsWithinCredit self.now }
@@ -201,10 +200,10 @@ impl Endpoint {
         self.core.recvs.tally().stored
     }
 
-    /// How much memory the rings of receiving halves take and the buffers of sending halves, by a walk over all streams that were
-    /// opened: for a look now and then, and not for each packet. A peer within its credit can't make the rings take more than four
-    /// times the widest window of the connection that was set, and 4,096 bytes for each receiving half that keeps bytes still. A sending half that was reset,
-    /// or of which all that was written and the end were acknowledged, takes nothing.
+    /// How much memory the receive buffers take and the sending buffers, by a walk over all streams that were opened, so for a look from
+    /// time to time: a sum would have to be kept at each call. A peer within its credit can't make the receive buffers take more than four
+    /// times the widest window of the connection that was set, and 4,096 bytes for each receiving half that still keeps bytes. A sending
+    /// half that was reset, or of which all was acknowledged, takes none.
     pub fn held(&self) -> Held
         ensures { IsHeldBy self.now result }
     {
@@ -222,8 +221,8 @@ impl Endpoint {
         self.core.limits.granted
     }
 
-    /// How many streams of a direction the peer may open: the grant, and one more for each of its streams that came to its end, up to
-    /// the lifetime's count, and no fewer than before (RFC 9000, section 4.6). It takes no memory.
+    /// How many streams of a direction the peer may open: the grant, and one more for each of its streams that ended, up to the lifetime's
+    /// count, and no fewer than before (RFC 9000, section 4.6). It takes no memory.
     pub fn granted_streams(&self, dir: Dir) -> u64
         ensures { result ≡ granted_streams self.now dir }
     {
@@ -238,8 +237,8 @@ impl Endpoint {
         self.core.recvs.tally().spent
     }
 
-    /// Writes the payload that tells of this end's own closing: a CONNECTION_CLOSE with an empty reason (RFC 9000, section 10.2).
-    /// Answers its length. `None` where this end didn't close, or where it doesn't fit; then nothing is written.
+    /// Writes the payload for this endpoint's own close: a CONNECTION_CLOSE with an empty reason (RFC 9000, section 10.2). Returns its
+    /// length. `None` if it didn't close, or if it doesn't fit; then nothing is written.
     pub fn close_payload(&self, out: &mut [u8]) -> Option<usize>
         ensures { ClosePayload self.now out.old result out.new }
     {
@@ -249,7 +248,8 @@ impl Endpoint {
         put_close(closing, out)
     }
 
-    // Each limit becomes the next one, and each granted count of streams: where nothing moved they are.
+    // As a call ends, and never between the frames of a payload: so what a frame is judged by doesn't depend on where it stands in its
+    // payload.
     fn settle(&mut self)
         ensures { self.new ≡ settle self.old }
     {
@@ -287,14 +287,13 @@ impl Endpoint {
         self.is_settled = true;
     }
 
-    // Whether this end opens the stream.
     fn is_own(&self, stream: StreamId) -> bool
         ensures { result ≡ is_own self.now stream }
     {
         type_of(stream) % 2 == role_bit(self.core.limits.role)
     }
 
-    // The window of a receiving half, which is its first limit too.
+    // Its first limit too, which is what the peer counts with.
     fn window(&self, stream: StreamId) -> u64
         ensures value { result ≡ window self.now stream }
         ensures some { 1 ≤ result }
@@ -303,14 +302,13 @@ impl Endpoint {
         self.core.limits.window(stream)
     }
 
-    // How many bytes a sending half keeps at most as it begins.
     fn send_buffer(&self) -> u32
         ensures { result ≡ self.now.settings.send_buffer }
     {
         self.core.limits.settings.send_buffer as u32
     }
 
-    // The limit with which a sending half begins.
+    // By the peer's limits, which name streams as the peer sees them: what it opens is local to it.
     fn first_send_limit(&self, stream: StreamId) -> u64
         ensures value { result ≡ first_send_limit self.now stream }
         ensures small { result ≤ MAX_VARINT }
@@ -325,7 +323,6 @@ impl Endpoint {
     }
 }
 
-// The bit that names the initiator (RFC 9000, section 2.1).
 pub(crate) fn role_bit(role: Role) -> usize
     ensures value { result ≡ role_bit role }
     ensures small { result < 2 }
@@ -336,15 +333,13 @@ pub(crate) fn role_bit(role: Role) -> usize
     }
 }
 
-// Whether only the initiator sends (RFC 9000, section 2.1).
 pub(crate) fn is_uni(stream: StreamId) -> bool
     ensures { result ≡ is_uni stream }
 {
     type_of(stream) >= 2
 }
 
-// How many streams may be opened, where so many came to their end: the grant and as many more of them as make whole steps, and no fewer
-// than were granted (RFC 9000, section 4.6).
+// The grant and as many more as make whole steps, but no fewer than were granted, since no count may fall (RFC 9000, section 4.6).
 fn next_count(step: Option<Share>, granted: u64, grant: u64, lifetime: u64, ended: u64) -> u64
     ensures { result ≡ max granted (min lifetime (grant + in_steps (count_step step grant) ended)) }
 {
@@ -355,7 +350,6 @@ fn next_count(step: Option<Share>, granted: u64, grant: u64, lifetime: u64, ende
     granted.max(grant.saturating_add(more).min(lifetime))
 }
 
-// As many of so many as make whole steps.
 fn in_steps(step: u64, count: u64) -> u64
     requires { 0 < step }
     ensures { result ≡ in_steps step count }

@@ -25,30 +25,27 @@ use qs_ranges::RangeSet;
 use qs_send::{Chunk, Item};
 use qs_wire::{Frame, StreamId, put, put_delayed_ack, put_stream};
 
-/// No STREAM frame with a length is shorter: its type, its stream and its length take a byte each (RFC 9000, section 19.8).
+/// Below it a search for data can stop: no STREAM frame with a length is shorter, with a byte each for type, stream and length (RFC 9000,
+/// section 19.8).
 pub(crate) const LEAST_STREAM_FRAME: usize = 3;
 
-/// How far a packet is.
 #[derive(Clone, Copy, Drop)]
 pub(crate) struct Packet {
-    /// How many bytes it has.
     pub len: usize,
-    /// Something didn't fit, so nothing more goes in.
+    /// Something didn't fit. Then nothing more goes in, so that what is left keeps its order.
     pub is_full: bool,
 }
 
-/// How far a packet is while bytes of streams go in.
+/// How far a packet is while data goes in.
 #[derive(Clone, Copy, Drop)]
 pub(crate) struct Course {
-    /// How many bytes it has.
     pub len: usize,
-    /// How many bytes of streams may go in still.
     pub quota: usize,
     /// Nothing more goes in: something didn't fit, or the cap of bytes held some back.
     pub is_full: bool,
 }
 
-/// What a packet is to hold: of what is due what is asked for, and whether an ACK, and the delay that it tells.
+/// What a packet is to hold: what is asked for of what is due, and whether an ACK, with its delay.
 #[derive(Clone, Copy, Drop)]
 pub(crate) struct Wish {
     pub want: Fill,
@@ -56,8 +53,7 @@ pub(crate) struct Wish {
     pub ack_due: bool,
 }
 
-/// Writes a frame behind the bytes that are there, and answers how many there are then. `None` where it doesn't fit; then nothing is
-/// written.
+/// `None` if it doesn't fit; then nothing is written, so the packet stays a text.
 fn put_frame(frame: &Frame<'_>, out: &mut [u8], len: usize) -> Option<usize>
     requires fits { Fits (view frame.now) }
     requires within { len ≤ length out.old }
@@ -75,7 +71,7 @@ fn put_frame(frame: &Frame<'_>, out: &mut [u8], len: usize) -> Option<usize>
     }
 }
 
-/// Writes a STREAM frame with the bytes of a front and a back behind the bytes that are there, as `put_frame` does.
+/// The bytes of a ring come in two pieces, and aren't joined first.
 #[inline(always)]
 fn put_data(
     id: StreamId,
@@ -100,7 +96,6 @@ fn put_data(
     }
 }
 
-// The frame that tells an item.
 fn frame_of(item: &Item) -> Frame<'static>
     ensures { view result ≡ frame_of_item item.now }
 {
@@ -124,7 +119,6 @@ fn frame_of(item: &Item) -> Frame<'static>
     }
 }
 
-/// An item goes into the packet, or doesn't fit.
 #[tactic(auto, using(crate::proofs::Putting::item_some))]
 pub(crate) fn put_item(outbox: &mut Outbox, item: &Item, out: &mut [u8], packet: Packet) -> Packet
     requires within { packet.len ≤ length out.old }
@@ -153,7 +147,6 @@ pub(crate) fn put_item(outbox: &mut Outbox, item: &Item, out: &mut [u8], packet:
     }
 }
 
-/// A packet that is full, with so many bytes of streams left of the cap.
 pub(crate) fn full_at(len: usize, quota: usize) -> Course
     ensures { result ≡ record { len = len; quota = quota; is_full = true } }
 {
@@ -164,7 +157,6 @@ pub(crate) fn full_at(len: usize, quota: usize) -> Course
     }
 }
 
-/// The first bytes of a chunk that has more.
 pub(crate) fn cut_to(chunk: Chunk, bytes: usize) -> Chunk
     ensures { result ≡ record { offset = chunk.offset; len = bytes; fin = false } }
 {
@@ -175,18 +167,15 @@ pub(crate) fn cut_to(chunk: Chunk, bytes: usize) -> Chunk
     }
 }
 
-/// A packet into which a chunk went.
 #[derive(Clone, Copy, Drop)]
 pub(crate) struct Put {
-    /// How many bytes it has then.
     pub len: usize,
-    /// Nothing more of the stream may go.
     pub is_done: bool,
-    /// The stream's own limit holds nothing back.
+    /// Then the stream needs no look at whether it is blocked.
     pub is_free: bool,
 }
 
-/// Puts a chunk into the packet that is known to fit.
+/// It is known to fit, since a half measured it.
 pub(crate) fn put_chunk(
     outbox: &mut Outbox,
     stream: StreamId,
@@ -228,8 +217,7 @@ pub(crate) fn put_chunk(
     }
 }
 
-/// Writes an ACK of the kept numbers at the slice's front, which tells a delay, the highest ranges first and as many as fit, and answers
-/// its length.
+/// The highest ranges first and as many as fit: those left out were in earlier ACKs, or stand in later ones.
 pub(crate) fn put_kept(done: &RangeSet, delay: u64, out: &mut [u8]) -> usize
     requires delay { delay < 2 ^ 62 }
     requires some { 0 < set.len (run_starts done.now) }
@@ -250,7 +238,6 @@ pub(crate) fn put_kept(done: &RangeSet, delay: u64, out: &mut [u8]) -> usize
     }
 }
 
-/// Begins a packet with an ACK, if one is to go.
 pub(crate) fn put_ack_if(done: &RangeSet, wish: &Wish, out: &mut [u8]) -> usize
     requires delay { wish.now.delay < 2 ^ 62 }
     requires acks { wish.now.ack_due ≡ true → 0 < set.len (run_starts done.now) }

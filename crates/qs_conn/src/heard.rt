@@ -1,4 +1,4 @@
-//! What an owner heard of at its end, and what it hears next.
+//! What was reported to the application, and what is next.
 ghost use Rattle.std.specs.Prelude.{◌≡◌, ◌<◌, ◌^◌, ◌⊎◌, ℕ, true, false, None, Some, Ok, OnOk, OnErr};
 ghost use Rattle.qs_machine.specs.Heard.{heard_nothing, heard_opened, WasResetAcked, IsFirstNews, IsHeardBy, IsNextNews, IsNoted, IsReadOn, TakesMemory, WillWrite, with_opened, with_wants};
 ghost use Rattle.qs_machine.specs.News.{IsHeld};
@@ -21,7 +21,7 @@ use qs_wire::{Dir, Frame, StreamId};
 use std::alloc::Global;
 use std::marker::Model;
 
-/// What an owner heard of at its end, so that it hears of each piece of news once (RFC 9000, sections 2 to 4).
+/// What was reported to an application, so that each event comes once (RFC 9000, sections 2 to 4).
 ///
 /// It stands beside the end and is kept as marks of streams: an end whose owner asks for no news pays nothing for it. Four things the
 /// end doesn't know, so its owner tells them: that it is about to write ([`will_write`](Heard::will_write)), that it waits for a stream
@@ -62,7 +62,7 @@ impl Model for Heard {
 }
 
 impl Heard {
-    /// Nothing was heard, and nothing is waited for.
+    /// Nothing was reported, and nothing is waited for.
     pub fn new(alloc: Global) -> Heard
         ensures { result ≡ heard_nothing }
     {
@@ -81,9 +81,9 @@ impl Heard {
     /// Tells the first piece of news of an end, and notes that it was heard. `None` only where there is none. News of a kind come before
     /// those of the next, in the order of [`News`], and those of a lower stream first.
     ///
-    /// `NoMemory` where there was no memory to note it; then nothing changed, and it comes again. It takes memory where no mark was made
-    /// yet for its stream, or a higher one of its type, among those of its kind: never for `Opened`, `Writable`, `Available` and the kinds
-    /// behind it.
+    /// `NoMemory` if there was no memory to note it; then nothing changed, and it comes again. It takes memory if no mark was made yet for
+    /// its stream, or a higher one of its type, among those of its kind: never for `Opened`, `Writable`, `Available` and the kinds behind
+    /// it.
     #[tactic(auto, using(crate::proofs::FirstNews::first_is_next, crate::proofs::FirstNews::refused_next))]
     pub fn next_news(&mut self, end: &Endpoint) -> Result<Option<News>, NoMemory>
         ensures { IsNextNews end.now self.old result self.new }
@@ -95,8 +95,8 @@ impl Heard {
 
     /// The owner is about to write so many bytes to a stream. Where it will be cut short, it is news once the stream takes a byte again.
     ///
-    /// `NoMemory` where there was no memory to note it; then nothing changed. It takes memory where no write to this stream, or to a
-    /// higher one of its type, was noted before.
+    /// `NoMemory` if there was no memory to note it; then nothing changed. It takes memory if no write to this stream, or to a higher one
+    /// of its type, was noted before.
     pub fn will_write(
         &mut self,
         end: &Endpoint,
@@ -111,14 +111,14 @@ impl Heard {
         Ok(())
     }
 
-    /// The owner waits to open a stream of a direction: once it may that is news.
+    /// The application waits to open a stream of a direction: that it may is an event then.
     pub fn wants(&mut self, dir: Dir)
         ensures { self.new ≡ with_wants self.old dir true }
     {
         self.wanted.set(dir, true);
     }
 
-    /// The owner read the stream, or stopped it: where nothing is left to read it is news once something is.
+    /// The application read the stream, or stopped it: if nothing is left to read, new data is an event again.
     pub fn was_read(&mut self, end: &Endpoint, stream: StreamId)
         ensures { IsReadOn end.now stream self.old self.new }
     {
@@ -131,7 +131,7 @@ impl Heard {
     /// stream whose final size isn't known, or a count of streams, that is news from now on until it is told, be it that the limit rises
     /// meanwhile. A limit that rose before isn't, and any other frame changes nothing (RFC 9000, sections 4.1, 4.6 and 19.12 to 19.14).
     ///
-    /// `NoMemory` where there was no memory to note it; then nothing changed. It takes memory where it names a stream, and no limit of this
+    /// `NoMemory` if there was no memory to note it; then nothing changed. It takes memory if it names a stream, and no limit of this
     /// stream or of a higher one of its type was noted before.
     pub fn was_told(&mut self, end: &Endpoint, frame: &Frame<'_>) -> Result<(), NoMemory>
         ensures { IsNoted end.now (seen (view frame.now)) self.old result self.new }
@@ -159,7 +159,7 @@ impl Heard {
         }
     }
 
-    // The first piece of news.
+    // In the order of kinds, each by a search of its own: what no longer holds is so never found.
     fn first(&self, end: &Endpoint) -> Option<News>
         ensures { IsFirstNews end.now self.now result }
     {
@@ -187,7 +187,6 @@ impl Heard {
         }
     }
 
-    // The first of what the peer said.
     fn first_blocked(&self, end: &Endpoint) -> Option<News>
         ensures { IsFirstFrom 7 end.now self.now result }
     {
@@ -206,7 +205,7 @@ impl Heard {
         }
     }
 
-    // What is told, if anything, is noted.
+    // Noted before it is returned, so that a refusal leaves it for the next call.
     fn hear(&mut self, answer: &Option<News>) -> Result<(), NoMemory>
         requires { (n : ℕ) → answer.now ≡ Some (News.Opened n) → index_of n ≡ heard_opened self.old (dir_of n) }
         ensures none { answer.now ≡ None → (result ≡ Ok tt) × (self.new ≡ self.old) }
@@ -231,7 +230,6 @@ impl Heard {
         Ok(())
     }
 
-    // The next stream of its direction opened.
     fn hear_opened(&mut self, stream: StreamId)
         requires { index_of stream ≡ heard_opened self.old (dir_of stream) }
         ensures { self.new ≡ with_opened self.old (dir_of stream) }
@@ -244,7 +242,6 @@ impl Heard {
     }
 }
 
-// The news of a sending half that came to its end.
 fn sent_news(end: &Endpoint, stream: StreamId) -> News
     ensures { (result ≡ News.ResetAcked stream) × IsHeld WasResetAcked end.now.sends stream ⊎ (result ≡ News.Finished stream) × ((l : SendLane) → lookup end.now.sends stream ≡ Some l → l.reset_acked ≡ false) }
 {

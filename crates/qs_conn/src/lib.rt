@@ -1,4 +1,4 @@
-//! One end of a connection: its streams, its credit, and what its packets carry.
+//! One endpoint of a connection: its streams, its flow control, and what its packets carry.
 #![tactic(auto)]
 
 mod ack_names;

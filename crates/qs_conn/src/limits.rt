@@ -1,4 +1,4 @@
-//! Which control items an end has to tell.
+//! Which control items an endpoint has to send.
 ghost use Rattle.std.specs.Prelude.{◌≡◌, ◌≤◌, ◌<◌, ◌↔◌, ◌^◌, IsTrue, ℕ, true, None, Some, IfSome};
 ghost use Rattle.qs_ranges.specs.Numbers.{MAX_VARINT};
 ghost use Rattle.qs_recv.specs.Lane.{MAX_CONN_WINDOW, RecvLane};
@@ -24,14 +24,15 @@ use qs_calls::{MAX_VARINT, Settings, Tuning};
 use qs_send::Item;
 use qs_wire::{Dir, Role, StreamId};
 
-/// An end's role and settings, and the limits on the connection and on counts of streams: those that it granted, and those of its peer,
-/// with the counts at which `open` was blocked (RFC 9000, sections 4.1 and 4.6).
+/// An endpoint's role and settings, and the limits on the connection and on counts of streams: those that it granted, and those of its
+/// peer, with the counts at which `open` was blocked (RFC 9000, sections 4.1 and 4.6).
 #[derive(Clone, Copy, Drop)]
 pub(crate) struct Limits {
     pub role: Role,
     pub settings: Settings,
     pub tuning: Tuning,
-    /// The connection's window and the grants in force, as they were set last, and the widest window so far.
+    /// As they were set last, beside the settings that the peer was given; the widest window bounds what is granted beyond what was
+    /// consumed, since a smaller one takes nothing back.
     pub conn_window: u64,
     pub widest: u64,
     pub grants: ByDir<u64>,
@@ -43,7 +44,7 @@ pub(crate) struct Limits {
 }
 
 impl Limits {
-    /// The item of a slot that is to be told while no packet told it (RFC 9000, sections 4.1, 4.6 and 13.3).
+    /// An item is due while no packet carries it with this value (RFC 9000, sections 4.1, 4.6 and 13.3).
     pub(crate) fn current(&self, outbox: &Outbox, recvs: &RecvTables, slot: Slot) -> Option<Item>
         requires { LimitsFit self.now }
         ensures current { (e : End) → IsCurrentIn (end_by self.now recvs.now outbox.now e) slot result }
@@ -61,7 +62,7 @@ impl Limits {
         }
     }
 
-    /// Whether a look at few numbers tells that of a slot of the connection no item is due.
+    /// Whether a look at few numbers shows that no item is due, as is mostly so: then no half is looked at.
     pub(crate) fn has_told(&self, outbox: &Outbox, own: &OwnCarried, slot: &Slot) -> bool
         requires fits { LimitsFit self.now }
         requires own { AreOwn self.now outbox.now.outstanding own.now }
@@ -76,7 +77,7 @@ impl Limits {
         }
     }
 
-    // The connection's limit holds nothing back, or was told. No stream is looked at.
+    // No stream is looked at.
     #[inline(always)]
     fn has_told_blocked(&self, outbox: &Outbox, own: &OwnCarried) -> bool
         requires { AreOwn self.now outbox.now.outstanding own.now }
@@ -89,7 +90,7 @@ impl Limits {
         own.is_told(outbox, &Item::DataBlocked { limit })
     }
 
-    /// Sets the connection's window where so much was taken. A greater one moves the limit at once (RFC 9000, section 4.1).
+    /// A greater window moves the limit at once (RFC 9000, section 4.1): a step that is never reached would hide it.
     pub(crate) fn set_conn_window(&mut self, window: u64, taken: u64)
         requires taken { taken ≤ MAX_VARINT }
         requires window { window ≤ MAX_CONN_WINDOW }
@@ -102,7 +103,7 @@ impl Limits {
         self.widest = self.widest.max(window);
     }
 
-    /// Sets a direction's grant where so many of its streams ended. A greater one moves the count at once (RFC 9000, section 4.6).
+    /// A greater grant moves the count at once (RFC 9000, section 4.6).
     pub(crate) fn set_grant(&mut self, dir: Dir, streams: u64, ended: u64)
         ensures { self.new ≡ with_grant dir streams ended self.old }
     {
@@ -130,7 +131,7 @@ impl Limits {
         }
     }
 
-    // The connection's limit, once it was raised.
+    // Once it was raised: the first limit was in the handshake.
     fn max_data(&self) -> Option<Item>
         requires { LimitsFit self.now }
         ensures current { (recvs : Tables RecvLane) (o : Outgoing) (e : End) → IsCurrentIn (end_by self.now recvs o e) slots.MaxData result }
@@ -144,7 +145,7 @@ impl Limits {
         })
     }
 
-    // The count of streams granted, once it was raised.
+    // Once it was raised: the first count was in the handshake.
     #[tactic(auto, using(crate::proofs::Slots::max_streams_there, crate::proofs::Slots::max_streams_none))]
     fn max_streams(&self, dir: Dir) -> Option<Item>
         requires { LimitsFit self.now }
@@ -161,7 +162,7 @@ impl Limits {
         Some(Item::MaxStreams { dir, count })
     }
 
-    // A stream's limit, once it was raised, while no final size is known.
+    // Once it was raised, and while no final size is known: after that nobody needs it.
     #[tactic(auto, using(crate::proofs::Slots::max_stream_data_there, crate::proofs::Slots::max_stream_data_none))]
     fn max_stream_data(&self, recvs: &RecvTables, stream: StreamId) -> Option<Item>
         ensures current { (o : Outgoing) (e : End) → IsCurrentIn (end_by self.now recvs.now o e) (slots.MaxStreamData stream) result }
@@ -175,7 +176,6 @@ impl Limits {
         }
     }
 
-    /// The window of a receiving half.
     pub(crate) fn window(&self, stream: StreamId) -> u64
         ensures { result ≡ window_by self.now.role self.now.settings stream }
     {
@@ -188,7 +188,7 @@ impl Limits {
         }
     }
 
-    // The connection's limit, where it holds bytes of a stream back.
+    // Only while some stream has bytes that nothing else holds back, so that it is said of the limit that blocks.
     #[tactic(auto, using(crate::proofs::Slots::data_blocked_there, crate::proofs::Slots::data_blocked_none))]
     fn data_blocked(&self, outbox: &Outbox) -> Option<Item>
         requires { LimitsFit self.now }
@@ -204,7 +204,7 @@ impl Limits {
         }
     }
 
-    // The count of streams at which `open` was blocked, while it is the peer's.
+    // While it is still the peer's count: one that rose blocks nobody.
     #[tactic(auto, using(crate::proofs::Slots::streams_blocked_there, crate::proofs::Slots::streams_blocked_none))]
     fn streams_blocked(&self, dir: Dir) -> Option<Item>
         requires { LimitsFit self.now }
@@ -219,7 +219,7 @@ impl Limits {
     }
 }
 
-// The count of streams that a grant leaves where so many ended.
+// Never less than the present count, since none may fall.
 fn count_with(present: u64, granted: u64, lifetime: u64, ended: u64, grant: u64) -> u64
     ensures { result ≡ count_with present granted lifetime ended grant }
 {
@@ -261,7 +261,6 @@ fn stream_data_blocked(outbox: &Outbox, stream: StreamId) -> Option<Item>
     Some(Item::StreamDataBlocked { stream, limit })
 }
 
-// Whether the connection's credit alone holds bytes of some stream back.
 #[tactic(auto, using(crate::proofs::Quiets::none_wants, crate::proofs::Quiets::wants_next))]
 fn any_wants_more(outbox: &Outbox) -> bool
     ensures { IsTrue result ↔ AnyWantsMore outbox.now.sends }

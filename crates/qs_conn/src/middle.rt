@@ -1,4 +1,4 @@
-//! What an end knows and has to tell.
+//! What an endpoint knows and has to send.
 ghost use Rattle.std.specs.Prelude.{◌≡◌, ◌≤◌, ◌<◌, ◌^◌, ℕ, length};
 ghost use Rattle.qs_machine.specs.Tables.{table};
 ghost use Rattle.qs_conn.specs.Ended.{is_over};
@@ -21,27 +21,24 @@ mod losing;
 mod sendable;
 mod unmarking;
 
-/// The limits, the streams and the packets of an end: what a packet is filled from, and what an acknowledgement or a loss changes.
+/// The limits, the streams and the packets: what a packet is filled from, and what an ACK or a loss changes. Apart from received packet
+/// numbers and the close, so that proofs of these carry less.
 #[derive(Drop)]
 pub(crate) struct Core {
     pub limits: Limits,
     pub outbox: Outbox,
     pub recvs: RecvTables,
-    /// Of which receiving halves a limit or a stop may still have to be told.
+    /// Of which receiving halves a limit or a stop may still have to be sent.
     pub untold_recvs: Untold,
-    /// Of which sending halves a reset or a limit may still have to be told.
+    /// Of which sending halves a reset or a limit may still have to be sent.
     pub untold_sends: Untold,
-    /// Which items of halves are outstanding.
     pub carried: Carried,
-    /// Which items of the connection itself are.
     pub own: OwnCarried,
-    /// How many of the peer's streams came to their end, of each direction.
     pub ended: ByDir<u64>,
 }
 
 impl Core {
-    /// Whether a stream is one of the peer's that came to its end: its receiving half, and if it has one its sending half (RFC 9000,
-    /// section 3).
+    /// Both halves, if it has two (RFC 9000, section 3): only then the peer may open another.
     #[inline(always)]
     pub(crate) fn is_over(&self, stream: StreamId) -> bool
         ensures value { result ≡ is_over self.now.limits.role self.now.recvs self.now.outbox.sends stream }

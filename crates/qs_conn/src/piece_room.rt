@@ -6,10 +6,11 @@ use qs_send::Piece;
 use std::alloc::Global;
 use std::mem;
 
-// For so many pieces there is memory at first.
+// What a packet mostly carries.
 const FEW: usize = 4;
 
-/// Memory that is taken before a packet is filled, so that its record takes none: for about as many pieces as packets carried lately.
+/// Memory that is taken before a packet is filled, so that a refusal changes nothing and its record takes none: for about as many pieces as
+/// packets carried lately.
 #[derive(Drop)]
 pub(crate) struct PieceRoom {
     empty: Vec<Piece>,
@@ -17,7 +18,6 @@ pub(crate) struct PieceRoom {
 }
 
 impl PieceRoom {
-    /// It takes no memory.
     pub(crate) fn new(alloc: Global) -> Self {
         PieceRoom {
             empty: Vec::new(alloc),
@@ -25,15 +25,15 @@ impl PieceRoom {
         }
     }
 
-    /// Takes the memory, with some to spare, if it isn't there.
+    /// With some to spare, so that packets of growing count don't each take memory.
     pub(crate) fn prepare(&mut self) -> Result<(), NoMemory> {
         self.empty
             .reserve(self.expected.saturating_add(self.expected / 4))?;
         Ok(())
     }
 
-    /// The pieces of a buffer, in which none is left: in the memory that was taken, so that the buffer serves the next packet, too. Where
-    /// there are more of them than that has room for, the buffer itself goes. It takes no memory.
+    /// In the memory that was taken, so that the buffer serves the next packet, too. If there are more pieces than that has room for, the
+    /// buffer itself goes, and the next packet takes another.
     pub(crate) fn hand_over(&mut self, buffer: &mut Vec<Piece>) -> Vec<Piece>
         ensures pieces { result.items ≡ buffer.old.items }
         ensures left { buffer.new.items ≡ [] }

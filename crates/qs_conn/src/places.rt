@@ -7,7 +7,7 @@ use crate::marks::least;
 use qs_wire::StreamId;
 use std::marker::Model;
 
-/// A stream with its place in a table, which is worked out once for a frame.
+/// A stream with its place in a table, which is worked out once for a frame and not at each look.
 #[derive(Clone, Copy)]
 pub(crate) struct Place {
     pub id: StreamId,
@@ -15,7 +15,6 @@ pub(crate) struct Place {
     pub index: usize,
 }
 
-// Clauses see the stream's number.
 impl Model for Place {
     ghost use Rattle.std.specs.Prelude.{ℕ, ◌≡◌, ◌<◌, ◌^◌};
     ghost use Rattle.qs_machine.specs.Tables.{type_of, index_of};
@@ -42,7 +41,6 @@ impl Place {
     }
 }
 
-/// The type of a stream, 0 to 3: its two lowest bits (RFC 9000, section 2.1).
 pub(crate) fn type_of(stream: StreamId) -> usize
     ensures value { result ≡ type_of stream }
     ensures small { result < 4 }
@@ -50,7 +48,6 @@ pub(crate) fn type_of(stream: StreamId) -> usize
     (stream.value() % 4) as usize
 }
 
-/// How many streams of its type have a lower number.
 pub(crate) fn index_of(stream: StreamId) -> usize
     ensures value { result ≡ index_of stream }
     ensures small { result < 2 ^ 60 }
@@ -58,7 +55,6 @@ pub(crate) fn index_of(stream: StreamId) -> usize
     (stream.value() / 4) as usize
 }
 
-/// The index of the least stream of a type from a number on.
 pub(crate) fn index_from(stream_type: usize, from: u64) -> usize
     requires stream_type { stream_type < 4 }
     requires from { from ≤ 2 ^ 62 }
@@ -67,7 +63,6 @@ pub(crate) fn index_from(stream_type: usize, from: u64) -> usize
     ((from + 3 - stream_type as u64) / 4) as usize
 }
 
-/// The lesser of two streams, where there are some.
 pub(crate) fn lesser(a: Option<StreamId>, b: Option<StreamId>) -> Option<StreamId>
     ensures { result ≡ least_of a b }
 {
@@ -78,7 +73,7 @@ pub(crate) fn lesser(a: Option<StreamId>, b: Option<StreamId>) -> Option<StreamI
     }
 }
 
-/// The stream of the least of four numbers, one for each type, where there are some.
+/// One for each type, since tables are by type and a search goes by number.
 #[inline(always)]
 pub(crate) fn least_stream(
     a: Option<u64>,

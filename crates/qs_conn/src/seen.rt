@@ -12,10 +12,9 @@ use qs_calls::MAX_VARINT;
 use qs_send::Item;
 use qs_wire::{Dir, Frame};
 
-/// The most streams of a direction, whose numbers have a spelling (RFC 9000, section 4.6).
 const MAX_STREAMS: u64 = 1 << 60;
 
-/// A frame by what an endpoint does with it: each frame is told apart here, and nowhere else.
+/// A frame by what an endpoint does with it. Each frame is told apart here, and nowhere else, so that what a new frame means is said once.
 #[derive(Clone, Copy)]
 pub(crate) enum SeenFrame<'a> {
     Ack {
@@ -30,7 +29,7 @@ pub(crate) enum SeenFrame<'a> {
     },
     Control(Item),
     Close(u64),
-    // Tells nothing to the streams; it may ask for an ACK.
+    // It means nothing here, and may ask for an ACK.
     Plain {
         asks: bool,
     },
@@ -94,7 +93,6 @@ pub(crate) fn seen<'a>(frame: &Frame<'a>) -> SeenFrame<'a>
     }
 }
 
-// Whether a frame asks for an ACK (RFC 9000, section 13.2).
 pub(crate) fn asks_ack(seen: &SeenFrame<'_>) -> bool
     ensures { result ≡ asks_ack (view_seen seen.now) }
 {
@@ -105,7 +103,7 @@ pub(crate) fn asks_ack(seen: &SeenFrame<'_>) -> bool
     }
 }
 
-/// Whether a frame is of streams or of flow control, which an end takes in without its packet.
+/// Those an endpoint takes alone.
 pub(crate) fn is_ours(frame: &Frame<'_>) -> bool
     ensures { result ≡ is_ours (seen (view frame.now)) }
 {
@@ -123,7 +121,7 @@ pub(crate) fn is_ours(frame: &Frame<'_>) -> bool
     )
 }
 
-/// Whether a frame of those kinds has a text: whether its numbers have a spelling (RFC 9000, sections 16, 19.8, 19.11 and 19.14).
+/// A payload can't hold others, but a caller that builds a frame can (RFC 9000, sections 16, 19.8, 19.11 and 19.14).
 pub(crate) fn has_text(frame: &Frame<'_>) -> bool
     requires { is_ours (seen (view frame.now)) ≡ true }
     ensures yes { result ≡ true → Fits (view frame.now) }
@@ -160,8 +158,8 @@ pub(crate) fn has_text(frame: &Frame<'_>) -> bool
     }
 }
 
-/// The number of the type that the canonical text of a frame of those kinds has: a STREAM frame with its length, and with an offset
-/// above 0 (RFC 9000, section 12.4).
+/// A frame that comes alone has no type of its own, and a close needs one: that of the canonical text, a STREAM with its length, and with
+/// an offset above 0 (RFC 9000, section 12.4).
 pub(crate) fn type_number(frame: &Frame<'_>) -> u64
     requires { is_ours (seen (view frame.now)) ≡ true }
     ensures value { result ≡ number_of_type (spelled (view frame.now)).type }

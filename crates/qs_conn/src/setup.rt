@@ -1,17 +1,15 @@
-//! Whether an end can be made.
+//! Whether an endpoint can be made.
 ghost use Rattle.std.specs.Prelude.{◌≡◌};
 ghost use Rattle.qs_calls.specs.Settings.{is_between, are_within, are_spellable, are_countable, fault_where, limits_fault, setup_fault, wide_setup_fault};
 
 use qs_calls::{MAX_VARINT, PeerLimits, Settings, SetupFault};
 
-/// Why no end can be made of these settings.
 pub(crate) fn setup_fault(settings: &Settings, peer: &PeerLimits) -> Option<SetupFault>
     ensures { result ≡ setup_fault settings.now peer.now }
 {
     fault_where(are_within(1 << 24, 1 << 20, 4096, 1 << 16, settings), peer)
 }
 
-/// The same, of an end of wide ranges.
 pub(crate) fn wide_setup_fault(settings: &Settings, peer: &PeerLimits) -> Option<SetupFault>
     ensures { result ≡ wide_setup_fault settings.now peer.now }
 {
@@ -21,7 +19,7 @@ pub(crate) fn wide_setup_fault(settings: &Settings, peer: &PeerLimits) -> Option
     )
 }
 
-// Why no end can be made of settings that are in their ranges or aren't.
+// Own settings first: they are the caller's own fault.
 fn fault_where(in_range: bool, peer: &PeerLimits) -> Option<SetupFault>
     ensures { result ≡ fault_where in_range peer.now }
 {
@@ -32,7 +30,6 @@ fn fault_where(in_range: bool, peer: &PeerLimits) -> Option<SetupFault>
     }
 }
 
-/// Why such limits of the peer are refused.
 pub(crate) fn limits_fault(peer: &PeerLimits) -> Option<SetupFault>
     ensures { result ≡ limits_fault peer.now }
 {
@@ -51,7 +48,6 @@ pub(crate) fn is_between(low: u64, high: u64, n: u64) -> bool
     low <= n && n <= high
 }
 
-// Whether each window, buffer, grant and lifetime is at least as large as it must be, and at most so large.
 fn are_within(conn_window: u64, window: u64, grant: u64, lifetime: u64, s: &Settings) -> bool
     ensures { result ≡ are_within conn_window window grant lifetime s.now }
 {
@@ -66,7 +62,6 @@ fn are_within(conn_window: u64, window: u64, grant: u64, lifetime: u64, s: &Sett
         && is_between(s.grant_uni, lifetime, s.lifetime_uni)
 }
 
-// Whether each of the peer's data limits has a spelling (RFC 9000, section 16).
 fn are_spellable(p: &PeerLimits) -> bool
     ensures { result ≡ are_spellable p.now }
 {
@@ -76,7 +71,6 @@ fn are_spellable(p: &PeerLimits) -> bool
         && p.uni <= MAX_VARINT
 }
 
-// Whether no more streams are allowed than have a number (RFC 9000, section 4.6).
 fn are_countable(p: &PeerLimits) -> bool
     ensures { result ≡ are_countable p.now }
 {

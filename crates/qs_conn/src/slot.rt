@@ -4,7 +4,8 @@ ghost use Rattle.qs_conn.specs.Filling.{slot_at};
 
 use qs_wire::{Dir, StreamId};
 
-/// What a control item speaks of, without its value. At any moment at most one item of a slot is current.
+/// What a control item speaks of, without its value. At any moment at most one item of a slot is current, so a slot is enough to ask
+/// whether it is outstanding.
 #[derive(Clone, Copy, Drop)]
 pub(crate) enum Slot {
     MaxData,
@@ -17,7 +18,6 @@ pub(crate) enum Slot {
     StreamsBlocked(Dir),
 }
 
-/// The kinds of control items that each stream has.
 #[derive(Clone, Copy, Drop)]
 pub(crate) enum Kind {
     ResetStream,
@@ -27,7 +27,6 @@ pub(crate) enum Kind {
 }
 
 impl Kind {
-    /// The slot of a stream.
     pub(crate) fn at(self, stream: StreamId) -> Slot
         ensures { result ≡ slot_at self stream }
     {

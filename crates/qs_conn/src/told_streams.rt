@@ -1,4 +1,4 @@
-//! Which streams an owner was told of.
+//! Which streams were reported to the application.
 ghost use Rattle.std.specs.Prelude.{◌≡◌, ◌<◌, ℕ, Bool, false, None, Some, OnOk, OnErr};
 ghost use Rattle.qs_machine.specs.Tables.{no_streams, table, lookup};
 ghost use Rattle.qs_machine.specs.Heard.{is_told, IsToldBeside, IsForgotten};
@@ -10,10 +10,10 @@ use qs_wire::StreamId;
 use std::alloc::Global;
 use std::marker::Model;
 
-/// A mark for each stream that an owner was told of, by the type of the stream and by its index. One without a place wasn't told.
+/// A mark for each stream that was reported, by type and index. One without a place wasn't, so marks take memory only up to the highest.
 #[derive(Drop)]
 pub(crate) struct ToldStreams {
-    // Of each of the four types, in the order of their bits.
+    // In the order of the two lowest bits of a stream's number.
     types: [ToldMarks; 4],
 }
 
@@ -34,7 +34,6 @@ impl Model for ToldStreams {
 }
 
 impl ToldStreams {
-    /// No stream was told.
     pub(crate) fn new(alloc: Global) -> Self
         ensures { result ≡ no_streams }
     {
@@ -48,7 +47,6 @@ impl ToldStreams {
         }
     }
 
-    /// Whether a stream was told.
     pub(crate) fn has(&self, stream: StreamId) -> bool
         ensures { result ≡ is_told self.now stream }
     {
@@ -56,7 +54,7 @@ impl ToldStreams {
         marks.has(index_of(stream))
     }
 
-    /// A stream was told. It takes memory where it is the highest of its type so far.
+    /// Memory only for the highest stream of its type so far.
     pub(crate) fn tell(&mut self, stream: StreamId) -> Result<(), NoMemory>
         ensures ok { OnOk result (IsToldBeside stream self.old self.new) }
         ensures err { OnErr result (self.new ≡ self.old) }
@@ -66,7 +64,6 @@ impl ToldStreams {
         marks.tell(index_of(stream))
     }
 
-    /// A stream may be told again.
     pub(crate) fn forget(&mut self, stream: StreamId)
         ensures { IsForgotten stream self.old self.new }
     {
@@ -74,7 +71,7 @@ impl ToldStreams {
         marks.forget(index_of(stream));
     }
 
-    /// Whether some stream may have been told.
+    /// A flag, so that mostly nothing is searched.
     #[inline(always)]
     pub(crate) fn may_have(&self) -> bool
         ensures { result ≡ false → (n : ℕ) (b : Bool) → lookup self.now n ≡ Some b → b ≡ false }
@@ -91,7 +88,6 @@ impl ToldStreams {
         self.types[3].may_have()
     }
 
-    /// The marks of the streams of a type, by index.
     pub(crate) fn of_type(&self, stream_type: usize) -> &ToldMarks
         requires { stream_type < 4 }
         ensures { result.now ≡ table self.now stream_type }

@@ -1,8 +1,7 @@
-//! Bits of a word.
+//! Bits of a word, for the marks of 64 streams or slots that one look passes over.
 ghost use Rattle.std.specs.Prelude.{◌<◌};
 ghost use Rattle.qs_ranges.specs.Bits.{HasBit, IsLowestBit};
 
-/// A word with one of its bits set or cleared.
 pub fn with_bit(word: u64, bit: usize, is_set: bool) -> u64
     requires { bit < 64 }
     ensures { HasBit word bit is_set result }
@@ -14,7 +13,6 @@ pub fn with_bit(word: u64, bit: usize, is_set: bool) -> u64
     }
 }
 
-/// The least bit that is set, from one on.
 pub fn lowest_bit(word: u64, from: usize) -> Option<usize>
     requires { from < 64 }
     ensures { IsLowestBit word from result }

@@ -6,10 +6,11 @@ use crate::NoMemory;
 use std::alloc::Global;
 use std::marker::Model;
 
-/// How many runs a block has at most.
+/// What a run that comes or goes may move is bounded by it, so that no order of arrival makes a set slow. A tree would take more memory and
+/// more steps for the few runs that a stream has.
 pub(crate) const MOST_RUNS: usize = 128;
 
-/// Some runs, one at least.
+/// Never empty: a block goes with its last run.
 #[derive(Drop)]
 pub(crate) struct Block {
     runs: Vec<(u64, u64)>,
@@ -66,7 +67,6 @@ impl Block {
         self.runs[self.runs.len() - 1]
     }
 
-    /// The first run that ends at `low` or later.
     pub(crate) fn end_from(&self, low: u64) -> usize
         ensures some { 0 < length self.now }
         ensures within { result ≤ length self.now }
@@ -86,7 +86,6 @@ impl Block {
         from
     }
 
-    /// The first run behind one that starts below `high` that doesn't.
     pub(crate) fn start_behind(&self, at: usize, high: u64) -> usize
         requires at { at < length self.now }
         requires start { start_at self.now at < high }
@@ -108,7 +107,6 @@ impl Block {
         from
     }
 
-    /// Puts `run` in the place of the runs from `from` on and before `to`.
     pub(crate) fn replace(&mut self, from: usize, to: usize, run: (u64, u64))
         requires nonempty { from < to }
         requires in_bounds { to ≤ length self.old }
@@ -118,7 +116,6 @@ impl Block {
         take_out(&mut self.runs, from + 1, to);
     }
 
-    /// Puts `left` and `right` in the place of two runs or more.
     pub(crate) fn replace_by_two(
         &mut self,
         from: usize,
@@ -134,7 +131,6 @@ impl Block {
         self.replace(from, to - 1, left);
     }
 
-    /// Puts `left` and `right` in the place of one run.
     pub(crate) fn split(
         &mut self,
         at: usize,
@@ -150,7 +146,6 @@ impl Block {
         Ok(())
     }
 
-    /// Takes out the runs from `from` on and before `to`, which aren't all.
     pub(crate) fn take_out(&mut self, from: usize, to: usize)
         requires ordered { from ≤ to }
         requires in_bounds { to ≤ length self.old }
@@ -169,7 +164,6 @@ impl Block {
         Ok(())
     }
 
-    /// A block of the runs from a place on.
     pub(crate) fn copy_from(&self, alloc: Global, from: usize) -> Result<Self, NoMemory>
         requires { from < length self.now }
         ensures { IfOk result (λ block. block ≡ drop from self.now) }
@@ -179,7 +173,6 @@ impl Block {
         Ok(Block { runs })
     }
 
-    /// Copies the runs out.
     pub(crate) fn copy_to(&self, into: &mut [(u64, u64)])
         requires { length into.old ≡ length self.now }
         ensures { into.new ≡ self.now }
@@ -188,7 +181,7 @@ impl Block {
     }
 }
 
-// Takes out the runs from `from` on and before `to`, by one move of those behind.
+// One move of those behind, where one removal for each would move them as often as runs go.
 fn take_out(runs: &mut Vec<(u64, u64)>, from: usize, to: usize)
     requires ordered { from ≤ to }
     requires in_bounds { to ≤ vec_len runs.old }

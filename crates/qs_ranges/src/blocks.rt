@@ -1,4 +1,5 @@
-//! Many runs, in blocks of neighbouring ones.
+//! Many runs, in blocks of neighbouring ones. What comes or goes moves the runs of its block, and the list of blocks only if a block is
+//! split or goes.
 ghost use Rattle.std.specs.Prelude.{◌≡◌, ℕ, ◌+◌, ◌-◌, ◌^◌, ◌≤◌, ◌<◌, false, All, OnOk, OnErr, IsTrue, IfOk, [], ◌∷◌, ◌++◌, length, take, drop, IfSome, slice_get};
 ghost use Rattle.qs_ranges.specs.Runs.{AreApart, IsSpan, end_at, start_at};
 ghost use Rattle.qs_ranges.specs.Blocks.{IsFirstFrom, IsFound, all_runs, block_at, first_run_above, place};
@@ -6,7 +7,7 @@ ghost use Rattle.qs_ranges.specs.Blocks.{IsFirstFrom, IsFound, all_runs, block_a
 use crate::NoMemory;
 use crate::block::{Block, MOST_RUNS};
 
-/// The runs from one place of a block on and before another. Where there is none, the places are one.
+/// The runs from one place on and before another. An empty span still has a place: where a run would go in.
 #[derive(Clone, Copy, Drop)]
 pub(crate) struct Span {
     pub some: bool,
@@ -16,7 +17,7 @@ pub(crate) struct Span {
     pub to: usize,
 }
 
-/// Puts a run at a place. `NoMemory` leaves the runs as they were.
+/// `NoMemory` leaves the runs as they were: a block that needs room gets it before anything moves.
 pub(crate) fn insert_at(
     blocks: &mut Vec<Block>,
     block: usize,
@@ -39,7 +40,6 @@ pub(crate) fn insert_at(
     blocks[roomy].insert(spot, run)
 }
 
-/// Puts `run` in the place of some runs.
 pub(crate) fn replace(blocks: &mut Vec<Block>, span: Span, run: (u64, u64))
     requires { IsFound blocks.old.items span.block span.from span.last span.to }
     ensures { all_runs blocks.new.items ≡ take (place blocks.old.items span.block span.from) (all_runs blocks.old.items)
@@ -54,7 +54,7 @@ pub(crate) fn replace(blocks: &mut Vec<Block>, span: Span, run: (u64, u64))
     drop_blocks(blocks, span.block + 1, last);
 }
 
-/// Puts `left` and `right` in the place of some runs. `NoMemory` leaves the runs as they were, and comes only for one.
+/// `NoMemory` leaves the runs as they were, and comes only for one run: of two or more one makes room for the new one.
 pub(crate) fn split(
     blocks: &mut Vec<Block>,
     span: Span,
@@ -80,7 +80,7 @@ pub(crate) fn split(
     split_one(blocks, span.block, span.from, left, right)
 }
 
-/// How many runs lie between two places: a look at each block between them.
+/// One look at each block between, since a block knows its count.
 pub(crate) fn runs_in(blocks: &[Block], span: Span) -> usize
     requires found { IsFound blocks.now span.block span.from span.last span.to }
     requires few { length (all_runs blocks.now) < 2 ^ 63 }
@@ -96,7 +96,6 @@ pub(crate) fn runs_in(blocks: &[Block], span: Span) -> usize
     count + span.to
 }
 
-// Puts two runs in the place of one.
 fn split_one(
     blocks: &mut Vec<Block>,
     block: usize,
@@ -114,7 +113,6 @@ fn split_one(
     blocks[roomy].split(spot, left, right)
 }
 
-/// Takes some runs out.
 pub(crate) fn take_out(blocks: &mut Vec<Block>, span: Span)
     requires { IsFound blocks.old.items span.block span.from span.last span.to }
     ensures { all_runs blocks.new.items ≡ take (place blocks.old.items span.block span.from) (all_runs blocks.old.items)
@@ -133,7 +131,8 @@ pub(crate) fn take_out(blocks: &mut Vec<Block>, span: Span)
     blocks[span.block].take_out(span.from, span.to);
 }
 
-// Puts a run before those of a block, or behind all: behind the runs of the block before it, or where that is full, in a block of its own.
+// Behind the runs of the block before, while that isn't full: so runs that come in order fill their blocks, and a full block at the end
+// stays full.
 #[inline(always)]
 fn insert_before(blocks: &mut Vec<Block>, block: usize, run: (u64, u64)) -> Result<(), NoMemory>
     requires { block ≤ length blocks.old.items }
@@ -152,7 +151,7 @@ fn insert_before(blocks: &mut Vec<Block>, block: usize, run: (u64, u64)) -> Resu
     Ok(())
 }
 
-// A place in a block that isn't full, before and behind which the same runs are: a full block is parted in two. `NoMemory` leaves the runs as they were.
+// A full block is split into two halves, so that the next runs beside it find room. `NoMemory` leaves the runs as they were.
 fn make_room(blocks: &mut Vec<Block>, block: usize, at: usize) -> Result<(usize, usize), NoMemory>
     requires block { block < length blocks.old.items }
     requires at { at ≤ length (block_at blocks.old.items block) }
@@ -176,7 +175,6 @@ fn make_room(blocks: &mut Vec<Block>, block: usize, at: usize) -> Result<(usize,
     Ok((block + 1, at - half))
 }
 
-// Puts a run in the place of the runs of a block from a place on.
 fn end_with(blocks: &mut Vec<Block>, block: usize, from: usize, run: (u64, u64))
     requires block { block < length blocks.old.items }
     requires from { from < length (block_at blocks.old.items block) }
@@ -189,7 +187,6 @@ fn end_with(blocks: &mut Vec<Block>, block: usize, from: usize, run: (u64, u64))
     blocks[block].replace(from, len, run);
 }
 
-// Puts a run in the place of the runs of a block before a place.
 fn start_with(blocks: &mut Vec<Block>, block: usize, to: usize, run: (u64, u64))
     requires block { block < length blocks.old.items }
     requires some { 0 < to }
@@ -202,7 +199,7 @@ fn start_with(blocks: &mut Vec<Block>, block: usize, to: usize, run: (u64, u64))
     blocks[block].replace(0, to, run);
 }
 
-// Takes out the runs of a block from a place on, where some are left, and answers how many blocks are to be kept up to it.
+// Answers how many blocks stay up to it, so that the caller drops those between by one move.
 fn cut_back(blocks: &mut Vec<Block>, block: usize, from: usize) -> usize
     requires block { block < length blocks.old.items }
     requires from { from < length (block_at blocks.old.items block) }
@@ -219,7 +216,7 @@ fn cut_back(blocks: &mut Vec<Block>, block: usize, from: usize) -> usize
     block + 1
 }
 
-// Takes out the runs of a block before a place, where some are left, and answers from which block on they are to be kept.
+// Answers from which block on they stay, so that the caller drops those between by one move.
 fn cut_front(blocks: &mut Vec<Block>, block: usize, to: usize) -> usize
     requires block { block < length blocks.old.items }
     requires to { to ≤ length (block_at blocks.old.items block) }
@@ -236,7 +233,6 @@ fn cut_front(blocks: &mut Vec<Block>, block: usize, to: usize) -> usize
     block
 }
 
-// Takes out the blocks from `first` on and before `last`.
 fn drop_blocks(blocks: &mut Vec<Block>, first: usize, last: usize)
     requires ordered { first ≤ last }
     requires in_bounds { last ≤ length blocks.old.items }
@@ -247,7 +243,8 @@ fn drop_blocks(blocks: &mut Vec<Block>, first: usize, last: usize)
     }
 }
 
-/// The runs that end at `low` or later and start below `high`: with no search where the last run or the first decides.
+/// The runs that end at `low` or later and start below `high`. The last run and the first are looked at before any search: numbers mostly
+/// rise, or fill the lowest gap.
 #[inline(always)]
 pub(crate) fn span_of(blocks: &[Block], low: u64, high: u64) -> Span
     requires apart { AreApart (all_runs blocks.now) }
@@ -283,7 +280,7 @@ pub(crate) fn span_of(blocks: &[Block], low: u64, high: u64) -> Span
     }
 }
 
-/// The first run that ends above `n`, and the one behind it.
+/// Both at once, since a gap lies between them.
 #[inline(never)]
 pub(crate) fn two_above(blocks: &[Block], n: u64) -> (Option<(u64, u64)>, Option<(u64, u64)>)
     requires apart { AreApart (all_runs blocks.now) }
@@ -298,7 +295,6 @@ pub(crate) fn two_above(blocks: &[Block], n: u64) -> (Option<(u64, u64)>, Option
     (Some(blocks[block].run(at)), run_behind(blocks, block, at))
 }
 
-// The run behind one of a block.
 fn run_behind(blocks: &[Block], block: usize, at: usize) -> Option<(u64, u64)>
     requires block { block < length blocks.now }
     requires at { at < length (block_at blocks.now block) }
@@ -313,7 +309,7 @@ fn run_behind(blocks: &[Block], block: usize, at: usize) -> Option<(u64, u64)>
     Some(blocks[block + 1].first())
 }
 
-/// The place of the first run that ends at `low` or later. The last run and the first may decide it.
+/// The last run and the first may decide it, which saves the search for numbers in order.
 #[inline]
 pub(crate) fn first_from(blocks: &[Block], low: u64) -> (usize, usize)
     requires { AreApart (all_runs blocks.now) }
@@ -339,7 +335,6 @@ pub(crate) fn first_from(blocks: &[Block], low: u64) -> (usize, usize)
     search_from(blocks, low)
 }
 
-// The same by a search.
 #[inline(never)]
 fn search_from(blocks: &[Block], low: u64) -> (usize, usize)
     ensures place { IsFirstFrom (all_runs blocks.now) low (place blocks.now result.0 result.1) }
@@ -354,7 +349,6 @@ fn search_from(blocks: &[Block], low: u64) -> (usize, usize)
     (block, blocks[block].end_from(low))
 }
 
-// The first block whose last run ends at `low` or later.
 fn block_from(blocks: &[Block], low: u64) -> usize
     ensures within { result ≤ length blocks.now }
     ensures some { 0 < result → 0 < length (block_at blocks.now (result - 1)) }
@@ -374,7 +368,6 @@ fn block_from(blocks: &[Block], low: u64) -> usize
     from
 }
 
-// The place behind the last run that starts below `high`, from a run on that does.
 fn behind(blocks: &[Block], block: usize, from: usize, high: u64) -> (usize, usize)
     requires block { block < length blocks.now }
     requires from { from < length (block_at blocks.now block) }
@@ -392,7 +385,6 @@ fn behind(blocks: &[Block], block: usize, from: usize, high: u64) -> (usize, usi
     (after - 1, blocks[after - 1].start_behind(0, high))
 }
 
-// The first block from a number on whose first run starts at `high` or later.
 #[inline]
 fn block_behind(blocks: &[Block], at: usize, high: u64) -> usize
     requires { at ≤ length blocks.now }

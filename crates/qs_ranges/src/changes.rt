@@ -1,4 +1,4 @@
-//! The runs of a set that are more than two, in blocks.
+//! Sets of more than two runs, in blocks.
 ghost use Rattle.std.specs.Prelude.{◌≡◌, ℕ, ◌+◌, ◌-◌, ◌^◌, ◌≤◌, ◌<◌, All, Option, None, IfOk, OnOk, OnErr, false, true, [], ◌∷◌, ◌++◌, length, take, drop};
 ghost use Rattle.qs_ranges.specs.Runs.{AreApart, has_number};
 ghost use Rattle.qs_ranges.specs.Blocks.{AreMany, IsCounted, IsEdit, all_runs, few_count, runs_of, with_range, without_range};
@@ -8,7 +8,6 @@ use crate::block::Block;
 use crate::blocks::{insert_at, replace, runs_in, span_of, split, take_out};
 use crate::few::{Few, count_few, few_of};
 
-/// Adds a range to the runs of blocks.
 #[inline(never)]
 pub(crate) fn insert_many(
     few: &mut Few,
@@ -36,8 +35,7 @@ pub(crate) fn insert_many(
     insert_anywhere(few, blocks, lo, hi)
 }
 
-// Makes the last run longer by a range that begins behind its first number and touches it, if the range does: packet numbers mostly
-// rise by one. It searches nothing and moves nothing.
+// Packet numbers mostly rise by one, so the last run gets longer most often: tried first, for it searches nothing and moves nothing.
 #[inline]
 fn lengthen_last(blocks: &mut Vec<Block>, lo: u64, hi: u64) -> bool
     requires apart { AreApart (all_runs blocks.old.items) }
@@ -61,7 +59,6 @@ fn lengthen_last(blocks: &mut Vec<Block>, lo: u64, hi: u64) -> bool
     true
 }
 
-// Adds a range to the runs of blocks, wherever it goes.
 fn insert_anywhere(few: &mut Few, blocks: &mut Vec<Block>, lo: u64, hi: u64) -> Result<(), NoMemory>
     requires apart { AreApart (all_runs blocks.old.items) }
     requires bound { All (λ run. run.1 ≤ 2 ^ 62) (all_runs blocks.old.items) }
@@ -91,7 +88,6 @@ fn insert_anywhere(few: &mut Few, blocks: &mut Vec<Block>, lo: u64, hi: u64) -> 
     Ok(())
 }
 
-/// Takes a range out of the runs of blocks.
 #[inline(never)]
 pub(crate) fn remove_many(
     few: &mut Few,
@@ -123,7 +119,7 @@ pub(crate) fn remove_many(
     }
 }
 
-// Takes a range out of the runs of blocks, however few are left, and answers how many are.
+// Answers how many runs are left, from which the caller knows whether they go back into the value.
 fn cut_blocks(blocks: &mut Vec<Block>, count: usize, lo: u64, hi: u64) -> Result<usize, NoMemory>
     requires counted { count ≡ length (all_runs blocks.old.items) }
     requires apart { AreApart (all_runs blocks.old.items) }
@@ -162,7 +158,8 @@ fn cut_blocks(blocks: &mut Vec<Block>, count: usize, lo: u64, hi: u64) -> Result
     }
 }
 
-// Two runs, or one, come back into the value, and their block goes. Of more the value tells the count.
+// At two runs or one the block is given back: a stream whose gaps were filled keeps nothing for them. Runs that come and go between two and
+// three so take memory each time, which is rare.
 fn settle(few: &mut Few, blocks: &mut Vec<Block>, count: usize)
     requires { count ≡ length (all_runs blocks.old.items) }
     ensures runs { runs_of blocks.new.items few.new ≡ all_runs blocks.old.items }
@@ -191,7 +188,6 @@ fn learn_each_has_runs(blocks: &[Block])
     let _some = (blocks[0].len(), blocks[1].len());
 }
 
-/// Copies the runs of blocks to the slice's front.
 #[inline(never)]
 pub(crate) fn copy_runs(blocks: &[Block], into: &mut [(u64, u64)]) -> usize
     requires { length (all_runs blocks.now) ≤ length into.old }
@@ -207,7 +203,6 @@ pub(crate) fn copy_runs(blocks: &[Block], into: &mut [(u64, u64)]) -> usize
     count
 }
 
-// Copies the runs of one block to a place.
 fn copy_block(block: &Block, into: &mut [(u64, u64)], at: usize)
     requires { at + length block.now ≤ length into.old }
     ensures { into.new ≡ take at into.old ++ (block.now ++ drop (at + length block.now) into.old) }

@@ -1,4 +1,4 @@
-//! A set of two runs at most, in a value; of more, how many there are.
+//! Sets of two runs at most. Nearly every set is one, as of a stream with one gap: it stands in the value and takes no memory.
 ghost use Rattle.std.specs.Prelude.{◌≡◌, ℕ, ◌+◌, ◌-◌, ◌^◌, ◌≤◌, ◌<◌, All, OnOk, OnErr, IfSome, IfNone, false, true, [], ◌∷◌, length, take};
 ghost use Rattle.qs_ranges.specs.Runs.{AreApart, has_number};
 ghost use Rattle.qs_ranges.specs.Blocks.{AreMany, IsCounted, IsEdit, few_count, few_runs, first_run_above, runs_of, with_range, without_range};
@@ -7,7 +7,7 @@ ghost use Rattle.qs_ranges.specs.declared.few.Few.TheVariants as kinds;
 use crate::NoMemory;
 use crate::block::Block;
 
-/// Two runs at most, in rising order; or none, and how many there are in blocks.
+/// More runs are in blocks, and then the value keeps their count, so that asking for it costs no walk.
 #[derive(Clone, Copy, Drop)]
 pub(crate) enum Few {
     InBlocks(usize),
@@ -15,7 +15,7 @@ pub(crate) enum Few {
     Two((u64, u64), (u64, u64)),
 }
 
-/// Adds a range. A third run takes a block.
+/// Only a third run needs memory.
 pub(crate) fn insert_few(
     few: &mut Few,
     blocks: &mut Vec<Block>,
@@ -44,7 +44,6 @@ pub(crate) fn insert_few(
     Ok(())
 }
 
-// Adds a range to two runs.
 fn add_to_two(
     few: &mut Few,
     blocks: &mut Vec<Block>,
@@ -87,7 +86,7 @@ fn add_to_two(
     Ok(())
 }
 
-/// Takes a range out. A third run takes a block.
+/// Only a third run needs memory: one that is cut in two.
 pub(crate) fn remove_few(
     few: &mut Few,
     blocks: &mut Vec<Block>,
@@ -113,7 +112,6 @@ pub(crate) fn remove_few(
     Ok(())
 }
 
-// What is left of a run.
 fn without_range_of(run: (u64, u64), lo: u64, hi: u64) -> Few
     requires nonempty { run.0 < run.1 }
     requires bound { run.1 ≤ 2 ^ 62 }
@@ -133,7 +131,6 @@ fn without_range_of(run: (u64, u64), lo: u64, hi: u64) -> Few
     }
 }
 
-// Takes a range out of two runs.
 #[inline(never)]
 fn take_from_two(
     few: &mut Few,
@@ -170,7 +167,6 @@ fn take_from_two(
     Ok(())
 }
 
-// Takes a range out that doesn't meet the higher of two runs.
 fn take_from_low(
     few: &mut Few,
     blocks: &mut Vec<Block>,
@@ -204,7 +200,6 @@ fn take_from_low(
     Ok(())
 }
 
-// Takes a range out that doesn't meet the lower of two runs.
 fn take_from_high(
     few: &mut Few,
     blocks: &mut Vec<Block>,
@@ -238,7 +233,7 @@ fn take_from_high(
     Ok(())
 }
 
-// Puts three runs into a block.
+// The value changes last: if memory is refused, the set is as it was.
 fn put_three(
     few: &mut Few,
     blocks: &mut Vec<Block>,
@@ -261,7 +256,6 @@ fn put_three(
     Ok(())
 }
 
-/// The runs of a block, where they are few.
 pub(crate) fn few_of(block: &Block) -> Option<Few>
     ensures few { IfSome result (λ few. few_runs few ≡ block.now) }
     ensures counted { IfSome result (λ few. few_count few ≡ length block.now) }
@@ -274,7 +268,6 @@ pub(crate) fn few_of(block: &Block) -> Option<Few>
     }
 }
 
-/// The first run that ends above `n`.
 pub(crate) fn few_above(few: Few, n: u64) -> Option<(u64, u64)>
     ensures { result ≡ first_run_above n (few_runs few) }
 {
@@ -286,14 +279,12 @@ pub(crate) fn few_above(few: Few, n: u64) -> Option<(u64, u64)>
     one_above(run, n)
 }
 
-// The run, where it ends above `n`.
 fn one_above(run: (u64, u64), n: u64) -> Option<(u64, u64)>
     ensures { result ≡ first_run_above n (run ∷ []) }
 {
     if n < run.1 { Some(run) } else { None }
 }
 
-/// The first run that ends above `n`, and the one behind it.
 pub(crate) fn few_above_two(few: Few, n: u64) -> (Option<(u64, u64)>, Option<(u64, u64)>)
     requires apart { AreApart (few_runs few) }
     ensures first { result.0 ≡ first_run_above n (few_runs few) }
@@ -311,7 +302,6 @@ pub(crate) fn few_above_two(few: Few, n: u64) -> (Option<(u64, u64)>, Option<(u6
     }
 }
 
-/// Copies the runs to the slice's front.
 pub(crate) fn copy_few(few: Few, into: &mut [(u64, u64)]) -> usize
     requires { length (few_runs few) ≤ length into.old }
     ensures count { result ≡ length (few_runs few) }
@@ -332,7 +322,6 @@ pub(crate) fn copy_few(few: Few, into: &mut [(u64, u64)]) -> usize
     }
 }
 
-/// How many runs there are.
 pub(crate) fn count_few(few: Few) -> usize
     ensures { result ≡ few_count few }
 {

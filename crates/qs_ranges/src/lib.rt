@@ -1,4 +1,5 @@
-//! Sets of numbers, kept as the longest runs of their members.
+//! Sets of numbers, kept as the longest runs of their members. One type serves stream offsets and packet numbers: both lie below 2^62, and
+//! both mostly come in order.
 #![tactic(auto)]
 
 ghost use Rattle.std.specs.Prelude.{◌≡◌, ℕ, ◌+◌, ◌-◌, ◌≤◌, ◌<◌, ◌^◌, ◌↔◌, All, Option, OnOk, OnErr, IsTrue, IfSome, IfNone, [], ◌∷◌, false, length, take, max};
@@ -41,7 +42,7 @@ pub use bits::{lowest_bit, with_bit};
 pub use maybe_number::MaybeNumber;
 pub use room::reserve;
 
-/// No memory was left.
+/// Memory was refused, and nothing changed.
 #[derive(Clone, Copy, Debug, PartialEq, Eq)]
 pub struct NoMemory;
 
@@ -57,7 +58,8 @@ impl<T: Drop> From<AllocFailed<T>> for NoMemory {
     }
 }
 
-/// A set of numbers below 2^62, kept as its longest runs in rising order: two at most in the value itself, and more in blocks.
+/// A set of numbers below 2^62, as its longest runs in rising order: two at most in the value itself, and more in blocks, which only a set
+/// with gaps pays for.
 #[derive(Drop)]
 pub struct RangeSet {
     few: Few,
@@ -82,7 +84,7 @@ impl Model for RangeSet {
 }
 
 impl RangeSet {
-    /// The empty set. It takes no memory.
+    /// The empty set. It takes no memory, so what has one needs no way to fail.
     pub fn new(alloc: Global) -> Self
         ensures { result ≡ set.empty }
     {
@@ -92,7 +94,7 @@ impl RangeSet {
         }
     }
 
-    /// The set of all numbers below `n`. It takes no memory.
+    /// The set of all numbers below `n`. It takes no memory: it stands for a set whose members aren't worth keeping apart any more.
     pub fn below(alloc: Global, n: u64) -> Self
         requires { n ≤ 2 ^ 62 }
         ensures { result ≡ numbers 0 n }
@@ -110,14 +112,16 @@ impl RangeSet {
 
     /// Adds the numbers from `lo` on and below `hi`; an empty range changes nothing. `NoMemory` leaves the set as it was.
     ///
-    /// It takes constant time at or past the end of the set, and elsewhere two searches and moves within blocks.
+    /// Constant time at or past the end of the set, where packet numbers and bytes in order go; elsewhere two searches and moves within
+    /// blocks.
     pub fn insert(&mut self, lo: u64, hi: u64) -> Result<(), NoMemory>
         requires ordered { lo ≤ hi }
         requires within { hi ≤ 2 ^ 62 }
         ensures ok { OnOk result (self.new ≡ set.union self.old (numbers lo hi)) }
         ensures err { OnErr result (self.new ≡ self.old) }
 
-        // Memory is taken only for a range that touches no member, and only of a set of two runs or more.
+        // Memory is taken only for a range that touches no member, of a set of two runs or more. So what fills a gap, or repeats, is never
+        // refused.
         ensures touches_none { OnErr result (MissesRange self.old (lo - 1) (hi + 1)) }
         ensures two { OnErr result (1 < set.len (run_starts self.old)) }
     {
@@ -137,7 +141,7 @@ impl RangeSet {
         ensures ok { OnOk result (self.new ≡ set.difference self.old (numbers lo hi)) }
         ensures err { OnErr result (self.new ≡ self.old) }
 
-        // Memory is taken only for a range with a member on either side and no number missing.
+        // Memory is taken only for a range strictly inside a run, which it cuts in two.
         ensures inside { OnErr result ((0 < lo) × ContainsRange self.old (lo - 1) (hi + 1)) }
     {
         if lo == hi {
@@ -149,7 +153,7 @@ impl RangeSet {
         remove_many(&mut self.few, &mut self.blocks, lo, hi)
     }
 
-    /// Takes out the numbers below `n`. It takes constant time up to the end of the first run.
+    /// Takes out the numbers below `n`, without memory. Constant time up to the end of the first run.
     pub fn drop_below(&mut self, n: u64)
         ensures { self.new ≡ set.difference self.old (numbers 0 n) }
     {
@@ -157,8 +161,8 @@ impl RangeSet {
         let _never = self.remove(0, n.min(1 << 62));
     }
 
-    /// Copies the longest runs of members to the slice's front, each a first number and the number after the last, and answers how many
-    /// there are.
+    /// Copies the longest runs of members to the slice's front, each as its first number and the one after its last, and returns how many
+    /// there are. Copied, since blocks have no one slice to lend, and one vector would move all runs behind each that comes between.
     pub fn copy_pairs(&self, into: &mut [(u64, u64)]) -> usize
         requires room { set.len (run_starts self.now) ≤ length into.old }
         ensures count { result ≡ set.len (run_starts self.now) }
@@ -228,7 +232,8 @@ impl RangeSet {
         }
     }
 
-    /// The first gap from `lo` on and below `hi`: its first missing number, and the next member or `hi`. `None` where no number is missing.
+    /// The first gap from `lo` on and below `hi`: its first missing number, and the next member or `hi`. `None` if no number is missing.
+    /// One search gives both edges, and bytes are copied gap by gap.
     pub fn first_gap(&self, lo: u64, hi: u64) -> Option<(u64, u64)>
         ensures found { IfSome result (IsFirstGap self.now lo hi) }
         ensures full { IfNone result (ContainsRange self.now lo hi) }
@@ -252,7 +257,7 @@ impl RangeSet {
         }
     }
 
-    /// How many runs there are: the members whose predecessor is not a member. It takes constant time.
+    /// How many runs there are: members whose predecessor isn't one. Constant time, as it is asked after each frame.
     pub fn count(&self) -> usize
         ensures value { result ≡ set.len (run_starts self.now) }
         ensures within { result ≤ end_of self.now }
@@ -277,7 +282,6 @@ impl RangeSet {
         matches!(self.run_above(n), Some((start, _)) if start <= n)
     }
 
-    // The first run that ends above `n`.
     fn run_above(&self, n: u64) -> Option<(u64, u64)>
         ensures found { IfSome result (IsRunAbove self.now n) }
         ensures none { IfNone result (EndsBefore self.now n) }
@@ -293,7 +297,6 @@ impl RangeSet {
         first
     }
 
-    // The first run that ends above `n`, and the one behind it.
     fn runs_above(&self, n: u64) -> (Option<(u64, u64)>, Option<(u64, u64)>)
         ensures found { IfSome result.0 (IsRunAbove self.now n) }
         ensures none { IfNone result.0 (EndsBefore self.now n) }

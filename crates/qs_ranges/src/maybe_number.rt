@@ -1,10 +1,10 @@
-//! A number below 2^62, or none, in eight bytes.
+//! A number below 2^62, or none, in eight bytes. A stream has several such numbers, and most end with none.
 ghost use Rattle.std.specs.Prelude.{◌≡◌, ◌≤◌, None, Some, IfSome};
 ghost use Rattle.qs_ranges.specs.Numbers.{MAX_VARINT};
 
 use std::marker::Model;
 
-// The word of no number: above each that there may be.
+// No number that there may be, so no flag is needed.
 const NO_NUMBER: u64 = u64::MAX;
 
 /// No number, or one below 2^62, in eight bytes: an `Option<u64>` takes sixteen.
@@ -13,7 +13,6 @@ pub struct MaybeNumber {
     word: u64,
 }
 
-// Clauses see the number, if there is one.
 impl Model for MaybeNumber {
     ghost use Rattle.std.specs.Prelude.{◌≡◌, ℕ, Option, refl};
     ghost use Rattle.std.specs.Coded.{coded_ℕ, coded_option};

@@ -3,8 +3,8 @@ ghost use Rattle.std.specs.Prelude.{◌≡◌, ◌≤◌, max, vec_len, vec_capa
 
 use crate::NoMemory;
 
-/// Makes room for so many bytes in all, takes memory for no more, and answers how many these are: what a caller makes of them is then
-/// as large as its memory.
+/// Makes room for so many bytes in all, takes memory for no more, and returns how many these are. A vector grows to twice its size by
+/// itself, which a bound on memory couldn't promise.
 pub fn reserve(bytes: &mut Vec<u8>, size: usize) -> Result<usize, NoMemory>
     requires { vec_len bytes.old ≤ size }
     ensures answer { IfOk result (λ room. room ≡ size) }

@@ -3,10 +3,9 @@ ghost use Rattle.std.specs.Prelude.{◌≡◌, ◌≤◌, max};
 ghost use Rattle.qs_ranges.specs.Numbers.{MAX_VARINT};
 ghost use Rattle.qs_recv.specs.Lane.{MAX_CONN_WINDOW, step, next_limit, limit_with};
 
-// The largest value of a variable-length integer.
 const MAX_VARINT: u64 = (1 << 62) - 1;
 
-/// A part of a window, or of a grant.
+/// Shares are few, so that a step needs no division, and a half keeps its share in a byte.
 #[derive(Clone, Copy, Debug, PartialEq, Eq, Drop)]
 pub enum Share {
     Half,
@@ -15,8 +14,8 @@ pub enum Share {
     Sixteenth,
 }
 
-/// The limit that follows one where so much was taken of a window: it moves once that is such a share of it, or more (RFC 9000,
-/// section 4.2).
+/// The limit that follows one after so much was consumed of a window: it moves once that is such a share more, so that not each read costs
+/// a frame (RFC 9000, section 4.2).
 pub fn next_limit(limit: u64, taken: u64, window: u64, share: Share) -> u64
     requires small { limit ≤ MAX_VARINT }
     requires taken { taken ≤ MAX_VARINT }
@@ -33,7 +32,8 @@ pub fn next_limit(limit: u64, taken: u64, window: u64, share: Share) -> u64
     }
 }
 
-/// The limit under another window: a greater one moves it at once, and under a smaller one it stands (RFC 9000, section 4.2).
+/// The limit under another window. A greater one moves it at once: a step that is never reached would hide it. Under a smaller one it
+/// stays, since no limit may fall (RFC 9000, section 4.1).
 pub(crate) fn limit_with(present: u64, granted: u64, taken: u64, window: u64) -> u64
     requires small { granted ≤ MAX_VARINT }
     requires taken { taken ≤ MAX_VARINT }
@@ -48,7 +48,7 @@ pub(crate) fn limit_with(present: u64, granted: u64, taken: u64, window: u64) ->
     }
 }
 
-/// Such a share of a window or of a grant, and 1 at least: by so much a limit or a count moves.
+/// A share rounds down, and is 1 at least: a limit that moves by 0 would never move.
 pub fn step_of(share: Share, whole: u64) -> u64
     ensures value { result ≡ step share whole }
     ensures some { 1 ≤ result }

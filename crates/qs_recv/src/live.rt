@@ -19,7 +19,7 @@ use crate::window::Windows;
 use std::alloc::Global;
 use std::marker::Model;
 
-/// A receiving half with its assembly. `RecvHalf` tells what the calls do.
+/// Numbers and their flags apart: an `Option<u64>` takes twice the bytes. `RecvHalf` says what the calls do.
 #[derive(Drop)]
 pub(crate) struct LiveHalf<A: Assembly> {
     assembly: A,
@@ -52,7 +52,7 @@ impl<A: Assembly> Model for LiveHalf<A> {
 }
 
 impl<A: Assembly> LiveHalf<A> {
-    /// The same half as one at rest. It takes no memory.
+    /// For a question to a half at rest; it takes no memory.
     pub(crate) fn revived(alloc: Global, rest: &Rest) -> Self
         ensures { result ≡ rest.now }
     {
@@ -80,21 +80,20 @@ impl<A: Assembly> LiveHalf<A> {
         }
     }
 
-    /// Lets the assembly go: it becomes the same half as one at rest.
+    /// The box stays if a smaller one was refused, and goes on as a half at rest.
     pub(crate) fn let_go(&mut self, alloc: Global, rest: &Rest)
         ensures { self.new ≡ rest.now }
     {
         *self = LiveHalf::revived(alloc, rest);
     }
 
-    /// Whether the end was told, or nothing is stored any more since it was stopped.
     pub(crate) fn is_done(&self) -> bool
         ensures { result ≡ (self.now.told || is_some self.now.stop_code) }
     {
         self.told || self.is_stopped
     }
 
-    /// The same half at rest, where it is done and every offset below the largest that came came.
+    /// None while an offset is missing: a late frame could then want its assembly.
     pub(crate) fn rested(&self) -> Option<Rest>
         ensures { IfSome result (λ rest. rest ≡ self.now) }
     {
@@ -116,7 +115,6 @@ impl<A: Assembly> LiveHalf<A> {
         })
     }
 
-    /// The same half in few bytes, where it was read to its end.
     pub(crate) fn over(&self) -> Option<Over>
         ensures { IfSome result (λ over. over ≡ self.now) }
     {
@@ -195,8 +193,8 @@ impl<A: Assembly> LiveHalf<A> {
         ensures grown { OnOk result (highest self.new ≡ highest_after self.old offset (length bytes.now) fin) }
         ensures refused { IfErr result (λ fault. (fault ≡ RecvFault.NoMemory) × (self.new ≡ self.old)) }
 
-        // Memory is taken only for bytes of which one is new, after a stop only where no offset came or beside it, and
-        // after a reset never.
+        // Memory is taken only for bytes of which one is new, after a stop only if no offset at or beside it was received, and after a
+        // reset never.
         ensures open { OnErr result (self.old.reset_code ≡ None) }
         ensures news { OnErr result (covers self.old.arrived.received offset (offset + length bytes.now) ≡ false) }
         ensures apart { OnErr result (IsTrue (is_some self.old.stop_code)
@@ -245,7 +243,7 @@ impl<A: Assembly> LiveHalf<A> {
         })
     }
 
-    /// What a reset that passed its check makes of it: a half at rest, which takes its place. None where nothing changes.
+    /// What a reset that passed its check makes of it: a half at rest, which takes its place. None if nothing changes.
     pub(crate) fn reset(&mut self, code: u64, size: u64) -> Option<Rest>
         requires in_range { size ≤ MAX_VARINT }
         requires passed { IsOk (check_reset self.old size) }
@@ -508,21 +506,19 @@ impl<A: Assembly> LiveHalf<A> {
         given(self.is_reset, self.reset)
     }
 
-    /// Whether the end was told, or a reset.
     pub(crate) fn is_over(&self) -> bool
         ensures { result ≡ is_over self.now }
     {
         self.told && (self.is_reset || self.is_whole())
     }
 
-    // Whether all of the stream was read.
     fn is_at_end(&self) -> bool
         ensures { result ≡ at_final_size self.now.arrived.read_count self.now.final_size }
     {
         self.is_sized && self.read_count == self.size
     }
 
-    // Whether the final size is known and every offset below it came. It is seldom called, and apart so that its callers are small.
+    // Seldom called, and apart so that its callers are small.
     #[inline(never)]
     fn is_whole(&self) -> bool
         ensures { result ≡ is_whole self.now }
@@ -530,7 +526,6 @@ impl<A: Assembly> LiveHalf<A> {
         self.is_sized && self.assembly.received().covers(0, self.size)
     }
 
-    // Whether a frame with len bytes at offset names another final size, or lies outside the known one.
     fn breaks_final_size(&self, offset: u64, len: u64, fin: bool) -> bool
         requires { offset + len ≤ MAX_VARINT }
         ensures { result ≡ breaks_final_size self.now offset len fin }
@@ -598,7 +593,6 @@ impl<A: Skipping> LiveHalf<A> {
     }
 }
 
-// One more than the largest offset, once the len offsets from another one on came too.
 fn end_with(before: u64, offset: u64, len: u64) -> u64
     requires { offset + len ≤ MAX_VARINT }
     ensures { result ≡ (if len == 0 then before else max before (offset + len)) }

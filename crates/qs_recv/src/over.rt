@@ -1,4 +1,4 @@
-//! A receiving half that was read to its end, in 24 bytes.
+//! A receiving half that was read to its end, in 24 bytes. Most streams that ever were are such: whole, read, neither reset nor stopped.
 ghost use Rattle.std.specs.Prelude.{◌≡◌, ◌≤◌};
 ghost use Rattle.qs_recv.specs.Over.{IsOver};
 ghost use Rattle.qs_recv.specs.Lane.{set_window, MAX_WINDOW};
@@ -7,7 +7,8 @@ use crate::rest::Rest;
 use crate::window::Windows;
 use std::marker::Model;
 
-/// A receiving half that was read to its end: its length, how far its limit lies past that, and its windows.
+/// Its length, how far its limit lies past that (at most the greatest window, so four bytes do), and its windows. Nothing that may still
+/// come or be called changes any of it but another window, so it needs no box.
 #[derive(Drop)]
 pub(crate) struct Over {
     pub(crate) end: u64,
@@ -31,7 +32,6 @@ impl Model for Over {
 }
 
 impl Over {
-    /// The same half at rest.
     pub(crate) fn rest(&self) -> Rest
         ensures { result ≡ self.now }
     {
@@ -50,7 +50,6 @@ impl Over {
         }
     }
 
-    /// Sets another window.
     pub(crate) fn set_window(&mut self, window: u64)
         requires some { 1 ≤ window }
         requires small { window ≤ MAX_WINDOW }
@@ -59,7 +58,6 @@ impl Over {
         self.windows = self.windows.with(window);
     }
 
-    /// What holds of the half at all times.
     pub(crate) fn is_over(&self)
         ensures { IsOver self.now }
     {

@@ -1,4 +1,5 @@
-//! Bytes that stand apart from a ring, far past it, in pages of their own.
+//! Bytes that lie far past a ring, in pages of their own. A ring that reached to them would fill the hole before them: two bytes, one at
+//! the front and one half a window on, would write half a window.
 ghost use Rattle.std.specs.Prelude.{◌≡◌, if◌then◌else◌, ℕ, ◌+◌, ◌-◌, ◌*◌, ◌/◌, ◌%◌, ◌<◌, ◌≤◌, ◌^◌, ◌&&◌, ◌⊎◌, nat_le, nat_lt, None, Some, true, false, length, slice_index, IsTrue, ◌↔◌, OnOk, OnErr, IfOk};
 ghost use Rattle.std.specs.Ordering.{nat_cmp};
 ghost use Rattle.std.specs.BTreeMap as tree;
@@ -12,10 +13,11 @@ use qs_ranges::{NoMemory, reserve};
 use std::alloc::Global;
 use std::collections::BTreeMap;
 
-// A page has the bytes of so many offsets.
+// Small, since a peer may send one byte for each page; and large enough that few notes are needed. A list of pieces of any length would
+// cost some hundred bytes for each byte that comes alone, and a table by offset would grow with the window.
 pub(crate) const PAGE: u64 = 2048;
 
-/// The pages that are in use, each by its number: an offset's page has the offset divided by a page's bytes as its number.
+/// Each page by its number: the offsets that it has, divided by a page's size.
 #[derive(Drop)]
 pub(crate) struct Pages {
     pages: BTreeMap<u64, Vec<u8>>,
@@ -38,7 +40,6 @@ impl Pages {
         self.pages.is_empty()
     }
 
-    /// How many pages are in use.
     pub(crate) fn count(&self) -> u64
         ensures count { result ≡ btree_map_len self.now.pages }
         ensures ordered { IsOrdered nat_cmp self.now.pages }
@@ -46,7 +47,7 @@ impl Pages {
         self.pages.len() as u64
     }
 
-    /// Takes each page that the offsets from `from` on and below `to` lie in.
+    /// Takes them before any byte is written, so that a refusal leaves what was stored as it was.
     pub(crate) fn make(&mut self, alloc: Global, from: u64, to: u64) -> Result<(), NoMemory>
         requires small { to ≤ MAX_VARINT }
         requires whole { AreWhole self.old.pages }
@@ -68,7 +69,6 @@ impl Pages {
         Ok(())
     }
 
-    /// Gives back the pages that begin at `from` or past it and below `to`.
     pub(crate) fn give_back(&mut self, from: u64, to: u64)
         requires small { to ≤ MAX_VARINT }
         ensures { (n : ℕ) → tree.get nat_cmp self.new.pages n
@@ -83,7 +83,6 @@ impl Pages {
         }
     }
 
-    /// Writes bytes to the offsets from `at` on.
     pub(crate) fn write(&mut self, at: u64, bytes: &[u8])
         requires small { at + length bytes.now ≤ MAX_VARINT }
         requires whole { AreWhole self.old.pages }
@@ -106,7 +105,6 @@ impl Pages {
         }
     }
 
-    /// Whether bytes are those of the offsets from `at` on.
     pub(crate) fn are_at(&self, at: u64, bytes: &[u8]) -> bool
         requires small { at + length bytes.now ≤ MAX_VARINT }
         requires whole { AreWhole self.now.pages }
@@ -131,7 +129,7 @@ impl Pages {
         true
     }
 
-    /// Where the first page past an offset begins that isn't in use, or the end where that comes first.
+    /// Pages move into the ring up to there: what is next to be read always stands in the ring, so a read needs no look at the pages.
     pub(crate) fn gap_past(&self, at: u64, end: u64) -> u64
         requires small { end ≤ MAX_VARINT }
         requires at { at ≤ MAX_VARINT }
@@ -147,7 +145,7 @@ impl Pages {
         (number * PAGE).min(end)
     }
 
-    /// Moves the pages past that of `from` that begin below `to` into a ring, as far as their offsets lie below that.
+    /// Each byte moves once, as the ring comes to reach its page.
     pub(crate) fn move_into(&mut self, ring: &mut Ring, from: u64, to: u64)
         requires small { to ≤ MAX_VARINT }
         requires whole { AreWhole self.old.pages }
@@ -176,7 +174,6 @@ impl Pages {
     }
 }
 
-// A page of zeros.
 fn zeros(alloc: Global) -> Result<Vec<u8>, NoMemory>
     ensures { IfOk result (λ page. (length page.items ≡ 2048) × ((k : ℕ) → slice_index page.items k ≡ 0)) }
 {

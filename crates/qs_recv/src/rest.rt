@@ -1,4 +1,5 @@
-//! A receiving half that stores nothing, in few bytes.
+//! A receiving half that stores nothing, in few bytes. A half is kept until its connection ends, so what one takes that is over counts for
+//! every stream that ever was.
 ghost use Rattle.std.specs.Prelude.{if◌then◌else◌, ◌≡◌, ℕ, ◌+◌, ◌-◌, ◌≤◌, [], length, true, false, None, Some, IsOk, IsTrue, IfSome, IfNone, is_some, ◌&&◌, ◌||◌};
 ghost use Rattle.std.specs.FinMap as map;
 ghost use Rattle.qs_ranges.specs.Numbers.{MAX_VARINT, MissesRange, covers};
@@ -15,8 +16,9 @@ use crate::over::Over;
 use crate::window::Windows;
 use std::marker::Model;
 
-/// A receiving half that stores nothing, and of which the offsets that came are those below `received_end`: one that never
-/// carried a byte, or that is over. An `Option<u64>` would take twice the bytes of its number.
+/// A receiving half that stores nothing, and has received exactly the offsets below `received_end`: one that never carried a byte, or that
+/// is over. It could be so whenever all that came was read, but then a stream that is read as it arrives would take a box and a ring for
+/// each frame. Numbers with a flag apart, since an `Option<u64>` takes twice the bytes.
 #[derive(Drop)]
 pub(crate) struct Rest {
     pub(crate) read_count: u64,
@@ -47,7 +49,6 @@ impl Model for Rest {
 }
 
 impl Rest {
-    /// A half for which nothing came.
     pub(crate) fn new(window: u64, share: Share) -> Self
         requires some { 1 ≤ window }
         requires small { window ≤ MAX_WINDOW }
@@ -72,8 +73,8 @@ impl Rest {
         }
     }
 
-    /// Takes a frame that passed its check, where that stores no byte and the offsets that came stay those below a number.
-    /// Else it answers false, and changes nothing.
+    /// Takes a frame that passed its check, if that stores no byte and leaves no gap. Else it answers false and changes nothing: the half
+    /// needs its assembly, and so memory.
     pub(crate) fn takes(&mut self, offset: u64, bytes: &[u8], fin: bool) -> bool
         requires in_range { offset + length bytes.now ≤ MAX_VARINT }
         requires passed { IsOk (check_stream self.old offset (length bytes.now) fin) }
@@ -96,7 +97,6 @@ impl Rest {
         true
     }
 
-    /// Takes a reset that passed its check.
     pub(crate) fn take_reset(&mut self, code: u64, size: u64)
         requires in_range { size ≤ MAX_VARINT }
         requires passed { IsOk (check_reset self.old size) }
@@ -112,7 +112,7 @@ impl Rest {
         self.reset = code;
     }
 
-    /// What a reader is told: bytes never are.
+    /// There are no bytes, so it takes no slice.
     pub(crate) fn read(&mut self) -> Read
         ensures answer { (room : ℕ) → result ≡ read_answer self.old room }
         ensures bytes { (room : ℕ) → bytes_read self.old room ≡ [] }
@@ -130,7 +130,6 @@ impl Rest {
         Read::Wait
     }
 
-    /// What a look tells: bytes never are.
     pub(crate) fn peek(&self) -> Peek<'_>
         ensures { IsPeek self.now result }
     {
@@ -146,7 +145,7 @@ impl Rest {
         self.told
     }
 
-    /// Notes a stop: the first code stays, and what is over isn't stopped.
+    /// The first code stays, and what is over isn't stopped: so a half that is over keeps no code, and its numbers are few.
     pub(crate) fn stop(&mut self, code: u64)
         requires { code ≤ MAX_VARINT }
         ensures after { self.new ≡ stop self.old code }
@@ -161,7 +160,7 @@ impl Rest {
         }
     }
 
-    /// Notes a stop, and tells nothing more.
+    /// Setting `told` with the stop is all: a half is over once its reader knows the end, and that reader doesn't ask.
     pub(crate) fn stop_and_forget(&mut self, code: u64)
         requires { code ≤ MAX_VARINT }
         ensures after { self.new ≡ stop_and_forget self.old code }
@@ -171,7 +170,6 @@ impl Rest {
         self.told = true;
     }
 
-    /// Raises the limit, and answers the new one where it rose.
     pub(crate) fn raise(&mut self) -> Option<u64>
         ensures answer { result ≡ raise_answer self.old }
         ensures after { self.new ≡ raise self.old }
@@ -188,7 +186,6 @@ impl Rest {
         Some(next)
     }
 
-    /// Sets another window.
     pub(crate) fn set_window(&mut self, window: u64)
         requires some { 1 ≤ window }
         requires small { window ≤ MAX_WINDOW }
@@ -201,7 +198,6 @@ impl Rest {
         self.windows = self.windows.with(window);
     }
 
-    /// What holds of the half at all times.
     pub(crate) fn learn_lawful(&self)
         ensures { IsLawful self.now }
     {
@@ -245,7 +241,6 @@ impl Rest {
         }
     }
 
-    /// The limit on the highest offset that was granted.
     pub(crate) fn limit(&self) -> u64
         ensures value { result ≡ self.now.limit }
         ensures small { result ≤ MAX_VARINT }
@@ -253,7 +248,6 @@ impl Rest {
         self.limit
     }
 
-    /// What credit is paid back for.
     pub(crate) fn taken(&self) -> u64
         ensures value { result ≡ taken self.now }
         ensures in_range { result ≤ MAX_VARINT }
@@ -266,7 +260,6 @@ impl Rest {
         }
     }
 
-    /// The final size if known, else one more than the largest offset that came, or 0.
     pub(crate) fn highest(&self) -> u64
         ensures value { result ≡ highest self.now }
         ensures in_range { result ≤ MAX_VARINT }
@@ -278,7 +271,6 @@ impl Rest {
         }
     }
 
-    /// How many runs the offsets make that came: one at most.
     pub(crate) fn noted(&self) -> u64
         ensures value { result ≡ noted self.now }
         ensures within { result ≤ highest self.now }
@@ -289,14 +281,12 @@ impl Rest {
         if self.received_end > 0 { 1 } else { 0 }
     }
 
-    /// How long the stream is, where that is known.
     pub(crate) fn final_size(&self) -> Option<u64>
         ensures { result ≡ self.now.final_size }
     {
         given(self.is_sized, self.size)
     }
 
-    /// How many bytes are stored: none.
     pub(crate) fn stored(&self) -> u64
         ensures value { result ≡ map.len self.now.arrived.stored }
         ensures none { result ≡ 0 }
@@ -307,14 +297,12 @@ impl Rest {
         0
     }
 
-    /// How many bytes were read.
     pub(crate) fn read_count(&self) -> u64
         ensures { result ≡ self.now.arrived.read_count }
     {
         self.read_count
     }
 
-    /// The code of the first stop, if there was one.
     pub(crate) fn stop_code(&self) -> Option<u64>
         ensures value { result ≡ self.now.stop_code }
         ensures small { CodeFits result }
@@ -322,14 +310,12 @@ impl Rest {
         given(self.is_stopped, self.stop)
     }
 
-    /// The code of the reset that was taken, if there was one.
     pub(crate) fn reset_code(&self) -> Option<u64>
         ensures { result ≡ self.now.reset_code }
     {
         given(self.is_reset, self.reset)
     }
 
-    /// The state by what came and what a reader was told.
     pub(crate) fn state(&self) -> RecvState
         ensures { result ≡ state self.now }
     {
@@ -352,7 +338,6 @@ impl Rest {
         }
     }
 
-    /// The same in few bytes, where it was read to its end.
     pub(crate) fn over(&self) -> Option<Over>
         ensures { IfSome result (λ over. over ≡ self.now) }
     {
@@ -366,8 +351,7 @@ impl Rest {
         })
     }
 
-    // The number below which the offsets are that came, once a frame's did. None where one of its bytes would be stored, or
-    // offsets lie apart.
+    // None if one of its bytes would be stored, or the offsets would lie apart: only then an assembly is needed.
     fn end_with(&self, offset: u64, bytes: &[u8]) -> Option<u64>
         requires in_range { offset + length bytes.now ≤ MAX_VARINT }
         ensures ends { IfSome result (EndsAt self.now offset bytes.now) }
@@ -386,7 +370,6 @@ impl Rest {
         None
     }
 
-    // Whether a reader is told of the end, where it isn't of a reset.
     fn ends(&self) -> bool
         requires { self.now.reset_code ≡ None }
         ensures answer { (room : ℕ) → read_answer self.now room ≡ (if result then Read.End else Read.Wait) }
@@ -399,28 +382,25 @@ impl Rest {
         }
     }
 
-    /// Whether bytes that come are thrown away.
     pub(crate) fn discards(&self) -> bool
         ensures { result ≡ self.now.arrived.discarding }
     {
         self.is_reset || self.is_stopped
     }
 
-    // Whether nothing is noted of the offsets that came.
+    // After a reset, or once over: nothing asks any more which offsets came.
     fn keeps_none(&self) -> bool
         ensures { result ≡ ((self.now.told && is_whole self.now) || is_some self.now.reset_code) }
     {
         (self.told && self.is_whole()) || self.is_reset
     }
 
-    /// Whether the end was told, or a reset.
     pub(crate) fn is_over(&self) -> bool
         ensures { result ≡ is_over self.now }
     {
         self.told && (self.is_reset || self.is_whole())
     }
 
-    // Whether the final size is known and every offset below it came.
     fn is_whole(&self) -> bool
         ensures { result ≡ is_whole self.now }
     {
@@ -428,7 +408,6 @@ impl Rest {
     }
 }
 
-/// The number, where there is one.
 pub(crate) fn given(is_there: bool, number: u64) -> Option<u64>
     ensures { result ≡ given is_there number }
 {

@@ -1,4 +1,4 @@
-//! A ring of bytes of which only the written ones are kept, so that a new one needn't be filled.
+//! A ring of bytes of which only the written ones are kept, so that a new one needn't be filled with zeros.
 ghost use Rattle.std.specs.Prelude.{◌≡◌, if◌then◌else◌, ℕ, ◌+◌, ◌-◌, ◌%◌, ◌<◌, ◌≤◌, ◌^◌, [], ◌++◌, max, min, length, slice_index, IsTrue, ◌↔◌, IfOk, OnOk, OnErr, vec_len, vec_capacity};
 ghost use Rattle.qs_ranges.specs.Numbers.{is_within};
 ghost use Rattle.qs_recv.specs.Ring.{AreAt, AreWritten, IsMoved, IsWritten, StayWritten, StayWrittenTo, around};
@@ -8,14 +8,14 @@ use qs_ranges::{NoMemory, reserve};
 use std::alloc::Global;
 use std::marker::Model;
 
-/// The byte of an offset stands at the offset modulo the ring's size. As the ring is made, the place of an offset is chosen at
-/// which the kept bytes begin: what comes in order from there on is appended.
+/// The byte of an offset stands at the offset modulo the ring's size, so arrival in any order costs copies alone. As the ring is made, the
+/// place is chosen at which the kept bytes begin: what comes in order from there on is appended.
 #[derive(Drop)]
 pub(crate) struct Ring {
-    // There is room for as many as there are places. What lies behind them was never written.
+    // Shorter than the room until all of it was written: what lies behind was never filled.
     bytes: Vec<u8>,
     size: usize,
-    // How far each place lies further on in the kept bytes, around the ring's end.
+    // How far on in `bytes` the places begin. Choosing it anew when a ring grows keeps each byte where it stands.
     turn: usize,
 }
 
@@ -24,7 +24,7 @@ impl Model for Ring {
     ghost use Rattle.std.specs.Coded.{coded×, coded_ℕ, coded_list};
     ghost use Rattle.qs_recv.specs.Ring.{IsKept, RingBytes, places_of};
 
-    // The byte of each place, and which of them were written.
+    // The byte of each place, and which of them were written: a look may lend only those.
     ghost Value = { RingBytes };
 
     ghost coded = { coded× (coded_list coded_ℕ) (coded× coded_ℕ coded_ℕ) };
@@ -51,7 +51,6 @@ impl Ring {
         self.size
     }
 
-    /// Writes bytes to the places of the offsets from `at` on, in two pieces where these wrap.
     pub(crate) fn write(&mut self, at: u64, bytes: &[u8])
         requires small { at ≤ 2 ^ 62 }
         requires some { 0 < length self.old.0 }
@@ -72,7 +71,6 @@ impl Ring {
         }
     }
 
-    /// Copies the bytes of the offsets from `at` on out, in two pieces where their places wrap.
     pub(crate) fn copy_out(&mut self, at: u64, into: &mut [u8])
         requires small { at ≤ 2 ^ 62 }
         requires fits { length into.old ≤ length self.old.0 }
@@ -95,7 +93,7 @@ impl Ring {
         write_at(into, front.len(), back);
     }
 
-    /// So many bytes, from that of the offset `at` on, in two pieces where their places wrap. All of them were written.
+    /// All of them were written, which the invariant of an assembly says of what came and wasn't read.
     pub(crate) fn front(&self, at: u64, count: usize) -> (&[u8], &[u8])
         requires small { at ≤ 2 ^ 62 }
         requires wanted { 0 < count }
@@ -108,7 +106,6 @@ impl Ring {
         pieces(&self.bytes, self.size, place, count)
     }
 
-    /// Whether bytes are the ones at the places of the offsets from `at` on, in two pieces where these wrap.
     pub(crate) fn are_at(&self, at: u64, bytes: &[u8]) -> bool
         requires small { at ≤ 2 ^ 62 }
         requires fits { length bytes.now ≤ length self.now.0 }
@@ -127,7 +124,7 @@ impl Ring {
         is_at(&self.bytes, place, front) && is_at(&self.bytes, 0, back)
     }
 
-    /// A ring of another size, with the bytes of so many offsets from `from` on. What is written behind these is appended.
+    /// What is written behind these bytes is appended.
     pub(crate) fn resized(
         &mut self,
         alloc: Global,
@@ -166,8 +163,7 @@ impl Ring {
         })
     }
 
-    /// Brings the ring to a larger size, with the bytes of so many offsets from `from` on: in memory that grows, where they keep
-    /// their place, unless they go around the ring's end.
+    /// In memory that grows bytes keep their place. Only if they go around the ring's end a new ring is taken and they are copied.
     #[inline(never)]
     pub(crate) fn widen(
         &mut self,
@@ -200,7 +196,8 @@ impl Ring {
         Ok(())
     }
 
-    /// Brings the ring to a smaller size in place, with the bytes of so many offsets from `from` on.
+    /// In place, for a read must not fail and a copy may be refused memory: turned so that what is next stands first, cut off, and turned
+    /// back.
     pub(crate) fn narrow(&mut self, from: u64, count: usize, size: usize)
         requires from_fits { from ≤ 2 ^ 62 }
         requires some { 0 < count }
@@ -219,7 +216,7 @@ impl Ring {
     }
 }
 
-// The place of an offset in a ring of that size. Most are powers of two, at which no division is made.
+// Most sizes are powers of two, unless a window cuts one, and there the low bits are the place: no division.
 #[tactic(auto, using(crate::proofs::RingPlaces::place_by_bits))]
 fn place_of(at: u64, size: usize) -> usize
     requires { 0 < size }
@@ -232,7 +229,6 @@ fn place_of(at: u64, size: usize) -> usize
     }
 }
 
-// How far the places of a ring of that size lie further on, that an offset has the given one.
 #[tactic(auto, using(crate::proofs::RingTurned::turned_by, crate::proofs::RingTurned::turned_by_less))]
 fn turn_to(place: usize, from: u64, size: usize) -> usize
     requires small { size ≤ MAX_WINDOW }
@@ -244,7 +240,7 @@ fn turn_to(place: usize, from: u64, size: usize) -> usize
     if turn <= size { turn } else { turn - size }
 }
 
-// Makes that so many bytes from a place on are kept. Those that never were written are zero.
+// Zeros only before a place that is written past the end; in order there are none.
 fn fill(bytes: &mut Vec<u8>, size: usize, place: usize, count: usize)
     requires small { size ≤ MAX_WINDOW }
     requires room { size ≤ vec_capacity bytes.old }
@@ -263,7 +259,6 @@ fn fill(bytes: &mut Vec<u8>, size: usize, place: usize, count: usize)
     }
 }
 
-// So many bytes from a place on, in two pieces where they go around the ring's end.
 #[tactic(auto, using(crate::proofs::RingTurned::around_once, crate::proofs::RingTurned::around_twice))]
 fn pieces(bytes: &[u8], size: usize, place: usize, count: usize) -> (&[u8], &[u8])
     requires reaches { min (place + count) size ≤ length bytes.now }
@@ -280,7 +275,7 @@ fn pieces(bytes: &[u8], size: usize, place: usize, count: usize) -> (&[u8], &[u8
     }
 }
 
-// Keeps the same bytes alone. Where they go around the ring's end the others move, too.
+// By rotation, so that it needs no second buffer.
 #[tactic(auto, using(crate::proofs::RingTurned::moved_down, crate::proofs::RingTurned::rotated))]
 fn bring_to_front(bytes: &mut Vec<u8>, place: usize, count: usize)
     requires place { place ≤ length bytes.old.items }
@@ -297,7 +292,6 @@ fn bring_to_front(bytes: &mut Vec<u8>, place: usize, count: usize)
     bytes.truncate(count);
 }
 
-// The same in one piece, in memory that has room for it.
 fn copy_to(made: &mut Vec<u8>, bytes: &[u8], size: usize, place: usize, count: usize)
     requires empty { made.old.items ≡ [] }
     requires room { count ≤ vec_capacity made.old }
@@ -313,7 +307,6 @@ fn copy_to(made: &mut Vec<u8>, bytes: &[u8], size: usize, place: usize, count: u
     let _copied = made.extend_from_slice(back);
 }
 
-// Writes bytes from a place on, behind zeros where none were written before it.
 #[inline(always)]
 fn write_over(into: &mut Vec<u8>, place: usize, bytes: &[u8])
     requires { place + length bytes.now ≤ vec_capacity into.old }
@@ -332,7 +325,6 @@ fn write_over(into: &mut Vec<u8>, place: usize, bytes: &[u8])
     let _written = into.extend_from_slice(bytes);
 }
 
-// Writes bytes from a place on.
 pub(crate) fn write_at(into: &mut [u8], place: usize, bytes: &[u8])
     requires { place + length bytes.now ≤ length into.old }
     ensures same_len { length into.new ≡ length into.old }
@@ -342,7 +334,6 @@ pub(crate) fn write_at(into: &mut [u8], place: usize, bytes: &[u8])
     into[place..place + bytes.len()].copy_from_slice(bytes);
 }
 
-// Whether those bytes stand from a place on, where what was never written is zero.
 pub(crate) fn is_at(kept: &[u8], place: usize, bytes: &[u8]) -> bool
     requires { place + length bytes.now < 2 ^ 63 }
     ensures { IsTrue result ↔ ((k : ℕ) → k < length bytes.now → slice_index bytes.now k ≡ slice_index kept.now (place + k)) }

@@ -1,10 +1,11 @@
-//! The windows of a receiving half and the share of one by which a limit moves, in 12 bytes.
+//! The windows of a receiving half and the share by which its limit moves, in 12 bytes. They stay with the half, so that no call hands them
+//! in and no stream costs a look at the settings.
 ghost use Rattle.std.specs.Prelude.{◌≡◌, ◌≤◌, max};
 ghost use Rattle.qs_recv.specs.Lane.{MAX_WINDOW};
 
 use crate::credit::Share;
 
-/// The greatest window that was set and the present one, each of at most 2^30 bytes.
+/// The greatest window that was set bounds what an assembly may hold, since credit that was granted stays.
 #[derive(Clone, Copy, Drop)]
 pub(crate) struct Windows {
     pub(crate) widest: u32,
@@ -13,7 +14,6 @@ pub(crate) struct Windows {
 }
 
 impl Windows {
-    /// The same, once another window is set.
     pub(crate) fn with(self, window: u64) -> Self
         requires { window ≤ MAX_WINDOW }
         ensures { result ≡ record self { widest = max self.widest window; size = window } }

@@ -1,4 +1,4 @@
-//! Which outstanding packets an ACK names.
+//! Which outstanding packets an ACK names. The work is counted here, since a peer chooses the ACK.
 ghost use Rattle.std.specs.Prelude.{◌≡◌, ℕ, ◌+◌, ◌-◌, ◌<◌, ◌≤◌, [], min, IfSome, IfNone, true, false};
 ghost use Rattle.std.specs.FinMap as fmap;
 ghost use Rattle.qs_send.specs.AckPass.{HasRead, IsNext, more_turns, pass_over};
@@ -9,11 +9,11 @@ use std::marker::Model;
 
 mod late;
 
-/// One pass over the outstanding records, or over the lost ones, from the highest number that an ACK's ranges name down to the lowest
-/// (RFC 9000, section 13.3).
+/// One pass over the outstanding records, or over the lost ones, from the highest number that an ACK's ranges name down to the lowest (RFC
+/// 9000, section 13.3). Downwards, as the ranges come: so each slot and each range is met once, and a pass that began anew at a range would
+/// break the count.
 #[derive(Drop)]
 pub struct AckPass<'a> {
-    // Of the range that was read last, the numbers from `low` on and below `below` are left.
     low: u64,
     below: u64,
     ranges: AckRanges<'a>,
@@ -31,7 +31,6 @@ impl<'a> Model for AckPass<'a> {
 }
 
 impl<'a> AckPass<'a> {
-    /// A pass over the ranges that are left of an ACK.
     pub fn new(ranges: AckRanges<'a>) -> AckPass<'a>
         ensures { result ≡ pass_over ranges.entry }
     {
@@ -43,9 +42,9 @@ impl<'a> AckPass<'a> {
         }
     }
 
-    /// The greatest outstanding number that the ranges name below the one given last, `None` where there is none. A turn is a range that
-    /// it reads, or a look below the last one: at a word of bits, together with the word of words and the slot that it leads to, or at a
-    /// slot without a bit.
+    /// The greatest outstanding number that the ranges name below the last one returned; `None` if there is none. A turn is a range that it
+    /// reads, or a look below the last one: at a word of bits, with the word of words and the slot that it leads to, or at a slot without a
+    /// bit. How many numbers a word passes is in no clause: the bits only say which slots are surely empty.
     pub fn next(&mut self, records: &Records) -> Option<u64>
         ensures { IsNext records.now self.old result self.new }
     {
@@ -74,7 +73,6 @@ impl<'a> AckPass<'a> {
         self.turns
     }
 
-    // The next range, `false` after the last.
     fn read_range(&mut self) -> bool
         ensures read { result ≡ true → (range : ℕ × ℕ) × HasRead self.old range self.new }
         ensures ended { result ≡ false → (self.old.unread ≡ []) × (self.new ≡ self.old) }
@@ -89,7 +87,6 @@ impl<'a> AckPass<'a> {
         true
     }
 
-    // The greatest outstanding number of the range that was read last, below the one given last.
     fn in_range(&mut self, records: &Records) -> Option<u64>
         ensures same { (self.new.low ≡ self.old.low) × (self.new.unread ≡ self.old.unread) }
         ensures below { self.new.below ≤ self.old.below }
@@ -114,7 +111,7 @@ impl<'a> AckPass<'a> {
     }
 }
 
-/// One turn more. The count stays at its greatest value.
+/// The count stops at its greatest value instead of going around, so a clause can bound it.
 pub(crate) fn one_more(turns: u64) -> u64
     ensures exact { result ≡ more_turns turns 1 }
     ensures least { turns ≤ result }

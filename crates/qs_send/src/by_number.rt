@@ -1,4 +1,4 @@
-//! Records of lost packets by number.
+//! Records of lost packets by number: a pass over an ACK finds each by one search, and mostly by a look beside the last.
 ghost use Rattle.std.specs.Prelude.{◌≡◌, ℕ, ◌<◌, ◌≤◌, length, IfOk, IfErr, IfSome, IfNone, OnOk, OnErr, None, true, false, is_ok};
 ghost use Rattle.std.specs.FinMap as fmap;
 ghost use Rattle.qs_send.specs.ByNumber.{IsAt, IsCut, IsGapAt, lookup, map_of, room_for};
@@ -12,7 +12,8 @@ use std::alloc::Global;
 use std::marker::Model;
 use std::mem;
 
-/// The records in the order of their numbers, and the memory for the pieces of the next one.
+/// The records in the order of their numbers, and the memory for the pieces of the next one, so that losing packets one after the other
+/// takes none.
 #[derive(Drop)]
 pub(crate) struct ByNumber {
     alloc: Global,
@@ -34,7 +35,6 @@ impl Model for ByNumber {
 }
 
 impl ByNumber {
-    /// No records. It takes no memory.
     pub(crate) fn new(alloc: Global) -> Self
         ensures { map_of result.records ≡ fmap.empty }
     {
@@ -45,7 +45,7 @@ impl ByNumber {
         }
     }
 
-    /// Makes room for one piece more of a number.
+    /// Apart from `add`, so that a caller asks for memory before it moves a piece.
     pub(crate) fn reserve(&mut self, number: u64) -> Result<(), NoMemory>
         ensures same { map_of self.new.records ≡ map_of self.old.records }
         ensures ok { OnOk result (0 < room_for self.new number) }
@@ -58,7 +58,6 @@ impl ByNumber {
         }
     }
 
-    /// One piece more of a number, behind those that it has. It takes no memory.
     pub(crate) fn add(&mut self, number: u64, piece: Piece)
         requires { 0 < room_for self.old number }
         ensures { map_of self.new.records ≡ with_piece (map_of self.old.records) number piece (fmap.get (map_of self.old.records) number) }
@@ -69,7 +68,6 @@ impl ByNumber {
         }
     }
 
-    /// The first piece of a number.
     pub(crate) fn first(&self, number: u64) -> Option<Piece>
         ensures { result ≡ first_piece (fmap.get (map_of self.now.records) number) }
     {
@@ -79,7 +77,6 @@ impl ByNumber {
         }
     }
 
-    /// Lets the first piece of a number go, and the record with the last.
     pub(crate) fn drop_first(&mut self, number: u64)
         ensures { map_of self.new.records ≡ without_first (map_of self.old.records) number (fmap.get (map_of self.old.records) number) }
     {
@@ -92,7 +89,7 @@ impl ByNumber {
         }
     }
 
-    /// Lets the record of a number go, if there is one. Its memory, if it is little, stays for the next one's pieces.
+    /// Little memory stays for the next record's pieces; much would stay for ever.
     pub(crate) fn remove(&mut self, number: u64)
         ensures { map_of self.new.records ≡ fmap.remove (map_of self.old.records) number }
     {
@@ -101,15 +98,13 @@ impl ByNumber {
         }
     }
 
-    /// Whether a number has a record.
     pub(crate) fn is_held(&self, number: u64) -> bool
         ensures { result ≡ fmap.contains_key (map_of self.now.records) number }
     {
         self.place_of(number).is_ok()
     }
 
-    /// The greatest number below `number` that has a record. It is looked for at the place `near` first, and the next one below it
-    /// may stand at the place that `near` is then.
+    /// Looks at the place `near` first, and leaves there the place of the next one below: a pass goes from high numbers to low.
     pub(crate) fn below(&self, number: u64, near: &mut usize) -> Option<u64>
         ensures found { IfSome result (IsGreatestBelow (map_of self.now.records) number) }
         ensures none { IfNone result ((k : ℕ) → k < number → fmap.contains_key (map_of self.now.records) k ≡ false) }
@@ -123,7 +118,7 @@ impl ByNumber {
         Some(records[count - 1].number())
     }
 
-    // How many records are those of numbers below `number`: without a search where these are `near`.
+    // Without a search if the guess is right.
     fn count_near(&self, number: u64, near: usize) -> usize
         ensures cut { IsCut number self.now.records result }
         ensures within { result ≤ length self.now.records }
@@ -134,7 +129,6 @@ impl ByNumber {
         self.count_below(number)
     }
 
-    // Whether the first `count` records are those of numbers below `number`.
     fn parts_at(&self, number: u64, count: usize) -> bool
         ensures cut { result ≡ true → IsCut number self.now.records count }
         ensures within { result ≡ true → count ≤ length self.now.records }
@@ -152,7 +146,6 @@ impl ByNumber {
         true
     }
 
-    // How many records are those of numbers below `number`.
     fn count_below(&self, number: u64) -> usize
         ensures cut { IsCut number self.now.records result }
         ensures within { result ≤ length self.now.records }
@@ -163,8 +156,7 @@ impl ByNumber {
         }
     }
 
-    // Where the record of a number is, or where it would go: with no search past the last record and at the first, where a packet that
-    // is lost goes in mostly, and the oldest one out.
+    // No search past the last record and at the first: lost packets mostly go in at the back, and the oldest leaves at the front.
     fn place_of(&self, number: u64) -> Result<usize, usize>
         ensures found { IfOk result (IsAt number self.now.records) }
         ensures gap { IfErr result (IsGapAt number self.now.records) }
@@ -184,7 +176,6 @@ impl ByNumber {
         self.search_for(number)
     }
 
-    // The same by a search.
     #[inline(never)]
     fn search_for(&self, number: u64) -> Result<usize, usize>
         ensures found { IfOk result (IsAt number self.now.records) }
@@ -198,7 +189,6 @@ impl ByNumber {
             .binary_search_by_key(&number, |record| record.number())
     }
 
-    // Makes room for a record more with one piece.
     fn reserve_record(&mut self) -> Result<(), NoMemory>
         ensures same { self.new.records ≡ self.old.records }
         ensures ok { OnOk result (0 < self.new.spare) }
@@ -210,7 +200,6 @@ impl ByNumber {
         Ok(())
     }
 
-    // A record of one piece.
     fn insert(&mut self, place: usize, number: u64, piece: Piece)
         requires gap { IsGapAt number self.old.records place }
         requires within { place ≤ length self.old.records }

@@ -6,7 +6,7 @@ use crate::piece::Piece;
 use crate::remaining::Remaining;
 use std::marker::Model;
 
-/// The pieces of a packet that were not let go.
+/// The pieces of a packet that are neither acknowledged nor lost yet.
 #[derive(Drop)]
 pub(crate) struct Carried {
     pieces: Pieces,
@@ -35,7 +35,6 @@ impl Model for Carried {
 }
 
 impl Carried {
-    /// Of a number without a record.
     pub(crate) fn empty() -> Self
         ensures { result ≡ [] }
     {
@@ -44,7 +43,6 @@ impl Carried {
         }
     }
 
-    /// One piece.
     pub(crate) fn one(piece: Piece) -> Self
         ensures { result ≡ piece ∷ [] }
     {
@@ -53,7 +51,7 @@ impl Carried {
         }
     }
 
-    /// Pieces that come with their memory.
+    /// With their memory, so that putting them into a record takes none.
     pub(crate) fn several(pieces: Vec<Piece>) -> Self
         ensures { result ≡ pieces.items }
     {
@@ -82,7 +80,6 @@ impl Carried {
         }
     }
 
-    /// Lets the first piece go, and the memory with the last.
     pub(crate) fn drop_first(&mut self)
         ensures { self.new ≡ drop 1 self.old }
     {

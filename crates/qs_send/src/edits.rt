@@ -5,8 +5,7 @@ ghost use Rattle.qs_ranges.specs.Numbers.{numbers, is_within, ContainsRange, Mis
 
 use qs_ranges::{NoMemory, RangeSet};
 
-/// Adds the offsets from `lo` on and below `hi`. Memory is taken only where there are some, and the set has
-/// none of them and none beside them.
+/// Adds the offsets from `lo` on and below `hi`. Memory is taken only if there are some, and the set has none of them and none beside them.
 pub fn add(offsets: &mut RangeSet, lo: u64, hi: u64) -> Result<(), NoMemory>
     requires ordered { lo ≤ hi }
     requires within { hi ≤ 2 ^ 62 }
@@ -21,8 +20,8 @@ pub fn add(offsets: &mut RangeSet, lo: u64, hi: u64) -> Result<(), NoMemory>
     offsets.insert(lo, hi)
 }
 
-/// Takes out the offsets from `lo` on and below `hi`. Where a run would have to be split and memory for that is
-/// refused, they stay.
+/// Takes out the offsets from `lo` on and below `hi`. If a run would have to be split and memory for that is refused, they stay: what isn't
+/// noted as due costs nothing to keep.
 pub fn forget(offsets: &mut RangeSet, lo: u64, hi: u64)
     requires ordered { lo ≤ hi }
     requires within { hi ≤ 2 ^ 62 }

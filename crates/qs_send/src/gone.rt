@@ -1,4 +1,5 @@
-//! Which slots are empty, as far as it was noted: a bit for each, in words, and a bit for each word in which all are.
+//! Which slots are empty, as far as it was noted: a bit for each, and a bit for each word in which all are. With hints alone no clause of
+//! the records speaks of them, and none of their memory has to be there.
 ghost use Rattle.std.specs.Prelude.{◌≡◌, ◌≤◌, ◌<◌, ◌≢◌, ◌+◌, ◌-◌, ◌/◌, ◌%◌, ℕ, [], drop, max, true, false};
 ghost use Rattle.qs_send.specs.AckPass.{more_turns};
 ghost use Rattle.qs_send.specs.Gone.{is_gone};
@@ -9,17 +10,14 @@ use std::alloc::Global;
 use std::collections::VecDeque;
 use std::marker::Model;
 
-/// How many slots a word has bits for.
 pub(crate) const PER_WORD: usize = 64;
 
-/// How many slots a word of words has bits for.
 pub(crate) const PER_GROUP: usize = PER_WORD * PER_WORD;
 
-/// The bits of the slots, by index.
 #[derive(Drop)]
 pub(crate) struct Gone {
     words: VecDeque<u64>,
-    // Of each word whether all of its bits are set, as far as it was noted.
+    // A search over many empty slots passes 4,096 by one look.
     full: VecDeque<u64>,
 }
 
@@ -28,7 +26,6 @@ impl Model for Gone {
     ghost use Rattle.std.specs.Coded.{coded_ℕ, coded_list};
     ghost use Rattle.qs_send.specs.Gone.{AreFull};
 
-    // The words.
     ghost Value = { List ℕ };
 
     ghost coded = { coded_list coded_ℕ };
@@ -39,7 +36,6 @@ impl Model for Gone {
 }
 
 impl Gone {
-    /// No bits. It takes no memory.
     pub(crate) fn new(alloc: Global) -> Self
         ensures { result ≡ [] }
     {
@@ -56,7 +52,7 @@ impl Gone {
         self.full.clear();
     }
 
-    /// Makes room for the bits up to that of an index. Where memory is refused, it is not noted which of them are empty.
+    /// If memory is refused, slots are looked at themselves: slower, and right.
     pub(crate) fn make_room(&mut self, index: usize)
         ensures { self.new ≡ self.old }
     {
@@ -66,7 +62,6 @@ impl Gone {
         }
     }
 
-    /// The slot of an index holds something, and there is a bit for it, if there are bits for all lower ones and room for one word more.
     pub(crate) fn begin(&mut self, index: usize)
         ensures here { is_gone self.new index ≡ false }
         ensures others { (i : ℕ) → i ≢ index → is_gone self.new i ≡ is_gone self.old i }
@@ -75,7 +70,6 @@ impl Gone {
         begin(&mut self.words, index);
     }
 
-    /// The slot of an index is empty.
     pub(crate) fn note(&mut self, index: usize)
         ensures { (i : ℕ) → i ≢ index → is_gone self.new i ≡ is_gone self.old i }
     {
@@ -86,7 +80,7 @@ impl Gone {
         }
     }
 
-    /// The bits of the first slots go, so many as a word of words has.
+    /// In groups, so that the words of the words move along by whole words.
     pub(crate) fn drop_group(&mut self)
         ensures { self.new ≡ drop 64 self.old }
     {
@@ -94,9 +88,8 @@ impl Gone {
         let _ = self.full.pop_front();
     }
 
-    /// An end as low as can be, down to `low`, behind which all indexes below `end` are noted as empty. Each look is one more of `looks`:
-    /// at a word, together with the word of words below it and the slot before the end that these lead to, or at that slot where it has no
-    /// bit.
+    /// Each look is counted in `looks`: at a word, together with the word of words and the slot before the end that these lead to, or at
+    /// that slot if it has no bit. So the count of a pass stays below that of the slots.
     pub(crate) fn end_of_left(&self, low: usize, end: usize, looks: &mut u64) -> usize
         ensures below { result ≤ end }
         ensures gone { (i : ℕ) → result ≤ i → i < end → is_gone self.now i ≡ true }
@@ -117,7 +110,6 @@ impl Gone {
     }
 }
 
-// Makes room for the bits up to that of an index, if there is memory.
 fn make_room(words: &mut VecDeque<u64>, index: usize)
     ensures { words.new.items ≡ words.old.items }
 {
@@ -127,7 +119,6 @@ fn make_room(words: &mut VecDeque<u64>, index: usize)
     }
 }
 
-// The bit of an index is cleared, or begins so.
 fn begin(words: &mut VecDeque<u64>, index: usize)
     ensures here { is_gone words.new.items index ≡ false }
     ensures others { (i : ℕ) → i ≢ index → is_gone words.new.items i ≡ is_gone words.old.items i }
@@ -140,7 +131,6 @@ fn begin(words: &mut VecDeque<u64>, index: usize)
     }
 }
 
-// The bit of an index is set.
 fn note(words: &mut VecDeque<u64>, index: usize)
     ensures more { (i : ℕ) → is_gone words.old.items i ≡ true → is_gone words.new.items i ≡ true }
     ensures others { (i : ℕ) → i ≢ index → is_gone words.new.items i ≡ is_gone words.old.items i }
@@ -151,7 +141,6 @@ fn note(words: &mut VecDeque<u64>, index: usize)
     }
 }
 
-// The first words go, so many as a word has bits.
 fn drop_words(words: &mut VecDeque<u64>)
     ensures { words.new.items ≡ drop 64 words.old.items }
 {
@@ -162,14 +151,12 @@ fn drop_words(words: &mut VecDeque<u64>)
     }
 }
 
-// Whether a word has all of its bits set.
 fn is_full(words: &VecDeque<u64>, place: usize) -> bool
     ensures { result ≡ true → (i : ℕ) → i / 64 ≡ place → is_gone words.now.items i ≡ true }
 {
     place < words.len() && words[place] == u64::MAX
 }
 
-// An end as low as one word tells, behind which all indexes below `end` are noted as empty.
 fn end_in_word(words: &VecDeque<u64>, end: usize) -> usize
     ensures below { result ≤ end }
     ensures gone { (i : ℕ) → result ≤ i → i < end → is_gone words.now.items i ≡ true }
@@ -188,7 +175,7 @@ fn end_in_word(words: &VecDeque<u64>, end: usize) -> usize
     }
 }
 
-// The bit of an index in its word. The lower one's lies above, so that a search for the greatest index is one for the lowest bit.
+// The lower index has the higher bit, so that a search for the greatest index is one for the lowest bit.
 fn bit_of(index: usize) -> usize
     ensures { result ≡ 63 - index % 64 }
 {

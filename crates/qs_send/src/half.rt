@@ -21,22 +21,22 @@ mod over;
 /// The largest value of a variable-length integer (RFC 9000, section 16).
 pub const MAX_VARINT: u64 = (1 << 62) - 1;
 
-/// The sending half of a stream: bytes are written once, go out in chunks, and stay until they are
-/// acknowledged. What is lost goes out again, and a reset ends it and lets all bytes go (RFC 9000,
-/// sections 3.1 and 13.3).
+/// The sending half of a stream: bytes are written once, go out in chunks, and stay until they are acknowledged. Lost ones go out again,
+/// and a reset frees all of them (RFC 9000, sections 3.1 and 13.3).
 ///
-/// Contracts see the sending lane and what of it is due.
+/// What was noted as due and what was acknowledged are kept apart, and what is due is the difference. So `acked` and `lost` each grow one
+/// set, in any order and late, and nothing has to be undone.
 #[derive(Drop)]
 pub struct SendHalf {
     id: StreamId,
     offsets: Offsets,
     limit: u64,
     buffer: u32,
-    // The greatest buffer so far.
+    // Bounds the memory after a smaller buffer was set: what was accepted isn't moved.
     widest: u32,
-    // The code of the reset, whose size is the sent end.
+    // Its final size is the sent end, so it needs no field.
     reset_code: MaybeNumber,
-    // The code of the first STOP_SENDING that came.
+    // Kept whatever becomes of the half, for an application that asks late.
     stop_code: MaybeNumber,
     finished: bool,
     fin_sent: bool,
@@ -70,8 +70,8 @@ impl Model for SendHalf {
 }
 
 impl SendHalf {
-    /// A half in the state Ready, which may send the offsets below `limit` and keeps at most `buffer`
-    /// bytes. It takes no memory yet.
+    /// A half in the state Ready, which may send the offsets below `limit` and keeps at most `buffer` bytes. It takes no memory, since a
+    /// stream that is opened may never carry a byte.
     pub fn new(alloc: Global, id: StreamId, limit: u64, buffer: u32) -> Self
         requires { limit ≤ MAX_VARINT }
         ensures { result ≡ new_sending id limit buffer }
@@ -101,10 +101,9 @@ impl SendHalf {
         let _limit = self.limit;
     }
 
-    /// Accepts the front of the bytes, as many as there is room for, and answers how many. They are due.
+    /// Accepts the front of the bytes, as many as there is room for, and returns how many. They are due.
     ///
-    /// Refused, and then unchanged: `WasReset` after a reset, else `Finished` after `finish`, else
-    /// `NoMemory` where memory was refused.
+    /// Refused, and then unchanged: `WasReset` after a reset, else `Finished` after `finish`, else `NoMemory`.
     pub fn write(&mut self, bytes: &[u8]) -> Result<usize, SendFault>
         ensures accepted { IfOk result (λ n. (refusal self.old.lane ≡ None) × (n ≡ accepted self.old.lane (length bytes.now)) × (self.new ≡ after_write self.old (take n bytes.now))) }
         ensures refused { IfErr result (λ fault. (self.new ≡ self.old) × (fault ≡ unwrap_or (refusal self.old.lane) SendFault.NoMemory)) }
@@ -127,7 +126,7 @@ impl SendHalf {
         Ok(len)
     }
 
-    /// Asks for the end of the stream after the bytes written so far. The end is due.
+    /// Ends the stream after the bytes written so far. The FIN is due.
     ///
     /// Refused, and then unchanged: `WasReset` after a reset, else `Finished` after another `finish`.
     pub fn finish(&mut self) -> Result<(), SendFault>
@@ -142,11 +141,11 @@ impl SendHalf {
         Ok(())
     }
 
-    /// Breaks the stream off in Ready, Send or Data Sent, with the count of offsets that went out as its
-    /// final size. From then on only the RESET_STREAM is to be sent (RFC 9000, sections 3.1 and 4.5), so the
-    /// buffer is given back. The code is at most 2^62 - 1, so that the frame can tell it.
+    /// Resets the stream in Ready, Send or Data Sent, with the count of offsets that went out as its final size: what was never sent needs
+    /// no credit. From then on only the RESET_STREAM is to be sent (RFC 9000, sections 3.1 and 4.5), so the buffer is freed. The code is at
+    /// most 2^62 - 1, so that a frame can carry it.
     ///
-    /// Refused, and then unchanged: `WasReset` after another reset, else `Finished` in Data Recvd.
+    /// Refused, and then unchanged: `WasReset` after another reset, else `Finished` in Data Recvd, when there is nothing left to give up.
     pub fn reset(&mut self, code: u64) -> Result<(), SendFault>
         requires { code ≤ MAX_VARINT }
         ensures answer { result ≡ answer_of (reset_refusal self.old.lane) }
@@ -164,8 +163,8 @@ impl SendHalf {
         Ok(())
     }
 
-    /// Takes in a STOP_SENDING: a reset with its code, where one can still be made, and the code of the first one is kept. Else nothing
-    /// changes (RFC 9000, section 3.5).
+    /// Processes a STOP_SENDING: a reset with its code, if one can still be made, and the first one's code is kept. Else nothing changes,
+    /// so that a half that is over keeps few numbers (RFC 9000, section 3.5).
     pub fn stopped(&mut self, code: u64)
         requires { code ≤ MAX_VARINT }
         ensures { self.new ≡ after_stopped self.old code }
@@ -176,8 +175,8 @@ impl SendHalf {
         self.keep_stop(code);
     }
 
-    /// Takes in a STOP_SENDING that the owner answers: the code of the first one is kept where a reset can still be made, and the half
-    /// goes on (RFC 9000, section 3.5).
+    /// Processes a STOP_SENDING that the application answers: the first one's code is kept if a reset can still be made, and the half goes
+    /// on (RFC 9000, section 3.5).
     pub fn told_stop(&mut self, code: u64)
         requires { code ≤ MAX_VARINT }
         ensures { self.new ≡ after_told self.old code }
@@ -204,7 +203,7 @@ impl SendHalf {
         self.stop_code.get()
     }
 
-    /// Whether a STOP_SENDING would change the half: it can be reset still (RFC 9000, section 3.5).
+    /// Whether a STOP_SENDING would change the half: whether it can still be reset (RFC 9000, section 3.5).
     pub fn stop_changes(&self) -> bool
         ensures { result ≡ stop_changes self.now.lane }
     {
@@ -214,7 +213,7 @@ impl SendHalf {
         !self.is_whole()
     }
 
-    /// Whether one would change it that the owner answers: none came before either (RFC 9000, section 3.5).
+    /// Whether one that the application answers would change it: none came before either (RFC 9000, section 3.5).
     pub fn told_changes(&self) -> bool
         ensures { result ≡ told_changes self.now.lane }
     {
@@ -224,8 +223,7 @@ impl SendHalf {
         self.stop_changes()
     }
 
-    /// Takes in that the peer allows the offsets below `limit`. A limit that is no higher changes nothing
-    /// (RFC 9000, section 4.1).
+    /// Raises the peer's limit. One that is no higher changes nothing, since frames may come out of order (RFC 9000, section 4.1).
     pub fn allow(&mut self, limit: u64)
         requires { limit ≤ MAX_VARINT }
         ensures { self.new ≡ after_allow self.old limit }
@@ -233,8 +231,8 @@ impl SendHalf {
         self.limit = self.limit.max(limit);
     }
 
-    /// Keeps at most so many bytes from now on. What is kept stays: where it is more, no byte is accepted until enough of it is
-    /// acknowledged.
+    /// Keeps at most so many bytes from now on. What is kept stays, for it is promised to the reader: if it is more, no byte is accepted
+    /// until enough of it is acknowledged.
     pub fn set_buffer(&mut self, size: u32)
         ensures { self.new ≡ after_buffer self.old size }
     {
@@ -242,14 +240,14 @@ impl SendHalf {
         self.widest = self.widest.max(size);
     }
 
-    /// Takes in that a STREAM_DATA_BLOCKED was sent.
+    /// Notes that a STREAM_DATA_BLOCKED was sent.
     pub fn note_blocked(&mut self)
         ensures { self.new ≡ after_blocked self.old }
     {
         self.blocked_sent = true;
     }
 
-    /// Takes in that the RESET_STREAM is acknowledged.
+    /// Notes that the RESET_STREAM is acknowledged.
     pub fn reset_acked(&mut self)
         requires { state self.old.lane ≡ SendState.ResetSent }
         ensures { self.new ≡ after_reset_acked self.old }
@@ -257,7 +255,7 @@ impl SendHalf {
         self.reset_acked = true;
     }
 
-    /// Takes in that the chunk was sent: it is in flight.
+    /// Notes that the chunk was sent: it is in flight.
     pub fn sent(&mut self, chunk: Chunk)
         requires { IsDueChunk self.old chunk }
         ensures { self.new ≡ after_sent self.old chunk }
@@ -267,8 +265,8 @@ impl SendHalf {
         self.fin_noted &= !chunk.fin;
     }
 
-    /// Takes in that a chunk which was sent is acknowledged, also where it was lost before. The bytes
-    /// below the lowest offset not acknowledged are let go. Unchanged where memory was refused.
+    /// Notes that a chunk that was sent is acknowledged, also after it was lost. The bytes below the lowest unacknowledged offset are
+    /// freed. Unchanged if memory was refused.
     pub fn acked(&mut self, chunk: Chunk) -> Result<(), NoMemory>
         requires { WasSent self.old.lane chunk }
         ensures ok { OnOk result (self.new ≡ after_acked self.old chunk) }
@@ -285,8 +283,8 @@ impl SendHalf {
         Ok(())
     }
 
-    /// Takes in that a chunk which was sent is lost: what of it isn't acknowledged is due again, but
-    /// after a reset nothing is (RFC 9000, section 13.3). Unchanged where memory was refused.
+    /// Notes that a chunk that was sent is lost: what of it isn't acknowledged is due again, but after a reset nothing is (RFC 9000,
+    /// section 13.3). Unchanged if memory was refused.
     pub fn lost(&mut self, chunk: Chunk) -> Result<(), NoMemory>
         requires { WasSent self.old.lane chunk }
         ensures ok { OnOk result (self.new ≡ after_lost self.old chunk) }
@@ -325,7 +323,7 @@ impl SendHalf {
         }
     }
 
-    /// The final size that was declared, by a reset or by the end that was sent (RFC 9000, section 4.5).
+    /// The final size that was declared, by a reset or by the FIN that was sent (RFC 9000, section 4.5).
     pub fn final_size(&self) -> Option<u64>
         ensures value { result ≡ declared_size self.now.lane }
         ensures small { IfSome result (λ size. size ≤ MAX_VARINT) }
@@ -387,15 +385,15 @@ impl SendHalf {
         self.limit
     }
 
-    /// How many bytes the buffer can take: none while more are kept than it is set to.
+    /// How many bytes the buffer accepts: none while more are kept than it is set to.
     pub fn room(&self) -> usize
         ensures { result ≡ free_room self.now.lane }
     {
         (self.buffer as usize).saturating_sub(self.offsets.kept_len())
     }
 
-    /// How many bytes of memory the buffer takes: at least those that are kept. While some are it takes up to twice the most that it
-    /// was set to, since it grows by doubling; else no more than 4,096, and nothing after a reset and in Data Recvd.
+    /// How many bytes of memory the buffer takes: at least those that are kept. While some are, up to twice the most that it was set to,
+    /// since it grows by doubling; else no more than 4,096, and nothing after a reset and in Data Recvd.
     pub fn held(&self) -> u64
         ensures kept { length self.now.lane.kept ≤ result }
         ensures bound { result ≤ 2 * self.now.lane.widest }
@@ -406,7 +404,7 @@ impl SendHalf {
         self.offsets.held() as u64
     }
 
-    /// Why a write and a finish are refused, `None` where they aren't: `WasReset` after a reset, else `Finished` after `finish` (RFC 9000,
+    /// Why a write and a finish are refused, `None` if they aren't: `WasReset` after a reset, else `Finished` after `finish` (RFC 9000,
     /// sections 2.4 and 3.1).
     pub fn refusal(&self) -> Option<SendFault>
         ensures { result ≡ refusal self.now.lane }
@@ -420,8 +418,8 @@ impl SendHalf {
         }
     }
 
-    /// Whether a write of one byte would be accepted, if there is memory for it: neither the end was asked for nor a reset made, and there
-    /// is room (RFC 9000, sections 2.2, 2.4 and 3.1).
+    /// Whether a write of one byte would be accepted, if there is memory for it: it was neither finished nor reset, and there is room (RFC
+    /// 9000, sections 2.2, 2.4 and 3.1).
     pub fn is_writable(&self) -> bool
         ensures { result ≡ is_writable self.now.lane }
     {
@@ -437,7 +435,6 @@ impl SendHalf {
         self.reset_code.get().is_some()
     }
 
-    // Whether every written offset and the end were acknowledged, where no reset let bytes go before.
     fn is_whole(&self) -> bool
         requires { is_some self.now.lane.was_reset ≡ false }
         ensures { result ≡ is_whole self.now.lane }

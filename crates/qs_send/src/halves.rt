@@ -1,4 +1,4 @@
-//! The sending halves of the streams of one type, by index. One that is over takes 24 bytes.
+//! The sending halves of the streams of one type, by index. One that is over takes 24 bytes, since it stays for the connection's life.
 ghost use Rattle.std.specs.Prelude.{◌≡◌, ◌+◌, ◌*◌, ◌/◌, ◌%◌, ◌≤◌, ◌<◌, ◌^◌, ◌⊎◌, ◌==◌, ◌++◌, ◌∷◌, ℕ, [], length, take, slice_set, Some, None, OnOk, OnErr, IfSome, IfNone};
 ghost use Rattle.std.specs.Borrow.{sem};
 ghost use Rattle.qs_ranges.specs.Numbers.{MAX_VARINT};
@@ -16,17 +16,15 @@ use slot::SendSlot;
 use std::alloc::Global;
 use std::marker::Model;
 
-/// The sending halves of the streams of one type, by index. Each has a slot. One that is over stands in it; the others stand apart, in a
-/// row, and their slots name their places.
+/// Each half has a slot. One that is over stands in it; the others stand in a vector, and their slots name their places: a half that is
+/// over fills its slot, so a box wouldn't fit beside it.
 #[derive(Drop)]
 pub struct SendHalves {
-    // The type of the streams, 0 to 3.
     stream_type: u64,
     slots: Vec<SendSlot>,
     full: Vec<SendHalf>,
 }
 
-// Clauses see the halves.
 impl Model for SendHalves {
     ghost use Rattle.std.specs.Prelude.{◌<◌, List};
     ghost use Rattle.std.specs.Coded.{coded_list};
@@ -111,7 +109,7 @@ impl SendHalves {
         self.full.get_mut(place)
     }
 
-    /// Takes the memory for so many more.
+    /// Takes the memory for so many more, before any of several streams opens.
     pub fn reserve(&mut self, more: usize) -> Result<(), NoMemory>
         ensures { self.new ≡ self.old }
     {
@@ -141,7 +139,7 @@ impl SendHalves {
         Ok(())
     }
 
-    /// Takes the halves from a count on away.
+    /// Takes the halves from a count on away: an opening that found no memory for the rest is undone.
     pub fn truncate(&mut self, count: usize)
         ensures { self.new ≡ take count self.old }
     {
@@ -152,7 +150,7 @@ impl SendHalves {
         }
     }
 
-    /// Keeps a half in its slot where it is over. That takes no memory, and gives some back.
+    /// Keeps a half in its slot if it is over. That takes no memory, and frees some.
     pub fn settle(&mut self, index: usize)
         requires { index < length self.old }
         ensures { self.new ≡ self.old }
@@ -168,7 +166,7 @@ impl SendHalves {
         put_over(&mut self.slots, &mut self.full, index, over);
     }
 
-    /// Takes in that the peer allows the offsets of a half below a limit.
+    /// Raises the peer's limit of a half.
     pub fn allow(&mut self, index: usize, limit: u64)
         requires there { index < length self.old }
         requires limit { limit ≤ MAX_VARINT }
@@ -197,7 +195,7 @@ impl SendHalves {
         slot.widest = slot.widest.max(size);
     }
 
-    /// Takes in that a STREAM_DATA_BLOCKED was sent.
+    /// Notes that a STREAM_DATA_BLOCKED was sent.
     pub fn note_blocked(&mut self, index: usize)
         requires { index < length self.old }
         ensures { self.new ≡ slice_set self.old index (after_blocked (half_at self.old index)) }
@@ -211,8 +209,8 @@ impl SendHalves {
     }
 }
 
-// Puts a slot of a half that is over where another stands, and lets its half go. The last half moves to the place that is left. Its slot has
-// to name that, so nothing changes where the half's number doesn't tell the slot.
+// The last half moves to the place that gets free, so that the vector has no holes. Its slot has to name that, so nothing changes if the
+// half's number doesn't lead to the slot.
 fn put_over(slots: &mut Vec<SendSlot>, full: &mut Vec<SendHalf>, index: usize, over: SendSlot)
     requires there { index < length slots.old.items }
     requires placed { ArePlaced slots.old.items (length full.old.items) }

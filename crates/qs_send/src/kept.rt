@@ -1,4 +1,4 @@
-//! Bytes that come in at the back and are let go at the front.
+//! Bytes that come in at the back and are freed at the front.
 ghost use Rattle.std.specs.Prelude.{◌≡◌, ℕ, ◌+◌, ◌-◌, ◌*◌, ◌≤◌, ◌<◌, true, [], ◌++◌, if◌then◌else◌, length, take, drop, max, vec_len, vec_capacity, slice_index, IfOk, OnOk, OnErr};
 ghost use Rattle.qs_ranges.specs.Numbers.{is_within};
 ghost use Rattle.qs_send.specs.KeptBytes.{around, place_in};
@@ -7,16 +7,15 @@ use qs_ranges::{NoMemory, reserve};
 use std::alloc::Global;
 use std::marker::Model;
 
-// The most bytes of room that stay where nothing is kept, so that a few bytes now and then take no memory anew.
+// So much room stays when nothing is kept, so that a few bytes now and then take no memory anew.
 const IDLE_ROOM: usize = 4096;
 
-/// The bytes stand in a ring, so that none is moved while others come and go.
+/// A ring: none is moved while others come and go. A row that is moved to the front once half of it is free moves each byte once more, when
+/// it has left the processor's caches, and takes twice the memory.
 #[derive(Drop)]
 pub struct Kept {
     alloc: Global,
-    // As long as there is room.
     ring: Vec<u8>,
-    // The place of the first byte.
     start: usize,
     count: usize,
 }
@@ -54,7 +53,7 @@ impl Kept {
         self.count
     }
 
-    /// How many bytes of memory are taken: at least those that are kept, and no more than 4,096 where none is.
+    /// How many bytes of memory it takes: at least those that are kept, and no more than 4,096 if none is.
     #[tactic(auto, using(crate::proofs::Around::around_len))]
     pub fn held(&self) -> usize
         ensures value { result ≡ self.now.room }
@@ -64,8 +63,8 @@ impl Kept {
         self.ring.len()
     }
 
-    /// Appends the bytes. Where `most` bytes at most are ever kept, no more than twice as many are
-    /// allocated, and while these are there nothing is.
+    /// Appends the bytes. It grows by doubling, since only then bytes are moved: so for `most` bytes at most no more than twice as many are
+    /// allocated.
     #[tactic(auto, using(crate::proofs::Around::around_len, crate::proofs::Around::at_front))]
     pub fn append(&mut self, bytes: &[u8], most: usize) -> Result<(), NoMemory>
         ensures ok { OnOk result (self.new.bytes ≡ self.old.bytes ++ bytes.now) }
@@ -87,7 +86,6 @@ impl Kept {
         Ok(())
     }
 
-    /// Leaves the first `n` bytes.
     #[tactic(auto, using(crate::proofs::Around::around_first))]
     pub fn truncate(&mut self, n: usize)
         requires { n ≤ length self.old.bytes }
@@ -101,8 +99,7 @@ impl Kept {
         }
     }
 
-    /// Lets the first `n` bytes go. Where nothing is left a room of more than 4,096 bytes is given back, and any where
-    /// nothing more comes.
+    /// Frees the first `n` bytes. If nothing is left, memory of more than 4,096 bytes is given back, and any if nothing more comes.
     #[tactic(auto, using(crate::proofs::Around::around_rest))]
     pub fn let_go(&mut self, n: usize, is_over: bool)
         requires { n ≤ length self.old.bytes }
@@ -122,7 +119,7 @@ impl Kept {
         }
     }
 
-    /// The `len` bytes from a place on: a front, and where they go around the ring's end, a back.
+    /// In two pieces if they go around the ring's end.
     pub fn part(&self, from: usize, len: usize) -> (&[u8], &[u8])
         requires { from + len ≤ length self.now.bytes }
         ensures { result.0.now ++ result.1.now ≡ take len (drop from self.now.bytes) }
@@ -131,8 +128,7 @@ impl Kept {
         pieces(&self.ring, start, len)
     }
 
-    // Moves the bytes to the front of a ring with so many places, and puts those behind them that come. Unchanged where memory is
-    // refused.
+    // Unchanged if memory is refused.
     #[tactic(auto, using(crate::proofs::Around::around_len, crate::proofs::Around::moved_is))]
     fn move_to(&mut self, size: usize, bytes: &[u8]) -> Result<(), NoMemory>
         requires fits { length self.old.bytes + length bytes.now ≤ size }
@@ -149,7 +145,6 @@ impl Kept {
         Ok(())
     }
 
-    // Keeps nothing, and takes no memory.
     fn give_back(&mut self)
         ensures bytes { self.new.bytes ≡ [] }
         ensures room { self.new.room ≡ 0 }
@@ -160,7 +155,6 @@ impl Kept {
     }
 }
 
-// Where in a ring of so many places the byte stands that is so many places past the front.
 fn place(size: usize, at: usize) -> usize
     requires { at ≤ 2 * size }
     ensures value { result ≡ place_in size at }
@@ -169,7 +163,6 @@ fn place(size: usize, at: usize) -> usize
     if at < size { at } else { at - size }
 }
 
-// So many bytes of a ring, in two pieces where they go around its end.
 #[tactic(auto, using(crate::proofs::Around::pieces_once, crate::proofs::Around::pieces_twice))]
 fn pieces(ring: &[u8], start: usize, count: usize) -> (&[u8], &[u8])
     requires begins { start ≤ length ring.now }
@@ -184,7 +177,7 @@ fn pieces(ring: &[u8], start: usize, count: usize) -> (&[u8], &[u8])
     }
 }
 
-// Puts bytes behind the first `count` of a ring, which goes on where it stands, to so many places. Unchanged where memory is refused.
+// Used while the bytes don't go around: then growing where they stand moves none. Unchanged if memory is refused.
 fn grow(ring: &mut Vec<u8>, count: usize, bytes: &[u8], size: usize) -> Result<(), NoMemory>
     requires kept { count ≤ length ring.old.items }
     requires grows { length ring.old.items ≤ size }
@@ -201,7 +194,6 @@ fn grow(ring: &mut Vec<u8>, count: usize, bytes: &[u8], size: usize) -> Result<(
     Ok(())
 }
 
-// Writes bytes behind those that stand in a ring, in two pieces where they go around its end.
 fn write_behind(ring: &mut [u8], start: usize, count: usize, bytes: &[u8])
     requires begins { start ≤ length ring.old }
     requires fits { count + length bytes.now ≤ length ring.old }
@@ -219,7 +211,6 @@ fn write_behind(ring: &mut [u8], start: usize, count: usize, bytes: &[u8])
     }
 }
 
-// Writes bytes from a place on.
 fn write_at(into: &mut [u8], at: usize, bytes: &[u8])
     requires { at + length bytes.now ≤ length into.old }
     ensures same_len { length into.new ≡ length into.old }
@@ -229,7 +220,6 @@ fn write_at(into: &mut [u8], at: usize, bytes: &[u8])
     into[at..at + bytes.len()].copy_from_slice(bytes);
 }
 
-// The bytes one behind the other, at the front of a ring of so many places.
 #[tactic(auto, using(crate::proofs::Around::around_front))]
 fn joined(
     alloc: Global,

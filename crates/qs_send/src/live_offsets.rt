@@ -1,4 +1,4 @@
-//! The written offsets of a half of which some are still to be sent, or to be acknowledged.
+//! The written offsets of a half of which some are still to be sent or acknowledged.
 ghost use Rattle.std.specs.Prelude.{◌≡◌, ℕ, ◌+◌, ◌-◌, ◌*◌, ◌≤◌, ◌<◌, true, IsTrue, ◌++◌, length, take, drop, OnOk, OnErr, IfSome, IfNone};
 ghost use Rattle.qs_ranges.specs.Numbers.{MAX_VARINT, missing_from, MissesRange, IsRunFrom, EndsBefore};
 ghost use Rattle.qs_send.specs.Offsets.{at_rest, parts_at_rest, with_written, with_sent, with_acked, with_lost, with_none};
@@ -9,14 +9,13 @@ use qs_ranges::{NoMemory, RangeSet};
 use std::alloc::Global;
 use std::marker::Model;
 
-/// Offsets that were written: their bytes, which of them are due, and which are acknowledged.
 #[derive(Drop)]
 pub(crate) struct LiveOffsets {
     written: u64,
-    // From the lowest offset not acknowledged on.
+    // From the lowest unacknowledged offset on, since a buffer frees only at its front.
     kept: Kept,
     acked: RangeSet,
-    // The offsets that were noted as due; the due ones are those not acknowledged.
+    // As due; those of them that aren't acknowledged are. So acknowledging need not touch this set, which might want memory.
     noted: RangeSet,
     sent_end: u64,
 }
@@ -35,7 +34,7 @@ impl Model for LiveOffsets {
 }
 
 impl LiveOffsets {
-    /// So many that are all acknowledged. They take no memory.
+    /// All acknowledged, so it takes no memory: a half that has not been written to is so.
     pub(crate) fn at_rest(alloc: Global, written: u64) -> Self
         requires { written ≤ MAX_VARINT }
         ensures { result ≡ at_rest written }
@@ -56,7 +55,6 @@ impl LiveOffsets {
         self.sent_end
     }
 
-    /// The lowest offset that isn't acknowledged.
     pub(crate) fn unacked_from(&self) -> u64
         ensures { result ≡ missing_from self.now.parts.acked 0 }
     {
@@ -70,7 +68,6 @@ impl LiveOffsets {
         self.kept.len()
     }
 
-    /// How many bytes of memory those take that are kept.
     pub(crate) fn held(&self) -> usize
         ensures value { result ≡ self.now.room }
         ensures kept { length self.now.parts.kept ≤ result }
@@ -79,7 +76,6 @@ impl LiveOffsets {
         self.kept.held()
     }
 
-    /// The bytes that are kept, so many from a place on, in two pieces.
     #[inline(always)]
     pub(crate) fn part(&self, from: usize, len: usize) -> (&[u8], &[u8])
         requires { from + len ≤ length self.now.parts.kept }
@@ -88,7 +84,6 @@ impl LiveOffsets {
         self.kept.part(from, len)
     }
 
-    /// Takes bytes in behind those that were written. Where `most` are ever kept, they take no more memory than for twice as many.
     pub(crate) fn write(&mut self, bytes: &[u8], most: usize) -> Result<(), NoMemory>
         requires from { missing_from self.old.parts.acked 0 + length self.old.parts.kept ≡ self.old.parts.written }
         requires small { self.old.parts.written + length bytes.now ≤ MAX_VARINT }
@@ -107,7 +102,6 @@ impl LiveOffsets {
         Ok(())
     }
 
-    /// Takes in that the offsets below `end` were sent.
     pub(crate) fn sent(&mut self, end: u64)
         requires { end ≤ self.old.parts.written }
         ensures parts { self.new.parts ≡ with_sent self.old.parts end }
@@ -118,8 +112,7 @@ impl LiveOffsets {
         self.sent_end = before.max(end);
     }
 
-    /// Takes in that the offsets from `lo` on and below `hi` are acknowledged. Where nothing is left, and nothing more comes, the
-    /// buffer's memory goes. Unchanged where memory was refused.
+    /// Once nothing is left and nothing more comes, the buffer's memory goes. Unchanged if memory was refused.
     pub(crate) fn acked(&mut self, lo: u64, hi: u64, is_over: bool) -> Result<(), NoMemory>
         requires ordered { lo ≤ hi }
         requires sent { hi ≤ self.old.parts.sent_end }
@@ -134,16 +127,14 @@ impl LiveOffsets {
     {
         let from = self.written - self.kept.len() as u64;
         add(&mut self.acked, lo, hi)?;
-        // What is acknowledged need not stay noted.
+        // It needn't stay noted, and each run that goes is one fewer to search.
         forget(&mut self.noted, lo, hi);
         let low = self.acked.first_missing(0);
-        // Where none is kept, none is let go.
         self.kept.let_go(low.saturating_sub(from) as usize, is_over);
         Ok(())
     }
 
-    /// Takes in that the offsets from `lo` on and below `hi` are lost: what isn't acknowledged is due again. Unchanged where memory
-    /// was refused.
+    /// What isn't acknowledged is due again. Unchanged if memory was refused.
     pub(crate) fn lost(&mut self, lo: u64, hi: u64) -> Result<(), NoMemory>
         requires ordered { lo ≤ hi }
         requires sent { hi ≤ self.old.parts.sent_end }
@@ -160,7 +151,6 @@ impl LiveOffsets {
         Ok(())
     }
 
-    /// Nothing is to be sent any more, so nothing is kept, and the buffer's memory goes.
     pub(crate) fn let_all_go(&mut self)
         ensures parts { self.new.parts ≡ with_none self.old.parts }
         ensures room { self.new.room ≡ 0 }
@@ -170,14 +160,12 @@ impl LiveOffsets {
         self.noted.drop_below(self.written);
     }
 
-    /// Whether each offset is acknowledged: then nothing is kept or due.
     pub(crate) fn rests(&self) -> bool
         ensures { IsTrue result → self.now.parts ≡ parts_at_rest self.now.parts.written }
     {
         self.acked.first_missing(0) == self.written
     }
 
-    /// The lowest due offsets that stand in a row.
     pub(crate) fn due_run(&self) -> Option<(u64, u64)>
         ensures found { IfSome result (IsRunFrom self.now.parts.due 0) }
         ensures none { IfNone result (EndsBefore self.now.parts.due 0) }

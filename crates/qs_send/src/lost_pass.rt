@@ -1,4 +1,4 @@
-//! One pass over the lost packets.
+//! One pass over the lost packets, for a caller without outstanding ones.
 ghost use Rattle.std.specs.Prelude.{◌≡◌};
 ghost use Rattle.qs_send.specs.AckPass.{pass_over};
 ghost use Rattle.qs_send.specs.LostPass.{IsNextLost};

@@ -6,10 +6,10 @@ use crate::piece::Piece;
 use qs_ranges::NoMemory;
 use std::marker::Model;
 
-// The memory for so many pieces goes from one record to the next.
+// The memory for so many pieces goes from one record to the next; more is given back, so that one large packet doesn't make it stay.
 const FEW: usize = 4;
 
-/// The pieces of a packet in the order in which they were declared lost. The first `start` ones of the vector were let go.
+/// The pieces of a packet in the order in which they were declared lost. The first `start` are gone, which costs no move.
 #[derive(Drop)]
 pub(crate) struct LostRecord {
     number: u64,
@@ -57,7 +57,6 @@ impl LostRecord {
         }
     }
 
-    /// Whether no other piece follows the first one.
     pub(crate) fn is_last(&self) -> bool
         ensures one { result ≡ true → length self.now.pieces ≤ 1 }
         ensures more { result ≡ false → 1 < length self.now.pieces }
@@ -65,7 +64,6 @@ impl LostRecord {
         self.pieces.len() - self.start <= 1
     }
 
-    /// Makes room for one piece more.
     pub(crate) fn reserve(&mut self) -> Result<(), NoMemory>
         ensures number { self.new.number ≡ self.old.number }
         ensures pieces { self.new.pieces ≡ self.old.pieces }
@@ -77,7 +75,6 @@ impl LostRecord {
         Ok(())
     }
 
-    /// One piece more. It takes no memory.
     pub(crate) fn push(&mut self, piece: Piece)
         requires { 0 < self.old.spare }
         ensures number { self.new.number ≡ self.old.number }
@@ -86,7 +83,7 @@ impl LostRecord {
         hold(&mut self.pieces, piece);
     }
 
-    /// The memory of the pieces, of which none is kept; none where it is for many, so that it doesn't stay for ever.
+    /// Empty memory for the next record; none if it is for many, so that it doesn't stay for ever.
     pub(crate) fn emptied(self) -> Vec<Piece>
         ensures { result.items ≡ [] }
     {
@@ -98,7 +95,6 @@ impl LostRecord {
         pieces
     }
 
-    /// Lets the first piece go, of several.
     pub(crate) fn drop_first(&mut self)
         requires { 1 < length self.old.pieces }
         ensures number { self.new.number ≡ self.old.number }
@@ -108,7 +104,7 @@ impl LostRecord {
     }
 }
 
-// One piece more, for which there is memory.
+// One more piece, for which there is memory.
 pub(crate) fn hold(pieces: &mut Vec<Piece>, piece: Piece)
     requires { vec_len pieces.old < vec_capacity pieces.old }
     ensures { pieces.new.items ≡ pieces.old.items ++ piece ∷ [] }

@@ -13,13 +13,12 @@ use std::alloc::Global;
 use std::collections::VecDeque;
 use std::marker::Model;
 
-/// So many records stay.
+/// // An ACK may come late for any of them, and a bound keeps a peer that acknowledges nothing from holding memory.
 const MOST: usize = 256;
 
-/// The pieces of each packet that was declared lost, by packet number: a late acknowledgement may still name it (RFC 9000,
-/// section 13.2.1).
+/// The pieces of each packet that was declared lost, by packet number: a late ACK may still name it (RFC 9000, section 13.2.1).
 ///
-/// The 256 latest stay, by the order in which they were first declared lost.
+/// The 256 latest stay, by the order in which they were first declared lost: that is the order in which their ACKs stop being likely.
 #[derive(Drop)]
 pub struct LostRecords {
     list: ByNumber,
@@ -57,14 +56,14 @@ impl LostRecords {
         }
     }
 
-    /// Makes room for one piece more of a packet, in the place of the room that was made before. Unchanged where memory was refused.
+    /// Makes room for one more piece of a packet, in the place of the room made before. Unchanged if memory was refused.
     pub fn make_room(&mut self, number: u64) -> Result<(), NoMemory>
         ensures pieces { self.new.pieces ≡ self.old.pieces }
         ensures order { self.new.order ≡ self.old.order }
         ensures ok { OnOk result (self.new.room ≡ Some number) }
         ensures err { OnErr result (self.new.room ≡ self.old.room) }
 
-        // Memory is taken only where there is no room for the packet.
+        // Memory is taken only if there is no room for the packet.
         ensures stands { OnErr result (self.old.room ≡ Some number → ⊥) }
     {
         self.order.reserve(1)?;
@@ -73,7 +72,7 @@ impl LostRecords {
         Ok(())
     }
 
-    /// Holds one piece more of a packet. Where that makes one packet too many, the oldest goes. It takes no memory.
+    /// Holds one more piece of a packet. If that makes one packet too many, the oldest goes. It takes no memory.
     pub fn add(&mut self, number: u64, piece: Piece)
         requires { self.old.room ≡ Some number }
         ensures pieces { self.new.pieces ≡ without_oldest (with_piece self.old.pieces number piece (fmap.get self.old.pieces number)) (with_number self.old.order number (fmap.contains_key self.old.pieces number)) }
@@ -94,7 +93,8 @@ impl LostRecords {
         self.list.first(number)
     }
 
-    /// Lets the first piece of a packet go, and the record with the last. Room that was made goes too.
+    /// Drops the first piece of a packet, and the record with the last. Room that was made may go too: it may have been the packet's own
+    /// memory.
     pub fn drop_first(&mut self, number: u64)
         ensures pieces { self.new.pieces ≡ without_first self.old.pieces number (fmap.get self.old.pieces number) }
         ensures order { self.new.order ≡ (if fmap.contains_key self.new.pieces number then self.old.order else without_number self.old.order number) }
@@ -123,8 +123,7 @@ impl LostRecords {
         self.below_near(number, &mut near)
     }
 
-    /// The same for a pass from high numbers to low ones, which hands `near` on from each call to the next: it is where the search
-    /// begins.
+    /// For a pass from high numbers to low ones: `near` is where the search begins, and goes from call to call.
     pub(crate) fn below_near(&self, number: u64, near: &mut usize) -> Option<u64>
         ensures found { IfSome result (IsGreatestBelow self.now.pieces number) }
         ensures none { IfNone result ((k : ℕ) → k < number → fmap.contains_key self.now.pieces k ≡ false) }
@@ -139,8 +138,7 @@ impl LostRecords {
         self.order.len()
     }
 
-    /// The order has the numbers that are held, each once, and each has a piece. It does nothing: a proof calls it for what it
-    /// ensures.
+    /// The order has the numbers that are held, each once, and each has a piece. It does nothing: a proof calls it for what it ensures.
     pub fn learn_in_order(&self)
         ensures { IsOrderOf self.now.pieces self.now.order }
     {
@@ -148,7 +146,6 @@ impl LostRecords {
     }
 }
 
-// The order with a number behind it, if it isn't held.
 fn note(order: &mut VecDeque<u64>, number: u64, held: bool)
     requires { deque_len order.old < deque_capacity order.old }
     ensures { order.new.items ≡ with_number order.old.items number held }
@@ -158,7 +155,6 @@ fn note(order: &mut VecDeque<u64>, number: u64, held: bool)
     }
 }
 
-// Where there is one record too many, the oldest goes.
 fn drop_oldest(order: &mut VecDeque<u64>, list: &mut ByNumber)
     ensures pieces { map_of list.new.records ≡ without_oldest (map_of list.old.records) order.old.items }
     ensures order { order.new.items ≡ latest order.old.items }
@@ -170,7 +166,6 @@ fn drop_oldest(order: &mut VecDeque<u64>, list: &mut ByNumber)
     }
 }
 
-// The order without a number.
 fn forget(order: &mut VecDeque<u64>, number: u64)
     ensures { order.new.items ≡ without_number order.old.items number }
 {

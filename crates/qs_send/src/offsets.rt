@@ -1,4 +1,4 @@
-//! The written offsets of a half. Those that are at rest take no memory.
+//! The written offsets of a half. Those that are all acknowledged take no memory.
 ghost use Rattle.std.specs.Prelude.{◌≡◌, ℕ, ◌+◌, ◌-◌, ◌*◌, ◌≤◌, ◌<◌, true, ◌++◌, length, take, drop, OnOk, OnErr, IfSome, IfNone};
 ghost use Rattle.qs_ranges.specs.Numbers.{MAX_VARINT, missing_from, MissesRange, IsRunFrom, EndsBefore};
 ghost use Rattle.qs_send.specs.Offsets.{at_rest, with_written, with_sent, with_acked, with_lost, with_none};
@@ -8,12 +8,13 @@ use qs_ranges::NoMemory;
 use std::alloc::Global;
 use std::marker::Model;
 
-/// Offsets that were written. They are at rest as a half begins, and again once the acknowledgement has come with which it is over.
+/// Without a box as a half begins, and again once its last ACK has come: most streams are then over, and stay for the connection's life. In
+/// between the box stays, since a stream that is written to again would take it anew.
 #[derive(Drop)]
 pub(crate) struct Offsets {
     alloc: Global,
     written: u64,
-    // None at rest: each is acknowledged, and nothing is kept or due.
+    // None: each offset is acknowledged, and nothing is kept or due.
     live: Option<Box<LiveOffsets>>,
 }
 
@@ -32,7 +33,6 @@ impl Model for Offsets {
 }
 
 impl Offsets {
-    /// None was written. They take no memory.
     pub(crate) fn new(alloc: Global) -> Self
         ensures { result ≡ at_rest 0 }
     {
@@ -51,7 +51,6 @@ impl Offsets {
         self.written
     }
 
-    /// The number after the largest offset that was sent; 0 where none was.
     #[inline(always)]
     pub(crate) fn sent_end(&self) -> u64
         ensures { result ≡ self.now.parts.sent_end }
@@ -62,7 +61,6 @@ impl Offsets {
         }
     }
 
-    /// The lowest offset that isn't acknowledged.
     #[tactic(auto, using(crate::proofs::AtRest::rest_missing))]
     pub(crate) fn unacked_from(&self) -> u64
         ensures { result ≡ missing_from self.now.parts.acked 0 }
@@ -83,7 +81,6 @@ impl Offsets {
         }
     }
 
-    /// How many bytes of memory those take that are kept.
     pub(crate) fn held(&self) -> usize
         ensures value { result ≡ self.now.room }
         ensures kept { length self.now.parts.kept ≤ result }
@@ -95,7 +92,6 @@ impl Offsets {
         }
     }
 
-    /// The bytes that are kept, so many from a place on, in two pieces.
     #[inline(always)]
     pub(crate) fn part(&self, from: usize, len: usize) -> (&[u8], &[u8])
         requires { from + len ≤ length self.now.parts.kept }
@@ -107,7 +103,6 @@ impl Offsets {
         }
     }
 
-    /// Takes bytes in behind those that were written. Where `most` are ever kept, they take no more memory than for twice as many.
     pub(crate) fn write(&mut self, bytes: &[u8], most: usize) -> Result<(), NoMemory>
         requires from { missing_from self.old.parts.acked 0 + length self.old.parts.kept ≡ self.old.parts.written }
         requires small { self.old.parts.written + length bytes.now ≤ MAX_VARINT }
@@ -123,7 +118,7 @@ impl Offsets {
         Ok(())
     }
 
-    // The first bytes behind those that are at rest: they take a box.
+    // The first bytes of a half take its box: the one allocation besides the buffer.
     fn begin(&mut self, bytes: &[u8], most: usize) -> Result<(), NoMemory>
         requires rest { self.old ≡ at_rest self.old.parts.written }
         requires from { missing_from self.old.parts.acked 0 + length self.old.parts.kept ≡ self.old.parts.written }
@@ -139,7 +134,6 @@ impl Offsets {
         Ok(())
     }
 
-    /// Takes in that the offsets below `end` were sent.
     #[inline(always)]
     pub(crate) fn sent(&mut self, end: u64)
         requires { end ≤ self.old.parts.written }
@@ -152,8 +146,7 @@ impl Offsets {
         live.sent(end);
     }
 
-    /// Takes in that the offsets from `lo` on and below `hi` are acknowledged, and whether with this nothing more comes. Where each
-    /// offset is then acknowledged, they are at rest. Unchanged where memory was refused.
+    /// With the last ACK the box goes. Unchanged if memory was refused.
     pub(crate) fn acked(&mut self, lo: u64, hi: u64, is_over: bool) -> Result<(), NoMemory>
         requires ordered { lo ≤ hi }
         requires sent { hi ≤ self.old.parts.sent_end }
@@ -176,8 +169,7 @@ impl Offsets {
         Ok(())
     }
 
-    /// Takes in that the offsets from `lo` on and below `hi` are lost: what isn't acknowledged is due again. Unchanged where memory
-    /// was refused.
+    /// What isn't acknowledged is due again. Unchanged if memory was refused.
     pub(crate) fn lost(&mut self, lo: u64, hi: u64) -> Result<(), NoMemory>
         requires ordered { lo ≤ hi }
         requires sent { hi ≤ self.old.parts.sent_end }
@@ -196,7 +188,6 @@ impl Offsets {
         Ok(())
     }
 
-    /// Nothing is to be sent any more, so nothing is kept, and the buffer's memory goes.
     pub(crate) fn let_all_go(&mut self)
         ensures parts { self.new.parts ≡ with_none self.old.parts }
         ensures room { self.new.room ≡ 0 }
@@ -207,7 +198,6 @@ impl Offsets {
         live.let_all_go();
     }
 
-    /// The lowest due offsets that stand in a row.
     pub(crate) fn due_run(&self) -> Option<(u64, u64)>
         ensures found { IfSome result (IsRunFrom self.now.parts.due 0) }
         ensures none { IfNone result (EndsBefore self.now.parts.due 0) }

@@ -15,13 +15,14 @@ use std::marker::Model;
 
 /// The pieces of each outstanding packet, in the order in which they went in, by packet number (RFC 9000, section 13.3).
 ///
-/// Each number from `base` on has a slot, up to the last one that was put in. A slot with no piece is empty.
+/// Each number from `base` on has a slot, so a record is found in constant time. A slot is empty if its packet carried nothing or is done:
+/// one packet that stays outstanding while many later ones come and go keeps a slot for each of those.
 #[derive(Drop)]
 pub struct Records {
     base: u64,
     slots: VecDeque<Carried>,
-    // Which slots are empty, as bits, of which the first is that of number `first`: a search looks at one word for 64 of them, and at one
-    // for 4,096 where all are. Where there was no memory for its bit, an empty slot is looked at itself.
+    // Hints as bits, of which the first is that of number `first`: a search looks at one word for 64 slots, and at one for 4,096 that are
+    // empty. A slot without a bit, for want of memory, is looked at itself.
     first: u64,
     gone: Gone,
 }
@@ -61,7 +62,7 @@ impl Records {
         }
     }
 
-    /// Makes room for the record of a number, which stays until a `put`.
+    /// Makes room for the record of a number, which stays until a `put`: before a packet is filled, so that a refusal changes nothing.
     pub fn make_room(&mut self, number: u64) -> Result<(), NoMemory>
         ensures same { self.new.pieces ≡ self.old.pieces }
         ensures slots { self.new.slots ≡ self.old.slots }
@@ -89,7 +90,7 @@ impl Records {
         Ok(())
     }
 
-    /// Holds the pieces of a packet, which come with their memory. It takes none.
+    /// Holds the pieces of a packet, which come with their memory, so it takes none.
     pub fn put(&mut self, number: u64, pieces: Vec<Piece>)
         requires ready { number < self.old.room }
         requires above { AreBelow self.old.pieces number }
@@ -103,7 +104,7 @@ impl Records {
         self.push_slot(Carried::several(pieces));
     }
 
-    /// Holds the one piece of a packet, in its slot: so a steady flow takes no memory for it.
+    /// Holds the one piece of a packet in its slot: with a vector for each, a steady flow of one stream cost a seventh more time.
     pub fn put_one(&mut self, number: u64, piece: Piece)
         requires ready { number < self.old.room }
         requires above { AreBelow self.old.pieces number }
@@ -116,7 +117,7 @@ impl Records {
         self.push_slot(Carried::one(piece));
     }
 
-    /// The first piece of a packet, `None` where the number isn't held.
+    /// The first piece of a packet, `None` if the number isn't held.
     pub fn first(&self, number: u64) -> Option<Piece>
         ensures { result ≡ first_piece (fmap.get self.now.pieces number) }
     {
@@ -126,7 +127,7 @@ impl Records {
         }
     }
 
-    /// Lets the first piece of a packet go, and the record with the last. Where the number isn't held, nothing changes.
+    /// Drops the first piece of a packet, and the record with the last. If the number isn't held, nothing changes.
     pub fn drop_first(&mut self, number: u64)
         ensures pieces { self.new.pieces ≡ without_first self.old.pieces number (fmap.get self.old.pieces number) }
         ensures base { self.new.base ≡ self.old.base }
@@ -139,7 +140,7 @@ impl Records {
         }
     }
 
-    /// Lets the empty slots before the first record go, so that the first slot has a record where one is left.
+    /// Drops the empty slots before the first record. After an ACK or a loss, and not as records go: a pass that goes on keeps its places.
     pub fn trim(&mut self)
         ensures pieces { self.new.pieces ≡ self.old.pieces }
         ensures room { self.old.room ≤ self.new.room }
@@ -201,8 +202,8 @@ impl Records {
         self.base
     }
 
-    /// The greatest number from `low` on and below `below` that is held. Each look is one more of `looks`: at a word of bits, together
-    /// with the word of words and the slot that it leads to, or at a slot without a bit.
+    /// Each look is counted in `looks`: at a word of bits, with the word of words and the slot that it leads to, or at a slot without a
+    /// bit.
     pub(crate) fn within(&self, low: u64, below: u64, looks: &mut u64) -> Option<u64>
         ensures found { IfSome result (λ k. (low ≤ k) × (k < below) × (fmap.contains_key self.now.pieces k ≡ true)) }
         ensures slot { IfSome result (λ k. (self.now.base ≤ k) × (k < self.now.base + self.now.slots)) }
@@ -222,7 +223,6 @@ impl Records {
         self.last_from(from, count, looks)
     }
 
-    // The place of a number's slot. A number without one isn't held.
     fn slot_of(&self, number: u64) -> Option<usize>
         ensures found { IfSome result (IsSlotOf self.now.base self.now.slots number) }
         ensures none { IfNone result (fmap.contains_key self.now.pieces number ≡ false) }
@@ -238,7 +238,6 @@ impl Records {
         }
     }
 
-    // The greatest number that is held in the first slots.
     fn last_of(&self, count: usize) -> Option<u64>
         requires { count ≤ self.now.slots }
         ensures found { IfSome result (IsGreatestBelow self.now.pieces (self.now.base + count)) }
@@ -248,7 +247,6 @@ impl Records {
         self.last_from(0, count, &mut 0)
     }
 
-    // The greatest number that is held in the first slots, from one of them on.
     #[inline(always)]
     fn last_from(&self, from: usize, count: usize, looks: &mut u64) -> Option<u64>
         requires { count ≤ self.now.slots }
@@ -274,7 +272,6 @@ impl Records {
         None
     }
 
-    // The same by a look at each slot.
     fn last_looked_at(&self, from: usize, count: usize, looks: &mut u64) -> Option<u64>
         requires { count ≤ self.now.slots }
         ensures found { IfSome result (λ k. (self.now.base + from ≤ k) × (k < self.now.base + count) × (fmap.contains_key self.now.pieces k ≡ true)) }
@@ -296,8 +293,7 @@ impl Records {
         None
     }
 
-    // An end of the first slots behind which none that is below `count` has a record, as low as the bits tell, down to `from`. Each look
-    // is counted, also that at the slot before the end.
+    // As low as the bits permit, down to `from`. Each look is counted, also that at the slot before the end.
     fn end_of_left(&self, from: usize, count: usize, looks: &mut u64) -> usize
         requires some { from < count }
         requires within { count ≤ self.now.slots }
@@ -320,7 +316,7 @@ impl Records {
         }
     }
 
-    // It is noted that a slot is empty, where it is. No clause sees it. Of few slots each is looked at itself.
+    // No clause sees the note, which is a hint. Of few slots each is looked at itself, so that a short queue pays for no bits.
     fn note(&mut self, place: usize)
         requires { place < self.old.slots }
         ensures { self.new ≡ self.old }
@@ -331,7 +327,6 @@ impl Records {
         }
     }
 
-    // Whether a slot has a record.
     fn is_filled(&self, place: usize) -> bool
         requires { place < self.now.slots }
         ensures { result ≡ fmap.contains_key self.now.pieces (self.now.base + place) }
@@ -339,7 +334,7 @@ impl Records {
         self.slots[place].len() > 0
     }
 
-    // The bits of slots that went go, once there are so many of these. No clause sees it.
+    // In groups, so that bits move along by whole words. No clause sees it.
     fn drop_group(&mut self)
         ensures { self.new ≡ self.old }
     {
@@ -349,7 +344,6 @@ impl Records {
         }
     }
 
-    // Whether the first slot is an empty one.
     fn starts_empty(&self) -> bool
         ensures { IsTrue result ↔ ((0 < self.now.slots) × (fmap.contains_key self.now.pieces self.now.base ≡ false)) }
     {
@@ -359,7 +353,6 @@ impl Records {
         }
     }
 
-    // The first slot, which is empty, goes.
     fn drop_front(&mut self)
         requires some { 0 < self.old.slots }
         requires empty { fmap.contains_key self.old.pieces self.old.base ≡ false }
@@ -374,7 +367,7 @@ impl Records {
         }
     }
 
-    // The slots of a number and of those above it go, which are empty. Mostly there are none.
+    // Mostly there are none: a number that was claimed, or an ACK alone, left them.
     fn drop_from(&mut self, number: u64)
         requires { AreBelow self.old.pieces number }
         ensures pieces { self.new.pieces ≡ self.old.pieces }
@@ -386,14 +379,12 @@ impl Records {
         }
     }
 
-    // Whether the last slot is that of a number or of one above it.
     fn ends_past(&self, number: u64) -> bool
         ensures { IsTrue result ↔ ((0 < self.now.slots) × (number < self.now.base + self.now.slots)) }
     {
         number.saturating_sub(self.base) < self.slots.len() as u64
     }
 
-    // The last slot, which is empty, goes.
     fn drop_back(&mut self)
         requires some { 0 < self.old.slots }
         requires empty { fmap.contains_key self.old.pieces (self.old.base + self.old.slots - 1) ≡ false }
@@ -404,7 +395,7 @@ impl Records {
         drop(self.slots.pop_back());
     }
 
-    // Without slots the first one is to be that of the number.
+    // Otherwise the slots of all numbers since would be filled in, empty.
     fn start_at(&mut self, number: u64)
         requires ready { number < self.old.room }
         requires above { 0 < self.old.slots → self.old.base + self.old.slots ≤ number }
@@ -419,7 +410,6 @@ impl Records {
         }
     }
 
-    // Empty slots for the numbers below `number`, so that the next slot is that number's.
     fn fill_to(&mut self, number: u64)
         requires ready { number < self.old.room }
         requires end { self.old.base + self.old.slots ≤ number }
@@ -434,7 +424,6 @@ impl Records {
         }
     }
 
-    // Whether a number below `number` has no slot yet.
     fn ends_before(&self, number: u64) -> bool
         requires { self.now.base ≤ number }
         ensures { IsTrue result ↔ (self.now.base + self.now.slots < number) }
@@ -442,7 +431,6 @@ impl Records {
         self.slots.len() < (number - self.base) as usize
     }
 
-    // One slot more.
     fn push_slot(&mut self, slot: Carried)
         requires ready { self.old.base + self.old.slots < self.old.room }
         requires small { self.old.base + self.old.slots < 2 ^ 64 }
@@ -457,7 +445,6 @@ impl Records {
     }
 }
 
-// Whether one of the slots has the piece.
 fn some_has(slots: &VecDeque<Carried>, piece: Piece) -> bool
     ensures { IsTrue result ↔ ((k : ℕ) × (k < length slots.now.items) × Among piece (slot_at slots.now.items k)) }
 {

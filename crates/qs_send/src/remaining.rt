@@ -5,7 +5,7 @@ ghost use Rattle.qs_send.specs.Records.{Among, first_piece};
 use crate::piece::Piece;
 use std::marker::Model;
 
-/// The pieces of a vector without the first `start` ones, which were let go.
+/// The pieces of a vector without the first `start` ones: dropping the first costs no move.
 #[derive(Drop)]
 pub(crate) struct Remaining {
     start: usize,
@@ -49,7 +49,6 @@ impl Remaining {
         }
     }
 
-    /// Lets the first piece go, of one or more.
     pub(crate) fn drop_first(&mut self)
         requires { 0 < length self.old }
         ensures { self.new ≡ drop 1 self.old }

@@ -1,4 +1,4 @@
-//! A sending half to be read, be it over or not.
+//! A sending half to be read, over or not. One type for both, so that a caller needn't know how a half is kept.
 ghost use Rattle.std.specs.Prelude.{◌≡◌, ◌+◌, ◌*◌, ◌/◌, ◌%◌, ◌==◌, ◌≤◌, ◌↔◌, ◌++◌, IsTrue, length, true, is_some, option_map, Some, None, IfSome, IfNone};
 ghost use Rattle.qs_ranges.specs.Numbers.{MAX_VARINT};
 ghost use Rattle.qs_send.specs.Changes.{stop_changes, told_changes};
@@ -13,20 +13,18 @@ use crate::halves::slot::SendSlot;
 use crate::parts::{Chunk, SendFault, SendState};
 use std::marker::Model;
 
-/// A sending half to be read.
 #[derive(Drop)]
 pub struct SendView<'a> {
     half: Viewed<'a>,
 }
 
-/// One that is over, or another.
 #[derive(Clone, Copy, Drop)]
 pub(crate) enum Viewed<'a> {
     Over(Over),
     Full(&'a SendHalf),
 }
 
-/// What is kept of a half that is over.
+/// What a slot says, put together again: the numbers of a half that is over.
 #[derive(Clone, Copy, Drop)]
 pub(crate) struct Over {
     number: u64,
@@ -37,7 +35,6 @@ pub(crate) struct Over {
     widest: u32,
 }
 
-// Clauses see the half: its lane and what of it is due.
 impl<'a> Model for SendView<'a> {
     ghost use Rattle.qs_send.specs.Lane.{Sending};
     ghost use Rattle.qs_send.specs.Codes.{sending_code};
@@ -55,7 +52,6 @@ impl<'a> Model for SendView<'a> {
 }
 
 impl<'a> SendView<'a> {
-    /// A half that is over, of that number.
     #[inline(always)]
     pub(crate) fn of_over(number: u64, written: u64, slot: SendSlot) -> Self
         requires number { number ≤ MAX_VARINT }
@@ -75,7 +71,6 @@ impl<'a> SendView<'a> {
         }
     }
 
-    /// Another.
     #[inline(always)]
     pub(crate) fn of_full(half: &'a SendHalf) -> Self
         ensures half { result ≡ half.now }
@@ -95,7 +90,7 @@ impl<'a> SendView<'a> {
         let _half = &self.half;
     }
 
-    /// The half, where it isn't over.
+    /// The half, if it isn't over.
     #[inline(always)]
     pub fn not_over(&self) -> Option<&'a SendHalf>
         ensures full { IfSome result (λ half. half.now ≡ self.now) }
@@ -129,7 +124,7 @@ impl<'a> SendView<'a> {
         }
     }
 
-    /// Whether one would change it whose owner answers it.
+    /// Whether one that the application answers would change it.
     #[inline(always)]
     pub fn told_changes(&self) -> bool
         ensures { result ≡ told_changes self.now.lane }
@@ -233,7 +228,7 @@ impl<'a> SendView<'a> {
         }
     }
 
-    /// How many bytes of memory the buffer takes, as `SendHalf::held` tells.
+    /// How many bytes of memory the buffer takes, as of `SendHalf::held`.
     #[inline(always)]
     pub fn held(&self) -> u64
         ensures kept { length self.now.lane.kept ≤ result }
@@ -259,7 +254,7 @@ impl<'a> SendView<'a> {
         }
     }
 
-    /// The longest chunk that may go, as `SendHalf::next_chunk` tells.
+    /// The longest chunk that may go, as of `SendHalf::next_chunk`.
     #[inline(always)]
     pub fn next_chunk(&self, room: usize, fresh: u64) -> Option<Chunk>
         ensures found { IfSome result (IsNextChunk self.now room fresh) }
@@ -272,7 +267,7 @@ impl<'a> SendView<'a> {
         }
     }
 
-    /// Whether the room alone holds a chunk back, as `SendHalf::is_held_by_room` tells.
+    /// Whether the room alone holds a chunk back, as of `SendHalf::is_held_by_room`.
     #[inline(always)]
     pub fn is_held_by_room(&self, room: usize, fresh: u64) -> bool
         ensures { IsTrue result ↔ IsHeldByRoom self.now room fresh }
@@ -294,7 +289,7 @@ impl<'a> SendView<'a> {
         }
     }
 
-    /// The bytes of a chunk that is still in the buffer: a front, and where they go around the buffer's end, a back.
+    /// The bytes of a chunk that is still in the buffer, in two pieces if they go around the ring's end.
     #[inline(always)]
     pub fn bytes(&self, chunk: Chunk) -> (&'a [u8], &'a [u8])
         requires { HasBytes self.now.lane chunk }

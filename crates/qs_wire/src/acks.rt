@@ -13,14 +13,14 @@ use crate::varint::{number_at, varint_len};
 use crate::writing::{put_number, put_numbers};
 use std::marker::Model;
 
-/// Gives the ranges of an ACK frame as smallest and largest packet number, the highest first.
+/// Gives the ranges of an ACK frame as smallest and largest packet number, the highest first. They stay a slice of the payload: an ACK may
+/// have many, and reading takes no memory.
 #[derive(Debug, Drop)]
 pub struct AckRanges<'a> {
     largest: u64,
     rest: &'a [u8],
 }
 
-// Clauses see the ranges that are left.
 impl<'a> Model for AckRanges<'a> {
     ghost use Rattle.std.specs.Prelude.{ℕ, List, ◌^◌, ◌<◌};
     ghost use Rattle.qs_wire.specs.Varint.{numbers_of};
@@ -45,8 +45,8 @@ impl<'a> AckRanges<'a> {
         }
     }
 
-    /// The smallest and the largest number of the next range, `None` after the last. A range that fell
-    /// below zero, which no frame has that was read, begins at 0.
+    /// The smallest and the largest number of the next range, `None` after the last. It never fails: a range that fell below zero, which no
+    /// frame has that was read, begins at 0.
     pub fn next(&mut self) -> Option<(u64, u64)>
         ensures step { MatchOption result ((self.old ≡ []) × (self.new ≡ [])) (λ range. self.old ≡ range ∷ self.new) }
         ensures ordered { IfSome result (λ range. (range.0 ≤ range.1) × (range.1 < 2 ^ 62)) }
@@ -66,7 +66,6 @@ impl<'a> AckRanges<'a> {
     }
 }
 
-/// The two numbers that spell a range below the range that begins at a number.
 fn gap_and_length(above: u64, pair: (u64, u64)) -> (u64, u64)
     requires lies { LiesBelow above pair }
     requires below { above ≤ 2 ^ 62 }
@@ -78,7 +77,7 @@ fn gap_and_length(above: u64, pair: (u64, u64)) -> (u64, u64)
     (above - end - 1, end - 1 - start)
 }
 
-/// Whether the shortest spellings of two numbers fit the room. They are measured only where it is scarce.
+/// Measured only if the room is scarce, since mostly all ranges fit.
 #[inline]
 fn two_fit(a: u64, b: u64, room: usize) -> bool
     requires small { (a < 2 ^ 62) × (b < 2 ^ 62) }
@@ -91,7 +90,7 @@ fn two_fit(a: u64, b: u64, room: usize) -> bool
     varint_len(a) + varint_len(b) <= room
 }
 
-/// Writes as many of the ranges below a number as fit, at a place, and answers how many these are and the place after them.
+/// As many as fit from the highest on: the older ranges were in earlier ACKs.
 fn put_ranges(smallest: u64, pairs: &[(u64, u64)], at: usize, out: &mut [u8]) -> (usize, usize)
     requires apart { AreApartBelow smallest pairs.now }
     requires below { smallest ≤ 2 ^ 62 }
@@ -119,9 +118,8 @@ fn put_ranges(smallest: u64, pairs: &[(u64, u64)], at: usize, out: &mut [u8]) ->
 
 const ACK: u64 = 0x02;
 
-/// Writes an ACK frame without delay and ECN counts, of as many ranges as fit, at the slice's front, and answers
-/// how many and the frame's length in bytes. The ranges are half-open, the highest first. Where not even one
-/// fits, nothing is written.
+/// Writes an ACK frame without delay and ECN counts at the slice's front, of as many ranges as fit, and returns how many and the frame's
+/// length in bytes. The ranges are half-open, the highest first. If not even one fits, nothing is written.
 pub fn put_ack(pairs: &[(u64, u64)], out: &mut [u8]) -> Result<(usize, usize), Full>
     requires { AreAckPairs pairs.now }
     ensures some { IfOk result (λ x. (0 < x.0) × (x.0 ≤ length pairs.now)) }
@@ -134,7 +132,7 @@ pub fn put_ack(pairs: &[(u64, u64)], out: &mut [u8]) -> Result<(usize, usize), F
     put_delayed_ack(pairs, 0, out)
 }
 
-/// The same of an ACK frame that tells a delay.
+/// The same of an ACK frame with a delay.
 pub fn put_delayed_ack(
     pairs: &[(u64, u64)],
     delay: u64,

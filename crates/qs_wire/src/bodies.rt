@@ -1,4 +1,5 @@
-//! Reading the fields of each frame, behind its type, and judging their values.
+//! Reading the fields of each frame, and judging their values once the whole frame is there: a frame that is cut short is cut short,
+//! whatever its numbers.
 
 ghost use Rattle.std.specs.Prelude.{◌≡◌, ◌+◌, ◌^◌, length, nat_lt};
 ghost use Rattle.qs_wire.specs.Layout.{view};
@@ -64,7 +65,6 @@ fn stop_sending_at(bytes: &[u8]) -> Result<(Frame<'_>, &[u8]), FaultKind>
     Ok((Frame::StopSending { stream, code }, rest))
 }
 
-/// Whether the bytes that stand at an offset of a stream end below 2^62.
 fn ends_in_range(offset: u64, bytes: &[u8]) -> bool
     ensures { result ≡ nat_lt (offset + length bytes.now) (2 ^ 62) }
 {
@@ -243,7 +243,7 @@ fn application_close_at(bytes: &[u8]) -> Result<(Frame<'_>, &[u8]), FaultKind>
     Ok((Frame::ApplicationClose { code, reason }, rest))
 }
 
-/// The frame of a type, whose values break nothing, and the bytes after it.
+/// Its values break nothing.
 pub(crate) fn body_at(frame_type: FrameType, bytes: &[u8]) -> Result<(Frame<'_>, &[u8]), FaultKind>
     ensures { Gives (λ x. (view x.0, x.1.now)) result (judged_body_at frame_type bytes.now) }
 {

@@ -9,7 +9,6 @@ use crate::fault::FaultKind;
 use crate::frame::EcnCounts;
 use crate::varint::number_at;
 
-/// So many bytes.
 #[tactic(auto, unfolding(crate::specs::Reading::plain_at))]
 pub(crate) fn plain_at(len: u64, bytes: &[u8]) -> Result<(&[u8], &[u8]), FaultKind>
     ensures { Gives (λ x. (x.0.now, x.1.now)) result (plain_at len bytes.now) }
@@ -20,7 +19,6 @@ pub(crate) fn plain_at(len: u64, bytes: &[u8]) -> Result<(&[u8], &[u8]), FaultKi
     Ok(bytes.split_at(len as usize))
 }
 
-/// The bytes that a number counts.
 #[tactic(auto, unfolding(crate::specs::Reading::counted_at))]
 pub(crate) fn counted_at(bytes: &[u8]) -> Result<(&[u8], &[u8]), FaultKind>
     ensures { Gives (λ x. (x.0.now, x.1.now)) result (counted_at bytes.now) }
@@ -29,7 +27,7 @@ pub(crate) fn counted_at(bytes: &[u8]) -> Result<(&[u8], &[u8]), FaultKind>
     plain_at(len, rest)
 }
 
-/// The bytes that one byte counts, which has to be the length of a connection identifier.
+/// Judged as soon as the length is read, since the bytes that follow can't be counted with it.
 #[tactic(auto, unfolding(crate::specs::Reading::identifier_at))]
 pub(crate) fn identifier_at(bytes: &[u8]) -> Result<(&[u8], &[u8]), FaultKind>
     ensures { Gives (λ x. (x.0.now, x.1.now)) result (identifier_at bytes.now) }
@@ -43,7 +41,6 @@ pub(crate) fn identifier_at(bytes: &[u8]) -> Result<(&[u8], &[u8]), FaultKind>
     }
 }
 
-/// A number, or 0 where there is none.
 pub(crate) fn number_if(there: bool, bytes: &[u8]) -> Result<(u64, &[u8]), FaultKind>
     ensures { Gives (λ x. (x.0, x.1.now)) result (field_at (number_if there) bytes.now) }
 {
@@ -54,7 +51,7 @@ pub(crate) fn number_if(there: bool, bytes: &[u8]) -> Result<(u64, &[u8]), Fault
     }
 }
 
-/// The bytes that a number counts, or all where none does.
+/// All if no number counts them: a STREAM without a length goes on to the payload's end.
 pub(crate) fn counted_if(there: bool, bytes: &[u8]) -> Result<(&[u8], &[u8]), FaultKind>
     ensures { Gives (λ x. (x.0.now, x.1.now)) result (field_at (counted_if there) bytes.now) }
 {
@@ -75,7 +72,6 @@ fn counts_at(bytes: &[u8]) -> Result<(Option<EcnCounts>, &[u8]), FaultKind>
     Ok((Some(EcnCounts { ect0, ect1, ce }), rest))
 }
 
-/// The counts, or none where there are none.
 pub(crate) fn ecn_if(there: bool, bytes: &[u8]) -> Result<(Option<EcnCounts>, &[u8]), FaultKind>
     ensures { Gives (λ x. (x.0, x.1.now)) result (field_at (ecn_if there) bytes.now) }
 {
@@ -86,7 +82,8 @@ pub(crate) fn ecn_if(there: bool, bytes: &[u8]) -> Result<(Option<EcnCounts>, &[
     }
 }
 
-/// What follows so many numbers, and what is left of a limit from which each takes one more than itself.
+/// What follows so many numbers, and what is left of a limit from which each takes one more than itself: so a sum that falls below zero is
+/// found without a list.
 fn skip_numbers(count: u64, limit: u64, bytes: &[u8]) -> Result<(u64, &[u8]), FaultKind>
     ensures skips { MatchResult result
         (λ x. (vs : List ℕ) × (numbers_at count bytes.now ≡ Ok (vs, x.1.now)) × (x.0 ≡ limit - taken vs))
@@ -103,7 +100,7 @@ fn skip_numbers(count: u64, limit: u64, bytes: &[u8]) -> Result<(u64, &[u8]), Fa
     Ok((left, rest))
 }
 
-/// The numbers of an ACK's ranges, and whether the ranges fall below zero from the largest number.
+/// The numbers of an ACK's ranges, and whether they fall below zero. Told apart, since that is judged only when the whole frame was read.
 #[tactic(auto, unfolding(crate::specs::Reading::ranges_at))]
 pub(crate) fn ranges_at(largest: u64, bytes: &[u8]) -> Result<(&[u8], bool, &[u8]), FaultKind>
     requires { largest < 2 ^ 62 }

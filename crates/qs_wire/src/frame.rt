@@ -2,7 +2,7 @@
 
 use crate::stream_id::{Dir, StreamId};
 
-/// A frame (RFC 9000, section 19), whose bytes are a part of the payload.
+/// A frame (RFC 9000, section 19). Its bytes are lent by the payload, so reading copies nothing.
 #[derive(Clone, Copy, Debug, PartialEq, Eq)]
 pub enum Frame<'a> {
     /// Section 19.1. Each byte is a frame of its own.
@@ -13,8 +13,8 @@ pub enum Frame<'a> {
     Ack {
         largest: u64,
         delay: u64,
-        /// The length of the first range, and then of each next one the gap before it and its length, as
-        /// the payload spells them. [`AckRanges`](crate::AckRanges) reads them.
+        /// The length of the first range, and then of each next one the gap before it and its length, as the payload spells them.
+        /// [`AckRanges`](crate::AckRanges) reads them.
         ranges: &'a [u8],
         ecn: Option<EcnCounts>,
     },
@@ -34,7 +34,7 @@ pub enum Frame<'a> {
         offset: u64,
         bytes: &'a [u8],
     },
-    /// Section 19.7. An empty token is read, and a server reads it too: to refuse them is for the layer beneath.
+    /// Section 19.7. An empty token is read, and by a server too: to refuse them is for the transport, which has the tokens.
     NewToken {
         bytes: &'a [u8],
     },
@@ -73,7 +73,7 @@ pub enum Frame<'a> {
         dir: Dir,
         count: u64,
     },
-    /// Section 19.15. That `retire` is at most `sequence` is for the layer beneath to check.
+    /// Section 19.15. That `retire` is at most `sequence` is for the transport to check, which has the connection IDs.
     NewConnectionId {
         sequence: u64,
         retire: u64,
@@ -94,19 +94,19 @@ pub enum Frame<'a> {
     PathResponse {
         bytes: &'a [u8],
     },
-    /// Section 19.19, of the type that QUIC itself closes with.
+    /// Section 19.19, type 0x1c: the transport closes.
     ConnectionClose {
         code: u64,
-        /// The type of the frame that was at fault, 0 where none was.
+        /// The type of the frame that offended, 0 if none did.
         frame_type: u64,
         reason: &'a [u8],
     },
-    /// Section 19.19, of the type that an application closes with.
+    /// Section 19.19, type 0x1d: the application closes.
     ApplicationClose {
         code: u64,
         reason: &'a [u8],
     },
-    /// Section 19.20. A server reads it too: to refuse it is for the layer beneath.
+    /// Section 19.20. It is read by a server too: to refuse it is for the transport, which has the handshake.
     HandshakeDone,
 }
 
@@ -118,7 +118,8 @@ pub struct EcnCounts {
     pub ce: u64,
 }
 
-/// A frame, the place of its first byte in the payload, and the number of its type as it was read.
+/// A frame, the place of its first byte in the payload, and the number of its type as it was read: a STREAM doesn't say which of its eight
+/// types it had.
 #[derive(Clone, Copy, Debug, PartialEq, Eq)]
 pub struct Placed<'a> {
     pub place: usize,

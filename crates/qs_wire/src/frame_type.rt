@@ -5,7 +5,8 @@ ghost use Rattle.qs_wire.specs.Layout.{type_of, number_of_type};
 
 use crate::stream_id::Dir;
 
-/// What a frame type's number tells of the frame.
+/// What the number of a type says: of STREAM three bits, of the others the frame alone. One name for each, so that reader and writer share
+/// the numbers.
 #[derive(Clone, Copy)]
 pub(crate) enum FrameType {
     Padding,
@@ -38,7 +39,6 @@ const LEN: u64 = 0x02;
 const OFF: u64 = 0x04;
 
 impl FrameType {
-    /// The type of that number.
     pub(crate) fn of(number: u64) -> Option<FrameType>
         ensures { result ≡ type_of number }
     {

@@ -11,7 +11,7 @@ use crate::frame::Frame;
 use crate::frame_type::FrameType;
 use crate::varint::{read_varint, varint_len};
 
-/// What is wrong with a frame, of which type.
+/// A fault lacks its place, which only the caller knows.
 #[derive(Clone, Copy)]
 pub(crate) struct Broken {
     pub(crate) kind: FaultKind,
@@ -31,7 +31,7 @@ fn type_at(bytes: &[u8]) -> Result<(u64, &[u8]), Broken>
     }
 }
 
-/// The number of a type, however long.
+/// Apart, since types of more than one byte are rare: they are always a fault here.
 #[tactic(auto, unfolding(crate::specs::Reading::number_of_type_at))]
 fn long_type_at(bytes: &[u8]) -> Result<(u64, &[u8]), Broken>
     ensures gives { Gives (λ x. (x.0, x.1.now)) result (number_of_type_at bytes.now) }
@@ -53,7 +53,6 @@ fn long_type_at(bytes: &[u8]) -> Result<(u64, &[u8]), Broken>
     Ok((frame_type, &bytes[len..]))
 }
 
-/// The frame that begins the bytes behind the number of its type, and the bytes after it.
 #[tactic(auto, unfolding(crate::specs::Reading::frame_at))]
 pub(crate) fn frame_at(bytes: &[u8]) -> Result<(u64, Frame<'_>, &[u8]), Broken>
     ensures gives { Gives (λ x. (x.0, view x.1, x.2.now)) result (frame_at bytes.now) }

@@ -10,8 +10,8 @@ use crate::frame::Frame;
 use crate::frames::Frames;
 use crate::stream_id::StreamId;
 
-/// The stream of the last STREAM frame that is read in a payload, up to its end or to the first fault; `None` where there is none. An
-/// owner whose streams send by turns goes on behind it.
+/// The stream of the last STREAM frame in a payload, up to its end or its first fault; `None` if there is none. For round-robin, the next
+/// packet goes on behind it.
 pub fn last_stream(payload: &[u8]) -> Option<StreamId>
     ensures { result ≡ last_stream_of None (frames_of (reading_of payload.now).left) }
 {

@@ -1,4 +1,5 @@
-//! Writing frames.
+//! Writing frames. A frame is a list of parts, of which one function knows the length and another the text: so that what is measured is
+//! what is written.
 
 ghost use Rattle.std.specs.Prelude.{◌≡◌, ℕ, ◌+◌, ◌^◌, ◌<◌, ◌≤◌, [], ◌++◌, length, drop, Some, if◌then◌else◌, IfSome, IfNone, IfOk, IfErr};
 ghost use Rattle.std.specs.List.{flat_map, AllByRecursion};
@@ -14,17 +15,16 @@ use crate::stream_id::StreamId;
 use crate::varint::{read_varint, spell, varint_len};
 use Part::{Counted, Counts, Identifier, Number, Plain, Ranges};
 
-/// A part of a frame's canonical text.
 #[derive(Clone, Copy)]
 pub(crate) enum Part<'a> {
     Nothing,
     Number(u64),
     Plain(&'a [u8]),
-    /// The bytes behind their count.
     Counted(&'a [u8]),
-    /// The bytes behind one byte that counts them.
+    /// The bytes behind one byte that counts them: a connection ID's length isn't a variable-length integer.
     Identifier(&'a [u8]),
-    /// The numbers that the bytes spell, behind the count of pairs that follow the first.
+    /// The numbers that the bytes spell, behind the count of pairs that follow the first. They are read and written anew, so that each gets
+    /// its shortest spelling.
     Ranges(&'a [u8]),
     Counts(Option<EcnCounts>),
 }
@@ -48,7 +48,6 @@ impl<'a> Part<'a> {
         }
     }
 
-    /// Writes the part at a place, and answers the place after it.
     fn put(self, at: usize, out: &mut [u8]) -> usize
         requires fits { PartFits self }
         requires room { at + length (part_text self) ≤ length out.old }
@@ -71,7 +70,6 @@ impl<'a> Part<'a> {
     }
 }
 
-/// Writes a number at a place, and answers the place after it.
 #[inline]
 pub(crate) fn put_number(value: u64, at: usize, out: &mut [u8]) -> usize
     requires below { value < 2 ^ 62 }
@@ -82,7 +80,6 @@ pub(crate) fn put_number(value: u64, at: usize, out: &mut [u8]) -> usize
     at + spell(value, &mut out[at..])
 }
 
-/// Writes numbers at the front, and answers the place after them.
 pub(crate) fn put_numbers(numbers: &[u64], out: &mut [u8]) -> usize
     requires below { AllByRecursion (λ v. v < 2 ^ 62) numbers.now }
     requires room { length (flat_map short numbers.now) ≤ length out.old }
@@ -96,7 +93,7 @@ pub(crate) fn put_numbers(numbers: &[u64], out: &mut [u8]) -> usize
     at
 }
 
-/// Writes numbers at the front, where they fit, and answers the place after them.
+/// Measured before anything is written, so that `Full` leaves the slice as it was.
 fn put_fitting(numbers: &[u64], out: &mut [u8]) -> Result<usize, Full>
     requires { AllByRecursion (λ v. v < 2 ^ 62) numbers.now }
     ensures written { IfOk result (λ n. (n ≡ length (flat_map short numbers.now)) × (n ≤ length out.old)
@@ -114,7 +111,6 @@ fn put_fitting(numbers: &[u64], out: &mut [u8]) -> Result<usize, Full>
     Ok(put_numbers(numbers, out))
 }
 
-/// Writes bytes at a place, and answers the place after them.
 fn put_bytes(bytes: &[u8], at: usize, out: &mut [u8]) -> usize
     requires { at + length bytes.now ≤ length out.old }
     ensures puts { Puts at bytes.now out.old out.new }
@@ -125,7 +121,6 @@ fn put_bytes(bytes: &[u8], at: usize, out: &mut [u8]) -> usize
     end
 }
 
-/// Writes bytes behind their count at a place, and answers the place after them.
 fn put_counted(bytes: &[u8], at: usize, out: &mut [u8]) -> usize
     requires below { length bytes.now < 2 ^ 62 }
     requires room { at + length (short (length bytes.now) ++ bytes.now) ≤ length out.old }
@@ -136,7 +131,7 @@ fn put_counted(bytes: &[u8], at: usize, out: &mut [u8]) -> usize
     put_bytes(bytes, next, out)
 }
 
-/// Writes the bytes of two pieces behind their count at a place, and answers the place after them.
+/// Two pieces, as a ring has them, so that no caller joins them first.
 fn put_pieces(front: &[u8], back: &[u8], at: usize, out: &mut [u8]) -> usize
     requires below { length (front.now ++ back.now) < 2 ^ 62 }
     requires room { at + length (short (length (front.now ++ back.now)) ++ (front.now ++ back.now)) ≤ length out.old }
@@ -156,7 +151,6 @@ fn counts_len(counts: EcnCounts) -> usize
     varint_len(counts.ect0) + varint_len(counts.ect1) + varint_len(counts.ce)
 }
 
-/// Writes the three counts at a place, and answers the place after them.
 fn put_counts(counts: EcnCounts, at: usize, out: &mut [u8]) -> usize
     requires below { CountsFit (Some counts) }
     requires room { at + length (flat_map short (counts_of counts)) ≤ length out.old }
@@ -168,7 +162,6 @@ fn put_counts(counts: EcnCounts, at: usize, out: &mut [u8]) -> usize
     put_number(counts.ce, next, out)
 }
 
-/// How many numbers the bytes spell, and how long their shortest spellings are together.
 fn shortest(numbers: &[u8]) -> (u64, usize)
     ensures count { result.0 ≡ length (numbers_of numbers.now) }
     ensures len { result.1 ≡ length (flat_map short (numbers_of numbers.now)) }
@@ -186,7 +179,6 @@ fn shortest(numbers: &[u8]) -> (u64, usize)
     (count, shortest_len)
 }
 
-/// Writes the shortest spelling of each number that the bytes spell, and answers the place after them.
 fn put_shortest(numbers: &[u8], at: usize, out: &mut [u8]) -> usize
     requires { at + length (flat_map short (numbers_of numbers.now)) ≤ length out.old }
     ensures puts { Puts at (flat_map short (numbers_of numbers.now)) out.old out.new }
@@ -202,7 +194,7 @@ fn put_shortest(numbers: &[u8], at: usize, out: &mut [u8]) -> usize
     next
 }
 
-/// A type and up to four fields.
+/// Four fields are the most that a frame has here.
 fn parts<'a>(
     frame_type: FrameType,
     a: Part<'a>,
@@ -223,7 +215,6 @@ fn parts<'a>(
 
 const NONE: Part<'static> = Part::Nothing;
 
-/// The type and the fields of a frame, the others being nothing.
 macro_rules! parts {
     ($frame_type:expr $(,)?) => {
         parts($frame_type, NONE, NONE, NONE, NONE)
@@ -242,7 +233,6 @@ macro_rules! parts {
     };
 }
 
-/// The parts of a frame's canonical text, in order.
 #[tactic(auto, unfolding(crate::specs::Grammar::canonical))]
 fn parts_of<'a>(frame: &Frame<'a>) -> [Part<'a>; 5]
     requires { Fits (view frame.now) }
@@ -366,7 +356,7 @@ fn number_if<'a>(there: bool, value: u64) -> Part<'a>
     }
 }
 
-/// How many bytes the parts take, if the room is enough.
+/// None as soon as the room is too small, so the sum can't overflow.
 pub(crate) fn len_within(parts: &[Part], room: usize) -> Option<usize>
     requires { AllByRecursion PartFits parts.now }
     ensures some { IfSome result (λ len. (len ≡ length (flat_map part_text parts.now)) × (len ≤ room)) }
@@ -383,7 +373,6 @@ pub(crate) fn len_within(parts: &[Part], room: usize) -> Option<usize>
     Some(len)
 }
 
-/// Writes the parts at the front.
 pub(crate) fn put_parts(parts: &[Part], out: &mut [u8])
     requires fit { AllByRecursion PartFits parts.now }
     requires room { length (flat_map part_text parts.now) ≤ length out.old }
@@ -395,7 +384,6 @@ pub(crate) fn put_parts(parts: &[Part], out: &mut [u8])
     }
 }
 
-/// How many bytes a number takes, if it is there.
 fn len_if(there: bool, value: u64) -> usize
     requires { value < 2 ^ 62 }
     ensures exact { result ≡ length (if there then short value else []) }
@@ -404,7 +392,6 @@ fn len_if(there: bool, value: u64) -> usize
     if there { varint_len(value) } else { 0 }
 }
 
-/// Writes a number at a place, if it is there, and answers the place after it.
 fn put_number_if(there: bool, value: u64, at: usize, out: &mut [u8]) -> usize
     requires below { value < 2 ^ 62 }
     requires room { at + length (if there then short value else []) ≤ length out.old }
@@ -418,8 +405,8 @@ fn put_number_if(there: bool, value: u64, at: usize, out: &mut [u8]) -> usize
     }
 }
 
-/// Writes the canonical text of a STREAM frame at the slice's front, as `put` does, with the bytes of a front and a back: a ring has
-/// them in two pieces (RFC 9000, section 19.8). Most bytes go in such a frame, so it is written without a list of parts.
+/// Writes the canonical text of a STREAM frame at the slice's front, as `put` does, with the bytes of a front and a back: a ring has them
+/// in two pieces (RFC 9000, section 19.8). Most bytes go in such a frame, so it is written without a list of parts.
 pub fn put_stream(
     id: StreamId,
     offset: u64,
@@ -451,7 +438,6 @@ pub fn put_stream(
     Ok(put_pieces(front, back, next, out))
 }
 
-/// Writes a frame part by part, as `put` does.
 fn put_any(frame: &Frame, out: &mut [u8]) -> Result<usize, Full>
     requires { Fits (view frame.now) }
     ensures written { IfOk result (λ n. (n ≡ length (canonical (view frame.now))) × (n ≤ length out.old)
@@ -464,9 +450,8 @@ fn put_any(frame: &Frame, out: &mut [u8]) -> Result<usize, Full>
     Ok(len)
 }
 
-/// Writes the canonical text of a frame at the slice's front and answers its length in bytes: each number
-/// in its shortest spelling; of a STREAM frame the length always, and the offset where it is not 0. Where
-/// the text does not fit, nothing is written.
+/// Writes the canonical text of a frame at the slice's front and returns its length in bytes: each number in its shortest spelling; of a
+/// STREAM frame the length always, and the offset if that isn't 0. If the text does not fit, nothing is written.
 pub fn put(frame: &Frame, out: &mut [u8]) -> Result<usize, Full>
     requires { Fits (view frame.now) }
     ensures written { IfOk result (λ n. (n ≡ length (canonical (view frame.now))) × (n ≤ length out.old)
@@ -480,7 +465,7 @@ pub fn put(frame: &Frame, out: &mut [u8]) -> Result<usize, Full>
             fin,
             bytes,
         } => put_stream(stream, offset, fin, bytes, &[], out),
-        // What an endpoint tells most often, without a list of parts.
+        // What an endpoint sends most often goes without a list of parts.
         Frame::MaxData { maximum } => put_fitting(&[FrameType::MaxData.number(), maximum], out),
         Frame::MaxStreamData { stream, maximum } => put_fitting(
             &[FrameType::MaxStreamData.number(), stream.value(), maximum],

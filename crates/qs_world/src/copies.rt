@@ -1,4 +1,4 @@
-//! Copies of what happened, in memory of their own.
+//! Copies of what happened, in memory of their own: for whoever keeps the log and hands it out.
 ghost use Rattle.std.specs.Prelude.{◌≡◌, ◌≤◌, [], IfOk, length, vec_capacity};
 ghost use Rattle.qs_world.specs.Copies.{SameEvent, SameAct, SameAnswer, SameLog};
 ghost use Rattle.qs_world.specs.Buffers.{bytes_of};
@@ -6,7 +6,7 @@ ghost use Rattle.qs_world.specs.Buffers.{bytes_of};
 use qs_calls::{Act, Answer, Event};
 use std::alloc::{AllocError, Global};
 
-/// A copy of an event. It takes memory for the bytes of a write alone.
+/// Only the bytes of a write take memory.
 pub fn copy_event(alloc: Global, event: &Event) -> Result<Event, AllocError>
     ensures { IfOk result (λ copy. SameEvent copy event.now) }
 {
@@ -17,7 +17,6 @@ pub fn copy_event(alloc: Global, event: &Event) -> Result<Event, AllocError>
     })
 }
 
-/// A copy of an answer. It takes memory for the bytes of a read and for a payload alone.
 fn copy_answer(alloc: Global, answer: &Answer) -> Result<Answer, AllocError>
     ensures { IfOk result (λ copy. SameAnswer copy answer.now) }
 {
@@ -25,7 +24,6 @@ fn copy_answer(alloc: Global, answer: &Answer) -> Result<Answer, AllocError>
     Ok(copy_into(room, answer))
 }
 
-/// The bytes of a read, or the payload.
 fn bytes_of(answer: &Answer) -> &[u8]
     ensures { result.now ≡ bytes_of answer.now }
 {
@@ -36,7 +34,7 @@ fn bytes_of(answer: &Answer) -> &[u8]
     }
 }
 
-/// A copy of an answer, its bytes in a vector that has room for them. It takes no memory.
+/// It takes no memory, so that nothing can fail once the event happened.
 pub(crate) fn copy_into(room: Vec<u8>, answer: &Answer) -> Answer
     requires empty { room.items ≡ [] }
     requires room { length (bytes_of answer.now) ≤ vec_capacity room }
@@ -57,7 +55,6 @@ pub(crate) fn copy_into(room: Vec<u8>, answer: &Answer) -> Answer
     }
 }
 
-/// The bytes, in a vector that has room for them.
 fn filled(mut room: Vec<u8>, bytes: &[u8]) -> Vec<u8>
     requires empty { room.items ≡ [] }
     requires room { length bytes.now ≤ vec_capacity room }
@@ -67,7 +64,6 @@ fn filled(mut room: Vec<u8>, bytes: &[u8]) -> Vec<u8>
     room
 }
 
-/// A copy of a log, in the same order.
 pub(crate) fn copy_log(
     alloc: Global,
     log: &[(Event, Answer)],

@@ -1,4 +1,4 @@
-//! Events are played, and then both ends are led to rest.
+//! Events are played, and then what is left is played to its end.
 ghost use Rattle.std.specs.Prelude.{◌≡◌, true, IfOk, IfErr};
 ghost use Rattle.std.specs.List.{list_all};
 ghost use Rattle.qs_calls.specs.Events.{fits};
@@ -11,8 +11,8 @@ use qs_calls::Event;
 use qs_conn::Settings;
 use std::alloc::Global;
 
-/// Plays the events between two new ends, as [`crate::play`] does, and then plain rounds until both are at rest, or until that many events
-/// more happened, as [`World::drain`] does. The report tells all of it, as of one run.
+/// Plays the events between two new endpoints, as [`crate::play`] does, and then plain rounds until both are at rest, or that many more
+/// events happened, as [`World::drain`] does. The report has all of it, as of one run.
 ///
 /// Refused as [`crate::play`] is.
 pub fn play_drained(
@@ -38,7 +38,6 @@ pub fn play_drained(
     }
 }
 
-// Leads both ends to rest, and reports.
 fn drain_and_report(mut world: World, most: u64) -> Result<(Report, Drained), PlayFault>
     ensures { DrainedReport world most result }
 {

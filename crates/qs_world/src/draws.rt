@@ -1,4 +1,4 @@
-//! Events drawn at random.
+//! Events drawn at random. The table is the specification's, so that a seed means the same script everywhere.
 
 ghost use Rattle.std.specs.Prelude.{◌≡◌, ◌+◌, ◌^◌, ◌<◌, ◌≤◌, length, true, IfOk, OnOk};
 ghost use Rattle.qs_calls.specs.Events.{act_fits};
@@ -10,13 +10,12 @@ use rand_core::utils::NextWord;
 use rand_pcg::Lcg64Xsh32;
 use std::alloc::{AllocError, Global};
 
-/// The kinds of events that are drawn.
 #[derive(Clone, Copy)]
 pub enum Kind {
     Open,
     Accept,
     Write,
-    /// The sender ends a stream by a finish or a reset, or its receiver by a stop.
+    /// By a finish, a reset or a stop.
     End,
     Read,
     Make,
@@ -25,7 +24,6 @@ pub enum Kind {
 }
 
 impl Kind {
-    /// The kind that a draw of 16 chooses.
     fn of(draw: u64) -> Kind
         ensures { result ≡ kind_of draw }
     {
@@ -42,7 +40,6 @@ impl Kind {
     }
 }
 
-/// The generator's next word modulo a count.
 #[tactic(auto, unfolding(crate::specs::Draws::draw, crate::specs::Draws::after))]
 pub(crate) fn draw(words: &mut Lcg64Xsh32, count: u64) -> u64
     requires { 0 < count }
@@ -54,7 +51,6 @@ pub(crate) fn draw(words: &mut Lcg64Xsh32, count: u64) -> u64
     u64::from(words.next_word()) % count
 }
 
-/// The end at which an event happens.
 pub fn draw_side(words: &mut Lcg64Xsh32) -> Side
     ensures value { result ≡ side_drawn words.old }
     ensures next { words.new ≡ after words.old }
@@ -77,7 +73,7 @@ fn draw_dir(words: &mut Lcg64Xsh32) -> Dir
     }
 }
 
-/// One of the first eight streams.
+/// Of the first eight, so that streams meet.
 fn draw_stream(words: &mut Lcg64Xsh32) -> StreamId
     ensures value { result ≡ draw 8 words.old }
     ensures next { words.new ≡ after words.old }
@@ -88,7 +84,6 @@ fn draw_stream(words: &mut Lcg64Xsh32) -> StreamId
     }
 }
 
-/// A count from 1 to 64.
 fn draw_size(words: &mut Lcg64Xsh32) -> usize
     ensures value { result ≡ 1 + draw 64 words.old }
     ensures next { words.new ≡ after words.old }
@@ -97,7 +92,6 @@ fn draw_size(words: &mut Lcg64Xsh32) -> usize
     1 + draw(words, 64) as usize
 }
 
-/// So many bytes.
 fn draw_bytes(alloc: Global, words: &mut Lcg64Xsh32, count: usize) -> Result<Vec<u8>, AllocError>
     ensures value { IfOk result (λ bytes. bytes.items ≡ bytes_from count words.old) }
     ensures length { IfOk result (λ bytes. length bytes.items ≡ count) }
@@ -110,7 +104,6 @@ fn draw_bytes(alloc: Global, words: &mut Lcg64Xsh32, count: usize) -> Result<Vec
     Ok(bytes)
 }
 
-/// How a stream is ended.
 fn draw_end(words: &mut Lcg64Xsh32) -> Act
     ensures drawn { IsChosen (end_of_stream (draw 8 words.old) (draw 8 (after words.old)) (after (after words.old))) result words.new }
     ensures fits { act_fits result ≡ true }
@@ -123,7 +116,7 @@ fn draw_end(words: &mut Lcg64Xsh32) -> Act
     }
 }
 
-/// What an end does that made so many packets.
+/// Only packets that were made are lost or delivered.
 pub fn draw_act(alloc: Global, words: &mut Lcg64Xsh32, made: u64) -> Result<Act, AllocError>
     ensures drawn { IfOk result (λ act. IsDrawn (kind_of (draw 16 words.old)) made (after words.old) act words.new) }
     ensures fits { IfOk result (λ act. act_fits act ≡ true) }

@@ -1,4 +1,4 @@
-//! Two ends of a connection, and what happens between them.
+//! Two endpoints of a connection, and what happens between them.
 #![tactic(auto)]
 
 mod copies;

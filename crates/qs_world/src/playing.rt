@@ -13,14 +13,14 @@ use qs_calls::Event;
 use qs_conn::Settings;
 use std::alloc::Global;
 
-/// Plays events between two new ends, in order, and reports what came of it. Each event goes into the log as a copy.
+/// Plays events between two new endpoints, in order, and reports what came of it. Each event goes into the log as a copy.
 ///
-/// What happened is a run of the two ends that agrees: what is read is a prefix of what was written, and all of it once the end was told
-/// to a reader that hadn't stopped; a repeat spends no credit; a stream that counts as received was taken in whole; final sizes that are
-/// known are the sender's; and neither end closes.
+/// What happened is a run of the two that agrees: what is read is a prefix of what was written, and all of it once a reader that hadn't
+/// stopped got the end; a repeat spends no credit; a stream that counts as received was taken in whole; final sizes that are known are the
+/// sender's; and neither endpoint closes.
 ///
-/// Refused: `Setup` as [`crate::World::new`]; `NoSuchPacket` at the first event that delivers a packet which its end hasn't made; and
-/// `NoMemory` where the log or a copy found none.
+/// Refused: `Setup` as [`crate::World::new`]; `NoSuchPacket` at the first event that delivers a packet which wasn't made; and `NoMemory` if
+/// the log or a copy found none.
 pub fn play(alloc: Global, a: Settings, b: Settings, events: &[Event]) -> Result<Report, PlayFault>
     requires { list_all fits events.now ≡ true }
     ensures { PlayOfCopies a b events.now result }
@@ -38,9 +38,9 @@ pub fn play(alloc: Global, a: Settings, b: Settings, events: &[Event]) -> Result
     }
 }
 
-/// Plays the events themselves, as [`play`] does copies of them: they go into the log as they are.
+/// Plays the events themselves, as [`play`] does copies of them: they go into the log as they are, so that nothing is copied.
 ///
-/// Refused as there, but that `NoMemory` comes where the log found none.
+/// Refused as there, but `NoMemory` comes if the log found none.
 pub fn play_all(
     alloc: Global,
     a: Settings,
@@ -63,7 +63,6 @@ pub fn play_all(
     }
 }
 
-// Plays copies of the events in order, up to the first that is refused.
 fn play_copies(alloc: Global, world: &mut World, events: &[Event]) -> Result<(), PlayFault>
     requires { list_all fits events.now ≡ true }
     ensures ok { OnOk result (HasPlayedCopies events.now world.old world.new) }
@@ -80,7 +79,6 @@ fn play_copies(alloc: Global, world: &mut World, events: &[Event]) -> Result<(),
     Ok(())
 }
 
-// Plays the events in order, up to the first that is refused.
 pub(crate) fn play_each(world: &mut World, events: Vec<Event>) -> Result<(), PlayFault>
     requires { list_all fits events.items ≡ true }
     ensures ok { OnOk result ((a b : Settings) → HasPlayed a b [] world.old → HasPlayed a b events.items world.new) }

@@ -1,4 +1,4 @@
-//! What two ends have come to.
+//! What two endpoints have come to.
 
 use qs_calls::{Answer, Event, Side};
 use qs_conn::{Closing, SetupFault};
@@ -14,7 +14,7 @@ pub struct LaneTotals {
     pub written: u64,
     /// How many bytes were read at the receiver.
     pub read: u64,
-    /// Whether every byte and the end are acknowledged.
+    /// Whether every byte and the FIN are acknowledged.
     pub received: bool,
     /// The final size that the sender declared.
     pub declared: Option<u64>,
@@ -22,16 +22,16 @@ pub struct LaneTotals {
     pub known: Option<u64>,
 }
 
-/// The credit of an end.
+/// The credit of an endpoint.
 #[derive(Clone, Copy, Debug, PartialEq, Eq, Drop)]
 pub struct EndTotals {
-    /// How many bytes of the connection's credit the peer used up.
+    /// How much of the connection's credit the peer used.
     pub spent: u64,
-    /// The connection limit that this end granted.
+    /// The connection limit that this endpoint granted.
     pub granted: u64,
     /// How many bytes are stored until they are read.
     pub stored: u64,
-    /// Why this end closed.
+    /// Why this endpoint closed.
     pub closing: Option<Closing>,
 }
 
@@ -50,7 +50,7 @@ pub struct Report {
 pub enum PlayFault {
     #[error("out of memory")]
     NoMemory,
-    /// A packet was to be delivered that its end has not made. Events are counted from 1.
+    /// A packet was to be delivered that wasn't made. Events are counted from 1.
     #[error("no such packet at event {event}")]
     NoSuchPacket { event: usize },
     #[error("the ends cannot be made")]

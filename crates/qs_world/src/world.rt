@@ -1,4 +1,4 @@
-//! Two ends, and what happened to them.
+//! Two endpoints, and what happened to them.
 ghost use Rattle.std.specs.Prelude.{◌≡◌, [], length, reverse, true, vec_capacity, Some, None, IfSome, IfNone, IfOk, IfErr};
 ghost use Rattle.qs_calls.specs.Events.{fits};
 ghost use Rattle.qs_runs.specs.Logs.{made, payload};
@@ -27,7 +27,7 @@ mod draining;
 mod happening;
 mod log;
 
-/// Two ends, each made with the other's limits, and the log of what happened to them.
+/// Two endpoints, each made with the other's limits, and the log of what happened to them.
 ///
 /// Contracts see the log, the newest first, and the two ends.
 #[derive(Drop)]
@@ -54,7 +54,7 @@ impl Model for World {
 }
 
 impl World {
-    /// Two new ends, A the client, each told the other's limits. It takes no memory.
+    /// Two new endpoints, A the client, each given the other's limits. It takes no memory.
     ///
     /// Refused as [`Endpoint::new`] is, A first.
     pub fn new(alloc: Global, a: Settings, b: Settings) -> Result<World, SetupFault>
@@ -70,9 +70,9 @@ impl World {
         })
     }
 
-    /// One event happens, as by [`World::happen`], and its answer is handed out, with bytes of its own.
+    /// One event happens, as by [`World::happen`], and its answer is returned, with bytes of its own.
     ///
-    /// Refused, and then nothing changed: `NoSuchPacket` as there; and `NoMemory` where the log or those bytes found none.
+    /// Refused, and then nothing changed: `NoSuchPacket` as there; and `NoMemory` if the log or those bytes found none.
     pub fn step(&mut self, event: Event) -> Result<Answer, PlayFault>
         requires { fits event ≡ true }
         ensures step { PlayStep self.old event result self.new }
@@ -88,7 +88,7 @@ impl World {
         }
     }
 
-    // A copy of the newest answer, its bytes in a vector that has room for them.
+    // Its bytes have room already: what a copy needs is taken before the event happens, so that a refusal leaves the world as it was.
     fn last_answer(&self, room: Vec<u8>) -> Answer
         requires empty { room.items ≡ [] }
         requires room { LastFits (vec_capacity room) self.now.log }
@@ -100,10 +100,11 @@ impl World {
         }
     }
 
-    /// One event happens, and stands with its answer last in [`World::log`]. A refusal of memory by an end is an answer.
+    /// One event happens, and stands with its answer last in [`World::log`], where it is read: so nothing is copied. A refusal of memory by
+    /// an endpoint is an answer.
     ///
-    /// Refused, and then nothing changed: `NoSuchPacket` where a packet is to be delivered that its end hasn't made, with one more than
-    /// the events so far; and `NoMemory` where the log found none.
+    /// Refused, and then nothing changed: `NoSuchPacket` if a packet is to be delivered that wasn't made, with one more than the events so
+    /// far; and `NoMemory` if the log found none.
     pub fn happen(&mut self, event: Event) -> Result<(), PlayFault>
         requires { fits event ≡ true }
         ensures step { PlayStep self.old event result self.new }
@@ -132,14 +133,14 @@ impl World {
         self.log.entries()
     }
 
-    /// How many packets an end has made, with those of the numbers that it claimed. Their numbers begin at 0.
+    /// How many packets an endpoint has made, with those of the numbers that it claimed. Their numbers begin at 0.
     pub fn made(&self, end: Side) -> u64
         ensures { result ≡ length (made end (happened self.now.log)) }
     {
         self.log.made(end)
     }
 
-    /// The payload of a packet that the end made, or a PING where it claimed the number.
+    /// The payload of a packet that the endpoint made, or a PING if it claimed the number.
     pub fn payload(&self, end: Side, number: u64) -> Option<&[u8]>
         ensures found { IfSome result (λ text. payload end number (happened self.now.log) ≡ Some text.now) }
         ensures none { IfNone result (payload end number (happened self.now.log) ≡ None) }
@@ -147,7 +148,7 @@ impl World {
         self.log.payload(end, number)
     }
 
-    /// What happened, each stream that either end opened, and the credit of both ends. The world stays.
+    /// What happened, each stream that either has opened, and the credit of both. The world stays.
     pub fn report(&self) -> Result<Report, PlayFault>
         ensures ok { IfOk result (IsReportOf self.now) }
         ensures err { IfErr result (λ fault. fault ≡ NoMemory) }
@@ -155,7 +156,7 @@ impl World {
         report_of(self.alloc, self.log.entries(), &self.a, &self.b)
     }
 
-    /// The same report, with the log itself in place of a copy.
+    /// With the log itself in place of a copy.
     pub(crate) fn into_report(self) -> Result<Report, PlayFault>
         ensures ok { IfOk result (IsReport self.log self.ends) }
         ensures err { IfErr result (λ fault. fault ≡ NoMemory) }
@@ -174,7 +175,6 @@ impl World {
         self.into_log();
     }
 
-    /// What happened, in order.
     pub(crate) fn into_log(self) -> Vec<(Event, Answer)>
         ensures { result.items ≡ reverse self.log }
     {

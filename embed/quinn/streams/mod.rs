@@ -23,10 +23,10 @@ pub struct Streams<'a> {
 }
 
 impl Streams<'_> {
-    /// Opens a stream, where the peer allows one more.
+    /// Opens a stream, if the peer permits one more.
     pub fn open(&mut self, dir: Dir) -> Option<StreamId> {
         let end = &mut self.state.end;
-        // Where none is left the call would tell the peer so, which quinn doesn't.
+        // If none is left the call would send STREAMS_BLOCKED, which quinn doesn't.
         if self.conn_state.is_closed() || end.open_left(theirs(dir)) == 0 {
             return None;
         }
@@ -42,7 +42,7 @@ impl Streams<'_> {
         }
     }
 
-    /// Gives out a stream of the peer.
+    /// Returns a stream of the peer.
     pub fn accept(&mut self, dir: Dir) -> Option<StreamId> {
         let stream = self.state.end.accept_of(theirs(dir))?;
         if dir == Dir::Bi {
@@ -65,7 +65,7 @@ pub struct RecvStream<'a> {
 }
 
 impl RecvStream<'_> {
-    /// Begins to read. Chunks come in order, asked for or not.
+    /// Begins to read. Chunks come in order, asked for or not: the layer keeps no others.
     pub fn read(&mut self, _ordered: bool) -> Result<Chunks<'_>, ReadableError> {
         match self.state.is_read(self.id) {
             true => Ok(Chunks { id: self.id, streams: self.state }),
@@ -73,7 +73,7 @@ impl RecvStream<'_> {
         }
     }
 
-    /// Throws away what comes, and asks the peer to stop.
+    /// Discards what arrives, and asks the peer to stop.
     pub fn stop(&mut self, error_code: VarInt) -> Result<(), UnknownStream> {
         if !self.state.is_read(self.id) {
             return Err(UnknownStream(()));
@@ -92,7 +92,7 @@ pub struct SendStream<'a> {
 }
 
 impl SendStream<'_> {
-    /// Writes the front of the bytes, and tells how many.
+    /// Writes the front of the bytes, and returns how many.
     pub fn write(&mut self, data: &[u8]) -> Result<usize, WriteError> {
         self.open()?;
         self.state.write(self.id, data)
@@ -115,7 +115,7 @@ impl SendStream<'_> {
         Ok(self.state.end.stopped_with(ours(self.id)).map(code_of))
     }
 
-    /// Ends the stream behind what was written.
+    /// Ends the stream after what was written.
     pub fn finish(&mut self) -> Result<(), FinishError> {
         if let Some(code) = self.state.stop_code(self.id) {
             return Err(FinishError::Stopped(code));
@@ -124,13 +124,13 @@ impl SendStream<'_> {
         finished.map_err(|_| FinishError::UnknownStream)
     }
 
-    /// Breaks the stream off.
+    /// Resets the stream.
     pub fn reset(&mut self, error_code: VarInt) -> Result<(), UnknownStream> {
         let reset = self.state.end.reset(ours(self.id), error_code.into());
         reset.map_err(|_| UnknownStream(()))
     }
 
-    /// Which streams go first.
+    /// Which streams go first: kept here, since the layer has no order of its own.
     pub fn set_priority(&mut self, priority: i32) -> Result<(), UnknownStream> {
         self.alive()?;
         self.state.priorities.insert(self.id, priority);
@@ -143,7 +143,6 @@ impl SendStream<'_> {
         Ok(self.state.priority(self.id))
     }
 
-    // The half isn't over.
     fn alive(&self) -> Result<(), UnknownStream> {
         match self.state.send_state(self.id) {
             None | Some(SendState::DataRecvd | SendState::ResetRecvd) => Err(UnknownStream(())),
@@ -153,8 +152,7 @@ impl SendStream<'_> {
 }
 
 impl StreamsState {
-    // Whether the application reads of the stream still: it wasn't told the end or a reset, and didn't stop it. What the peer
-    // may open counts.
+    // What the peer may still open counts, as quinn makes halves in advance.
     fn is_read(&self, id: StreamId) -> bool {
         let stream = ours(id);
         match self.end.report(stream).map(|report| report.recv) {
@@ -169,7 +167,7 @@ impl StreamsState {
     }
 }
 
-/// News for the application.
+/// An event for the application.
 #[derive(Debug, PartialEq, Eq)]
 pub enum StreamEvent {
     /// The peer opened streams.
@@ -178,7 +176,7 @@ pub enum StreamEvent {
     Readable { id: StreamId },
     /// A write that was refused would be accepted now.
     Writable { id: StreamId },
-    /// All of a finished stream is acknowledged.
+    /// Everything of a finished stream is acknowledged.
     Finished { id: StreamId },
     /// The peer asked to stop, with this code.
     Stopped { id: StreamId, error_code: VarInt },
@@ -186,7 +184,7 @@ pub enum StreamEvent {
     Available { dir: Dir },
 }
 
-/// Whether something is to be sent now.
+/// Whether something is to be sent now, so that the connection's driver wakes.
 #[derive(Copy, Clone, Debug, Default, Eq, PartialEq)]
 #[must_use = "the connection may have to be polled"]
 pub struct ShouldTransmit(bool);
@@ -203,7 +201,7 @@ impl ShouldTransmit {
 #[error("no such stream is open")]
 pub struct UnknownStream(());
 
-// Numbers and directions in the words of the other crate.
+// Two types, since neither crate knows the other.
 
 fn ours(id: StreamId) -> gotsavena::StreamId {
     gotsavena::StreamId::new(id.0).expect("below 2^62")

@@ -6,9 +6,9 @@ use super::{code_of, ours, ShouldTransmit, StreamId, StreamsState};
 use crate::connection::assembler::Chunk;
 use crate::VarInt;
 
-// A chunk is no longer than this, since it is copied.
+// Chunks are copied, as quinn hands out bytes that outlive the stream; so one is no longer than this.
 const MOST: usize = 1 << 16;
-// So many bytes are copied again with less work than a call more takes.
+// Up to so many bytes a copy costs less than one more call.
 const LAST: usize = 1 << 12;
 
 /// What there is to read of a stream.
@@ -18,7 +18,7 @@ pub struct Chunks<'a> {
 }
 
 impl Chunks<'_> {
-    /// The bytes that are next, at most so many; `None` at the end.
+    /// The next bytes, at most so many; `None` at the end.
     pub fn next(&mut self, max_length: usize) -> Result<Option<Chunk>, ReadError> {
         let (stream, end) = (ours(self.id), &mut self.streams.end);
         let mut bytes = match end.peek(stream) {
@@ -27,7 +27,8 @@ impl Chunks<'_> {
             _ => Vec::new(),
         };
         let offset = if bytes.is_empty() { 0 } else { end.taken(stream).unwrap_or(0) };
-        // What was copied is taken, and the last of it read: to take bytes up to the end would tell the end, too.
+        // The front is consumed and the last bytes are read: to consume up to the end would count that as read, too, which quinn does by a
+        // call of its own.
         let most = bytes.len().saturating_sub(LAST);
         if most > 0 {
             let _ = end.consume(stream, most);
@@ -40,7 +41,7 @@ impl Chunks<'_> {
         }
     }
 
-    /// Ends the reading, and tells whether limits are to be told to the peer.
+    /// Ends the reading; whether new limits are to be sent.
     pub fn finalize(self) -> ShouldTransmit {
         ShouldTransmit(self.streams.is_sendable())
     }
@@ -52,7 +53,7 @@ pub enum ReadError {
     /// Nothing is there yet.
     #[error("nothing to read yet")]
     Blocked,
-    /// The peer broke the stream off, with this code.
+    /// The peer reset the stream, with this code.
     #[error("broken off by the peer: code {0}")]
     Reset(VarInt),
 }
@@ -63,7 +64,7 @@ pub enum ReadableError {
     /// The stream wasn't opened, or was stopped or read to its end.
     #[error("no such stream is open")]
     UnknownStream,
-    /// Never told here: all reading is in order.
+    /// Never here: all reading is in order.
     #[error("read in order after out of order")]
     IllegalOrderedRead,
 }

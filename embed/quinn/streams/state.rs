@@ -18,12 +18,12 @@ use crate::frame::{self, StreamMeta};
 use crate::transport_parameters::TransportParameters;
 use crate::{Dir, Side, StreamId, TransportError, TransportErrorCode, VarInt};
 
-// The most that the layer grants: bytes on a connection and on a stream, streams at a time.
+// Quinn's settings may be greater, so they are cut to the layer's range.
 pub const MOST_DATA: u64 = 1 << 40;
 pub const MOST_STREAM_DATA: u64 = 1 << 30;
 pub const MOST_STREAMS: u64 = 1 << 17;
 const MOST_IN_ALL: u64 = 1 << 21;
-// The most pieces with gaps between them that a peer may send: of a stream that was stopped no window bounds them.
+// More pieces with gaps between them close the connection: on a stream that was stopped no window bounds them.
 const MOST_PIECES: u64 = 1 << 14;
 
 /// The streams of a connection.
@@ -31,32 +31,32 @@ pub struct StreamsState {
     pub(super) end: Endpoint,
     pub(super) side: Side,
     pub(super) settings: Settings,
-    // What the application set since: the connection's window, and how many streams at a time.
+    // Needed again for the fresh endpoint after a refused 0-RTT.
     pub(super) window: u64,
     grants: [u64; 2],
     send_window: u64,
     pub(super) events: VecDeque<StreamEvent>,
     opened: [bool; 2],
-    // Priorities that were set, and the stream from which on bytes go into the next packet.
+    // Priorities that were set, and with which stream the next packet begins: the layer takes the order by number.
     pub(super) priorities: FxHashMap<StreamId, i32>,
     turn: gotsavena::StreamId,
-    // What went into the packet that is being made, and where its frames are written first.
+    // The frames of the packet in the making are written here first, as quinn hands out its buffer in between.
     pub(super) carried: Carried,
     space: Vec<u8>,
-    // How many sending halves aren't over: no call counts them.
+    // Counted here, since no call of the layer does.
     pub(super) send_streams: usize,
-    // The first fault of which quinn didn't ask yet.
+    // The first fault that quinn didn't ask for yet: it returns none from these calls.
     fault: Option<TransportError>,
 }
 
-/// What a packet carries, kept beside its number: the token of its fills, and the stream of each STREAM frame.
+/// Kept beside the packet's number: the token of its fills, and the stream of each STREAM frame for quinn's log.
 #[derive(Clone, Debug, Default)]
 pub struct Carried {
     token: Option<Token>,
     pub(super) streams: TinyVec<[StreamMeta; 1]>,
 }
 
-/// What the peer may be told of a setting: no more than the layer grants.
+/// What the peer may be granted of a setting: no more than the layer's range.
 pub fn told(setting: VarInt, most: u64) -> VarInt {
     VarInt(setting.0.min(most))
 }
@@ -107,7 +107,7 @@ impl StreamsState {
         }
     }
 
-    // Faults that quinn doesn't ask for where they come about: the next packet that comes tells them, and quinn closes.
+    // Quinn doesn't ask for faults everywhere. The next packet received returns them, and quinn closes.
 
     fn keep(&mut self, answer: Result<(), TransportError>) {
         self.fault = self.fault.take().or(answer.err());
@@ -117,7 +117,7 @@ impl StreamsState {
         self.keep(Err(no_memory()));
     }
 
-    // The peer's limits
+    // Limits of the peer
 
     pub fn set_params(&mut self, params: &TransportParameters) {
         let limits = PeerLimits {
@@ -131,10 +131,10 @@ impl StreamsState {
         self.end.raise_limits(limits).expect("quinn read them, and the end is open");
     }
 
-    // This end's
+    // Limits of this endpoint
 
     pub fn set_max_concurrent(&mut self, dir: Dir, count: VarInt) {
-        // (it is in range; a closed end grants nothing more)
+        // (it is in range; a closed endpoint grants nothing more)
         let grant = count.0.min(MOST_STREAMS);
         self.grants[dir as usize] = grant;
         let _ = self.end.set_grant(theirs(dir), grant);
@@ -148,7 +148,8 @@ impl StreamsState {
         self.window > before
     }
 
-    /// Nothing that was sent before the handshake counts: a fresh end, of another epoch, with what the application set.
+    /// Nothing that was sent before the handshake counts: a fresh endpoint, of another epoch so that late news of old packets finds none of
+    /// its own, with what the application set.
     pub fn zero_rtt_rejected(&mut self) {
         let epoch = self.end.token_of(0).epoch + 1;
         self.end = new_end(self.side, self.settings, self.send_window, epoch);
@@ -160,7 +161,7 @@ impl StreamsState {
         self.send_streams = 0;
     }
 
-    /// A Retry: all that was sent goes out again.
+    /// After a Retry all that was sent goes out again, since the server kept none of it.
     pub fn retransmit_all_for_0rtt(&mut self) {
         let mut from = 0;
         while let Some(number) = self.end.next_outstanding(from) {
@@ -224,7 +225,6 @@ impl StreamsState {
         self.end.report(ours(id)).is_none()
     }
 
-    // Takes a frame in that tells of bytes, an end or a reset.
     fn take_of(
         &mut self,
         id: StreamId,
@@ -235,7 +235,7 @@ impl StreamsState {
             return Err(TransportError::STREAM_LIMIT_ERROR(""));
         }
         self.take(frame)?;
-        // What is due is asked for by `is_sendable`.
+        // (`is_sendable` is asked)
         Ok(ShouldTransmit(false))
     }
 
@@ -250,7 +250,7 @@ impl StreamsState {
         }
     }
 
-    /// Whether anything of streams or of their limits is due.
+    /// Whether anything of streams or of their limits is pending.
     pub fn is_sendable(&self) -> bool {
         self.end.is_sendable()
     }
@@ -264,7 +264,7 @@ impl StreamsState {
         max_size: usize,
     ) {
         let begin = buf.len();
-        // (what is due is told by `is_sendable`)
+        // (`is_sendable` has it)
         pending.max_data = false;
         self.fill(buf, max_size, &Fill::control());
         // (most packets have none)
@@ -286,7 +286,7 @@ impl StreamsState {
         mem::take(&mut self.carried)
     }
 
-    // The streams that may send, by priority, and by turns where it is the same.
+    // Round-robin among equals: a stream that sent goes behind the others.
     pub(super) fn in_order(&self) -> Vec<gotsavena::StreamId> {
         let next = |from: u64| self.end.next_sendable(ours(StreamId(from)));
         let mut order: Vec<_> = iter::successors(next(0), |last| next(last.value() + 1)).collect();
@@ -300,7 +300,6 @@ impl StreamsState {
         self.priorities.get(&id).copied().unwrap_or(0)
     }
 
-    // Fills what is wanted in behind the packet's frames so far.
     pub(super) fn fill(&mut self, buf: &mut Vec<u8>, max_size: usize, want: &Fill) {
         let room = max_size.saturating_sub(buf.len());
         if room < MIN_FILL {
@@ -325,7 +324,7 @@ impl StreamsState {
     pub fn received_ack_of(&mut self, packet: Carried) {
         let acked = packet.token.map_or(Ok(()), |token| self.end.acked(token));
         self.told(acked);
-        // (halves that are over now count no more)
+        // (so that halves that are over no longer count)
         self.hear();
     }
 
@@ -334,27 +333,26 @@ impl StreamsState {
         self.told(lost);
     }
 
-    /// What a packet carries goes into a probe, too (RFC 9002, section 6.2.4), unless nothing of it is of use any more.
+    /// A probe carries again what is outstanding (RFC 9002, section 6.2.4), unless nothing of it is needed any more.
     pub fn resend(&mut self, packet: &Carried) -> bool {
         self.retransmit(packet.clone());
         !packet.is_empty() && self.is_sendable()
     }
 
-    // (of a closed end, or in another epoch, nothing is to be told)
+    // (a closed endpoint, or one of another epoch, has nothing to acknowledge)
     fn told(&mut self, told: Result<(), TokenFault>) {
         if told == Err(TokenFault::NoMemory) {
             self.lacks_memory();
         }
     }
 
-    // A sending half is over.
     pub(super) fn over(&mut self, id: StreamId) {
         self.priorities.remove(&id);
         self.send_streams -= 1;
     }
 
     pub fn poll(&mut self) -> Option<StreamEvent> {
-        // (a search begins once all that was found is told)
+        // (a search begins only when all that was found is reported)
         if self.events.is_empty() {
             self.hear();
         }
@@ -364,7 +362,6 @@ impl StreamsState {
         self.events.pop_front()
     }
 
-    // Takes the layer's news in.
     pub(super) fn hear(&mut self) {
         let mut opened = Vec::new();
         while let Ok(Some(event)) = self.end.next_event() {
@@ -374,7 +371,7 @@ impl StreamsState {
                     opened.push(stream);
                     None
                 }
-                // (who hears that a stream opened reads it)
+                // (whoever hears that a stream opened reads it)
                 Event::Readable(stream) if opened.binary_search(&stream).is_ok() => None,
                 Event::Readable(stream) => Some(StreamEvent::Readable { id: quinns(stream) }),
                 Event::Writable(stream) => Some(StreamEvent::Writable { id: quinns(stream) }),
@@ -390,7 +387,7 @@ impl StreamsState {
                     self.over(quinns(stream));
                     None
                 }
-                // (that another one may be opened is told as the peer says so, asked for or not)
+                // (that another one may be opened is reported when the peer says so, asked for or not, as quinn does)
                 _ => None,
             };
             if let Some(told) = told {
@@ -405,7 +402,7 @@ impl StreamsState {
         false
     }
 
-    /// (quinn asks for it as it took in all of a packet)
+    /// (quinn asks for it when it took in all of a packet)
     pub fn take_max_streams_dirty(&mut self, _dir: Dir) -> Result<bool, TransportError> {
         self.fault.take().map_or(Ok(false), Err)
     }
@@ -432,7 +429,7 @@ fn error_of(closing: Closing) -> TransportError {
     TransportError { code, frame, reason: reason.into() }
 }
 
-// It stands in the place of quinn's list of STREAM frames, and is acknowledged or lost as one.
+// In place of quinn's list of STREAM frames, so that quinn's code of sent packets stays as it is.
 impl Carried {
     fn add(&mut self, token: Token, frames: &[u8]) {
         let joined = |first: Token| first.and(token).expect("nothing else was filled between");

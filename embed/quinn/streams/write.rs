@@ -9,12 +9,12 @@ use super::{code_of, ours, StreamId, StreamsState};
 use crate::VarInt;
 
 impl StreamsState {
-    /// Writes the front of the bytes, as many as is allowed now.
+    /// Writes the front of the bytes, as many as are permitted now.
     pub(super) fn write(&mut self, id: StreamId, bytes: &[u8]) -> Result<usize, WriteError> {
         if let Some(code) = self.stop_code(id) {
             return Err(WriteError::Stopped(code));
         }
-        // (a write that is cut short is noted, and an event tells once there is room)
+        // (a write that is cut short is noted, and an event comes once there is room)
         match self.end.write(ours(id), bytes) {
             Ok(0) if !bytes.is_empty() => Err(WriteError::Blocked),
             Ok(count) => Ok(count),
@@ -33,7 +33,7 @@ impl StreamsState {
         source: &mut BytesArray<'_>,
     ) -> Result<Written, WriteError> {
         let mut left = self.end.room(ours(id)) as usize;
-        // Before a chunk is taken out it is told why none is. (a byte that is offered without room isn't taken)
+        // Refused before a chunk is taken out, which would be lost. (a byte that is offered without room isn't taken)
         self.write(id, &[0][usize::from(left > 0)..])?;
         let mut written = Written::default();
         loop {
@@ -55,7 +55,7 @@ impl StreamsState {
         self.send_report(id).map(|half| half.state)
     }
 
-    /// The code with which the peer stopped the stream, unless the application let go of it since.
+    /// The code with which the peer stopped the stream, unless the application let go of it since: quinn forgets it then.
     pub(super) fn stop_code(&self, id: StreamId) -> Option<VarInt> {
         let code = self.end.stopped_with(ours(id))?;
         let half = self.send_report(id)?;
@@ -64,7 +64,7 @@ impl StreamsState {
     }
 }
 
-/// Bytes that are handed over piece by piece, as far as there is room.
+/// Bytes that are passed piece by piece, as far as there is room.
 pub trait BytesSource {
     /// At most so many bytes, and how many whole chunks were used up.
     fn pop_chunk(&mut self, limit: usize) -> (Bytes, usize);
@@ -130,7 +130,7 @@ pub struct Written {
 /// Why nothing was written.
 #[derive(Debug, Error, Clone, Eq, PartialEq, Ord, PartialOrd, Hash)]
 pub enum WriteError {
-    /// There is no room now. An event tells when there is.
+    /// There is no room now. An event says when there is.
     #[error("no room to write now")]
     Blocked,
     /// The peer stopped the stream, with this code.

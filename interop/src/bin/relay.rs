@@ -16,13 +16,11 @@ use std::sync::mpsc::{self, Sender};
 use std::thread;
 use std::time::{Duration, Instant};
 
-/// How long a datagram is held back at most.
 const HELD: Duration = Duration::from_millis(20);
 
 /// How long a way is at most, in milliseconds.
 const MOST_DELAY: u64 = 60_000;
 
-/// What a way does to datagrams, in datagrams of a hundred, and how long it is.
 #[derive(Clone, Copy)]
 struct Weather {
     dropped: u64,
@@ -31,7 +29,6 @@ struct Weather {
     delay: Duration,
 }
 
-/// One way between two sockets.
 struct Way {
     weather: Weather,
     random: u64,
@@ -39,13 +36,11 @@ struct Way {
     exit: Exit,
 }
 
-/// A datagram that waits until a time.
 struct Timed {
     at: Instant,
     bytes: Vec<u8>,
 }
 
-/// What a datagram is sent with.
 type Output = Box<dyn Fn(&[u8]) + Send>;
 
 /// Where the datagrams of a way leave it. A datagram that can't be sent is lost as any other.
@@ -100,7 +95,6 @@ fn relay(mut words: Words) -> Result<(), Refusal> {
     relay.run().map_err(Refusal::failure)
 }
 
-/// What stands between clients and a server.
 struct Relay {
     socket: Arc<UdpSocket>,
     server: SocketAddr,
@@ -111,7 +105,6 @@ struct Relay {
     rebind: u64,
 }
 
-/// A client, whose way leads to a socket of its own to the server.
 struct Client {
     way: Way,
     came: u64,

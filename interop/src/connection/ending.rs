@@ -37,7 +37,6 @@ impl Connection {
         }
     }
 
-    /// Does what time asks for.
     pub fn time_is_up(&mut self, now: Instant) {
         match self.state {
             State::Open => {}
@@ -109,7 +108,6 @@ impl Connection {
             .max(Duration::from_millis(5))
     }
 
-    /// The application closes the connection.
     pub fn close(&mut self, close: Close, now: Instant) {
         if matches!(self.state, State::Open) {
             self.outcome = Some(Outcome::Closed(close));
@@ -166,7 +164,6 @@ impl Connection {
         }
     }
 
-    /// Whether a CONNECTION_CLOSE is to go now.
     pub(super) fn takes_closing(&mut self) -> bool {
         match &mut self.state {
             State::Closing { is_due, .. } => std::mem::take(is_due),

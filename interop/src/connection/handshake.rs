@@ -10,7 +10,6 @@ use gotsavena::{Endpoint, Role};
 use rustls::quic::KeyChange;
 
 impl Connection {
-    /// Bytes of the handshake came at a level.
     pub(super) fn take_crypto(
         &mut self,
         level: Level,
@@ -120,7 +119,6 @@ impl Connection {
         self.discard(Level::Handshake);
     }
 
-    /// A level's keys go, and what is in flight under them.
     pub(super) fn discard(&mut self, level: Level) {
         if self.space(level).keys.is_some() {
             *self.space(level) = Space::default();

@@ -43,7 +43,6 @@ const MAX_ACK_DELAY: Duration = Duration::from_millis(5);
 /// How many 1-RTT packets are kept that come before the handshake is done.
 const MOST_EARLY: usize = 32;
 
-/// What a connection is made with.
 #[derive(Clone, Copy, Debug)]
 pub struct Config {
     /// The stream layer's settings, of which the peer is told.
@@ -55,17 +54,14 @@ pub struct Config {
     pub idle: Duration,
 }
 
-/// What a client begins with.
 #[derive(Clone)]
 pub struct ClientSetup {
     pub tls: Arc<ClientConfig>,
-    /// The server's name.
     pub name: String,
     /// The version that is tried first: one that the server doesn't speak makes it negotiate.
     pub version: u32,
 }
 
-/// A level's keys, numbers and bytes of the handshake. Of the application's space the stream layer has the numbers.
 #[derive(Default)]
 struct Space {
     keys: Option<Keys>,
@@ -78,18 +74,14 @@ struct Space {
     probes: u32,
 }
 
-/// What came to be known of the peer.
 #[derive(Default)]
 struct Known {
-    /// Whether a packet of its was opened.
     has_opened: bool,
-    /// Whether it told the identifier that it chose for itself.
     has_peer_id: bool,
     /// Whether its address is its own (RFC 9000, section 8.1).
     is_validated: bool,
     /// Whether it acknowledged a packet of the Handshake space.
     is_handshake_acked: bool,
-    /// Whether both ends have finished the handshake.
     is_confirmed: bool,
 }
 
@@ -231,7 +223,6 @@ impl Connection {
         }
     }
 
-    /// The stream layer's end, once the handshake is done and until the connection ends.
     pub fn end(&mut self) -> Option<&mut Endpoint> {
         match self.state {
             State::Open if self.session.is_done() => self.end.as_mut(),
@@ -239,37 +230,30 @@ impl Connection {
         }
     }
 
-    /// How soon each stream goes.
     pub fn priorities(&mut self) -> &mut Priorities {
         &mut self.priorities
     }
 
-    /// The stream layer's end, if there was one, whatever became of the connection: to look at.
     pub fn last_end(&self) -> Option<&Endpoint> {
         self.end.as_ref()
     }
 
-    /// The name of the protocol over the streams that both ends agreed on.
     pub fn protocol(&self) -> Option<&[u8]> {
         self.session.protocol()
     }
 
-    /// How it ended, or ends.
     pub fn outcome(&self) -> Option<&Outcome> {
         self.outcome.as_ref()
     }
 
-    /// Whether the handshake was done.
     pub fn was_open(&self) -> bool {
         self.session.is_done()
     }
 
-    /// Whether nothing more is to come of it.
     pub fn is_gone(&self) -> bool {
         matches!(self.state, State::Gone)
     }
 
-    /// Whether a packet of the peer was opened.
     pub fn has_peer(&self) -> bool {
         self.known.has_opened
     }
@@ -303,7 +287,6 @@ fn first_spaces(role: Role, destination: ConnectionId) -> [Space; 3] {
     spaces
 }
 
-/// What this end tells of itself.
 fn own_parameters(config: &Config, own_id: ConnectionId) -> Parameters {
     Parameters {
         limits: config.settings.limits(),

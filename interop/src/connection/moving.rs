@@ -18,16 +18,12 @@ const IN_ALL: usize = 32;
 /// What a datagram takes that asks an address alone, at most.
 const SMALL: usize = 64;
 
-/// What is known of addresses.
 #[derive(Default)]
 pub(super) struct Moving {
     /// The largest number of a packet that did more than to look at an address.
     pub newest: Option<u64>,
-    /// Identifiers that were given out behind the first one: their numbers are 1 and so on.
     given: Vec<ConnectionId>,
-    /// How many of them the loop over the socket knows.
     known: usize,
-    /// What the address is asked that wasn't validated.
     challenge: Option<[u8; 8]>,
 }
 
@@ -53,13 +49,11 @@ pub(super) fn is_probing(payload: &[u8]) -> bool {
 }
 
 impl Connection {
-    /// Identifiers under which the peer finds this connection, too, from now on.
     pub fn take_new_ids(&mut self) -> Vec<ConnectionId> {
         let known = std::mem::replace(&mut self.moving.known, self.moving.given.len());
         self.moving.given[known..].to_vec()
     }
 
-    /// The identifiers under which the peer finds this connection.
     pub fn ids(&self) -> Vec<ConnectionId> {
         let first = [self.own_id, self.first_destination];
         first
@@ -111,7 +105,6 @@ impl Connection {
         }
     }
 
-    /// The first identifiers of a server.
     pub(super) fn give_ids(&mut self) -> Result<(), Fault> {
         (1..self.peer.active_ids.min(AT_ONCE)).try_for_each(|_| self.give_id())
     }

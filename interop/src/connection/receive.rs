@@ -52,7 +52,6 @@ impl Connection {
         }
     }
 
-    // Answers whether the packet is the peer's.
     fn take_packet(
         &mut self,
         packet: &Packet,

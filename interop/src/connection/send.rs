@@ -22,7 +22,6 @@ pub(super) struct Planned {
     pub sent: Sent,
 }
 
-/// The transport's own frames of a packet.
 #[derive(Default)]
 struct OwnFrames {
     payload: Vec<u8>,
@@ -282,7 +281,6 @@ impl Connection {
         Ok(made)
     }
 
-    // The stream layer makes a payload behind the header. Answers whether there was one to make.
     fn put_made(
         &mut self,
         out: &mut Vec<u8>,

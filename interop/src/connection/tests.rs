@@ -19,7 +19,6 @@ struct World {
     ends: [Option<Connection>; 2],
     ways: [VecDeque<(Instant, Vec<u8>)>; 2],
     config: Config,
-    /// How many of a hundred datagrams are lost.
     lost: u64,
     random: u64,
     one_way: Duration,
@@ -63,7 +62,6 @@ impl World {
         self.ends[place].as_mut().unwrap()
     }
 
-    // Everything goes that may go now.
     fn send(&mut self) {
         let mut out = Vec::new();
         for place in 0..2 {

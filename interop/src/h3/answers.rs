@@ -19,7 +19,6 @@ const ESCAPED: &AsciiSet = &NON_ALPHANUMERIC
     .remove(b'_')
     .remove(b'~');
 
-/// What is used of a request's fields.
 #[derive(Default)]
 pub struct Request {
     pub method: Vec<u8>,
@@ -30,7 +29,6 @@ pub struct Request {
     if_range: Option<String>,
 }
 
-/// What a request is answered with.
 pub struct Answer {
     pub status: &'static str,
     pub fields: Vec<Field>,
@@ -39,12 +37,10 @@ pub struct Answer {
     pub body: Option<Body>,
 }
 
-/// What of a file is asked for.
 #[derive(Debug, PartialEq, Eq)]
 enum Part {
     Whole,
     Bytes(Range<u64>),
-    /// It lies behind the end.
     Behind,
 }
 

@@ -8,13 +8,10 @@ use crate::streams::{Application, Body};
 use gotsavena::{Endpoint, Role, SendState, StreamId};
 use std::collections::{BTreeSet, HashMap, VecDeque};
 
-/// What goes at most of the body of a request that is broken off.
 const BEGUN: usize = 20_000;
 
-/// What is to be loaded.
 #[derive(Clone, Debug, PartialEq, Eq)]
 pub struct Url {
-    /// Host and port.
     pub authority: String,
     pub path: String,
 }
@@ -37,13 +34,11 @@ impl Url {
     }
 }
 
-/// What came of a request.
 #[derive(Debug)]
 pub struct Loaded {
     pub url: Url,
     pub status: String,
     pub body: Vec<u8>,
-    /// Whether it came whole.
     pub is_whole: bool,
 }
 
@@ -58,12 +53,9 @@ impl Loaded {
     }
 }
 
-// What is asked for next.
 enum Wanted {
     File(Url),
-    /// A request that is given up under way.
     Nothing(Url),
-    /// A request of which no answer is read.
     Unread(Url),
 }
 
@@ -74,16 +66,12 @@ pub struct Loader {
     /// The streams of requests that are given up once something of them went, until the peer knows.
     given_up: BTreeSet<StreamId>,
     pub loaded: Vec<Loaded>,
-    /// Whether it stays once there is nothing more to load.
     stays: bool,
-    /// Whether the server takes no new requests on this connection.
     is_away: bool,
-    /// After so many bytes of a body no more is wanted.
     stop_after: usize,
     urgent: Option<String>,
 }
 
-/// What a client does beside loading files.
 #[derive(Clone, Debug)]
 pub struct Manners {
     /// After so many bytes of a body no more is wanted.
@@ -173,7 +161,6 @@ impl Loader {
         Ok(())
     }
 
-    // Breaks the requests off of which something went.
     fn give_up(&mut self, session: &mut Session, end: &mut Endpoint) -> Result<(), Close> {
         for stream in std::mem::take(&mut self.given_up) {
             let send = end.report(stream).and_then(|report| report.send);

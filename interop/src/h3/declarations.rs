@@ -2,7 +2,6 @@
 
 use std::ffi::{c_char, c_int, c_void};
 
-/// A connection of the library.
 #[repr(C)]
 pub struct Conn {
     _private: [u8; 0],

@@ -34,7 +34,6 @@ impl Default for Patience {
 
 pub struct FileServer {
     folder: Folder,
-    /// What its answers may keep.
     share: Share,
     peer: SocketAddr,
     session: Option<Session>,
@@ -44,7 +43,6 @@ pub struct FileServer {
     patience: Patience,
     /// Requests that were refused and whose bodies come: how much more is read of them, and until when.
     refused: BTreeMap<StreamId, (u64, Instant)>,
-    /// How many streams the client may open in all.
     in_all: u64,
     /// Once it may open no more than so many, it is told to take a new connection; `None` once it was told.
     away_at: Option<u64>,
@@ -160,7 +158,6 @@ impl FileServer {
         Ok(())
     }
 
-    // Of a request that was answered the stream layer tells.
     fn break_off(&mut self, stream: StreamId, code: u64) {
         self.refused.remove(&stream);
         let request = self.requests.remove(&stream).unwrap_or_default();
@@ -204,7 +201,6 @@ impl FileServer {
         Entry::new(self.peer, &request.method, &request.path, status, len)
     }
 
-    // Tells of the answers that are over.
     fn tell(&mut self, end: &Endpoint) {
         let before = self.answered.len();
         self.answered.retain(|stream, entry| {

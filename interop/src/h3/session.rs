@@ -13,28 +13,22 @@ use std::collections::{BTreeSet, HashMap, VecDeque};
 use std::ffi::{CStr, c_int, c_void};
 use std::ptr;
 
-/// A field of a request or response.
 pub type Field = (Vec<u8>, Vec<u8>);
 
-/// What came.
 #[derive(Debug, PartialEq, Eq)]
 pub enum Event {
     Field(StreamId, Field),
-    /// All fields came.
     FieldsEnd(StreamId),
     /// More fields came than fit in what was announced: the rest of them is thrown away.
     TooManyFields(StreamId),
     Data(StreamId, Vec<u8>),
     End(StreamId),
-    /// The library refuses the stream.
     Malformed(StreamId, u64),
-    /// The peer broke the stream off, or asked to stop.
     Broken(StreamId, u64),
     /// The peer takes no new request on this connection, and won't answer those on this stream and on higher ones.
     GoAway(StreamId),
 }
 
-/// How many bytes of a stream are read at once.
 const TURN: usize = 1 << 16;
 
 /// How much may wait to be sent: more than goes at once.
@@ -51,22 +45,16 @@ const FIELD_COST: usize = 32;
 
 struct Outgoing {
     body: Body,
-    /// What was read of the body and isn't written whole. The library looks at these bytes.
     pieces: VecDeque<Vec<u8>>,
-    /// How many bytes of the first piece were written.
     written: usize,
-    /// Whether the stream ends with the body.
     is_whole: bool,
 }
 
-/// What the callbacks see.
 #[derive(Default)]
 struct Shared {
     events: VecDeque<Event>,
     bodies: HashMap<i64, Outgoing>,
-    /// Streams whose bodies can't be read any more.
     failed: Vec<i64>,
-    /// How much the fields of a stream take that came so far.
     field_sizes: HashMap<i64, usize>,
     stops: Vec<(i64, u64)>,
     resets: Vec<(i64, u64)>,
@@ -76,14 +64,12 @@ pub struct Session {
     conn: *mut Conn,
     shared: *mut Shared,
     reading: BTreeSet<StreamId>,
-    /// Streams whose ends were read, and those whose ends were written.
     read: BTreeSet<StreamId>,
     written: BTreeSet<StreamId>,
     /// Streams that the library knows no more, and whose ends weren't read.
     closed: BTreeSet<StreamId>,
     /// Streams of which no more was wanted, and that are answered nevertheless.
     refused: BTreeSet<StreamId>,
-    /// The streams that this end opened for itself.
     own: Vec<StreamId>,
     blocked: Vec<i64>,
 }
@@ -258,8 +244,6 @@ extern "C" fn read_data(
 }
 
 /// # Safety
-///
-/// The pointer is that of a session's `Shared`, to which no other reference is held.
 unsafe fn shared_of<'a>(shared: *mut c_void) -> &'a mut Shared {
     unsafe { &mut *shared.cast() }
 }
@@ -396,11 +380,9 @@ impl Session {
     }
 
     fn shared(&mut self) -> &mut Shared {
-        // Sound: no call on `conn` runs, since `self` is borrowed.
         unsafe { &mut *self.shared }
     }
 
-    /// The next thing that came.
     pub fn next_event(&mut self) -> Option<Event> {
         self.shared().events.pop_front()
     }
@@ -436,7 +418,6 @@ impl Session {
         Ok(Some(stream))
     }
 
-    /// Answers a request, with a body or without one.
     pub fn respond(
         &mut self,
         stream: StreamId,
@@ -477,7 +458,6 @@ impl Session {
         })
     }
 
-    /// The streams that this end opened for itself.
     pub fn own(&self) -> &[StreamId] {
         &self.own
     }
@@ -509,7 +489,6 @@ impl Session {
         check(unsafe { nghttp3_conn_shutdown(self.conn) })
     }
 
-    /// Whether no request comes.
     pub fn has_no_request(&self) -> bool {
         !self.reading.iter().any(|stream| stream.dir() == Dir::Bidi)
     }
@@ -519,7 +498,6 @@ impl Session {
         self.reading.remove(&stream);
     }
 
-    /// Takes in what came.
     pub fn progress(&mut self, end: &mut Endpoint) -> Result<(), Close> {
         // The peer doesn't ask for that (RFC 9114, section 6.2.1; RFC 9204, section 4.2).
         if self.own.iter().any(|own| end.stopped_with(*own).is_some()) {
@@ -613,7 +591,6 @@ impl Session {
         self.close(stream, REQUEST_CANCELLED)
     }
 
-    /// Writes as far as there is room.
     pub fn write(&mut self, end: &mut Endpoint) -> Result<(), Close> {
         if self.is_full(end) {
             return Ok(());

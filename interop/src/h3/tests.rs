@@ -39,7 +39,6 @@ struct Came {
     broken: Option<u64>,
 }
 
-// A server of the package's folder.
 fn file_server(budget: &Budget) -> FileServer {
     let folder = Folder::open(env!("CARGO_MANIFEST_DIR")).unwrap();
     FileServer::new(folder, budget, "127.0.0.1:1".parse().unwrap())
@@ -83,7 +82,6 @@ impl Pair {
         stream.unwrap().unwrap()
     }
 
-    // What comes of a request, without a body or with one that begins.
     fn load(&mut self, method: &str, path: &str, begun: Option<Body>) -> Came {
         let fields = [
             (":method", method),
@@ -96,7 +94,6 @@ impl Pair {
         self.came.remove(&stream).unwrap()
     }
 
-    // Both go on until nothing more goes.
     fn run(&mut self) -> Result<(), Close> {
         (0..100).try_for_each(|_| self.exchange())
     }

@@ -1,4 +1,4 @@
-//! Packets of an ACK alone.
+//! Packets with an ACK alone.
 ghost use Rattle.std.specs.Prelude.{◌≡◌, ◌≤◌, ◌<◌, ◌^◌, length};
 ghost use Rattle.qs_machine.specs.Making.{MakeAckStep};
 ghost use Rattle.qs_conn.specs.Written.{made_text, KeepsRest};
@@ -13,7 +13,7 @@ impl Endpoint {
     /// 13.2 and 19.3). Such a packet doesn't count as in flight, so it may go where the congestion window is full (RFC 9002, sections 2
     /// and 7); what else is due stays due. It takes no memory.
     ///
-    /// Refused, and then unchanged: `Closed`; `Exhausted` where the last packet number was used.
+    /// Refused, and then unchanged: `Closed`; `Exhausted` if the last packet number was used.
     pub fn make_ack(&mut self, delay: u64, out: &mut [u8]) -> Result<Option<Made>, MakeFault>
         requires delay { delay < 2 ^ 62 }
         requires least { 128 ≤ length out.old }

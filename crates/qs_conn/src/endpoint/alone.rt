@@ -1,4 +1,4 @@
-//! Frames are taken in without their packet.
+//! Frames without their packet, for a stack with packet numbers and ACKs of its own.
 ghost use Rattle.std.specs.Prelude.{◌≡◌, ◌<◌, ◌^◌, None, true, map, option_map};
 ghost use Rattle.qs_wire.specs.Layout.{view};
 ghost use Rattle.qs_wire.specs.Layout as layout;
@@ -18,21 +18,22 @@ use qs_calls::{Closed, Closer, Closing, TakeFault, Taken, ToldClose};
 use qs_send::Item;
 use qs_wire::{Frame, StreamId};
 
-// A frame has values that no text has (RFC 9000, section 20.1).
+// A payload can't hold such values, so the reader has no word for it (RFC 9000, section 20.1).
 const FRAME_ENCODING_ERROR: u64 = 0x07;
 
 impl Endpoint {
-    /// Takes in a frame that comes without its packet, for a stack that owns its packet numbers and its ACKs (RFC 9000, section 13.1).
-    /// Frames of streams and of flow control take effect as in a payload, and then the limits move; the stack acknowledges their packet
-    /// to the peer only after each of them was taken.
+    /// Processes one frame without its packet, for a stack that has packet numbers and ACKs of its own (RFC 9000, section 13.1). Frames of
+    /// streams and flow control take effect as in a payload, and then limits move. The stack acknowledges their packet only after each of
+    /// them was taken.
     ///
-    /// Answers `Took` where that changed something, and `Unchanged` where it didn't: what the frame carries came before, or it raises
-    /// nothing. A stack counts these against a peer that only makes work. `NotOurs` answers a frame of any other kind, which changes
-    /// nothing: an ACK (its packets are told by `acked`), a CONNECTION_CLOSE, PADDING and the like.
+    /// Returns `Took` if that changed something, and `Unchanged` if not: its content came before, or raises nothing. A stack counts these
+    /// against a peer that only makes work. `NotOurs` is for a frame of any other kind, which changes nothing: an ACK (report its packets
+    /// by `acked`), a CONNECTION_CLOSE, PADDING and the like.
     ///
-    /// Refused: `Closing` where the frame breaks a rule (sections 4, 19 and 20.1), or has values that no text has, FRAME_ENCODING_ERROR;
-    /// the end is closed from now on. It names the type of the frame's canonical text and place 0. `NoMemory` where memory was refused:
-    /// nothing changed, and the frame may come again. An end that is closed says so again: `Closing`, or `PeerClosed` with the peer's code.
+    /// Refused: `Closing` if the frame breaks a rule (sections 4, 19 and 20.1), or has values that no text has, FRAME_ENCODING_ERROR; the
+    /// endpoint is closed from now on. It names the type of the frame's canonical text and place 0, since there is no payload to point
+    /// into. `NoMemory`: nothing changed, and the frame may come again. A closed endpoint returns its close again: `Closing`, or
+    /// `PeerClosed` with the peer's code.
     ///
     /// ```text
     /// match end.take_frame(&frame)? { Taken::Took => {} Taken::Unchanged => idle += 1, Taken::NotOurs => stack.take(&frame)? }
@@ -52,7 +53,8 @@ impl Endpoint {
         taken
     }
 
-    /// Takes in a STREAM frame that comes without its packet, as `take_frame` does, for a caller that knows its kind.
+    /// Processes a STREAM frame without its packet, as `take_frame` does, for a caller that knows its kind: most frames are of it, and its
+    /// own call has one path less.
     ///
     /// ```text
     /// end.take_stream_frame(stream, offset, bytes, fin)?;
@@ -81,12 +83,12 @@ impl Endpoint {
         taken
     }
 
-    /// Takes in the frames of one packet, as `take_frame` each of them, one after the other, but that the limits move once, as this call
-    /// ends (RFC 9000, sections 4.1 and 12.4).
+    /// Processes the frames of one packet, each as `take_frame` does, one after the other, but limits move once, as this call ends (RFC
+    /// 9000, sections 4.1 and 12.4): so it is what `receive` does with them.
     ///
-    /// Answers `Took` where one of them changed something, else `Unchanged` where one was taken, and `NotOurs` where all are of other
-    /// kinds. Refused as `take_frame` is, by the first frame that it refuses:
-    /// the frames before it took effect. After `NoMemory` the same frames may come again.
+    /// Returns `Took` if one of them changed something, else `Unchanged` if one was taken, and `NotOurs` if all are of other kinds. Refused
+    /// as `take_frame` is, by the first frame that it refuses: the frames before it took effect. After `NoMemory` the same frames may come
+    /// again.
     ///
     /// ```text
     /// end.take_frames(&frames)?;
@@ -103,7 +105,6 @@ impl Endpoint {
         taken
     }
 
-    // The frames take effect, one after the other, as far as they may.
     fn take_each(&mut self, frames: &[Frame<'_>]) -> Result<Taken, TakeFault>
         ensures { TakesEach (map view frames.now) self.old result self.new }
     {
@@ -116,7 +117,6 @@ impl Endpoint {
         Ok(taken)
     }
 
-    // A frame takes effect, or finds no memory, or this end closes for it.
     #[tactic(auto, using(crate::proofs::Refusals::code_fits, crate::proofs::Alones::took_some, crate::proofs::Alones::took_none))]
     #[inline(always)]
     fn take_one(&mut self, frame: &Frame<'_>) -> Result<Taken, TakeFault>
@@ -140,7 +140,8 @@ impl Endpoint {
         Ok(Taken::Took)
     }
 
-    // Whether a frame without a fault changes this end. Of a STREAM frame it is mostly sure, with no look.
+    // Asked before the frame takes effect, since afterwards it would be old. Of a STREAM frame the judging mostly knew, so no half is
+    // looked at again.
     #[inline(always)]
     fn changes(&self, is_sure: bool, seen: &SeenFrame<'_>) -> bool
         requires fits { SeenFits seen.now }
@@ -200,7 +201,7 @@ impl Endpoint {
         }
     }
 
-    // Whether a stream is the peer's, and a half of it isn't open.
+    // Opening it is a change, whatever else the frame does.
     fn is_yet_to_open(&self, stream: StreamId) -> bool
         ensures { result ≡ is_yet_to_open self.now stream }
     {
@@ -213,7 +214,6 @@ impl Endpoint {
         !is_uni(stream) && !self.core.outbox.is_open(stream)
     }
 
-    // This end closes for a frame that came alone.
     fn close_alone(&mut self, frame: &Frame<'_>, code: u64) -> Closing
         requires ours { is_ours (seen (view frame.now)) ≡ true }
         requires small { code < 2 ^ 62 }
@@ -229,7 +229,6 @@ impl Endpoint {
         closing
     }
 
-    // What an end that is closed answers to a frame.
     fn closed_fault(&self) -> Option<TakeFault>
         ensures { result ≡ option_map closed_fault self.now.closed }
     {
@@ -242,7 +241,7 @@ impl Endpoint {
     }
 }
 
-// What an end that was told of a close says again.
+// In the words that the call has, so that a stack needs no other way for it.
 fn told_fault(close: ToldClose) -> TakeFault
     ensures { result ≡ told_fault close.by close.code }
 {
@@ -252,7 +251,6 @@ fn told_fault(close: ToldClose) -> TakeFault
     }
 }
 
-// What came of two frames.
 fn of_both(one: Taken, later: Taken) -> Taken
     ensures { result ≡ of_both one later }
 {

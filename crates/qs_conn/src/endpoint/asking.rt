@@ -1,4 +1,4 @@
-//! What an end's owner, and the layer beneath, may ask of it. Nothing changes.
+//! What the application and the transport may ask of an endpoint. Nothing changes.
 ghost use Rattle.std.specs.Prelude.{◌≡◌, ◌↔◌, IsTrue, ◌-◌, ◌^◌, min};
 ghost use Rattle.qs_machine.specs.Credit.{all_taken, credit_for, window_left};
 ghost use Rattle.qs_machine.specs.Asking.{GoesBesideAck, all_noted, taken, peer_closing, told_closing, streams_left, open_left, is_blocked, credit_left, room, unsent, acked_below, stopped_with, IsNextOutstanding, IsPeeked, all_unsent, all_kept};
@@ -12,8 +12,8 @@ use qs_recv::Peek;
 use qs_wire::{Dir, StreamId};
 
 impl Endpoint {
-    /// Whether a packet would carry more than an ACK: a control item is due, or bytes or the end of a stream that no limit holds back
-    /// (RFC 9000, sections 4.1 and 13.3). Of an end that closed nothing goes (section 10.2).
+    /// Whether a packet would carry more than an ACK: a control frame is pending, or data or a FIN that no limit holds back (RFC 9000,
+    /// sections 4.1 and 13.3). A closed endpoint sends nothing (section 10.2).
     pub fn is_sendable(&self) -> bool
         ensures { IsTrue result ↔ GoesBesideAck self.now }
     {
@@ -23,7 +23,7 @@ impl Endpoint {
         self.core.has_frame()
     }
 
-    /// The code with which the peer closed by a frame that came to this end, `None` where it didn't (RFC 9000, section 10.2).
+    /// The code with which the peer closed by a frame that was received here, `None` if it didn't (RFC 9000, section 10.2).
     pub fn peer_closed(&self) -> Option<u64>
         ensures { result ≡ peer_closing self.now.closed }
     {
@@ -33,7 +33,7 @@ impl Endpoint {
         }
     }
 
-    /// The close that the end was told of by `tell_closed`, `None` where it closed otherwise or is open (RFC 9000, section 10.2).
+    /// The close that `tell_closed` noted, `None` if it closed in another way or is open (RFC 9000, section 10.2).
     pub fn told_close(&self) -> Option<ToldClose>
         ensures { result ≡ told_closing self.now.closed }
     {
@@ -43,9 +43,9 @@ impl Endpoint {
         }
     }
 
-    /// How many runs the offsets make that came, on all streams whose end their reader wasn't told and that weren't reset: one for each on
-    /// which some came, and one more for each gap between them. Each run beyond two of a stream takes memory, also of a stream that was
-    /// stopped, where credit bounds them not: as this number gets too great, the layer beneath closes the connection. It takes constant time.
+    /// Into how many runs the received offsets fall, on all streams whose end wasn't read and that weren't reset: one for each with some,
+    /// and one more for each gap. Each run beyond two of a stream takes memory, also on a stream that was stopped, where no credit bounds
+    /// them: the transport closes a connection whose number gets too great. Constant time.
     pub fn noted(&self) -> u64
         ensures { result ≡ all_noted self.now }
     {
@@ -53,9 +53,9 @@ impl Endpoint {
         self.core.recvs.tally().noted
     }
 
-    /// Tells what a read would, and changes nothing: the bytes of a stream that are next stay where they are, for `consume` to take (RFC 9000,
-    /// section 2.2). They come in two pieces of memory, of which the second may be empty: all of them, up to the first that didn't come.
-    /// What lies behind a gap isn't in.
+    /// Shows what a read would return, and changes nothing: the next bytes of a stream stay where they are, for `consume` to take (RFC
+    /// 9000, section 2.2). They come in two pieces of memory, of which the second may be empty: all of them, up to the first that is
+    /// missing.
     ///
     /// Refused as `read` is.
     #[tactic(auto, using(crate::proofs::OwnerSteps::peek_refused, crate::proofs::OwnerSteps::receiver_open))]
@@ -68,17 +68,17 @@ impl Endpoint {
         Ok(self.core.recvs.peek(stream))
     }
 
-    /// How many bytes of a stream count as taken, so that its limit lies a window above them at most: those that were read, or all that came
-    /// once its owner stopped it, or its final size once the peer reset it (RFC 9000, sections 3.5 and 4.2). `None` where the stream has no
-    /// receiving half here. An owner tells by it how fast a window is used up. It takes constant time.
+    /// How many bytes of a stream count as consumed, which its limit follows: those that were read, or all that arrived once it was
+    /// stopped, or its final size once the peer reset it (RFC 9000, sections 3.5 and 4.2). `None` if the stream has no receiving half here.
+    /// It shows how fast a window is used up. Constant time.
     pub fn taken(&self, stream: StreamId) -> Option<u64>
         ensures { result ≡ taken self.now stream }
     {
         self.core.recvs.taken(stream)
     }
 
-    /// How many bytes of all streams count as taken: the sum of what `taken` tells of each, which the connection's limit follows (RFC 9000,
-    /// section 4.2). It takes constant time.
+    /// How many bytes of all streams count as consumed: the sum of `taken` over all, which the connection's limit follows (RFC 9000,
+    /// section 4.2). Constant time.
     pub fn taken_sum(&self) -> u64
         ensures { result ≡ all_taken self.now }
     {
@@ -86,8 +86,8 @@ impl Endpoint {
         self.core.recvs.tally().taken
     }
 
-    /// How many streams of a direction the peer may open in all time to come: the lifetime's count without those that it opened. Where
-    /// none is left, a new connection is needed (RFC 9000, section 4.6). `granted_streams` tells how far it may go now.
+    /// How many streams of a direction the peer may still open in the life of the connection. If none is left, a new connection is needed
+    /// (RFC 9000, section 4.6). `granted_streams` is how far it may go now.
     pub fn streams_left(&self, dir: Dir) -> u64
         ensures { result ≡ streams_left self.now dir }
     {
@@ -98,8 +98,8 @@ impl Endpoint {
         lifetime.saturating_sub(self.opened_count(self.peer_type(dir)) as u64)
     }
 
-    /// How many streams of a direction `open` may open by the count that the peer told last (RFC 9000, section 4.6). In all time to come
-    /// it is bounded by 2^60 alone: what the peer grants later, this end can't know.
+    /// How many streams of a direction `open` may open by the peer's latest count (RFC 9000, section 4.6). What the peer permits later
+    /// can't be known here.
     pub fn open_left(&self, dir: Dir) -> u64
         ensures { result ≡ open_left self.now dir }
     {
@@ -107,9 +107,9 @@ impl Endpoint {
         known.saturating_sub(self.opened_count(self.own_type(dir)) as u64)
     }
 
-    /// Whether bytes were written to the stream that weren't sent, and credit alone holds them back: the stream's limit is reached, or
-    /// the connection's credit is used up (RFC 9000, section 4.1). Bytes that were lost need no credit. Of an end that closed nothing waits:
-    /// it sends nothing more (section 10.2).
+    /// Whether unsent bytes of the stream wait for credit alone: its limit is reached, or the connection's is (RFC 9000, section 4.1). Lost
+    /// bytes need no credit, since they were counted when first sent. At a closed endpoint nothing waits: it sends nothing more (section
+    /// 10.2).
     pub fn is_blocked(&self, stream: StreamId) -> bool
         ensures { result ≡ is_blocked self.now stream }
     {
@@ -117,8 +117,8 @@ impl Endpoint {
         self.closed.is_none() && self.core.outbox.waits_for_credit(stream, is_used_up)
     }
 
-    /// How many bytes beyond all that were sent the peer's limit on the connection lets go (RFC 9000, section 4.1). Bytes that were lost
-    /// need no credit, and written ones use it up as they are sent: see `unsent`.
+    /// How many new bytes the peer's limit on the connection permits (RFC 9000, section 4.1). Lost bytes need no credit, and written ones
+    /// use it up as they are sent: see `unsent`.
     pub fn credit_left(&self) -> u64
         ensures { result ≡ credit_left self.now }
     {
@@ -144,7 +144,7 @@ impl Endpoint {
         }
     }
 
-    // How many bytes a stream takes by its buffer, and by credit where writes keep within it.
+    // The lesser of both, so that `room` never promises what `write` refuses.
     fn credit_room(&self, stream: StreamId) -> u64
         ensures { result ≡ credit_room self.now (send_lane self.now stream) }
     {
@@ -155,7 +155,7 @@ impl Endpoint {
         room
     }
 
-    // How many bytes more all streams together may keep, where that is bounded.
+    // None without a bound, so that the usual endpoint compares nothing.
     #[tactic(auto, using(crate::proofs::Within::left_of))]
     pub(super) fn window_left(&self) -> Option<u64>
         ensures { result ≡ window_left self.now }
@@ -166,23 +166,23 @@ impl Endpoint {
         }
     }
 
-    /// How many bytes were written to all streams that are still to be sent for the first time: the sum of what `unsent` tells of each
-    /// (RFC 9000, sections 2.2 and 3.1). A sum that is no u64 is the greatest one. It takes constant time.
+    /// How many bytes written to all streams weren't sent yet: the sum of `unsent` over all (RFC 9000, sections 2.2 and 3.1). Beyond the
+    /// greatest u64 it stays at that. Constant time.
     pub fn unsent_sum(&self) -> u64
         ensures { result ≡ min (all_unsent self.now) (2 ^ 64 - 1) }
     {
         self.core.outbox.unsent_sum()
     }
 
-    /// How many bytes of all streams are kept until they are acknowledged (RFC 9000, section 13.3): of each those from the lowest offset on
-    /// that isn't, and none after a reset. A sum that is no u64 is the greatest one. It takes constant time.
+    /// How many bytes of all streams are kept until they are acknowledged (RFC 9000, section 13.3): of each all from its lowest
+    /// unacknowledged offset on, and none after a reset. Beyond the greatest u64 it stays at that. Constant time.
     pub fn kept_sum(&self) -> u64
         ensures { result ≡ min (all_kept self.now) (2 ^ 64 - 1) }
     {
         self.core.outbox.kept_sum()
     }
 
-    // How many bytes more may be written to a stream that may all be sent at once.
+    // What waits on other streams counts, since it will use up credit first.
     pub(super) fn credit_for(&self, stream: StreamId) -> u64
         ensures { result ≡ credit_for self.now (or_none (send_lane self.now stream)) }
     {
@@ -190,33 +190,32 @@ impl Endpoint {
         all.min(self.core.outbox.limit_left(stream))
     }
 
-    /// How many bytes were written to a stream that are still to be sent for the first time: 0 after a reset, since none are sent then
-    /// (RFC 9000, sections 2.2 and 3.1), and where the stream has no sending half here.
+    /// How many bytes of a stream weren't sent yet: 0 after a reset, since none will be (RFC 9000, sections 2.2 and 3.1), and if the stream
+    /// has no sending half here.
     pub fn unsent(&self, stream: StreamId) -> u64
         ensures { result ≡ unsent self.now stream }
     {
         self.core.outbox.unsent(stream)
     }
 
-    /// The lowest offset of a stream that isn't acknowledged, in bytes from its start: all below it are (RFC 9000, section 13.3). Where
-    /// it is the count written, every byte is. `None` where the stream has no sending half here.
+    /// The lowest offset of a stream that isn't acknowledged, in bytes from its start: all below it are (RFC 9000, section 13.3). If it is
+    /// the count written, every byte is. `None` if the stream has no sending half here.
     pub fn acked_below(&self, stream: StreamId) -> Option<u64>
         ensures { result ≡ acked_below self.now stream }
     {
         self.core.outbox.acked_below(stream)
     }
 
-    /// The code of the peer's STOP_SENDING for a stream, of the first one that came while the sending half could be reset; `None` where
-    /// none did. It stays, whatever becomes of the half: reset by the STOP_SENDING itself or by its owner, or acknowledged whole (RFC
-    /// 9000, section 3.5).
+    /// The code of the peer's first STOP_SENDING that came while the sending half could be reset; `None` if there was none. It stays,
+    /// whatever becomes of the half, for an application that comes late (RFC 9000, section 3.5).
     pub fn stopped_with(&self, stream: StreamId) -> Option<u64>
         ensures { result ≡ stopped_with self.now stream }
     {
         self.core.outbox.stop_code(stream)
     }
 
-    /// The least number from one on of a packet that is outstanding: it was made, asks for an ACK, and is neither acknowledged nor
-    /// declared lost (RFC 9000, section 13.3). It looks at each number on the way there, from the least outstanding one on.
+    /// The lowest number from one on of an outstanding packet: it was made, asks for an ACK, and is neither acknowledged nor declared lost
+    /// (RFC 9000, section 13.3). It looks at each number from the lowest outstanding one on.
     pub fn next_outstanding(&self, from: u64) -> Option<u64>
         ensures { IsNextOutstanding self.now.outstanding from result }
     {

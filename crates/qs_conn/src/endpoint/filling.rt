@@ -1,4 +1,4 @@
-//! What is due is filled in, for a packet of a stack that owns its packets.
+//! Frames for a packet of a stack that has packets of its own.
 ghost use Rattle.std.specs.Prelude.{◌≡◌, ◌↔◌, ℕ, IsTrue, List, [], length};
 ghost use Rattle.qs_machine.specs.Ends.{End};
 ghost use Rattle.qs_machine.specs.Filling.{WantedGoes, FillBy, FillStep, still_asked};
@@ -16,8 +16,8 @@ impl Endpoint {
     /// answers names them later, acknowledged or lost. `None` where nothing that is asked for may go, or the room is too little: with
     /// `MIN_FILL` bytes it says that nothing may. The slice may have any length; of it changes only what is filled.
     ///
-    /// Refused, and then unchanged: `Closed`; `Exhausted` where the last number was used; `NoMemory` where something that is asked for
-    /// may go and memory was refused.
+    /// Refused, and then unchanged: `Closed`; `Exhausted` if the last number was used; `NoMemory`, only if something that is asked for may
+    /// go.
     pub fn fill(&mut self, out: &mut [u8], want: &Fill) -> Result<Option<Filled>, MakeFault>
         ensures step { FillStep self.old want.now (length out.old) result (filled_text result out.new) self.new }
         ensures order { NoItemStarves want.now self.old result self.new }
@@ -58,7 +58,7 @@ impl Endpoint {
         }))
     }
 
-    // What a call answers that found no memory: where nothing that is asked for may go, it needs none.
+    // Room for pieces is taken before anything is put, and may be refused when nothing would have gone: then memory wasn't needed.
     fn unfilled(&self, want: &Fill) -> Result<Option<Filled>, MakeFault>
         ensures by { (room : ℕ) → FillBy self.now want.now room result [] self.now }
         ensures order { (old new : End) → NoItemStarves want.now old result new }
@@ -71,8 +71,7 @@ impl Endpoint {
         Ok(None)
     }
 
-    // Whether something that is asked for is due that no limit holds back, where so many bytes are left of the cap. The stream that sent
-    // last is asked first.
+    // The stream that sent last is asked first, since it mostly has more.
     fn has_more(&self, want: &Fill, left: usize, last: Option<StreamId>) -> bool
         ensures { IsTrue result ↔ WantedGoes (still_asked want.now left) self.now }
     {

@@ -1,4 +1,4 @@
-//! What the frames of a payload do.
+//! How frames are judged. Nothing changes here, so a frame that offends leaves everything as it was.
 ghost use Rattle.std.specs.Prelude.{◌≡◌, ◌+◌, ◌≤◌, ◌<◌, ◌^◌, true, length, None, Ok, IfOk};
 ghost use Rattle.qs_ranges.specs.Numbers.{MAX_VARINT};
 ghost use Rattle.qs_recv.specs.Lane.{check_stream, check_reset};
@@ -17,7 +17,6 @@ use qs_recv::{Highest, RecvFault};
 use qs_send::Item;
 use qs_wire::StreamId;
 
-// Codes of errors (RFC 9000, section 20.1).
 const FLOW_CONTROL_ERROR: u64 = 0x03;
 
 const STREAM_LIMIT_ERROR: u64 = 0x04;
@@ -29,7 +28,6 @@ const FINAL_SIZE_ERROR: u64 = 0x06;
 const PROTOCOL_VIOLATION: u64 = 0x0a;
 
 impl Endpoint {
-    // The code with which a frame closes the connection.
     #[tactic(auto, unfolding(qs_machine::specs::Verdicts::verdict))]
     #[inline(always)]
     pub(super) fn verdict(&self, seen: &SeenFrame<'_>) -> Option<u64>
@@ -60,7 +58,7 @@ impl Endpoint {
         }
     }
 
-    // Of an ACK, which may name no number that wasn't used (RFC 9000, section 13.1).
+    // A number that was never used shows a peer that guesses (RFC 9000, section 13.1).
     fn ack_fault(&self, largest: u64) -> Option<u64>
         ensures { result ≡ ack_fault self.now largest }
     {
@@ -71,7 +69,7 @@ impl Endpoint {
         }
     }
 
-    // The code with which a frame closes the connection. Of another frame it may be sure already that it changes this end.
+    // With it comes whether a frame is sure to change this endpoint, which is known on the way: `take_frame` needs no second look.
     #[inline(always)]
     pub(super) fn judge(&self, seen: &SeenFrame<'_>) -> Result<bool, u64>
         requires { SeenFits seen.now }
@@ -104,8 +102,8 @@ impl Endpoint {
         }
     }
 
-    // The bytes come last, and only those that are still stored are compared (RFC 9000, section 2.2). A frame that raises the highest offset
-    // changes this end.
+    // The bytes come last, after both limits, and only those that are still stored are compared (RFC 9000, section 2.2). A frame that
+    // raises the highest offset changes this endpoint.
     #[tactic(auto, unfolding(qs_machine::specs::Verdicts::verdict))]
     fn judge_stream(&self, stream: Place, offset: u64, bytes: &[u8], fin: bool) -> Result<bool, u64>
         requires { offset + length bytes.now ≤ MAX_VARINT }
@@ -128,7 +126,7 @@ impl Endpoint {
         }
     }
 
-    // The first frame of a stream opens it, so it changes this end.
+    // Judged as by a half that received nothing, before one is made: a frame that offends opens nothing.
     #[tactic(auto, unfolding(qs_machine::specs::Verdicts::verdict))]
     fn judge_first(&self, stream: Place, offset: u64, bytes: &[u8], fin: bool) -> Result<bool, u64>
         requires in_range { offset + length bytes.now ≤ MAX_VARINT }
@@ -159,7 +157,6 @@ impl Endpoint {
         self.credit_fault(check)
     }
 
-    // Of a frame on what the peer sends.
     fn state_fault_in(&self, stream: Place) -> Option<u64>
         ensures { result ≡ state_fault_in self.now stream }
     {
@@ -182,7 +179,6 @@ impl Endpoint {
         }
     }
 
-    // Of a frame on what this end sends.
     fn state_fault_out(&self, stream: StreamId) -> Option<u64>
         ensures { result ≡ state_fault_out self.now stream }
     {
@@ -201,7 +197,7 @@ impl Endpoint {
         }
     }
 
-    // What a half's check says, and then whether the connection has the credit.
+    // The half's check first: the stream's fault is the closer one.
     fn credit_fault(&self, check: Result<Highest, RecvFault>) -> Option<u64>
         requires { IfOk check (λ h. h.after ≤ MAX_VARINT) }
         ensures { result ≡ credit_fault self.now check }
@@ -219,7 +215,6 @@ impl Endpoint {
         }
     }
 
-    // How many streams of its type the peer may open (RFC 9000, section 4.6).
     fn grant(&self, stream: StreamId) -> u64
         ensures { result ≡ grant self.now stream }
     {
@@ -231,7 +226,6 @@ impl Endpoint {
     }
 }
 
-// Whether the highest offset rises.
 fn is_rise(check: Result<Highest, RecvFault>) -> bool
     ensures { result ≡ true → (h : Highest) × (check ≡ Ok h) × (h.before < h.after) }
 {
@@ -241,7 +235,6 @@ fn is_rise(check: Result<Highest, RecvFault>) -> bool
     }
 }
 
-// The code of a half's fault.
 fn code_of(fault: RecvFault) -> u64
     ensures { result ≡ fault_code fault }
 {

@@ -1,4 +1,4 @@
-//! What of an end is news to its owner.
+//! What of an endpoint is an event for its application. It is searched as things are, so no queue can fill up.
 ghost use Rattle.std.specs.Prelude.{◌≡◌, ◌<◌, ◌≤◌, ◌↔◌, IsTrue, true, false, is_some, ℕ, None, Some};
 ghost use Rattle.qs_send.specs.Lane.{SendLane};
 ghost use Rattle.qs_machine.specs.Tables.{lookup};
@@ -20,7 +20,7 @@ use qs_calls::MAX_VARINT;
 use qs_wire::{Dir, StreamId};
 
 impl Endpoint {
-    /// The least stream of the peer's that is open and wasn't heard of, where so many of each direction were.
+    /// A count for each direction is enough: streams of the peer open in order.
     pub(crate) fn next_opened(&self, heard: ByDir<u64>) -> Option<StreamId>
         ensures { (h : Hearing) → h.opened_bidi ≡ heard.bidi → h.opened_uni ≡ heard.uni → IsLeast (IsNextOpened self.now h) 0 result }
     {
@@ -28,7 +28,6 @@ impl Endpoint {
         lesser(bidi, self.next_opened_of(Dir::Uni, heard.uni))
     }
 
-    // The next one of a direction.
     fn next_opened_of(&self, dir: Dir, heard: u64) -> Option<StreamId>
         ensures { result ≡ next_of_peer self.now dir heard }
     {
@@ -39,7 +38,6 @@ impl Endpoint {
         StreamId::new(heard * 4 + stream_type as u64)
     }
 
-    /// The least stream at which a read of one byte tells something new, of those without a mark.
     pub(crate) fn next_readable_untold(&self, told: &ToldStreams) -> Option<StreamId>
         ensures { IsLeast (λ n. IsReadable self.now n × (is_told told.now n ≡ false)) 0 result }
     {
@@ -49,7 +47,7 @@ impl Endpoint {
         self.core.recvs.next_untold(RecvTask::Readable, told)
     }
 
-    /// The least stream that takes a byte, of those with a mark.
+    /// Of those of which a write was cut short: others nobody waits for.
     #[inline(always)]
     pub(crate) fn next_writable_of(&self, short: &ToldStreams) -> Option<StreamId>
         ensures { IsLeast (λ n. (0 < room self.now n) × (is_told short.now n ≡ true)) 0 result }
@@ -67,8 +65,7 @@ impl Endpoint {
         self.core.outbox.next_short(short)
     }
 
-    // Whether no stream takes a byte, whatever its buffer and its limit let it take: of an end that closed, where the connection's credit is
-    // used up, and where all streams together keep as much as they may.
+    // What holds all streams back is asked once, and not of each stream.
     fn takes_nothing(&self) -> bool
         ensures none { result ≡ true → (n : ℕ) → 0 < room self.now n → ⊥ }
         ensures some { result ≡ false → (n : ℕ) → IsHeld (TakesAlone self.now) self.now.sends n → 0 < room self.now n }
@@ -85,28 +82,25 @@ impl Endpoint {
         }
     }
 
-    // Whether writes keep within credit, and all that the peer's limit on the connection lets go is sent or waits to be.
     fn is_credit_used_up(&self) -> bool
         ensures { IsTrue result ↔ ((self.now.tuning.within_credit ≡ true) × (credit_left self.now ≤ all_unsent self.now)) }
     {
         self.core.limits.tuning.within_credit && self.credit_left() <= self.unsent_sum()
     }
 
-    /// The least stream that the peer stopped, of those without a mark.
     pub(crate) fn next_stopped_untold(&self, told: &ToldStreams) -> Option<StreamId>
         ensures { IsLeast (λ n. (is_some (stopped_with self.now n) ≡ true) × (is_told told.now n ≡ false)) 0 result }
     {
         self.core.outbox.next_stopped_untold(told)
     }
 
-    /// The least stream whose sending half came to its end, of those without a mark.
     pub(crate) fn next_sent_untold(&self, told: &ToldStreams) -> Option<StreamId>
         ensures { IsLeast (λ n. IsHeld (λ l. send_ended l ≡ true) self.now.sends n × (is_told told.now n ≡ false)) 0 result }
     {
         self.core.outbox.next_ended_untold(told)
     }
 
-    /// A direction of which a stream may be opened, of those that are wanted: bidirectional streams first.
+    /// Of the directions in which an open was blocked: others nobody waits for.
     pub(crate) fn next_available(&self, wanted: ByDir<bool>) -> Option<Dir>
         ensures { (h : Hearing) → h.wants_bidi ≡ wanted.bidi → h.wants_uni ≡ wanted.uni → IsFirstDir (λ d. MayOpen self.now d × (wants h d ≡ true)) result }
     {
@@ -122,14 +116,13 @@ impl Endpoint {
         None
     }
 
-    /// Whether this end closed, or saw its peer close.
     pub(crate) fn is_closed(&self) -> bool
         ensures { result ≡ is_some self.now.closed }
     {
         self.closed.is_some()
     }
 
-    /// Whether a stream may still get bytes, and its limit is at most that one.
+    /// A limit that rose since doesn't hold the peer back, and one of a stream whose length is known never will.
     pub(crate) fn is_met(&self, stream: StreamId, named: u64) -> bool
         ensures { result ≡ is_met (limit_to_tell (recv_lane self.now stream)) named }
     {
@@ -139,7 +132,6 @@ impl Endpoint {
         }
     }
 
-    /// Whether a read of one byte tells something new.
     pub(crate) fn is_readable(&self, stream: StreamId) -> bool
         ensures { IsTrue result ↔ IsReadable self.now stream }
     {
@@ -149,7 +141,6 @@ impl Endpoint {
         self.core.recvs.is_readable(stream)
     }
 
-    /// Whether the reset of a stream was acknowledged.
     pub(crate) fn was_reset_acked(&self, stream: StreamId) -> bool
         ensures reset { result ≡ true → IsHeld WasResetAcked self.now.sends stream }
         ensures not { result ≡ false → (l : SendLane) → lookup self.now.sends stream ≡ Some l → l.reset_acked ≡ false }
@@ -157,12 +148,12 @@ impl Endpoint {
         self.core.outbox.is_reset_acked(stream)
     }
 
-    /// Whether a write of so many bytes to a stream takes fewer.
+    /// Asked before a write, since afterwards nobody knows what was offered.
     #[tactic(auto, using(crate::proofs::Hearing::cut_past))]
     pub(crate) fn is_cut_short(&self, stream: StreamId, len: usize) -> bool
         ensures { result ≡ is_cut_short self.now stream len }
     {
-        // No stream has room for more bytes than it has offsets: of such a write the half isn't looked at.
+        // No buffer has room for as many bytes as there are offsets, so of such a write the half isn't looked at.
         self.core.outbox.is_open(stream)
             && (len as u64 > MAX_VARINT || self.room(stream) < len as u64)
     }

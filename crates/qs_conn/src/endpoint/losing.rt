@@ -6,11 +6,11 @@ use super::Endpoint;
 use qs_calls::LostFault;
 
 impl Endpoint {
-    /// Declares the packet of a number lost: what it carried and is still of use is due again (RFC 9000, section 13.3). It is kept
-    /// for a late acknowledgement, of the latest 256 packets by the order in which they were first declared lost (section 13.2.1).
+    /// Declares the packet of a number lost: what it carried is due again as far as it is still needed (RFC 9000, section 13.3). It is kept
+    /// for a late ACK, among the latest 256 by the order in which they were first declared lost (section 13.2.1).
     ///
-    /// Refused: `Closed`; `NotOutstanding` where no such packet is outstanding; and `NoMemory` where memory was refused. Then the
-    /// first pieces of the packet may be lost already; the others are outstanding still, and the call may be made again.
+    /// Refused: `Closed`; `NotOutstanding` if no such packet is outstanding; and `NoMemory`. Then the first pieces of the packet may be
+    /// lost already; the others are still outstanding, and the call may be made again.
     #[tactic(auto, using(crate::proofs::Runs::lost_refused))]
     pub fn declare_lost(&mut self, number: u64) -> Result<(), LostFault>
         ensures { LoseStep self.old number result self.new }
@@ -25,7 +25,6 @@ impl Endpoint {
         }
     }
 
-    // Why the packet can't be lost.
     #[tactic(auto, using(crate::proofs::Runs::not_outstanding, crate::proofs::Runs::is_outstanding))]
     fn lose_refusal(&self, number: u64) -> Option<LostFault>
         ensures { result ≡ lose_refusal self.now number }

@@ -1,4 +1,4 @@
-//! Which streams wait for their owner, and which have something for a packet.
+//! Which streams wait for the application, and which have something for a packet.
 ghost use Rattle.qs_machine.specs.News.{IsLeast, IsReadable, IsSendable, IsWritable};
 
 use super::Endpoint;

@@ -1,4 +1,4 @@
-//! Limits of the peer that rise after the end was made.
+//! Limits of the peer that rise after the endpoint was made.
 ghost use Rattle.std.specs.Prelude.{◌≡◌, ◌≤◌, ◌<◌, is_some, true, None};
 ghost use Rattle.qs_ranges.specs.Numbers.{MAX_VARINT};
 ghost use Rattle.qs_send.specs.Lane.{allow_lane};
@@ -13,11 +13,11 @@ use qs_calls::{PeerLimits, RaiseFault};
 use qs_wire::StreamId;
 
 impl Endpoint {
-    /// Takes in limits of the peer that weren't known as the end was made: a client that began with those that it remembered hands in
-    /// those of the handshake (RFC 9000, section 7.4.1). Each limit becomes the greater one of what stands and what comes, of open
-    /// streams too, and streams that open later begin with it; none falls. It looks at each open sending half.
+    /// Raises the peer's limits to those of the handshake: a client that began with remembered ones calls it (RFC 9000, section 7.4.1).
+    /// Each limit becomes the greater of the two, for open streams too, and streams that open later begin with it; none falls. It looks at
+    /// each open sending half.
     ///
-    /// Refused, and then unchanged: `Closed`; `Refused` where no end can be made of such limits, with the fault that `new` answers.
+    /// Refused, and then unchanged: `Closed`; `Refused` for limits that `new` would refuse, with its fault.
     pub fn raise_limits(&mut self, limits: &PeerLimits) -> Result<(), RaiseFault>
         ensures { RaiseStep self.old limits.now result self.new }
     {
@@ -33,7 +33,6 @@ impl Endpoint {
         Ok(())
     }
 
-    // Why limits are refused.
     fn raise_refusal(&self, limits: &PeerLimits) -> Option<RaiseFault>
         ensures { result ≡ raise_refusal self.now limits.now }
     {
@@ -46,7 +45,7 @@ impl Endpoint {
         }
     }
 
-    // The first limits and the counts are known, and the connection's limit; open streams aren't looked at.
+    // Apart from the open streams, which aren't many when limits rise.
     fn know_limits(&mut self, limits: &PeerLimits)
         requires { limits_fault limits.now ≡ None }
         ensures { self.new ≡ knows_limits limits.now self.old }
@@ -67,7 +66,6 @@ impl Endpoint {
             .max(limits.streams_uni);
     }
 
-    // Each open half of a type may send what one may that opens now.
     fn allow_type(&mut self, stream_type: usize)
         requires { stream_type < 4 }
         ensures { self.new ≡ record self.old { sends = type_allowed stream_type (first_send_limit self.old stream_type) self.old.sends } }
@@ -79,7 +77,6 @@ impl Endpoint {
         }
     }
 
-    // An open half may send the offsets below a limit.
     #[tactic(auto, using(crate::proofs::Runs::idle_with))]
     fn allow_to(&mut self, stream: StreamId, limit: u64)
         requires open { is_some (lookup self.old.sends stream) ≡ true }
@@ -90,7 +87,6 @@ impl Endpoint {
     }
 }
 
-// Of two limits each the greater one.
 fn greater_limits(a: &PeerLimits, b: &PeerLimits) -> PeerLimits
     ensures { result ≡ greater_limits a.now b.now }
 {

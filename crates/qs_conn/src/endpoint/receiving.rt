@@ -1,4 +1,4 @@
-//! A payload is taken in.
+//! Processing a payload.
 ghost use Rattle.std.specs.Prelude.{◌≡◌, ◌<◌, ◌^◌};
 ghost use Rattle.std.specs.List.{FoldsTo};
 ghost use Rattle.qs_wire.specs.Layout.{view};
@@ -18,7 +18,8 @@ use crate::seen::{SeenFrame, asks_ack, seen};
 use qs_calls::{Closed, Closer, Closing, Received, ToldClose};
 use qs_wire::{Frames, Placed, WireFault};
 
-/// What one frame does to the processing of its payload. Where it goes on, the frame may ask for an ACK.
+/// What one frame does to the processing of its payload. If it goes on, the frame may ask for an ACK, which counts only when all frames
+/// took effect.
 #[derive(Drop)]
 pub(crate) enum Progress {
     GoesOn(bool),
@@ -26,23 +27,22 @@ pub(crate) enum Progress {
 }
 
 impl Endpoint {
-    /// Takes in the payload of a packet: its frames take effect, one after the other, in order (RFC 9000, sections 12.3, 12.4
-    /// and 13.1). `number` is the packet's number, below 2^62; `payload` is all bytes of its frames.
+    /// Processes the payload of a packet: its frames take effect, one after the other, in order (RFC 9000, sections 12.3, 12.4 and 13.1).
+    /// `number` is the packet's number, below 2^62; `payload` is all bytes of its frames.
     ///
-    /// Answers
-    /// - `Done` once all frames took effect. The number is kept, and where a frame asks for it an ACK is due (section 13.2).
-    /// - `Duplicate` where the number is kept already, and `BelowFloor` where it lies below all that are still told apart (section
-    ///   13.2.3). Nothing changes.
-    /// - `NoMemory` where memory was refused. The frames before took effect, the number isn't kept, and the same payload may come
-    ///   again.
-    /// - `PeerClosed` with the code of the peer's CONNECTION_CLOSE. The frames before it took effect; the end is closed from now on
+    /// Returns
+    /// - `Done` once all frames took effect. The number is kept, and if a frame asks for it an ACK is due (section 13.2).
+    /// - `Duplicate` if the number is kept already, and `BelowFloor` if it is below those whose history is kept (section 13.2.3). Nothing
+    ///   changes.
+    /// - `NoMemory`: the frames before took effect, the number isn't kept, and the same payload may come again.
+    /// - `PeerClosed` with the code of the peer's CONNECTION_CLOSE. The frames before it took effect; the endpoint is closed from now on
     ///   (section 10.2.2).
     ///
-    /// Refused with a `Closing` where the bytes are no frames (section 12.4) or a frame breaks a rule (sections 4, 13.1, 19 and 20.1):
-    /// its code, and the type and the place of that frame. The frames before it took effect; the end is closed from now on, and
-    /// `close_payload` tells the peer so (section 10.2).
+    /// Refused with a `Closing` if the bytes are no frames (section 12.4) or a frame breaks a rule (sections 4, 13.1, 19 and 20.1): its
+    /// code, and the type and the place of that frame. The frames before it took effect; the endpoint is closed from now on, and
+    /// `close_payload` writes the close (section 10.2).
     ///
-    /// An end that is closed answers as it did when it closed, and nothing changes.
+    /// A closed endpoint returns what it returned when it closed, before it looks at the number, and nothing changes.
     pub fn receive(&mut self, number: u64, payload: &[u8]) -> Result<Received, Closing>
         requires { number < 2 ^ 62 }
         ensures { ReceiveStep self.old number payload.now result self.new }
@@ -50,12 +50,12 @@ impl Endpoint {
         self.receive_telling(number, payload, &mut Silent)
     }
 
-    /// As `receive`, and `told` is told each packet that the payload newly acknowledges, once: one that was outstanding, that an ACK of
-    /// the payload names, and that isn't outstanding any more (RFC 9000, section 13.3). They are told in the order of the ACKs, of each
-    /// ACK the highest number first, as soon as the packet's last piece is acknowledged. Congestion control goes on from there (RFC 9002,
+    /// As `receive`, and `told` is called for each packet that the payload newly acknowledges, once: one that was outstanding, that an ACK
+    /// of the payload names, and that isn't outstanding any more (RFC 9000, section 13.3). They come in the order of the ACKs, of each ACK
+    /// the highest number first, as soon as the packet's last piece is acknowledged: congestion control goes on from there (RFC 9002,
     /// section 7).
     ///
-    /// After `NoMemory` none was told that is outstanding still: the same payload may come again, and then the others are told.
+    /// After `NoMemory` none was named that is still outstanding: the same payload may come again, and names the others.
     #[tactic(auto, using(crate::proofs::Payloads::is_received, crate::proofs::TurnsTold::nothing_told))]
     pub fn receive_telling<T: Told>(
         &mut self,
@@ -84,7 +84,6 @@ impl Endpoint {
         taken
     }
 
-    // The frames of a payload take effect, one after the other, as far as they may.
     fn take_payload<T: Told>(
         &mut self,
         number: u64,
@@ -110,14 +109,12 @@ impl Endpoint {
         }
     }
 
-    // Each outstanding packet has a piece. It does nothing: a caller learns the clause.
     fn learn_none_empty(&self)
         ensures { NoneEmpty self.now.outstanding }
     {
         self.core.outbox.learn_none_empty();
     }
 
-    // One frame takes effect, or the processing ends with it.
     #[tactic(auto, using(crate::proofs::Refusals::code_fits, crate::proofs::Refusals::runs_out))]
     fn take_placed<T: Told>(&mut self, placed: &Placed<'_>, told: &mut T) -> Progress
         requires fits { Fits (view placed.now.frame) }
@@ -139,7 +136,6 @@ impl Endpoint {
         Progress::GoesOn(asks_ack(&seen))
     }
 
-    // No frame is left.
     #[inline(always)]
     fn record_all(&mut self, number: u64, asks: bool) -> Received
         requires { number < 2 ^ 62 }
@@ -151,7 +147,6 @@ impl Endpoint {
         Received::Done
     }
 
-    // This end closes for a frame that has a fault.
     fn close_at(&mut self, placed: &Placed<'_>, code: u64) -> Closing
         requires small { code < 2 ^ 62 }
         requires typed { placed.now.frame_type < 2 ^ 62 }
@@ -167,7 +162,6 @@ impl Endpoint {
         closing
     }
 
-    // This end closes for bytes that are no frame.
     fn close_by(&mut self, fault: WireFault) -> Closing
         requires { (fault.code < 2 ^ 62) × (fault.frame_type < 2 ^ 62) }
         ensures value { result ≡ closing_of fault }
@@ -183,7 +177,7 @@ impl Endpoint {
     }
 }
 
-// What an end that was told of a close says again.
+// In the words that `receive` has, so that a stack needs no other way for it.
 fn told_receive(close: ToldClose) -> Result<Received, Closing>
     ensures { result ≡ told_receive close.by close.code }
 {
@@ -193,7 +187,7 @@ fn told_receive(close: ToldClose) -> Result<Received, Closing>
     }
 }
 
-// An end's own close that it was told of is no frame's fault.
+// No frame's fault, so it names none.
 pub(super) fn told_of_us(code: u64) -> Closing
     ensures { result ≡ told_of_us code }
 {

@@ -7,11 +7,12 @@ ghost use Rattle.qs_machine.specs.Recording.{has_too_many, least_in, lowest_end,
 use super::Endpoint;
 use qs_ranges::{NoMemory, RangeSet};
 
-/// How many ranges of numbers are kept.
+/// // A bound on what a peer can make this endpoint keep. All of them take at most 515 bytes in an ACK.
 const MAX_RUNS: usize = 32;
 
 impl Endpoint {
-    // A packet's number is kept once all its frames took effect (RFC 9000, section 13.2.3); or nothing changes.
+    // Only once all frames took effect: a number that is kept is acknowledged, and its payload never processed again (RFC 9000, section
+    // 13.2.3).
     #[inline(always)]
     pub(super) fn record(&mut self, number: u64, asks: bool) -> Result<(), NoMemory>
         requires { number < 2 ^ 62 }
@@ -26,7 +27,8 @@ impl Endpoint {
     }
 }
 
-// Where too many ranges are kept, the lowest one leaves. Answers the number below which none is told apart.
+// The lowest leaves, even if it is the number that just came. Numbers below the floor are dropped unseen from then on, so that none is
+// processed twice.
 #[tactic(auto, unfolding(qs_machine::specs::Recording::has_too_many))]
 fn trim(done: &mut RangeSet, floor: u64) -> u64
     ensures done { done.new ≡ (if has_too_many done.old then set.difference done.old (numbers 0 (lowest_end done.old)) else done.old) }
@@ -40,7 +42,6 @@ fn trim(done: &mut RangeSet, floor: u64) -> u64
     end
 }
 
-// One more than the largest number of the lowest range.
 fn lowest_end(done: &RangeSet) -> u64
     ensures { result ≡ lowest_end done.now }
 {

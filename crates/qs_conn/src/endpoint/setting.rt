@@ -1,4 +1,5 @@
-//! What an owner sets anew while the connection lasts.
+//! What an application changes while the connection lasts. What the peer was given at first stays beside it: each sentence on first limits
+//! speaks of that.
 ghost use Rattle.std.specs.Prelude.{◌≡◌, true};
 ghost use Rattle.qs_machine.specs.Setting.{ConnWindow, Grant, SendBuffer, StreamWindow, SetStep, is_settable, no_half_to_set, with_setting};
 
@@ -52,7 +53,7 @@ impl Endpoint {
     /// [`Settings::send_buffer`]. A stream that opens later begins with the setting. No byte that is kept goes: where more are kept,
     /// writes accept none until enough of them are acknowledged. Of a half that was finished or reset it changes the number alone.
     ///
-    /// Refused, and then unchanged: `Closed`; `OutOfRange`; `NoSuchStream` or `WrongDirection` where the stream has no sending half.
+    /// Refused, and then unchanged: `Closed`; `OutOfRange`; `NoSuchStream` or `WrongDirection` if the stream has no sending half.
     #[tactic(auto, using(crate::proofs::Runs::idle_with))]
     pub fn set_send_buffer(&mut self, stream: StreamId, size: usize) -> Result<(), SetFault>
         ensures { SetStep self.old (SendBuffer stream size) result self.new }
@@ -77,8 +78,8 @@ impl Endpoint {
     /// and none moves once the final size is known. A stream that opens later begins with the window that the peer was told at first. In
     /// constant time, beside what any call looks at; it takes no memory.
     ///
-    /// Refused, and then unchanged: `Closed`; `OutOfRange` below 1 and above 2^30; `NoSuchStream` or `WrongDirection` where the stream
-    /// has no receiving half.
+    /// Refused, and then unchanged: `Closed`; `OutOfRange` below 1 and above 2^30; `NoSuchStream` or `WrongDirection` if the stream has no
+    /// receiving half.
     pub fn set_stream_window(&mut self, stream: StreamId, size: u64) -> Result<(), SetFault>
         ensures { SetStep self.old (StreamWindow stream size) result self.new }
     {
@@ -97,7 +98,6 @@ impl Endpoint {
         Ok(())
     }
 
-    // The window is in force.
     fn force_window(&mut self, window: u64)
         requires { is_settable (ConnWindow window) ≡ true }
         ensures { self.new ≡ with_setting (ConnWindow window) self.old }
@@ -107,7 +107,6 @@ impl Endpoint {
         self.is_settled = false;
     }
 
-    // The grant is in force.
     fn force_grant(&mut self, dir: Dir, streams: u64)
         requires { is_settable (Grant dir streams) ≡ true }
         ensures { self.new ≡ with_setting (Grant dir streams) self.old }

@@ -23,7 +23,7 @@ use qs_send::Item;
 use qs_wire::{Dir, StreamId};
 
 impl Endpoint {
-    // A frame takes effect, or finds no memory and changes nothing; of an ACK some packets may be acknowledged then.
+    // If it finds no memory it changes nothing, but that of an ACK some packets may be acknowledged then: each is let go by itself.
     #[tactic(auto, unfolding(qs_machine::specs::Verdicts::verdict, qs_machine::specs::FrameStep::frame_taken))]
     #[inline(always)]
     pub(super) fn on_frame<T: Told>(
@@ -71,7 +71,7 @@ impl Endpoint {
         }
     }
 
-    // The packets that an ACK names are acknowledged, also those that were declared lost (RFC 9000, sections 13.2.1 and 13.3).
+    // Also those that were declared lost: a late ACK shows that they arrived (RFC 9000, sections 13.2.1 and 13.3).
     fn on_ack<T: Told>(&mut self, largest: u64, ranges: &[u8], told: &mut T) -> Result<(), NoMemory>
         requires small { largest < 2 ^ 62 }
         requires above { taken (numbers_of ranges.now) ≤ largest + 1 }
@@ -85,7 +85,6 @@ impl Endpoint {
         taken
     }
 
-    // The peer allows so many bytes on all streams.
     fn on_max_data(&mut self, maximum: u64)
         requires { maximum ≤ MAX_VARINT }
         ensures { self.new ≡ item_taken (items.MaxData maximum) self.old }
@@ -93,7 +92,6 @@ impl Endpoint {
         self.core.limits.known_data = self.core.limits.known_data.max(maximum);
     }
 
-    // The peer allows so many streams of a direction.
     fn on_max_streams(&mut self, dir: Dir, count: u64)
         requires { count ≤ 2 ^ 60 }
         ensures { self.new ≡ item_taken (items.MaxStreams dir count) self.old }
@@ -102,7 +100,6 @@ impl Endpoint {
         known.set(dir, known.of(dir).max(count));
     }
 
-    // The peer allows the offsets of a stream below a limit.
     #[tactic(auto, using(crate::proofs::Runs::idle_with))]
     fn on_max_stream_data(&mut self, stream: StreamId, maximum: u64) -> Result<(), NoMemory>
         requires limit { maximum ≤ MAX_VARINT }
@@ -116,7 +113,7 @@ impl Endpoint {
         Ok(())
     }
 
-    // The peer reads a stream no more: that breaks it off, or its owner answers it.
+    // Either the half is reset at once, which no application can forget, or the application chose to answer.
     #[tactic(auto, using(crate::proofs::Runs::idle_with))]
     fn on_stop_sending(&mut self, stream: StreamId, code: u64) -> Result<(), NoMemory>
         requires fits { code ≤ MAX_VARINT }
@@ -132,7 +129,6 @@ impl Endpoint {
         Ok(())
     }
 
-    // The peer broke a stream off.
     fn on_reset_stream(&mut self, stream: StreamId, code: u64, size: u64) -> Result<(), NoMemory>
         requires in_range { size ≤ MAX_VARINT }
         requires passed { verdict self.old (Control (items.ResetStream stream code size)) ≡ None }
@@ -150,7 +146,8 @@ impl Endpoint {
         Ok(())
     }
 
-    // Bytes of a stream came. Mostly they move nothing but what came of it.
+    // Most frames are of a stream that is open and of which no end, reset or stop came. Such a frame is taken by its half alone: no limit
+    // is looked at as the call ends, and no stream counted anew.
     #[tactic(auto, unfolding(qs_machine::specs::FrameStep::frame_taken))]
     fn on_stream(
         &mut self,
@@ -172,7 +169,6 @@ impl Endpoint {
         self.on_any_stream(stream.id, offset, bytes, fin)
     }
 
-    // Whether a stream is open, and no end, reset or stop was told of it: a frame moves no limit then, and no count of streams.
     fn is_plain(&self, stream: Place) -> bool
         ensures { result ≡ true → IsPlain self.now stream }
     {
@@ -194,7 +190,7 @@ impl Endpoint {
         stream.index < self.core.outbox.count_of(stream.stream_type)
     }
 
-    // Bytes of a stream came, which they may open.
+    // The longer way: it may open streams, and end one.
     #[tactic(auto, unfolding(qs_machine::specs::FrameStep::frame_taken))]
     fn on_any_stream(
         &mut self,

@@ -1,4 +1,4 @@
-//! An end is told that the connection closed.
+//! A close that the endpoint didn't see is noted. Otherwise streams would go on as if the connection were open.
 ghost use Rattle.std.specs.Prelude.{◌≡◌};
 ghost use Rattle.qs_machine.specs.Receiving.{told_closed};
 

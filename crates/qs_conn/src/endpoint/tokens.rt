@@ -1,4 +1,4 @@
-//! Packets are told by their tokens.
+//! Packets named by tokens.
 ghost use Rattle.std.specs.Prelude.{◌≡◌, ◌+◌, ◌-◌, ◌^◌, ◌<◌, true, None, OnOk, OnErr};
 ghost use Rattle.qs_machine.specs.Alone.{TokenAckedStep, TokenLostStep, LosesEach, LosesOne, token_of, gave, token_refusal, only};
 ghost use Rattle.qs_machine.specs.FrameStep.{frame_taken};
@@ -9,7 +9,7 @@ use qs_calls::{LostFault, Token, TokenFault};
 use qs_ranges::NoMemory;
 
 impl Endpoint {
-    /// The token of the packet of a number: that of a packet which was made (`Made`), where the layer beneath tells its packets by tokens.
+    /// The token of the packet of a number: that of a packet which was made (`Made`), if the stack reports all packets by tokens.
     pub fn token_of(&self, number: u64) -> Token
         ensures { result ≡ token_of self.now number }
     {
@@ -20,12 +20,12 @@ impl Endpoint {
         }
     }
 
-    /// The peer acknowledged the packet of a token: what an ACK of that packet alone does, in time or after it was declared lost (RFC
-    /// 9000, section 13.3). Call it only where the peer did so. Of a packet that is done it changes nothing. Of a token that was joined it
-    /// is the ACK of all that it names; it takes a turn for each number.
+    /// The peer acknowledged the packet of a token: what an ACK of that packet alone does, in time or after it was declared lost (RFC 9000,
+    /// section 13.3), so that nothing is defined twice. Call it only if the peer did so. For a packet that is done it changes nothing. For
+    /// a token that was joined it is the ACK of all that it names; it takes a turn for each number.
     ///
-    /// Refused: `Closed`; `NotGiven` where not all of its packets were made yet, or the token is of another epoch; and `NoMemory` where
-    /// memory was refused. Then some of the packet's first pieces may be acknowledged already, and the call may be made again.
+    /// Refused: `Closed`; `NotGiven` if not all of its packets were made yet, or the token is of another epoch; and `NoMemory`. Then some
+    /// of the packet's first pieces may be acknowledged already, and the call may be made again.
     ///
     /// ```text
     /// for token in acknowledged { end.acked(token)?; }
@@ -45,12 +45,12 @@ impl Endpoint {
         }
     }
 
-    /// The packet of a token is declared lost, as `declare_lost` does: what it carried and is still of use is due again, and a late
-    /// `acked` still counts (RFC 9000, section 13.3). Of a packet that is done it changes nothing. Of a token that was joined each of the
-    /// packets is lost, from the highest number down.
+    /// The packet of a token is declared lost, as `declare_lost` does: what it carried is due again as far as it is still needed, and a
+    /// late `acked` still counts (RFC 9000, section 13.3). For a packet that is done it changes nothing, so a stack needn't remember which
+    /// are. Of a token that was joined each of the packets is lost, from the highest number down.
     ///
-    /// Refused: `Closed`; `NotGiven` where not all of its packets were made yet, or the token is of another epoch; and `NoMemory` where
-    /// memory was refused. Then some pieces may be lost already, and the call may be made again.
+    /// Refused: `Closed`; `NotGiven` if not all of its packets were made yet, or the token is of another epoch; and `NoMemory`. Then some
+    /// pieces may be lost already, and the call may be made again.
     #[tactic(auto, using(crate::proofs::Alones::lost_refused, crate::proofs::Alones::lost_told))]
     pub fn lost(&mut self, token: Token) -> Result<(), TokenFault>
         ensures { TokenLostStep self.old token result self.new }
@@ -61,7 +61,7 @@ impl Endpoint {
         self.lose_each(token.first, token.number + 1)
     }
 
-    // The packets from one number on and below another are lost, from the highest number down.
+    // From the highest down, as an ACK goes, so that after a refusal the rest is the lower part.
     #[tactic(auto, using(crate::proofs::Alones::each_end, crate::proofs::Alones::each_more, crate::proofs::Alones::each_stop))]
     fn lose_each(&mut self, first: u64, end: u64) -> Result<(), TokenFault>
         ensures { LosesEach (end - first) first self.old result self.new }
@@ -74,7 +74,6 @@ impl Endpoint {
         Ok(())
     }
 
-    // A packet is lost, or nothing changes where it is done.
     #[tactic(auto, using(crate::proofs::Alones::one_lost))]
     fn lose_one(&mut self, number: u64) -> Result<(), TokenFault>
         ensures { LosesOne number self.old result self.new }
@@ -87,7 +86,6 @@ impl Endpoint {
         }
     }
 
-    // Why nothing is told of a token.
     fn token_refusal(&self, token: Token) -> Option<TokenFault>
         ensures refusal { result ≡ token_refusal self.now token }
         ensures small { result ≡ None → token.number + 1 < 2 ^ 64 }
@@ -101,7 +99,6 @@ impl Endpoint {
         None
     }
 
-    // Whether this end made the packets of a token.
     fn gave(&self, token: Token) -> bool
         ensures exact { result ≡ gave self.now token }
         ensures small { result ≡ true → token.number + 1 < 2 ^ 64 }
@@ -112,7 +109,6 @@ impl Endpoint {
             && token.number < self.core.outbox.next()
     }
 
-    // The packets of a token are acknowledged, as by an ACK of them alone.
     fn ack_only(&mut self, token: Token) -> Result<(), NoMemory>
         requires { token.number + 1 < 2 ^ 64 }
         ensures ok { OnOk result (self.new ≡ frame_taken (only token) self.old) }

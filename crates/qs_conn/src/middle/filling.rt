@@ -28,8 +28,7 @@ use qs_ranges::RangeSet;
 use qs_wire::{Dir, StreamId};
 
 impl Core {
-    /// Fills a packet from its first byte on with what is asked for, and answers how far it is: the ACK, control items, and the
-    /// bytes of streams (RFC 9000, sections 4, 13.2 and 13.3).
+    /// From the first byte on, with what is asked for: the ACK, control frames, and data (RFC 9000, sections 4, 13.2 and 13.3).
     pub(crate) fn fill(&mut self, done: &RangeSet, wish: &Wish, out: &mut [u8]) -> Course
         requires filling { IsFilling self.old out.old 0 }
         requires memory { HasMemory self.old (length out.old) 0 6 }
@@ -51,8 +50,8 @@ impl Core {
         self.put_streams(wish, out, packet)
     }
 
-    /// How many pieces a packet of that many bytes holds at most: each takes two or more, and where nothing of a stream is due there are
-    /// the connection's own items alone.
+    /// Each takes two bytes or more; and if nothing of a stream is due, there are the connection's own items alone, so that little memory
+    /// is asked for.
     pub(crate) fn most_pieces(&self, room: usize) -> usize
         requires { IsCore self.now }
         ensures { HoldsAtMost self.now room result }
@@ -60,7 +59,7 @@ impl Core {
         if self.is_still() { OWN_ITEMS } else { room / 2 }
     }
 
-    // Whether nothing of a stream is due. It looks at how many marks there are, and at no half.
+    // It looks at how many marks there are, and at no half.
     fn is_still(&self) -> bool
         requires { IsCore self.now }
         ensures { result ≡ true → IsStill self.now }
@@ -74,7 +73,6 @@ impl Core {
         !self.untold_recvs.may_have()
     }
 
-    // Puts the control items into the packet that are due, if they are asked for.
     #[tactic(auto, using(crate::proofs::Cores::fills_same))]
     fn put_items(&mut self, wish: &Wish, out: &mut [u8], packet: Packet) -> Packet
         requires filling { IsFilling self.old out.old packet.len }
@@ -100,7 +98,7 @@ impl Core {
         self.put_own_slot(Slot::StreamsBlocked(Dir::Uni), out, packet)
     }
 
-    // Puts the items of a kind into the packet that are due. Mostly a look at how many marks there are tells that none is.
+    // Mostly a look at how many marks there are shows that none is due.
     #[tactic(auto, using(crate::proofs::Cores::fills_same))]
     #[inline(always)]
     fn put_kind(&mut self, kind: Kind, out: &mut [u8], packet: Packet) -> Packet
@@ -117,8 +115,7 @@ impl Core {
         packet
     }
 
-    // The same by a search, lower stream numbers first. It stands apart, so that where no stream has a mark a caller pays for the look above
-    // alone.
+    // Apart, so that a caller pays for the look above alone if no stream has a mark. Lower stream numbers first.
     #[tactic(auto, using(crate::proofs::Cores::fills_same))]
     #[inline(never)]
     fn put_marked(&mut self, kind: Kind, out: &mut [u8], packet: Packet) -> Packet
@@ -145,7 +142,6 @@ impl Core {
         packet
     }
 
-    /// Whether a stream may have an item of a kind. It looks at how many marks there are.
     #[inline(always)]
     pub(super) fn may_tell(&self, kind: Kind) -> bool
         requires { IsCore self.now }
@@ -157,7 +153,6 @@ impl Core {
         }
     }
 
-    /// The least number from one on of a stream that may have an item of a kind. Of the streams between none is due.
     pub(super) fn next_untold(&self, kind: Kind, from: u64) -> Option<StreamId>
         requires core { IsCore self.now }
         requires from { from ≤ 2 ^ 62 }
@@ -170,7 +165,7 @@ impl Core {
         }
     }
 
-    // Puts the item of a slot of the connection into the packet, if it is due. Mostly a look at two numbers tells that none is.
+    // Mostly a look at two numbers shows that none is due.
     #[tactic(auto, using(crate::proofs::Cores::fills_same))]
     #[inline(always)]
     fn put_own_slot(&mut self, slot: Slot, out: &mut [u8], packet: Packet) -> Packet
@@ -187,7 +182,6 @@ impl Core {
         self.put_slot(slot, out, packet)
     }
 
-    // Puts the item of a slot into the packet, if it is due.
     #[tactic(auto, using(crate::proofs::Cores::fills_same))]
     fn put_slot(&mut self, slot: Slot, out: &mut [u8], packet: Packet) -> Packet
         requires filling { IsFilling self.old out.old packet.len }
@@ -211,8 +205,7 @@ impl Core {
         packet
     }
 
-    // Puts the bytes of the streams into the packet that are asked for: of one alone, or of those from it on before the others and lower
-    // numbers first, as far as the limits and the room allow.
+    // From the stream that the caller names on and then around, so that it can go by turns.
     #[tactic(auto, using(crate::proofs::Cores::fills_same))]
     fn put_streams(&mut self, wish: &Wish, out: &mut [u8], packet: Packet) -> Course
         requires filling { IsFilling self.old out.old packet.len }
@@ -234,14 +227,13 @@ impl Core {
             return self.put_open(wish.want.first, out, packet);
         }
         let packet = self.put_way(wish.want.first, false, out, packet);
-        // Below the least stream there is no other.
+        // Below the lowest stream there is no other.
         if wish.want.first.value() == 0 {
             return packet;
         }
         self.put_way(wish.want.first, true, out, packet)
     }
 
-    // Puts the bytes of the streams of a way into the packet, lower numbers first, as far as the limits and the room allow.
     #[tactic(auto, using(crate::proofs::Cores::fills_same))]
     fn put_way(&mut self, first: StreamId, around: bool, out: &mut [u8], packet: Course) -> Course
         requires filling { IsFilling self.old out.old packet.len }
@@ -269,8 +261,8 @@ impl Core {
         packet
     }
 
-    /// The least number from one on of a stream of which something may go. Of the streams between nothing does. While the connection's
-    /// credit is used up, bytes that weren't sent before don't (RFC 9000, section 4.1).
+    /// While the connection's credit is used up, only bytes that were sent before may go (RFC 9000, section 4.1): streams with new ones are
+    /// passed over by their marks.
     #[inline(always)]
     pub(super) fn next_going(&self, from: u64) -> Option<StreamId>
         requires core { IsCore self.now }
@@ -285,7 +277,6 @@ impl Core {
         self.outbox.next_marked(Task::Again, from)
     }
 
-    // Puts chunks of a stream into the packet, if it is one that can send.
     #[tactic(auto, using(crate::proofs::Cores::fills_same))]
     #[inline(always)]
     fn put_open(&mut self, stream: StreamId, out: &mut [u8], packet: Course) -> Course
@@ -302,7 +293,7 @@ impl Core {
         packet
     }
 
-    // Puts chunks of a stream into the packet, one for each run of due offsets, as far as the limits, the room and the cap allow.
+    // One for each run of due offsets: a chunk is a run, and what lies between was acknowledged or is in flight.
     #[tactic(auto, using(crate::proofs::Cores::fills_same))]
     fn put_chunks(&mut self, stream: StreamId, out: &mut [u8], packet: Course) -> Course
         requires filling { IsFilling self.old out.old packet.len }
@@ -354,7 +345,7 @@ impl Core {
     }
 }
 
-// A sending half of which a chunk went is marked where it stands at its limit with more written, unless it is known that it doesn't.
+// Unless the chunk itself showed that no limit holds the stream back.
 #[inline(always)]
 fn look_unless_free(marks: &mut Untold, outbox: &Outbox, stream: StreamId, is_free: bool)
     requires { is_free ≡ true → (m : ℕ) → IsBlockedAt (lookup outbox.now.sends stream) m → ⊥ }
@@ -366,7 +357,6 @@ fn look_unless_free(marks: &mut Untold, outbox: &Outbox, stream: StreamId, is_fr
     }
 }
 
-// Where the way begins: at `first`, or, on the way around, at the least stream.
 #[inline(always)]
 fn way_start(around: bool, first: StreamId) -> u64
     ensures value { result ≡ start_of around first }
@@ -375,7 +365,6 @@ fn way_start(around: bool, first: StreamId) -> u64
     if around { 0 } else { first.value() }
 }
 
-// Whether a stream is one of the way: from `first` on, or, on the way around, below it.
 #[inline(always)]
 fn is_on_way(around: bool, first: StreamId, stream: StreamId) -> bool
     ensures { IsTrue result ↔ IsOnWay around first stream }

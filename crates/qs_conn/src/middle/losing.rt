@@ -8,7 +8,6 @@ use crate::untold::look_again;
 use qs_ranges::NoMemory;
 
 impl Core {
-    /// The pieces of a packet are lost, and the packet is outstanding no more (RFC 9000, section 13.3).
     pub(crate) fn lose(&mut self, number: u64) -> Result<(), NoMemory>
         requires rest { IsAtRest self.old }
         ensures rest { IsAtRest self.new }
@@ -21,7 +20,7 @@ impl Core {
         result
     }
 
-    // The pieces of a packet are lost, from the first on.
+    // One by one, so that after a refusal each piece is either lost or outstanding.
     #[tactic(auto, using(crate::proofs::Runs::loses_end, crate::proofs::Runs::loses_less))]
     fn lose_pieces(&mut self, number: u64) -> Result<(), NoMemory>
         requires rest { IsAtRest self.old }

@@ -1,4 +1,4 @@
-//! Whether anything is due that may go.
+//! Whether anything is due that may go. By marks and counts, since it is asked before each packet.
 ghost use Rattle.qs_machine.specs.Ends.{End};
 ghost use Rattle.qs_machine.specs.Filling.{still_asked};
 ghost use Rattle.qs_conn.specs.Middle.{IsCore, end_of};
@@ -11,7 +11,6 @@ use qs_calls::Fill;
 use qs_wire::{Dir, StreamId};
 
 impl Core {
-    /// Whether a control item is due, or bytes of a stream or its end may go (RFC 9000, sections 3.1, 3.3 and 4.1).
     pub(crate) fn has_frame(&self) -> bool
         requires { IsCore self.now }
         ensures { (e : End) → TellsFrame result (end_of self.now e) }
@@ -22,8 +21,7 @@ impl Core {
         self.has_item()
     }
 
-    /// Whether of what is asked for a control item is due, or bytes of a stream or its end may go (RFC 9000, sections 3.1, 3.3 and 4.1). With
-    /// no byte left of the cap no stream is asked for. The stream that sent last is asked before others are looked for.
+    /// With no byte left of the cap no stream is asked. The stream that sent last is asked before others are searched: it mostly has more.
     pub(crate) fn has_wanted(&self, want: &Fill, left: usize, last: Option<StreamId>) -> bool
         requires { IsCore self.now }
         ensures { (e : End) → TellsWanted (still_asked want.now left) result (end_of self.now e) }
@@ -31,14 +29,13 @@ impl Core {
         if left == 0 {
             return self.has_wanted_item(want);
         }
-        // Where there is more, it is mostly bytes.
+        // If there is more, it is mostly data.
         if self.has_wanted_stream(want, last) {
             return true;
         }
         self.has_wanted_item(want)
     }
 
-    // A control item is due, and items are asked for.
     fn has_wanted_item(&self, want: &Fill) -> bool
         requires { IsCore self.now }
         ensures { (e : End) → TellsItem want.now result (end_of self.now e) }
@@ -49,7 +46,6 @@ impl Core {
         false
     }
 
-    // Bytes of a stream that is asked for may go, or its end.
     fn has_wanted_stream(&self, want: &Fill, last: Option<StreamId>) -> bool
         requires { IsCore self.now }
         ensures { (e : End) → TellsStream want.now result (end_of self.now e) }
@@ -68,7 +64,6 @@ impl Core {
         self.has_stream()
     }
 
-    // A control item is due.
     fn has_item(&self) -> bool
         requires { IsCore self.now }
         ensures { (e : End) → TellsDue result (end_of self.now e) all_items }
@@ -85,7 +80,7 @@ impl Core {
         self.has_own_slot(Slot::StreamsBlocked(Dir::Uni), found)
     }
 
-    // An item of a kind is due, or one was found before. Mostly a look at how many marks there are tells that none is.
+    // Mostly a look at how many marks there are shows that none is due.
     #[inline(always)]
     fn has_kind(&self, kind: Kind, is_found: bool) -> bool
         requires { IsCore self.now }
@@ -97,7 +92,6 @@ impl Core {
         is_found
     }
 
-    // The same by a search.
     #[inline(never)]
     fn has_marked(&self, kind: Kind, is_found: bool) -> bool
         requires { IsCore self.now }
@@ -115,7 +109,7 @@ impl Core {
         is_found
     }
 
-    // The item of a slot of the connection is due, or one was found before. Mostly a look at two numbers tells that none is.
+    // Mostly a look at two numbers shows that none is due.
     #[inline(always)]
     fn has_own_slot(&self, slot: Slot, is_found: bool) -> bool
         requires { IsCore self.now }
@@ -130,7 +124,6 @@ impl Core {
         self.has_slot(slot, false)
     }
 
-    // The item of a slot is due, or one was found before.
     fn has_slot(&self, slot: Slot, is_found: bool) -> bool
         requires { IsCore self.now }
         ensures { (e : End) (passed : Passed) → TellsDue is_found (end_of self.now e) passed → TellsDue result (end_of self.now e) (and_slot passed slot) }
@@ -144,7 +137,6 @@ impl Core {
         !self.has_covered(&item)
     }
 
-    // Bytes of some stream may go, or its end.
     fn has_stream(&self) -> bool
         requires { IsCore self.now }
         ensures { (e : End) → TellsAnyGoing result (end_of self.now e) }
@@ -159,7 +151,6 @@ impl Core {
         false
     }
 
-    // Bytes of a stream may go, or its end.
     fn has_bytes(&self, stream: StreamId) -> bool
         requires { IsCore self.now }
         ensures { (e : End) → TellsGoing result (end_of self.now e) stream }

@@ -11,9 +11,8 @@ use crate::parts::Chunk;
 use qs_wire::varint_len;
 
 impl SendHalf {
-    /// The longest chunk from the lowest due offset on whose STREAM frame takes at most `room` bytes, with
-    /// `fresh` bytes of connection credit left for bytes that were never sent. It carries the end where
-    /// the end is due and it reaches the last written byte. `None` where no chunk may go.
+    /// The longest chunk from the lowest due offset on whose STREAM frame takes at most `room` bytes, with `fresh` bytes of connection
+    /// credit left for new bytes. It carries the FIN if that is due and it reaches the last written byte. `None` if no chunk may go.
     pub fn next_chunk(&self, room: usize, fresh: u64) -> Option<Chunk>
         ensures found { IfSome result (IsNextChunk self.now room fresh) }
         ensures none { IfNone result (HasNoChunk self.now room fresh) }
@@ -45,8 +44,8 @@ impl SendHalf {
         })
     }
 
-    /// Whether the room alone holds a chunk back: one that is due, below the stream's limit and within the
-    /// credit, and whose frame is longer than `room`.
+    /// Whether the room alone holds a chunk back: one is due, below the stream's limit and within the credit, and its frame is longer than
+    /// `room`. Then a packet is full; else no room would be enough, and the next stream may have a turn.
     pub fn is_held_by_room(&self, room: usize, fresh: u64) -> bool
         ensures { IsTrue result ↔ IsHeldByRoom self.now room fresh }
     {
@@ -57,7 +56,6 @@ impl SendHalf {
         }
     }
 
-    /// The lowest due offset.
     #[inline(always)]
     pub fn lowest_due(&self) -> Option<u64>
         ensures found { IfSome result (IsLeastFrom self.now.due.offsets 0) }
@@ -67,7 +65,7 @@ impl SendHalf {
         Some(offset)
     }
 
-    /// Whether bytes that were never sent may go by the half's own limit.
+    /// Whether new bytes may go by the half's own limit.
     pub fn has_unsent(&self) -> bool
         ensures { result ≡ has_unsent self.now.lane }
     {
@@ -83,7 +81,7 @@ impl SendHalf {
         self.fin_noted && !self.fin_acked
     }
 
-    /// The bytes of a chunk that is still in the buffer: a front, and where they go around the buffer's end, a back.
+    /// The bytes of a chunk that is still in the buffer, in two pieces if they go around the ring's end.
     pub fn bytes(&self, chunk: Chunk) -> (&[u8], &[u8])
         requires { HasBytes self.now.lane chunk }
         ensures bytes { result.0.now ++ result.1.now ≡ bytes_of self.now.lane chunk }
@@ -94,7 +92,7 @@ impl SendHalf {
             .part((chunk.offset - first) as usize, chunk.len)
     }
 
-    /// Writes the bytes of a chunk that is still in the buffer into the slice.
+    /// Copies the bytes of a chunk that is still in the buffer.
     pub fn copy(&self, chunk: Chunk, into: &mut [u8])
         requires kept { HasBytes self.now.lane chunk }
         requires fits { length into.old ≡ chunk.len }
@@ -126,7 +124,7 @@ impl SendHalf {
             && (!chunk.fin || self.fin_sent)
     }
 
-    // A frame without bytes, where no byte is due.
+    // A FIN alone: no byte is due that could carry it.
     #[tactic(auto, using(crate::proofs::Keeps::due_has_bytes))]
     fn end_chunk(&self, room: usize) -> Option<Chunk>
         requires { EndsBefore self.now.due.offsets 0 }
@@ -149,7 +147,6 @@ impl SendHalf {
         })
     }
 
-    // The length of a frame's type, stream and offset.
     fn head_len(&self, offset: u64) -> usize
         requires { offset ≤ MAX_VARINT }
         ensures exact { result ≡ 1 + short_len self.now.lane.id + offset_len offset }

@@ -1,4 +1,4 @@
-//! A half that is over, as few bytes.
+//! A half that is over, as a few bytes.
 ghost use Rattle.std.specs.Prelude.{◌≡◌, ◌/◌, ◌%◌, ◌==◌, IfSome};
 ghost use Rattle.qs_send.specs.Halves.{over_sending, IsOverSlot};
 
@@ -15,14 +15,13 @@ impl SendHalf {
         self.fin_acked
     }
 
-    /// How many streams of its type have a lower number.
     pub(crate) fn index(&self) -> u64
         ensures { result ≡ self.now.lane.id / 4 }
     {
         self.id.value() / 4
     }
 
-    /// The slot of a half of that number that is over: all of it was acknowledged, and neither a reset nor a STOP_SENDING came.
+    /// Only if it was neither reset nor stopped: the codes wouldn't fit a slot.
     pub(crate) fn over(&self, number: u64) -> Option<SendSlot>
         ensures { IfSome result (λ slot. IsOverSlot slot self.now.lane.written × (self.now ≡ over_sending number self.now.lane.written (slot.rest / 2) (slot.rest % 2 == 1) slot.buffer slot.widest)) }
     {

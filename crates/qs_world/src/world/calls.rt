@@ -1,4 +1,4 @@
-//! What an end's owner does.
+//! What an application does.
 ghost use Rattle.std.specs.Prelude.{◌≡◌, ◌≤◌, ◌<◌, ◌^◌, length, false, true};
 ghost use Rattle.qs_calls.specs.Events.{act_fits};
 ghost use Rattle.qs_calls.specs.declared.event.Act.TheVariants.{ReadUpTo, Make};
@@ -10,7 +10,7 @@ use qs_conn::{Endpoint, Made, MakeFault, UseFault};
 use qs_recv::Read;
 use qs_wire::StreamId;
 
-/// The most bytes with which the act is answered.
+/// Taken before the call, so that its answer can always be kept.
 pub(crate) fn room_of(act: &Act) -> usize
     ensures { result ≡ room_of act.now }
 {
@@ -21,7 +21,7 @@ pub(crate) fn room_of(act: &Act) -> usize
     }
 }
 
-/// The owner's call, answered with the buffer's front where it answers bytes.
+/// The buffer becomes the answer's bytes, so that a read copies once.
 pub(crate) fn own_call(end: &mut Endpoint, act: &Act, buffer: Vec<u8>) -> Answer
     requires own { is_delivery act.now ≡ false }
     requires fits { act_fits act.now ≡ true }

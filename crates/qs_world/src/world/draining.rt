@@ -1,4 +1,4 @@
-//! Plain rounds lead two ends to rest.
+//! Plain rounds, until nothing is left to do.
 ghost use Rattle.std.specs.Prelude.{◌≡◌, ◌+◌, ◌<◌, ◌≤◌, true, None, IfSome, IfNone, MatchBool};
 ghost use Rattle.qs_machine.specs.News.{IsLeast, IsReadable};
 ghost use Rattle.qs_calls.specs.Events.{fits};
@@ -14,34 +14,29 @@ use qs_calls::{Act, Answer, Event, MAX_VARINT, Side};
 use qs_conn::Endpoint;
 use qs_wire::StreamId;
 
-/// The room of a packet that is made in a plain round, in bytes.
 const ROOM: usize = 1200;
 
-/// The most bytes that a read of a plain round asks for.
 const SIZE: usize = 1024;
 
 /// What plain rounds came to.
 #[derive(Clone, Copy, Debug, PartialEq, Eq, Drop)]
 pub enum Drained {
-    /// Both ends are at rest: nothing but an ACK may go out of them, no packet is outstanding, and no stream has news for its reader.
+    /// Both are at rest: nothing but an ACK may go out, no packet is outstanding, and no stream has news for its reader.
     AtRest,
-    /// As many events happened as were allowed, and the ends aren't at rest.
+    /// As many events happened as were allowed, and not both are at rest. A bound, since a call may be refused memory for ever.
     UsedUp,
 }
 
-/// Whose turn it is in a round, and for what.
 #[derive(Clone, Copy, Drop)]
 pub enum Turn {
-    /// All that is outstanding is declared lost.
     Lose(Side),
-    /// Packets are made until none is made, and each is delivered at once.
+    /// Each is delivered at once, so none is lost in a round.
     Make(Side),
-    /// Each stream is read until there is nothing new.
     Read(Side),
 }
 
 impl Turn {
-    /// The turn that follows. A round has six, and begins with A's losses.
+    /// A round has six, and begins with A's losses: what was under way goes out again.
     fn after(self) -> Turn
         ensures next { result ≡ next_turn self }
         ensures nearer { 0 < turns_to_make self → turns_to_make result + 1 ≡ turns_to_make self }
@@ -65,7 +60,7 @@ impl World {
     /// At rest all is done: what was written was read, unless its stream was reset or stopped, all credit is back, and resets and stops
     /// have come to their end.
     ///
-    /// Refused: `NoMemory` where the log found none. What happened until then stays.
+    /// Refused: `NoMemory` if the log found none. What happened until then stays.
     pub fn drain(&mut self, most: u64) -> Result<Drained, PlayFault>
         ensures drained { DrainStep self.old most result self.new }
         ensures agrees { HasAgreed self.new }
@@ -99,7 +94,6 @@ impl World {
         is_idle(&self.a) && is_idle(&self.b)
     }
 
-    // The next event of a turn.
     fn next_event(&self, turn: Turn) -> Option<Event>
         ensures plain { IfSome result (λ event. IsOf turn self.now event × (fits event ≡ true) × (IsMissing self.now.log event → ⊥)) }
         ensures over { IfNone result (IsOver turn self.now.ends) }
@@ -124,7 +118,6 @@ impl World {
         }
     }
 
-    // The packet that was just made is delivered, or else one is made.
     fn next_making(&self, end: Side) -> Event
         ensures plain { IsOf (Make end) self.now result }
         ensures fits { fits result ≡ true }
@@ -155,7 +148,6 @@ impl World {
         }
     }
 
-    // The packet of that end that the newest event made.
     fn just_made(&self, end: Side) -> Option<u64>
         ensures value { result ≡ just_made end self.now.log }
         ensures agrees { HasAgreed self.now }
@@ -170,7 +162,6 @@ impl World {
         }
     }
 
-    // Whether the newest event was to make a packet, and made none.
     fn has_made_none(&self) -> bool
         ensures { result ≡ last_makes_none self.now.log }
     {
@@ -191,7 +182,6 @@ impl World {
     }
 }
 
-// The number of the packet that an answer tells of.
 fn number_made(answer: &Answer) -> Option<u64>
     ensures { result ≡ number_made answer.now }
 {
@@ -214,7 +204,6 @@ fn is_idle(end: &Endpoint) -> bool
     }
 }
 
-// Whether no stream has news for its reader.
 fn has_no_news(end: &Endpoint) -> bool
     ensures { MatchBool result (IsLeast (IsReadable end.now) 0 None) (IsLeast (IsReadable end.now) 0 None → ⊥) }
 {
@@ -224,7 +213,6 @@ fn has_no_news(end: &Endpoint) -> bool
     }
 }
 
-// The least stream that has news for its reader.
 fn next_news(end: &Endpoint) -> Option<StreamId>
     ensures { IsLeast (IsReadable end.now) 0 result }
 {

@@ -1,4 +1,4 @@
-//! One event happens to two ends.
+//! One event happens to two endpoints.
 ghost use Rattle.std.specs.Prelude.{◌≡◌, ◌≤◌, ◌<◌, ◌^◌, List, ℕ, length, true, None, Some, IfOk, MatchBool};
 ghost use Rattle.qs_machine.specs.Receiving.{ReceiveStep};
 ghost use Rattle.qs_world.specs.Buffers.{room_of};
@@ -13,7 +13,6 @@ use qs_calls::{Act, Answer, Event, Side};
 use qs_conn::{Closing, Endpoint, Received};
 use std::alloc::{AllocError, Global};
 
-/// Whether the event delivers a packet that its end hasn't made.
 pub(crate) fn is_missing(log: &Log, event: &Event) -> bool
     ensures { MatchBool result (IsMissing log.now.history event.now) (IsMissing log.now.history event.now → ⊥) }
 {
@@ -23,14 +22,13 @@ pub(crate) fn is_missing(log: &Log, event: &Event) -> bool
     }
 }
 
-/// A buffer of that many bytes.
+/// Taken before anything happens, so that a refusal leaves the world as it was.
 pub(crate) fn buffer_of(alloc: Global, size: usize) -> Result<Vec<u8>, AllocError>
     ensures { IfOk result (λ buffer. length buffer.items ≡ size) }
 {
     vec![in alloc; 0; size]
 }
 
-/// One event happens, and is answered with the buffer's front where it is answered with bytes.
 pub(crate) fn happen(
     log: &Log,
     a: &mut Endpoint,
@@ -50,7 +48,6 @@ pub(crate) fn happen(
     }
 }
 
-// The same, where the event is one of that side.
 #[tactic(auto, using(crate::proofs::Sides::delivered, crate::proofs::Sides::owner_did))]
 fn happen_at(
     log: &Log,
@@ -72,7 +69,6 @@ fn happen_at(
     }
 }
 
-// The payload that one end made under that number comes to the other.
 fn deliver(log: &Log, from: Side, to: &mut Endpoint, number: u64) -> Result<Received, Closing>
     requires there { payload from number (happened log.now.history) ≡ None → ⊥ }
     requires small { number < 2 ^ 62 }

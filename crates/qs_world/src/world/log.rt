@@ -8,7 +8,7 @@ use qs_calls::{Act, Answer, Event, Side};
 use std::alloc::{AllocError, Global};
 use std::marker::Model;
 
-/// What happened, in order, and the places of the payloads that each end made.
+/// The places of payloads are kept beside, so that a payload stands in memory once and is found in constant time.
 ///
 /// Contracts see the log, the newest first, and whether there is room for one event more.
 #[derive(Drop)]
@@ -40,7 +40,6 @@ impl Model for Log {
 }
 
 impl Log {
-    /// Nothing has happened. It takes no memory.
     pub(crate) fn new(alloc: Global) -> Log
         ensures { result.history ≡ [] }
     {
@@ -51,7 +50,6 @@ impl Log {
         }
     }
 
-    /// How many events happened.
     pub(crate) fn len(&self) -> usize
         ensures value { result ≡ length self.now.history }
         ensures small { result < 2 ^ 63 }
@@ -59,7 +57,6 @@ impl Log {
         self.entries.len()
     }
 
-    /// How many packets an end has made.
     #[tactic(auto, using(crate::proofs::Places::places_count))]
     pub(crate) fn made(&self, end: Side) -> u64
         ensures { result ≡ length (made end (happened self.now.history)) }
@@ -67,7 +64,6 @@ impl Log {
         self.places(end).len() as u64
     }
 
-    /// The payload of a packet that the end made.
     pub(crate) fn payload(&self, end: Side, number: u64) -> Option<&[u8]>
         ensures found { IfSome result (λ text. payload end number (happened self.now.history) ≡ Some text.now) }
         ensures none { IfNone result (payload end number (happened self.now.history) ≡ None) }
@@ -78,7 +74,6 @@ impl Log {
         text_of(&self.entries[place].1)
     }
 
-    // Where the payload stands.
     #[tactic(auto, using(crate::proofs::Places::is_place_of, crate::proofs::Places::no_place_of))]
     fn place(&self, end: Side, number: u64) -> Option<usize>
         ensures found { IfSome result (IsPlaceOf end number self.now.history) }
@@ -87,7 +82,6 @@ impl Log {
         nth(self.places(end), number)
     }
 
-    // Where the payloads stand that the end made.
     fn places(&self, end: Side) -> &[usize]
         ensures { ArePlaces (reverse self.now.history) result.now (made end (happened self.now.history)) }
     {
@@ -97,7 +91,7 @@ impl Log {
         }
     }
 
-    /// Makes room for one event more, which stays until the next `push`.
+    /// It stays until the next `push`, so that what happened is always logged.
     pub(crate) fn make_room(&mut self) -> Result<(), AllocError>
         ensures same { self.new.history ≡ self.old.history }
         ensures ok { OnOk result (self.new.ready ≡ true) }
@@ -108,7 +102,7 @@ impl Log {
         Ok(())
     }
 
-    /// One event happened, and was answered. It takes no memory.
+    /// It takes no memory: `make_room` did.
     pub(crate) fn push(&mut self, event: Event, answer: Answer)
         requires { self.old.ready ≡ true }
         ensures { self.new.history ≡ (event, answer) ∷ self.old.history }
@@ -121,14 +115,12 @@ impl Log {
         add(&mut self.entries, event, answer);
     }
 
-    /// What happened, in order.
     pub(crate) fn entries(&self) -> &[(Event, Answer)]
         ensures { result.now ≡ reverse self.now.history }
     {
         &self.entries
     }
 
-    /// The same, handed out.
     pub(crate) fn into_entries(self) -> Vec<(Event, Answer)>
         ensures { result.items ≡ reverse self.history }
     {
@@ -136,21 +128,19 @@ impl Log {
     }
 }
 
-// The number at a place.
 fn nth(numbers: &[usize], place: u64) -> Option<usize>
     ensures { result ≡ slice_get numbers.now place }
 {
     numbers.get(place as usize).copied()
 }
 
-// What the layer beneath sends under a number that it claimed: a PING.
+// Under a claimed number the transport sends a packet of its own: a PING.
 fn ping_text() -> &'static [u8]
     ensures { result.now ≡ ping_text }
 {
     b"\x01"
 }
 
-// The payload of the packet with whose number a call was answered.
 fn text_of(answer: &Answer) -> Option<&[u8]>
     ensures found { IfSome result (λ text. text_of answer.now ≡ Some text.now) }
     ensures none { IfNone result (text_of answer.now ≡ None) }
@@ -162,7 +152,6 @@ fn text_of(answer: &Answer) -> Option<&[u8]>
     }
 }
 
-// Whether the event made a packet of that end, or claimed a number for one.
 fn makes(end: Side, event: &Event, answer: &Answer) -> bool
     ensures { result ≡ makes end event.now answer.now }
 {
@@ -173,7 +162,6 @@ fn makes(end: Side, event: &Event, answer: &Answer) -> bool
     }
 }
 
-// Whether the call made a packet, or claimed a number for one.
 fn makes_by(act: &Act, answer: &Answer) -> bool
     ensures { result ≡ makes_by act.now answer.now }
 {
@@ -194,7 +182,6 @@ pub(super) fn same_side(a: Side, b: Side) -> bool
     }
 }
 
-// The place is noted, where there is room for it.
 fn note(places: &mut Vec<usize>, made: bool, place: usize)
     requires { vec_len places.old < vec_capacity places.old }
     ensures { places.new.items ≡ (if made then places.old.items ++ place ∷ [] else places.old.items) }
@@ -204,7 +191,6 @@ fn note(places: &mut Vec<usize>, made: bool, place: usize)
     }
 }
 
-// The event goes in last, where there is room for it.
 fn add(entries: &mut Vec<(Event, Answer)>, event: Event, answer: Answer)
     requires { vec_len entries.old < vec_capacity entries.old }
     ensures { entries.new.items ≡ entries.old.items ++ (event, answer) ∷ [] }

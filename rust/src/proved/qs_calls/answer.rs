@@ -1,5 +1,5 @@
 // Made from crates/qs_calls/src/answer.rt by rust/erase; not edited by hand.
-//! What the ends answer.
+//! What the endpoints of a run returned.
 
 use crate::shim::Vec;
 use crate::proved::qs_calls::closing::{Closing, Received};
@@ -8,7 +8,7 @@ use crate::proved::qs_calls::uses::{OpenFault, UseFault};
 use crate::proved::qs_recv::Read;
 use crate::proved::qs_wire::StreamId;
 
-/// What the call answered, for each act.
+/// One for each act.
 #[derive(Debug, PartialEq, Eq)]
 pub enum Answer {
     OpenStream(Result<StreamId, OpenFault>),

@@ -1,7 +1,7 @@
 // Made from crates/qs_calls/src/closing.rt by rust/erase; not edited by hand.
 //! How a connection ends, and what came of a payload.
 
-/// Why this end closed: the code, and the type and the place of the frame that offended (RFC 9000, section 10.2).
+/// Why this endpoint closed: the code, and the type and the place of the frame that offended (RFC 9000, section 10.2).
 #[derive(Clone, Copy, Debug, PartialEq, Eq)]
 pub struct Closing {
     pub code: u64,
@@ -10,25 +10,26 @@ pub struct Closing {
     pub place: usize,
 }
 
-/// A side of the connection, as an end sees it.
+/// A side of the connection, seen from this endpoint.
 #[derive(Clone, Copy, Debug, PartialEq, Eq)]
 pub enum Closer {
-    /// This side.
+    /// This endpoint.
     Us,
     /// The other one.
     Peer,
 }
 
-/// Of what kind a close is. The codes of the two kinds have nothing to do with each other (RFC 9000, section 20).
+/// Who closed in the sense of section 20 of RFC 9000. The codes of the two kinds are numbered apart.
 #[derive(Clone, Copy, Debug, PartialEq, Eq)]
 pub enum CloseKind {
-    /// By the transport: a CONNECTION_CLOSE of type 0x1c, or a time that ran out (RFC 9000, sections 10.1 and 19.19).
+    /// The transport: a CONNECTION_CLOSE of type 0x1c, or an idle timeout (RFC 9000, sections 10.1 and 19.19).
     Transport,
-    /// By the application: a CONNECTION_CLOSE of type 0x1d (RFC 9000, section 19.19).
+    /// The application: a CONNECTION_CLOSE of type 0x1d (RFC 9000, section 19.19).
     Application,
 }
 
-/// A close that an end was told of, since the stack above the packets saw it or made it itself.
+/// A close that the endpoint didn't see, since the stack above the packets read or made it. Apart from what a frame did: such a close has
+/// no frame and no place.
 #[derive(Clone, Copy, Debug, PartialEq, Eq)]
 pub struct ToldClose {
     pub by: Closer,
@@ -36,14 +37,11 @@ pub struct ToldClose {
     pub code: u64,
 }
 
-/// An end that is closed stays so.
+/// An endpoint that is closed stays so: the first close is the one that the peer knows.
 #[derive(Clone, Copy, Debug, PartialEq, Eq)]
 pub enum Closed {
-    /// This end closed.
     ByUs(Closing),
-    /// It saw its peer close, with this code.
     ByPeer(u64),
-    /// It was told so.
     Told(ToldClose),
 }
 
@@ -54,10 +52,10 @@ pub enum Received {
     Done,
     /// The packet number was processed before.
     Duplicate,
-    /// The packet number lies below those that are still told apart.
+    /// The packet number is below those whose history is kept.
     BelowFloor,
     /// A CONNECTION_CLOSE with this code.
     PeerClosed(u64),
-    /// The first frames took effect, and then there was no memory. The same payload may come again.
+    /// The first frames took effect, and then memory was refused. The same payload may come again.
     NoMemory,
 }

@@ -1,5 +1,6 @@
 // Made from crates/qs_calls/src/lib.rt by rust/erase; not edited by hand.
-//! The calls of an end as values: what it is set to, what may be asked of it, and what it answers.
+//! The calls of an endpoint as values: its settings, what may be asked of it, and what it returns. Apart from its code, since the
+//! definitions below speak of them, too.
 
 mod answer;
 mod closing;

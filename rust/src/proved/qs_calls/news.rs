@@ -1,31 +1,31 @@
 // Made from crates/qs_calls/src/news.rt by rust/erase; not edited by hand.
-//! What an end tells of by itself.
+//! What happened at an endpoint.
 
 use crate::proved::qs_wire::{Dir, StreamId};
 
-/// A piece of news: what its owner waits for at an end, told once (RFC 9000, sections 2 to 4).
+/// An event: what an application waits for, reported once (RFC 9000, sections 2 to 4).
 #[derive(Clone, Copy, Debug, PartialEq, Eq)]
 pub enum News {
-    /// The peer opened the stream. It comes before all other news of that stream.
+    /// The peer opened the stream. It comes before all other events of that stream.
     Opened(StreamId),
-    /// A read of one byte tells something new: bytes, the end or a reset.
+    /// A read of one byte returns something new: bytes, the end or a reset.
     Readable(StreamId),
     /// A write was cut short, and now one of one byte is accepted, if there is memory for it.
     Writable(StreamId),
     /// The peer asked for no more of the stream, with this code first (section 3.5).
     Stopped(StreamId, u64),
-    /// All that was written was acknowledged, and the end too: Data Recvd (section 3.1).
+    /// Everything written was acknowledged, and the FIN: Data Recvd (section 3.1).
     Finished(StreamId),
     /// The reset was acknowledged: Reset Recvd (section 3.1).
     ResetAcked(StreamId),
-    /// Each half that the stream has here came to its end.
+    /// Each half that the stream has here is over.
     Ended(StreamId),
-    /// A stream of that direction may be opened, where one couldn't for the peer's count (section 4.6).
+    /// A stream of that direction may be opened, after one couldn't for the peer's count (section 4.6).
     Available(Dir),
-    /// The peer said that the connection's limit holds its bytes back (sections 4.1 and 19.12).
+    /// The peer said that the connection's limit blocks it (sections 4.1 and 19.12).
     DataBlocked,
-    /// The peer said that the stream's limit holds its bytes back (sections 4.1 and 19.13).
+    /// The peer said that the stream's limit blocks it (sections 4.1 and 19.13).
     StreamDataBlocked(StreamId),
-    /// The peer said that the count of that direction holds its streams back (sections 4.6 and 19.14).
+    /// The peer said that the count of that direction blocks it (sections 4.6 and 19.14).
     StreamsBlocked(Dir),
 }

@@ -1,10 +1,9 @@
 // Made from crates/qs_calls/src/report.rt by rust/erase; not edited by hand.
-//! What an end tells of a stream.
+//! The states of a stream.
 
 use crate::proved::qs_recv::RecvState;
 use crate::proved::qs_send::SendState;
 
-/// The halves of a stream at this end.
 #[derive(Clone, Copy, Debug, PartialEq, Eq)]
 pub struct LaneReport {
     pub send: Option<SendReport>,
@@ -19,7 +18,7 @@ pub struct SendReport {
     pub written: u64,
     /// The final size, once it is declared.
     pub final_size: Option<u64>,
-    /// The code of the RESET_STREAM, once there was a reset: the owner's code, or that of the peer's STOP_SENDING (section 3.5).
+    /// The code of its reset, if there was one: the application's, or that of the peer's STOP_SENDING (section 3.5).
     pub reset_code: Option<u64>,
     /// The limit on offsets that the peer granted.
     pub limit: u64,
@@ -31,14 +30,14 @@ pub struct RecvReport {
     pub state: RecvState,
     /// How many bytes were read.
     pub read_count: u64,
-    /// The final size if known, else one more than the largest received offset, or 0.
+    /// The final size if known, else one more than the largest received offset, or 0: what flow control counts.
     pub highest: u64,
     /// The limit on offsets that was granted.
     pub limit: u64,
     /// The final size, once it is known.
     pub final_size: Option<u64>,
-    /// The code of the peer's RESET_STREAM, once it was taken.
+    /// The code of the peer's RESET_STREAM, if one took effect.
     pub reset_code: Option<u64>,
-    /// The code with which the owner stopped it first (section 3.5).
+    /// The code with which the application stopped it first (section 3.5).
     pub stop_code: Option<u64>,
 }

@@ -1,55 +1,55 @@
 // Made from crates/qs_calls/src/settings.rt by rust/erase; not edited by hand.
-//! What an end is set to, and what it tells the other one.
+//! What an endpoint is set to, and what it grants the other one.
 
 use crate::proved::qs_recv::Share;
 
-/// The credit that an end grants, and the size of its sending buffers. Windows and sizes are in bytes, counts in streams.
+/// The credit that an endpoint grants, and the size of its sending buffers. Windows and sizes are in bytes, counts in streams.
 #[derive(Clone, Copy, Debug, PartialEq, Eq)]
 pub struct Settings {
-    /// How far the bytes received on all streams may run ahead of those taken (RFC 9000, section 4.1).
+    /// How many bytes may be received on all streams beyond those consumed (RFC 9000, section 4.1).
     pub conn_window: u64,
-    /// The same for each bidirectional stream that this end opens.
+    /// The same for each bidirectional stream that this endpoint opens.
     pub bidi_local: u64,
     /// The same for each bidirectional stream that the peer opens.
     pub bidi_remote: u64,
     /// The same for each unidirectional stream that the peer opens.
     pub uni: u64,
-    /// How many bytes that aren't acknowledged each sending half keeps.
+    /// How many unacknowledged bytes each sending half keeps.
     pub send_buffer: usize,
     /// How many bidirectional streams the peer may open (section 4.6).
     pub grant_bidi: u64,
     /// How many unidirectional streams the peer may open.
     pub grant_uni: u64,
-    /// How many bidirectional streams the peer may open in all, as those that it opened come to their end.
+    /// How many bidirectional streams the peer may open in all, as its streams end. In all, because an ended stream still keeps some bytes.
     pub lifetime_bidi: u64,
     /// The same of unidirectional streams.
     pub lifetime_uni: u64,
 }
 
-/// How an end goes about what its owner may choose. The default is what [`Settings`] alone make.
+/// What an application may choose. The default is what [`Settings`] alone make.
 #[derive(Clone, Copy, Debug, PartialEq, Eq)]
 pub struct Tuning {
-    /// How much of its window has to be taken until a limit on bytes moves (RFC 9000, section 4.2).
+    /// How much of its window has to be consumed until a limit on bytes moves (RFC 9000, section 4.2).
     pub credit_step: Share,
-    /// How many of its grant's streams have to end until a count of streams moves (section 4.6). `None`: each one moves it.
+    /// How many of its grant's streams have to end until a count of streams moves (section 4.6), to send fewer frames. `None`: each one
+    /// moves it.
     pub count_step: Option<Share>,
-    /// Whether a write takes no more bytes than may be sent at once, by the stream's limit and the connection's.
+    /// Whether a write accepts no more bytes than may be sent at once under the stream's limit and the connection's, so that none waits for
+    /// credit.
     pub within_credit: bool,
-    /// Whether the owner answers a STOP_SENDING: it is told, and the stream goes on until the owner resets or finishes it. Else the
-    /// stream is reset at once, with the peer's code (section 3.5).
+    /// Whether the application answers a STOP_SENDING: it is notified, and the stream goes on until it is reset or finished. Else the
+    /// stream is reset at once, with the peer's code (section 3.5): a default that nobody can forget.
     pub answers_stops: bool,
-    /// Whether what came in is read on once the end closed.
+    /// Whether received bytes can be read after a close.
     pub reads_when_closed: bool,
-    /// Stands in each token that the end gives, and no token of another epoch is taken: so an end that takes another one's place
-    /// doesn't take its tokens for its own.
+    /// A number in each token. No token of another epoch is taken, so an endpoint that replaces another doesn't mistake its tokens.
     pub epoch: u64,
-    /// How many bytes that aren't acknowledged all sending halves keep together, beside what bounds each of them. `None`: as many as
-    /// they keep each.
+    /// How many unacknowledged bytes all sending halves keep together, beside the bound of each. `None`: as many as they keep each.
     pub send_window: Option<u64>,
 }
 
-/// The limits that an end begins with, as its peer grants them (RFC 9000, section 18.2). `local` and `remote` are seen from the
-/// end that grants.
+/// The limits that an endpoint begins with, as its peer grants them (RFC 9000, section 18.2). `local` and `remote` are seen from the
+/// endpoint that grants.
 #[derive(Clone, Copy, Debug, PartialEq, Eq)]
 pub struct PeerLimits {
     pub max_data: u64,
@@ -60,7 +60,7 @@ pub struct PeerLimits {
     pub streams_uni: u64,
 }
 
-/// Why no end can be made.
+/// Why no endpoint can be made.
 #[derive(Clone, Copy, Debug, PartialEq, Eq)]
 pub enum SetupFault {
     /// A setting lies outside its range, or a limit of the peer above 2^62-1.
@@ -84,7 +84,7 @@ impl core::error::Error for SetupFault {}
 #[derive(Clone, Copy, Debug, PartialEq, Eq)]
 pub enum RaiseFault {
     Closed,
-    /// No end can be made of such limits.
+    /// No endpoint can be made with such limits.
     Refused(SetupFault),
 }
 
@@ -99,14 +99,13 @@ impl core::fmt::Display for RaiseFault {
 
 impl core::error::Error for RaiseFault {}
 
-/// Why nothing was set anew.
+/// Why a setting wasn't changed.
 #[derive(Clone, Copy, Debug, PartialEq, Eq)]
 pub enum SetFault {
     Closed,
-    /// The value lies outside the range that a new end has for it.
+    /// The value is out of the range that a new endpoint has for it.
     OutOfRange,
     NoSuchStream,
-    /// The stream has no half of that direction at this end.
     WrongDirection,
 }
 
@@ -124,7 +123,7 @@ impl core::fmt::Display for SetFault {
 impl core::error::Error for SetFault {}
 
 impl Settings {
-    /// What the other end is told of these settings.
+    /// The transport parameters for the other endpoint.
     #[inline]
     pub fn limits(&self) -> PeerLimits {
         PeerLimits {
@@ -139,7 +138,7 @@ impl Settings {
 }
 
 impl Tuning {
-    /// What an end has whose owner chose nothing.
+    /// Those of an endpoint whose application chose nothing.
     #[inline]
     pub fn by_default() -> Tuning {
         Tuning {
@@ -155,7 +154,7 @@ impl Tuning {
 }
 
 impl SetupFault {
-    /// The code with which the connection is refused, where the peer is at fault.
+    /// The code to refuse the connection with, if the peer is at fault.
     #[inline]
     pub fn code(self) -> Option<u64> {
         match self {

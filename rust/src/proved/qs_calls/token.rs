@@ -1,5 +1,5 @@
 // Made from crates/qs_calls/src/token.rt by rust/erase; not edited by hand.
-//! Frames that come without their packet, and tokens of packets, for a stack that owns its packet numbers and its ACKs.
+//! Frames without their packet, and tokens of packets, for a stack with packet numbers and ACKs of its own.
 
 use crate::proved::qs_calls::Closing;
 
@@ -17,8 +17,8 @@ pub struct Token {
 }
 
 impl Token {
-    /// One token for what this one names and what was filled in next. `None` where its numbers don't follow this one's, or another end
-    /// gave it.
+    /// One token for what this one names and what was filled in next. `None` if its numbers don't follow this one's, or their epochs
+    /// differ.
     #[inline]
     pub fn and(self, next: Token) -> Option<Token> {
         if next.epoch == self.epoch && self.number.checked_add(1) == Some(next.first) {
@@ -32,23 +32,24 @@ impl Token {
     }
 }
 
-/// What came of a frame that was handed in, or of several.
+/// What came of one frame, or of several.
 #[derive(Clone, Copy, Debug, PartialEq, Eq)]
 pub enum Taken {
     /// It took effect, and changed something.
     Took,
-    /// It took effect before, or carries or raises nothing: nothing changed. Many of these tell of a peer that only makes work.
+    /// It took effect before, or carries or raises nothing: nothing changed. A stack counts many of these against a peer that only makes
+    /// work.
     Unchanged,
-    /// It is of a kind that is the stack's own affair, and changed nothing.
+    /// It is for the stack, and changed nothing.
     NotOurs,
 }
 
-/// Why a frame that was handed in took no effect.
+/// Why a frame took no effect.
 #[derive(Clone, Copy, Debug, PartialEq, Eq)]
 pub enum TakeFault {
-    /// This end closed, for this frame or before (RFC 9000, section 10.2).
+    /// This endpoint closed, for this frame or before (RFC 9000, section 10.2).
     Closing(Closing),
-    /// The end saw its peer close before, with this code.
+    /// The peer closed before, with this code.
     PeerClosed(u64),
     /// The frame changed nothing, and may come again.
     NoMemory,
@@ -66,12 +67,12 @@ impl core::fmt::Display for TakeFault {
 
 impl core::error::Error for TakeFault {}
 
-/// Why a token was not told to be acknowledged or lost, or not in whole.
+/// Why a token wasn't acknowledged or lost, or not wholly.
 #[derive(Clone, Copy, Debug, PartialEq, Eq)]
 pub enum TokenFault {
     /// Not all of its packets were made yet, or it is of another epoch.
     NotGiven,
-    /// Some of what the packet carried may be told already. The call may be made again.
+    /// Some of what the packet carried may be done already. The call may be made again.
     NoMemory,
     Closed,
 }

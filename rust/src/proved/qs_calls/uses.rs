@@ -4,7 +4,7 @@
 /// Why no stream was opened.
 #[derive(Clone, Copy, Debug, PartialEq, Eq)]
 pub enum OpenFault {
-    /// As many streams are open as the peer allows.
+    /// As many streams were opened as the peer permits.
     Blocked(u64),
     Closed,
     NoMemory,
@@ -26,7 +26,6 @@ impl core::error::Error for OpenFault {}
 #[derive(Clone, Copy, Debug, PartialEq, Eq)]
 pub enum UseFault {
     NoSuchStream,
-    /// The stream has no half of that kind at this end.
     WrongDirection,
     Finished,
     WasReset,

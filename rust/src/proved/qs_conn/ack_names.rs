@@ -4,7 +4,8 @@
 use crate::proved::qs_conn::seen::{SeenFrame, seen};
 use crate::proved::qs_wire::{AckRanges, Frames};
 
-/// The least number from one on that an ACK of the payload names. The reading ends at the first fault, and at a CONNECTION_CLOSE.
+/// The reading ends at the first fault and at a CONNECTION_CLOSE, as that of `receive` does. It takes no memory, so each question reads the
+/// payload again.
 #[inline]
 pub(crate) fn next_named(payload: &[u8], from: u64) -> Option<u64> {
     least_of_frames(payload, from)
@@ -27,7 +28,6 @@ fn least_of_frames(payload: &[u8], from: u64) -> Option<u64> {
     }
 }
 
-// With the ranges of an ACK.
 fn with_ranges(from: u64, largest: u64, ranges: &[u8], least: Option<u64>) -> Option<u64> {
     debug_assert!(largest < 1 << 62);
     let mut left = AckRanges::new(largest, ranges);
@@ -38,7 +38,6 @@ fn with_ranges(from: u64, largest: u64, ranges: &[u8], least: Option<u64>) -> Op
     found
 }
 
-// With one range.
 fn with_range(from: u64, low: u64, high: u64, least: Option<u64>) -> Option<u64> {
     let first = low.max(from);
     if high < first {

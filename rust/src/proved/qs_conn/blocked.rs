@@ -1,5 +1,5 @@
 // Made from crates/qs_conn/src/blocked.rt by rust/erase; not edited by hand.
-//! What the peer says to hold it back, until its owner is told.
+//! What the peer said blocks it, until the application is notified. It is no state of an endpoint, so it is kept beside.
 
 use crate::proved::qs_conn::by_dir::ByDir;
 use crate::proved::qs_conn::places::lesser;
@@ -8,7 +8,8 @@ use crate::proved::qs_ranges::NoMemory;
 use crate::proved::qs_wire::{Dir, StreamId};
 use crate::shim::alloc::Global;
 
-/// A flag for the connection and for each direction, and a mark for each stream.
+/// A flag for the connection and for each direction, and a mark for each stream: a second frame changes nothing, so a peer can't fill a
+/// queue.
 pub(crate) struct BlockedMarks {
     conn: bool,
     streams: ToldStreams,
@@ -16,7 +17,6 @@ pub(crate) struct BlockedMarks {
 }
 
 impl BlockedMarks {
-    /// Nothing was said.
     #[inline]
     pub(crate) fn new(alloc: Global) -> Self {
         BlockedMarks {
@@ -26,37 +26,35 @@ impl BlockedMarks {
         }
     }
 
-    /// Whether the connection's limit was said to.
+    /// Whether the peer reported DATA_BLOCKED and the application wasn't notified yet.
     #[inline]
     pub(crate) fn has_conn(&self) -> bool {
         self.conn
     }
 
-    /// The connection's limit was said to, or its owner is told.
+    /// Sets or clears that.
     #[inline]
     pub(crate) fn set_conn(&mut self, is_said: bool) {
         self.conn = is_said;
     }
 
-    /// A direction's count was said to, or its owner is told.
+    /// The same for STREAMS_BLOCKED of a direction.
     #[inline]
     pub(crate) fn set_dir(&mut self, dir: Dir, is_said: bool) {
         self.dirs.set(dir, is_said);
     }
 
-    /// A stream's limit was said to. It takes memory where the stream is the highest of its type so far.
+    /// The same for a stream. Marks take memory only for the highest stream of its type so far.
     #[inline]
     pub(crate) fn tell(&mut self, stream: StreamId) -> Result<(), NoMemory> {
         self.streams.tell(stream)
     }
 
-    /// Its owner is told.
     #[inline]
     pub(crate) fn forget(&mut self, stream: StreamId) {
         self.streams.forget(stream);
     }
 
-    /// The first direction whose count was said to.
     #[inline]
     pub(crate) fn next_dir(&self) -> Option<Dir> {
         if self.dirs.bidi {
@@ -68,7 +66,6 @@ impl BlockedMarks {
         None
     }
 
-    /// The least stream whose limit was said to.
     #[inline]
     pub(crate) fn next_stream(&self) -> Option<StreamId> {
         let bidi = lesser(self.next_of(0), self.next_of(1));
@@ -76,7 +73,6 @@ impl BlockedMarks {
         lesser(bidi, uni)
     }
 
-    // The least one of a type.
     fn next_of(&self, stream_type: usize) -> Option<StreamId> {
         debug_assert!(stream_type < 4);
         let told = self.streams.of_type(stream_type);

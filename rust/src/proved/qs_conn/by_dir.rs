@@ -3,7 +3,7 @@
 
 use crate::proved::qs_wire::Dir;
 
-/// One of each direction of streams (RFC 9000, section 2.1).
+/// One of each direction of streams (RFC 9000, section 2.1): what is said of one direction is so written once.
 #[derive(Clone, Copy)]
 pub(crate) struct ByDir<T> {
     pub bidi: T,
@@ -16,7 +16,6 @@ impl<T: Copy> ByDir<T> {
         ByDir { bidi, uni }
     }
 
-    /// The one of a direction.
     #[inline(always)]
     pub(crate) fn of(&self, dir: Dir) -> T {
         match dir {
@@ -25,7 +24,6 @@ impl<T: Copy> ByDir<T> {
         }
     }
 
-    /// Puts another in place of the one of a direction.
     #[inline]
     pub(crate) fn set(&mut self, dir: Dir, value: T) {
         match dir {

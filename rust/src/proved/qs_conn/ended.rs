@@ -5,15 +5,14 @@ use crate::proved::qs_conn::by_dir::ByDir;
 use crate::proved::qs_conn::endpoint::is_uni;
 use crate::proved::qs_wire::StreamId;
 
-// How many streams of the peer came to their end, of each direction (RFC 9000, sections 3 and 4.6).
+// Counted as streams change, since counts of streams follow it at every call (RFC 9000, sections 3 and 4.6).
 impl ByDir<u64> {
-    /// Whether the counts are the same as others.
     #[inline]
     pub(crate) fn is_same(&self, other: ByDir<u64>) -> bool {
         self.bidi == other.bidi && self.uni == other.uni
     }
 
-    /// Counts a stream anew, which was at its end or wasn't, and is now or isn't.
+    /// What the stream added before goes first, so that it isn't counted twice.
     #[inline]
     pub(crate) fn recount(&mut self, stream: StreamId, was: bool, is: bool) {
         if is_uni(stream) {
@@ -24,7 +23,6 @@ impl ByDir<u64> {
     }
 }
 
-// A count with what a stream adds, and without what it added.
 fn moved(count: u64, was: bool, is: bool) -> u64 {
     debug_assert!(count <= 1 << 60);
     count + u64::from(is) - u64::from(was)

@@ -1,5 +1,5 @@
 // Made from crates/qs_conn/src/endpoint.rt by rust/erase; not edited by hand.
-//! One end of a connection.
+//! One endpoint of a connection.
 
 use crate::proved::qs_conn::by_dir::ByDir;
 use crate::proved::qs_conn::carried::Carried;
@@ -40,14 +40,14 @@ mod taking;
 mod telling;
 mod tokens;
 
-/// One end of a connection. It takes in the payloads of packets and makes packets, and its owner opens, accepts, writes,
-/// finishes, resets, reads and stops streams, and declares packets lost (RFC 9000, sections 2 to 4 and 13).
+/// One endpoint of a connection. It processes payloads and makes packets. The application opens, accepts, writes, finishes, resets, reads
+/// and stops streams; the transport declares packets lost (RFC 9000, sections 2 to 4 and 13).
 ///
-/// Contracts see the end as a record.
+/// Contracts see it as a record.
 pub struct Endpoint {
     core: Core,
     peer: PeerLimits,
-    // Whether nothing that the limits and the counts of streams follow has moved since they were looked at.
+    // A call that moved nothing which limits and counts follow looks at none of them as it ends.
     is_settled: bool,
     accepted: ByDir<u64>,
     done: RangeSet,
@@ -58,8 +58,8 @@ pub struct Endpoint {
 }
 
 impl Endpoint {
-    /// A new end. Refused where a setting is out of its range, or where the peer allows more streams than have a number (RFC 9000,
-    /// section 4.6).
+    /// A new endpoint. Refused if a setting is out of its range, or if the peer permits more streams than have a number (RFC 9000, section
+    /// 4.6).
     #[inline]
     pub fn new(
         alloc: Global,
@@ -73,8 +73,8 @@ impl Endpoint {
         }
     }
 
-    /// The same with wider ranges: windows of streams and sending buffers of up to 2^30 bytes, a connection's window of up to 2^40,
-    /// grants of up to 2^17 streams of a direction and lifetimes of up to 2^21; and tuned. What [`new`](Endpoint::new) makes this makes, too.
+    /// The same with wider ranges: windows of streams and sending buffers of up to 2^30 bytes, a connection's window of up to 2^40, grants
+    /// of up to 2^17 streams of a direction and lifetimes of up to 2^21; and tuned. What [`new`](Endpoint::new) makes this makes, too.
     #[inline]
     pub fn new_wide(
         alloc: Global,
@@ -89,7 +89,6 @@ impl Endpoint {
         }
     }
 
-    // The end that begins with such settings.
     fn begun(
         alloc: Global,
         role: Role,
@@ -131,17 +130,17 @@ impl Endpoint {
         }
     }
 
-    /// How many bytes are stored: at most what was granted and isn't taken.
+    /// How many bytes are stored: at most what was granted beyond what was consumed.
     #[inline]
     pub fn stored(&self) -> u64 {
         let _granted = self.core.limits.granted;
         self.core.recvs.tally().stored
     }
 
-    /// How much memory the rings of receiving halves take and the buffers of sending halves, by a walk over all streams that were
-    /// opened: for a look now and then, and not for each packet. A peer within its credit can't make the rings take more than four
-    /// times the widest window of the connection that was set, and 4,096 bytes for each receiving half that keeps bytes still. A sending half that was reset,
-    /// or of which all that was written and the end were acknowledged, takes nothing.
+    /// How much memory the receive buffers take and the sending buffers, by a walk over all streams that were opened, so for a look from
+    /// time to time: a sum would have to be kept at each call. A peer within its credit can't make the receive buffers take more than four
+    /// times the widest window of the connection that was set, and 4,096 bytes for each receiving half that still keeps bytes. A sending
+    /// half that was reset, or of which all was acknowledged, takes none.
     #[inline]
     pub fn held(&self) -> Held {
         let _granted = self.core.limits.granted;
@@ -157,8 +156,8 @@ impl Endpoint {
         self.core.limits.granted
     }
 
-    /// How many streams of a direction the peer may open: the grant, and one more for each of its streams that came to its end, up to
-    /// the lifetime's count, and no fewer than before (RFC 9000, section 4.6). It takes no memory.
+    /// How many streams of a direction the peer may open: the grant, and one more for each of its streams that ended, up to the lifetime's
+    /// count, and no fewer than before (RFC 9000, section 4.6). It takes no memory.
     #[inline]
     pub fn granted_streams(&self, dir: Dir) -> u64 {
         self.core.limits.granted_streams.of(dir)
@@ -171,8 +170,8 @@ impl Endpoint {
         self.core.recvs.tally().spent
     }
 
-    /// Writes the payload that tells of this end's own closing: a CONNECTION_CLOSE with an empty reason (RFC 9000, section 10.2).
-    /// Answers its length. `None` where this end didn't close, or where it doesn't fit; then nothing is written.
+    /// Writes the payload for this endpoint's own close: a CONNECTION_CLOSE with an empty reason (RFC 9000, section 10.2). Returns its
+    /// length. `None` if it didn't close, or if it doesn't fit; then nothing is written.
     #[inline]
     pub fn close_payload(&self, out: &mut [u8]) -> Option<usize> {
         let Some(Closed::ByUs(closing)) = self.closed else {
@@ -181,7 +180,8 @@ impl Endpoint {
         put_close(closing, out)
     }
 
-    // Each limit becomes the next one, and each granted count of streams: where nothing moved they are.
+    // As a call ends, and never between the frames of a payload: so what a frame is judged by doesn't depend on where it stands in its
+    // payload.
     fn settle(&mut self) {
         if self.is_settled {
             return;
@@ -217,22 +217,20 @@ impl Endpoint {
         self.is_settled = true;
     }
 
-    // Whether this end opens the stream.
     fn is_own(&self, stream: StreamId) -> bool {
         type_of(stream) % 2 == role_bit(self.core.limits.role)
     }
 
-    // The window of a receiving half, which is its first limit too.
+    // Its first limit too, which is what the peer counts with.
     fn window(&self, stream: StreamId) -> u64 {
         self.core.limits.window(stream)
     }
 
-    // How many bytes a sending half keeps at most as it begins.
     fn send_buffer(&self) -> u32 {
         self.core.limits.settings.send_buffer as u32
     }
 
-    // The limit with which a sending half begins.
+    // By the peer's limits, which name streams as the peer sees them: what it opens is local to it.
     fn first_send_limit(&self, stream: StreamId) -> u64 {
         if is_uni(stream) {
             self.peer.uni
@@ -244,7 +242,6 @@ impl Endpoint {
     }
 }
 
-// The bit that names the initiator (RFC 9000, section 2.1).
 #[inline]
 pub(crate) fn role_bit(role: Role) -> usize {
     match role {
@@ -253,14 +250,12 @@ pub(crate) fn role_bit(role: Role) -> usize {
     }
 }
 
-// Whether only the initiator sends (RFC 9000, section 2.1).
 #[inline]
 pub(crate) fn is_uni(stream: StreamId) -> bool {
     type_of(stream) >= 2
 }
 
-// How many streams may be opened, where so many came to their end: the grant and as many more of them as make whole steps, and no fewer
-// than were granted (RFC 9000, section 4.6).
+// The grant and as many more as make whole steps, but no fewer than were granted, since no count may fall (RFC 9000, section 4.6).
 fn next_count(step: Option<Share>, granted: u64, grant: u64, lifetime: u64, ended: u64) -> u64 {
     let more = match step {
         None => ended,
@@ -269,7 +264,6 @@ fn next_count(step: Option<Share>, granted: u64, grant: u64, lifetime: u64, ende
     granted.max(grant.saturating_add(more).min(lifetime))
 }
 
-// As many of so many as make whole steps.
 fn in_steps(step: u64, count: u64) -> u64 {
     debug_assert!(0 < step);
     count - count % step

@@ -1,5 +1,5 @@
 // Made from crates/qs_conn/src/heard.rt by rust/erase; not edited by hand.
-//! What an owner heard of at its end, and what it hears next.
+//! What was reported to the application, and what is next.
 
 use crate::proved::qs_conn::blocked::BlockedMarks;
 use crate::proved::qs_conn::by_dir::ByDir;
@@ -11,7 +11,7 @@ use crate::proved::qs_ranges::NoMemory;
 use crate::proved::qs_wire::{Dir, Frame, StreamId};
 use crate::shim::alloc::Global;
 
-/// What an owner heard of at its end, so that it hears of each piece of news once (RFC 9000, sections 2 to 4).
+/// What was reported to an application, so that each event comes once (RFC 9000, sections 2 to 4).
 ///
 /// It stands beside the end and is kept as marks of streams: an end whose owner asks for no news pays nothing for it. Four things the
 /// end doesn't know, so its owner tells them: that it is about to write ([`will_write`](Heard::will_write)), that it waits for a stream
@@ -29,7 +29,7 @@ pub struct Heard {
 }
 
 impl Heard {
-    /// Nothing was heard, and nothing is waited for.
+    /// Nothing was reported, and nothing is waited for.
     #[inline]
     pub fn new(alloc: Global) -> Heard {
         Heard {
@@ -47,9 +47,9 @@ impl Heard {
     /// Tells the first piece of news of an end, and notes that it was heard. `None` only where there is none. News of a kind come before
     /// those of the next, in the order of [`News`], and those of a lower stream first.
     ///
-    /// `NoMemory` where there was no memory to note it; then nothing changed, and it comes again. It takes memory where no mark was made
-    /// yet for its stream, or a higher one of its type, among those of its kind: never for `Opened`, `Writable`, `Available` and the kinds
-    /// behind it.
+    /// `NoMemory` if there was no memory to note it; then nothing changed, and it comes again. It takes memory if no mark was made yet for
+    /// its stream, or a higher one of its type, among those of its kind: never for `Opened`, `Writable`, `Available` and the kinds behind
+    /// it.
     #[inline]
     pub fn next_news(&mut self, end: &Endpoint) -> Result<Option<News>, NoMemory> {
         let answer = self.first(end);
@@ -59,8 +59,8 @@ impl Heard {
 
     /// The owner is about to write so many bytes to a stream. Where it will be cut short, it is news once the stream takes a byte again.
     ///
-    /// `NoMemory` where there was no memory to note it; then nothing changed. It takes memory where no write to this stream, or to a
-    /// higher one of its type, was noted before.
+    /// `NoMemory` if there was no memory to note it; then nothing changed. It takes memory if no write to this stream, or to a higher one
+    /// of its type, was noted before.
     #[inline]
     pub fn will_write(
         &mut self,
@@ -74,13 +74,13 @@ impl Heard {
         Ok(())
     }
 
-    /// The owner waits to open a stream of a direction: once it may that is news.
+    /// The application waits to open a stream of a direction: that it may is an event then.
     #[inline]
     pub fn wants(&mut self, dir: Dir) {
         self.wanted.set(dir, true);
     }
 
-    /// The owner read the stream, or stopped it: where nothing is left to read it is news once something is.
+    /// The application read the stream, or stopped it: if nothing is left to read, new data is an event again.
     #[inline]
     pub fn was_read(&mut self, end: &Endpoint, stream: StreamId) {
         if !end.is_readable(stream) {
@@ -92,7 +92,7 @@ impl Heard {
     /// stream whose final size isn't known, or a count of streams, that is news from now on until it is told, be it that the limit rises
     /// meanwhile. A limit that rose before isn't, and any other frame changes nothing (RFC 9000, sections 4.1, 4.6 and 19.12 to 19.14).
     ///
-    /// `NoMemory` where there was no memory to note it; then nothing changed. It takes memory where it names a stream, and no limit of this
+    /// `NoMemory` if there was no memory to note it; then nothing changed. It takes memory if it names a stream, and no limit of this
     /// stream or of a higher one of its type was noted before.
     #[inline]
     pub fn was_told(&mut self, end: &Endpoint, frame: &Frame<'_>) -> Result<(), NoMemory> {
@@ -119,7 +119,7 @@ impl Heard {
         }
     }
 
-    // The first piece of news.
+    // In the order of kinds, each by a search of its own: what no longer holds is so never found.
     fn first(&self, end: &Endpoint) -> Option<News> {
         if let Some(stream) = end.next_opened(self.opened) {
             return Some(News::Opened(stream));
@@ -145,7 +145,6 @@ impl Heard {
         }
     }
 
-    // The first of what the peer said.
     fn first_blocked(&self, end: &Endpoint) -> Option<News> {
         if end.is_closed() {
             return None;
@@ -162,7 +161,7 @@ impl Heard {
         }
     }
 
-    // What is told, if anything, is noted.
+    // Noted before it is returned, so that a refusal leaves it for the next call.
     fn hear(&mut self, answer: &Option<News>) -> Result<(), NoMemory> {
         match *answer {
             None => {}
@@ -181,7 +180,6 @@ impl Heard {
         Ok(())
     }
 
-    // The next stream of its direction opened.
     fn hear_opened(&mut self, stream: StreamId) {
         let count = index_of(stream) as u64 + 1;
         match stream.dir() {
@@ -191,7 +189,6 @@ impl Heard {
     }
 }
 
-// The news of a sending half that came to its end.
 fn sent_news(end: &Endpoint, stream: StreamId) -> News {
     if end.was_reset_acked(stream) {
         News::ResetAcked(stream)

@@ -1,11 +1,11 @@
 // Made from crates/qs_conn/src/held.rt by rust/erase; not edited by hand.
-//! How much memory an end takes for the bytes of its streams.
+//! How much memory an endpoint takes for the bytes of its streams.
 
-/// How much memory the rings and the buffers of streams take, in bytes. A sum that is no u64 is told as the greatest one.
+/// How much memory the buffers of streams take, in bytes. Beyond the greatest u64 it stays at that.
 #[derive(Debug, Clone, Copy, PartialEq, Eq)]
 pub struct Held {
-    /// What the rings of the receiving halves take, in which bytes wait to be read (RFC 9000, section 2.2).
+    /// By receive buffers, for bytes that wait to be read (RFC 9000, section 2.2).
     pub receiving: u64,
-    /// What the buffers of the sending halves take, in which bytes wait to be acknowledged (RFC 9000, section 13.3).
+    /// By sending buffers, for bytes that wait to be acknowledged (RFC 9000, section 13.3).
     pub sending: u64,
 }

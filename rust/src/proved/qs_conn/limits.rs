@@ -1,5 +1,5 @@
 // Made from crates/qs_conn/src/limits.rt by rust/erase; not edited by hand.
-//! Which control items an end has to tell.
+//! Which control items an endpoint has to send.
 
 use crate::proved::qs_conn::by_dir::ByDir;
 use crate::proved::qs_conn::endpoint::{is_uni, role_bit};
@@ -13,14 +13,15 @@ use crate::proved::qs_calls::{MAX_VARINT, Settings, Tuning};
 use crate::proved::qs_send::Item;
 use crate::proved::qs_wire::{Dir, Role, StreamId};
 
-/// An end's role and settings, and the limits on the connection and on counts of streams: those that it granted, and those of its peer,
-/// with the counts at which `open` was blocked (RFC 9000, sections 4.1 and 4.6).
+/// An endpoint's role and settings, and the limits on the connection and on counts of streams: those that it granted, and those of its
+/// peer, with the counts at which `open` was blocked (RFC 9000, sections 4.1 and 4.6).
 #[derive(Clone, Copy)]
 pub(crate) struct Limits {
     pub role: Role,
     pub settings: Settings,
     pub tuning: Tuning,
-    /// The connection's window and the grants in force, as they were set last, and the widest window so far.
+    /// As they were set last, beside the settings that the peer was given; the widest window bounds what is granted beyond what was
+    /// consumed, since a smaller one takes nothing back.
     pub conn_window: u64,
     pub widest: u64,
     pub grants: ByDir<u64>,
@@ -32,7 +33,7 @@ pub(crate) struct Limits {
 }
 
 impl Limits {
-    /// The item of a slot that is to be told while no packet told it (RFC 9000, sections 4.1, 4.6 and 13.3).
+    /// An item is due while no packet carries it with this value (RFC 9000, sections 4.1, 4.6 and 13.3).
     #[inline]
     pub(crate) fn current(&self, outbox: &Outbox, recvs: &RecvTables, slot: Slot) -> Option<Item> {
         match slot {
@@ -47,7 +48,7 @@ impl Limits {
         }
     }
 
-    /// Whether a look at few numbers tells that of a slot of the connection no item is due.
+    /// Whether a look at few numbers shows that no item is due, as is mostly so: then no half is looked at.
     #[inline]
     pub(crate) fn has_told(&self, outbox: &Outbox, own: &OwnCarried, slot: &Slot) -> bool {
         match *slot {
@@ -59,7 +60,7 @@ impl Limits {
         }
     }
 
-    // The connection's limit holds nothing back, or was told. No stream is looked at.
+    // No stream is looked at.
     #[inline(always)]
     fn has_told_blocked(&self, outbox: &Outbox, own: &OwnCarried) -> bool {
         if outbox.sent_sum() < self.known_data {
@@ -69,7 +70,7 @@ impl Limits {
         own.is_told(outbox, &Item::DataBlocked { limit })
     }
 
-    /// Sets the connection's window where so much was taken. A greater one moves the limit at once (RFC 9000, section 4.1).
+    /// A greater window moves the limit at once (RFC 9000, section 4.1): a step that is never reached would hide it.
     #[inline]
     pub(crate) fn set_conn_window(&mut self, window: u64, taken: u64) {
         debug_assert!(taken <= 0x3fff_ffff_ffff_ffff);
@@ -81,7 +82,7 @@ impl Limits {
         self.widest = self.widest.max(window);
     }
 
-    /// Sets a direction's grant where so many of its streams ended. A greater one moves the count at once (RFC 9000, section 4.6).
+    /// A greater grant moves the count at once (RFC 9000, section 4.6).
     #[inline]
     pub(crate) fn set_grant(&mut self, dir: Dir, streams: u64, ended: u64) {
         match dir {
@@ -108,7 +109,7 @@ impl Limits {
         }
     }
 
-    // The connection's limit, once it was raised.
+    // Once it was raised: the first limit was in the handshake.
     fn max_data(&self) -> Option<Item> {
         if self.granted <= self.settings.conn_window {
             return None;
@@ -118,7 +119,7 @@ impl Limits {
         })
     }
 
-    // The count of streams granted, once it was raised.
+    // Once it was raised: the first count was in the handshake.
     fn max_streams(&self, dir: Dir) -> Option<Item> {
         let (first, count) = match dir {
             Dir::Bidi => (self.settings.grant_bidi, self.granted_streams.bidi),
@@ -130,7 +131,7 @@ impl Limits {
         Some(Item::MaxStreams { dir, count })
     }
 
-    // A stream's limit, once it was raised, while no final size is known.
+    // Once it was raised, and while no final size is known: after that nobody needs it.
     fn max_stream_data(&self, recvs: &RecvTables, stream: StreamId) -> Option<Item> {
         match recvs.limit_to_tell(stream) {
             Some(maximum) if self.window(stream) < maximum => {
@@ -140,7 +141,6 @@ impl Limits {
         }
     }
 
-    /// The window of a receiving half.
     #[inline]
     pub(crate) fn window(&self, stream: StreamId) -> u64 {
         if is_uni(stream) {
@@ -152,7 +152,7 @@ impl Limits {
         }
     }
 
-    // The connection's limit, where it holds bytes of a stream back.
+    // Only while some stream has bytes that nothing else holds back, so that it is said of the limit that blocks.
     fn data_blocked(&self, outbox: &Outbox) -> Option<Item> {
         if outbox.sent_sum() == self.known_data && any_wants_more(outbox) {
             Some(Item::DataBlocked {
@@ -163,7 +163,7 @@ impl Limits {
         }
     }
 
-    // The count of streams at which `open` was blocked, while it is the peer's.
+    // While it is still the peer's count: one that rose blocks nobody.
     fn streams_blocked(&self, dir: Dir) -> Option<Item> {
         let count = self.known_streams.of(dir);
         match self.wanted_streams.of(dir) {
@@ -173,7 +173,7 @@ impl Limits {
     }
 }
 
-// The count of streams that a grant leaves where so many ended.
+// Never less than the present count, since none may fall.
 fn count_with(present: u64, granted: u64, lifetime: u64, ended: u64, grant: u64) -> u64 {
     if present < grant {
         granted.max(grant.saturating_add(ended).min(lifetime))
@@ -201,7 +201,6 @@ fn stream_data_blocked(outbox: &Outbox, stream: StreamId) -> Option<Item> {
     Some(Item::StreamDataBlocked { stream, limit })
 }
 
-// Whether the connection's credit alone holds bytes of some stream back.
 fn any_wants_more(outbox: &Outbox) -> bool {
     let mut from = 0;
     while let Some(stream) = outbox.next_marked(Task::Bytes, from) {

@@ -1,5 +1,5 @@
 // Made from crates/qs_conn/src/middle.rt by rust/erase; not edited by hand.
-//! What an end knows and has to tell.
+//! What an endpoint knows and has to send.
 
 use crate::proved::qs_conn::by_dir::ByDir;
 use crate::proved::qs_conn::carried::Carried;
@@ -19,26 +19,23 @@ mod losing;
 mod sendable;
 mod unmarking;
 
-/// The limits, the streams and the packets of an end: what a packet is filled from, and what an acknowledgement or a loss changes.
+/// The limits, the streams and the packets: what a packet is filled from, and what an ACK or a loss changes. Apart from received packet
+/// numbers and the close, so that proofs of these carry less.
 pub(crate) struct Core {
     pub limits: Limits,
     pub outbox: Outbox,
     pub recvs: RecvTables,
-    /// Of which receiving halves a limit or a stop may still have to be told.
+    /// Of which receiving halves a limit or a stop may still have to be sent.
     pub untold_recvs: Untold,
-    /// Of which sending halves a reset or a limit may still have to be told.
+    /// Of which sending halves a reset or a limit may still have to be sent.
     pub untold_sends: Untold,
-    /// Which items of halves are outstanding.
     pub carried: Carried,
-    /// Which items of the connection itself are.
     pub own: OwnCarried,
-    /// How many of the peer's streams came to their end, of each direction.
     pub ended: ByDir<u64>,
 }
 
 impl Core {
-    /// Whether a stream is one of the peer's that came to its end: its receiving half, and if it has one its sending half (RFC 9000,
-    /// section 3).
+    /// Both halves, if it has two (RFC 9000, section 3): only then the peer may open another.
     #[inline(always)]
     pub(crate) fn is_over(&self, stream: StreamId) -> bool {
         if type_of(stream) % 2 == role_bit(self.limits.role) {

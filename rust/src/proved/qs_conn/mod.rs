@@ -1,5 +1,5 @@
 // Made from crates/qs_conn/src/lib.rt by rust/erase; not edited by hand.
-//! One end of a connection: its streams, its credit, and what its packets carry.
+//! One endpoint of a connection: its streams, its flow control, and what its packets carry.
 
 mod ack_names;
 mod bits;

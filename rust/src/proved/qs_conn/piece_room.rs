@@ -7,17 +7,17 @@ use crate::proved::qs_send::Piece;
 use crate::shim::alloc::Global;
 use crate::shim::mem;
 
-// For so many pieces there is memory at first.
+// What a packet mostly carries.
 const FEW: usize = 4;
 
-/// Memory that is taken before a packet is filled, so that its record takes none: for about as many pieces as packets carried lately.
+/// Memory that is taken before a packet is filled, so that a refusal changes nothing and its record takes none: for about as many pieces as
+/// packets carried lately.
 pub(crate) struct PieceRoom {
     empty: Vec<Piece>,
     expected: usize,
 }
 
 impl PieceRoom {
-    /// It takes no memory.
     #[inline]
     pub(crate) fn new(alloc: Global) -> Self {
         PieceRoom {
@@ -26,7 +26,7 @@ impl PieceRoom {
         }
     }
 
-    /// Takes the memory, with some to spare, if it isn't there.
+    /// With some to spare, so that packets of growing count don't each take memory.
     #[inline]
     pub(crate) fn prepare(&mut self) -> Result<(), NoMemory> {
         self.empty
@@ -34,8 +34,8 @@ impl PieceRoom {
         Ok(())
     }
 
-    /// The pieces of a buffer, in which none is left: in the memory that was taken, so that the buffer serves the next packet, too. Where
-    /// there are more of them than that has room for, the buffer itself goes. It takes no memory.
+    /// In the memory that was taken, so that the buffer serves the next packet, too. If there are more pieces than that has room for, the
+    /// buffer itself goes, and the next packet takes another.
     #[inline]
     pub(crate) fn hand_over(&mut self, buffer: &mut Vec<Piece>) -> Vec<Piece> {
         let count = buffer.len();

@@ -4,7 +4,7 @@
 use crate::proved::qs_conn::marks::least;
 use crate::proved::qs_wire::StreamId;
 
-/// A stream with its place in a table, which is worked out once for a frame.
+/// A stream with its place in a table, which is worked out once for a frame and not at each look.
 #[derive(Clone, Copy)]
 pub(crate) struct Place {
     pub id: StreamId,
@@ -24,19 +24,16 @@ impl Place {
     }
 }
 
-/// The type of a stream, 0 to 3: its two lowest bits (RFC 9000, section 2.1).
 #[inline]
 pub(crate) fn type_of(stream: StreamId) -> usize {
     (stream.value() % 4) as usize
 }
 
-/// How many streams of its type have a lower number.
 #[inline]
 pub(crate) fn index_of(stream: StreamId) -> usize {
     (stream.value() / 4) as usize
 }
 
-/// The index of the least stream of a type from a number on.
 #[inline]
 pub(crate) fn index_from(stream_type: usize, from: u64) -> usize {
     debug_assert!(stream_type < 4);
@@ -44,7 +41,6 @@ pub(crate) fn index_from(stream_type: usize, from: u64) -> usize {
     ((from + 3 - stream_type as u64) / 4) as usize
 }
 
-/// The lesser of two streams, where there are some.
 #[inline]
 pub(crate) fn lesser(a: Option<StreamId>, b: Option<StreamId>) -> Option<StreamId> {
     match (a, b) {
@@ -54,7 +50,7 @@ pub(crate) fn lesser(a: Option<StreamId>, b: Option<StreamId>) -> Option<StreamI
     }
 }
 
-/// The stream of the least of four numbers, one for each type, where there are some.
+/// One for each type, since tables are by type and a search goes by number.
 #[inline(always)]
 pub(crate) fn least_stream(
     a: Option<u64>,

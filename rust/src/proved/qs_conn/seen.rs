@@ -7,10 +7,9 @@ use crate::proved::qs_calls::MAX_VARINT;
 use crate::proved::qs_send::Item;
 use crate::proved::qs_wire::{Dir, Frame};
 
-/// The most streams of a direction, whose numbers have a spelling (RFC 9000, section 4.6).
 const MAX_STREAMS: u64 = 1 << 60;
 
-/// A frame by what an endpoint does with it: each frame is told apart here, and nowhere else.
+/// A frame by what an endpoint does with it. Each frame is told apart here, and nowhere else, so that what a new frame means is said once.
 #[derive(Clone, Copy)]
 pub(crate) enum SeenFrame<'a> {
     Ack {
@@ -25,7 +24,7 @@ pub(crate) enum SeenFrame<'a> {
     },
     Control(Item),
     Close(u64),
-    // Tells nothing to the streams; it may ask for an ACK.
+    // It means nothing here, and may ask for an ACK.
     Plain {
         asks: bool,
     },
@@ -85,7 +84,6 @@ pub(crate) fn seen<'a>(frame: &Frame<'a>) -> SeenFrame<'a> {
     }
 }
 
-// Whether a frame asks for an ACK (RFC 9000, section 13.2).
 #[inline]
 pub(crate) fn asks_ack(seen: &SeenFrame<'_>) -> bool {
     match *seen {
@@ -95,7 +93,7 @@ pub(crate) fn asks_ack(seen: &SeenFrame<'_>) -> bool {
     }
 }
 
-/// Whether a frame is of streams or of flow control, which an end takes in without its packet.
+/// Those an endpoint takes alone.
 #[inline]
 pub(crate) fn is_ours(frame: &Frame<'_>) -> bool {
     matches!(
@@ -112,7 +110,7 @@ pub(crate) fn is_ours(frame: &Frame<'_>) -> bool {
     )
 }
 
-/// Whether a frame of those kinds has a text: whether its numbers have a spelling (RFC 9000, sections 16, 19.8, 19.11 and 19.14).
+/// A payload can't hold others, but a caller that builds a frame can (RFC 9000, sections 16, 19.8, 19.11 and 19.14).
 #[inline]
 pub(crate) fn has_text(frame: &Frame<'_>) -> bool {
     match *frame {
@@ -146,8 +144,8 @@ pub(crate) fn has_text(frame: &Frame<'_>) -> bool {
     }
 }
 
-/// The number of the type that the canonical text of a frame of those kinds has: a STREAM frame with its length, and with an offset
-/// above 0 (RFC 9000, section 12.4).
+/// A frame that comes alone has no type of its own, and a close needs one: that of the canonical text, a STREAM with its length, and with
+/// an offset above 0 (RFC 9000, section 12.4).
 #[inline]
 pub(crate) fn type_number(frame: &Frame<'_>) -> u64 {
     match *frame {

@@ -1,15 +1,13 @@
 // Made from crates/qs_conn/src/setup.rt by rust/erase; not edited by hand.
-//! Whether an end can be made.
+//! Whether an endpoint can be made.
 
 use crate::proved::qs_calls::{MAX_VARINT, PeerLimits, Settings, SetupFault};
 
-/// Why no end can be made of these settings.
 #[inline]
 pub(crate) fn setup_fault(settings: &Settings, peer: &PeerLimits) -> Option<SetupFault> {
     fault_where(are_within(1 << 24, 1 << 20, 4096, 1 << 16, settings), peer)
 }
 
-/// The same, of an end of wide ranges.
 #[inline]
 pub(crate) fn wide_setup_fault(settings: &Settings, peer: &PeerLimits) -> Option<SetupFault> {
     fault_where(
@@ -18,7 +16,7 @@ pub(crate) fn wide_setup_fault(settings: &Settings, peer: &PeerLimits) -> Option
     )
 }
 
-// Why no end can be made of settings that are in their ranges or aren't.
+// Own settings first: they are the caller's own fault.
 fn fault_where(in_range: bool, peer: &PeerLimits) -> Option<SetupFault> {
     if in_range {
         limits_fault(peer)
@@ -27,7 +25,6 @@ fn fault_where(in_range: bool, peer: &PeerLimits) -> Option<SetupFault> {
     }
 }
 
-/// Why such limits of the peer are refused.
 #[inline]
 pub(crate) fn limits_fault(peer: &PeerLimits) -> Option<SetupFault> {
     if !are_spellable(peer) {
@@ -44,7 +41,6 @@ pub(crate) fn is_between(low: u64, high: u64, n: u64) -> bool {
     low <= n && n <= high
 }
 
-// Whether each window, buffer, grant and lifetime is at least as large as it must be, and at most so large.
 fn are_within(conn_window: u64, window: u64, grant: u64, lifetime: u64, s: &Settings) -> bool {
     is_between(1, conn_window, s.conn_window)
         && is_between(1, window, s.bidi_local)
@@ -57,7 +53,6 @@ fn are_within(conn_window: u64, window: u64, grant: u64, lifetime: u64, s: &Sett
         && is_between(s.grant_uni, lifetime, s.lifetime_uni)
 }
 
-// Whether each of the peer's data limits has a spelling (RFC 9000, section 16).
 fn are_spellable(p: &PeerLimits) -> bool {
     p.max_data <= MAX_VARINT
         && p.bidi_local <= MAX_VARINT
@@ -65,7 +60,6 @@ fn are_spellable(p: &PeerLimits) -> bool {
         && p.uni <= MAX_VARINT
 }
 
-// Whether no more streams are allowed than have a number (RFC 9000, section 4.6).
 fn are_countable(p: &PeerLimits) -> bool {
     p.streams_bidi <= 1 << 60 && p.streams_uni <= 1 << 60
 }

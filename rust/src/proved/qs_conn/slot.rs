@@ -3,7 +3,8 @@
 
 use crate::proved::qs_wire::{Dir, StreamId};
 
-/// What a control item speaks of, without its value. At any moment at most one item of a slot is current.
+/// What a control item speaks of, without its value. At any moment at most one item of a slot is current, so a slot is enough to ask
+/// whether it is outstanding.
 #[derive(Clone, Copy)]
 pub(crate) enum Slot {
     MaxData,
@@ -16,7 +17,6 @@ pub(crate) enum Slot {
     StreamsBlocked(Dir),
 }
 
-/// The kinds of control items that each stream has.
 #[derive(Clone, Copy)]
 pub(crate) enum Kind {
     ResetStream,
@@ -26,7 +26,6 @@ pub(crate) enum Kind {
 }
 
 impl Kind {
-    /// The slot of a stream.
     #[inline]
     pub(crate) fn at(self, stream: StreamId) -> Slot {
         match self {

@@ -1,7 +1,6 @@
 // Made from crates/qs_ranges/src/bits.rt by rust/erase; not edited by hand.
-//! Bits of a word.
+//! Bits of a word, for the marks of 64 streams or slots that one look passes over.
 
-/// A word with one of its bits set or cleared.
 #[inline]
 pub fn with_bit(word: u64, bit: usize, is_set: bool) -> u64 {
     debug_assert!(bit < 64);
@@ -12,7 +11,6 @@ pub fn with_bit(word: u64, bit: usize, is_set: bool) -> u64 {
     }
 }
 
-/// The least bit that is set, from one on.
 #[inline]
 pub fn lowest_bit(word: u64, from: usize) -> Option<usize> {
     debug_assert!(from < 64);

@@ -5,10 +5,11 @@ use crate::shim::Vec;
 use crate::proved::qs_ranges::NoMemory;
 use crate::shim::alloc::Global;
 
-/// How many runs a block has at most.
+/// What a run that comes or goes may move is bounded by it, so that no order of arrival makes a set slow. A tree would take more memory and
+/// more steps for the few runs that a stream has.
 pub(crate) const MOST_RUNS: usize = 128;
 
-/// Some runs, one at least.
+/// Never empty: a block goes with its last run.
 pub(crate) struct Block {
     runs: Vec<(u64, u64)>,
 }
@@ -41,7 +42,6 @@ impl Block {
         self.runs[self.runs.len() - 1]
     }
 
-    /// The first run that ends at `low` or later.
     #[inline]
     pub(crate) fn end_from(&self, low: u64) -> usize {
         let mut from = 0;
@@ -57,7 +57,6 @@ impl Block {
         from
     }
 
-    /// The first run behind one that starts below `high` that doesn't.
     #[inline]
     pub(crate) fn start_behind(&self, at: usize, high: u64) -> usize {
         let mut to = self.runs.len();
@@ -73,7 +72,6 @@ impl Block {
         from
     }
 
-    /// Puts `run` in the place of the runs from `from` on and before `to`.
     #[inline]
     pub(crate) fn replace(&mut self, from: usize, to: usize, run: (u64, u64)) {
         debug_assert!(from < to);
@@ -81,7 +79,6 @@ impl Block {
         take_out(&mut self.runs, from + 1, to);
     }
 
-    /// Puts `left` and `right` in the place of two runs or more.
     #[inline]
     pub(crate) fn replace_by_two(
         &mut self,
@@ -94,7 +91,6 @@ impl Block {
         self.replace(from, to - 1, left);
     }
 
-    /// Puts `left` and `right` in the place of one run.
     #[inline]
     pub(crate) fn split(
         &mut self,
@@ -107,7 +103,6 @@ impl Block {
         Ok(())
     }
 
-    /// Takes out the runs from `from` on and before `to`, which aren't all.
     #[inline]
     pub(crate) fn take_out(&mut self, from: usize, to: usize) {
         debug_assert!(from <= to);
@@ -120,7 +115,6 @@ impl Block {
         Ok(())
     }
 
-    /// A block of the runs from a place on.
     #[inline]
     pub(crate) fn copy_from(&self, alloc: Global, from: usize) -> Result<Self, NoMemory> {
         let mut runs = Vec::with_capacity(alloc, MOST_RUNS)?;
@@ -128,14 +122,13 @@ impl Block {
         Ok(Block { runs })
     }
 
-    /// Copies the runs out.
     #[inline]
     pub(crate) fn copy_to(&self, into: &mut [(u64, u64)]) {
         into.copy_from_slice(&self.runs);
     }
 }
 
-// Takes out the runs from `from` on and before `to`, by one move of those behind.
+// One move of those behind, where one removal for each would move them as often as runs go.
 fn take_out(runs: &mut Vec<(u64, u64)>, from: usize, to: usize) {
     debug_assert!(from <= to);
     if from < to {

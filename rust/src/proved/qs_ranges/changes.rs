@@ -1,5 +1,5 @@
 // Made from crates/qs_ranges/src/changes.rt by rust/erase; not edited by hand.
-//! The runs of a set that are more than two, in blocks.
+//! Sets of more than two runs, in blocks.
 use crate::shim::Vec;
 
 use crate::proved::qs_ranges::NoMemory;
@@ -7,7 +7,6 @@ use crate::proved::qs_ranges::block::Block;
 use crate::proved::qs_ranges::blocks::{insert_at, replace, runs_in, span_of, split, take_out};
 use crate::proved::qs_ranges::few::{Few, count_few, few_of};
 
-/// Adds a range to the runs of blocks.
 #[inline(never)]
 pub(crate) fn insert_many(
     few: &mut Few,
@@ -25,8 +24,7 @@ pub(crate) fn insert_many(
     insert_anywhere(few, blocks, lo, hi)
 }
 
-// Makes the last run longer by a range that begins behind its first number and touches it, if the range does: packet numbers mostly
-// rise by one. It searches nothing and moves nothing.
+// Packet numbers mostly rise by one, so the last run gets longer most often: tried first, for it searches nothing and moves nothing.
 #[inline]
 fn lengthen_last(blocks: &mut Vec<Block>, lo: u64, hi: u64) -> bool {
     debug_assert!(lo < hi);
@@ -44,7 +42,6 @@ fn lengthen_last(blocks: &mut Vec<Block>, lo: u64, hi: u64) -> bool {
     true
 }
 
-// Adds a range to the runs of blocks, wherever it goes.
 fn insert_anywhere(few: &mut Few, blocks: &mut Vec<Block>, lo: u64, hi: u64) -> Result<(), NoMemory> {
     debug_assert!(lo < hi);
     debug_assert!(hi <= 1 << 62);
@@ -64,7 +61,6 @@ fn insert_anywhere(few: &mut Few, blocks: &mut Vec<Block>, lo: u64, hi: u64) -> 
     Ok(())
 }
 
-/// Takes a range out of the runs of blocks.
 #[inline(never)]
 pub(crate) fn remove_many(
     few: &mut Few,
@@ -87,7 +83,7 @@ pub(crate) fn remove_many(
     }
 }
 
-// Takes a range out of the runs of blocks, however few are left, and answers how many are.
+// Answers how many runs are left, from which the caller knows whether they go back into the value.
 fn cut_blocks(blocks: &mut Vec<Block>, count: usize, lo: u64, hi: u64) -> Result<usize, NoMemory> {
     debug_assert!(lo < hi);
     debug_assert!(hi <= 1 << 62);
@@ -118,7 +114,8 @@ fn cut_blocks(blocks: &mut Vec<Block>, count: usize, lo: u64, hi: u64) -> Result
     }
 }
 
-// Two runs, or one, come back into the value, and their block goes. Of more the value tells the count.
+// At two runs or one the block is given back: a stream whose gaps were filled keeps nothing for them. Runs that come and go between two and
+// three so take memory each time, which is rare.
 fn settle(few: &mut Few, blocks: &mut Vec<Block>, count: usize) {
     *few = Few::InBlocks(count);
     if blocks.is_empty() {
@@ -133,7 +130,6 @@ fn settle(few: &mut Few, blocks: &mut Vec<Block>, count: usize) {
     }
 }
 
-/// Copies the runs of blocks to the slice's front.
 #[inline(never)]
 pub(crate) fn copy_runs(blocks: &[Block], into: &mut [(u64, u64)]) -> usize {
     let mut count = 0;
@@ -144,7 +140,6 @@ pub(crate) fn copy_runs(blocks: &[Block], into: &mut [(u64, u64)]) -> usize {
     count
 }
 
-// Copies the runs of one block to a place.
 fn copy_block(block: &Block, into: &mut [(u64, u64)], at: usize) {
     let end = at + block.len();
     block.copy_to(&mut into[at..end]);

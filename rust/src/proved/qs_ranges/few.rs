@@ -1,11 +1,11 @@
 // Made from crates/qs_ranges/src/few.rt by rust/erase; not edited by hand.
-//! A set of two runs at most, in a value; of more, how many there are.
+//! Sets of two runs at most. Nearly every set is one, as of a stream with one gap: it stands in the value and takes no memory.
 use crate::shim::Vec;
 
 use crate::proved::qs_ranges::NoMemory;
 use crate::proved::qs_ranges::block::Block;
 
-/// Two runs at most, in rising order; or none, and how many there are in blocks.
+/// More runs are in blocks, and then the value keeps their count, so that asking for it costs no walk.
 #[derive(Clone, Copy)]
 pub(crate) enum Few {
     InBlocks(usize),
@@ -13,7 +13,7 @@ pub(crate) enum Few {
     Two((u64, u64), (u64, u64)),
 }
 
-/// Adds a range. A third run takes a block.
+/// Only a third run needs memory.
 #[inline]
 pub(crate) fn insert_few(
     few: &mut Few,
@@ -33,7 +33,6 @@ pub(crate) fn insert_few(
     Ok(())
 }
 
-// Adds a range to two runs.
 fn add_to_two(
     few: &mut Few,
     blocks: &mut Vec<Block>,
@@ -65,7 +64,7 @@ fn add_to_two(
     Ok(())
 }
 
-/// Takes a range out. A third run takes a block.
+/// Only a third run needs memory: one that is cut in two.
 #[inline]
 pub(crate) fn remove_few(
     few: &mut Few,
@@ -83,7 +82,6 @@ pub(crate) fn remove_few(
     Ok(())
 }
 
-// What is left of a run.
 fn without_range_of(run: (u64, u64), lo: u64, hi: u64) -> Few {
     debug_assert!(lo < hi);
     let (start, end) = run;
@@ -98,7 +96,6 @@ fn without_range_of(run: (u64, u64), lo: u64, hi: u64) -> Few {
     }
 }
 
-// Takes a range out of two runs.
 #[inline(never)]
 fn take_from_two(
     few: &mut Few,
@@ -124,7 +121,6 @@ fn take_from_two(
     Ok(())
 }
 
-// Takes a range out that doesn't meet the higher of two runs.
 fn take_from_low(
     few: &mut Few,
     blocks: &mut Vec<Block>,
@@ -146,7 +142,6 @@ fn take_from_low(
     Ok(())
 }
 
-// Takes a range out that doesn't meet the lower of two runs.
 fn take_from_high(
     few: &mut Few,
     blocks: &mut Vec<Block>,
@@ -168,7 +163,7 @@ fn take_from_high(
     Ok(())
 }
 
-// Puts three runs into a block.
+// The value changes last: if memory is refused, the set is as it was.
 fn put_three(
     few: &mut Few,
     blocks: &mut Vec<Block>,
@@ -184,7 +179,6 @@ fn put_three(
     Ok(())
 }
 
-/// The runs of a block, where they are few.
 #[inline]
 pub(crate) fn few_of(block: &Block) -> Option<Few> {
     match block.len() {
@@ -194,7 +188,6 @@ pub(crate) fn few_of(block: &Block) -> Option<Few> {
     }
 }
 
-/// The first run that ends above `n`.
 #[inline]
 pub(crate) fn few_above(few: Few, n: u64) -> Option<(u64, u64)> {
     let run = match few {
@@ -205,12 +198,10 @@ pub(crate) fn few_above(few: Few, n: u64) -> Option<(u64, u64)> {
     one_above(run, n)
 }
 
-// The run, where it ends above `n`.
 fn one_above(run: (u64, u64), n: u64) -> Option<(u64, u64)> {
     if n < run.1 { Some(run) } else { None }
 }
 
-/// The first run that ends above `n`, and the one behind it.
 #[inline]
 pub(crate) fn few_above_two(few: Few, n: u64) -> (Option<(u64, u64)>, Option<(u64, u64)>) {
     match few {
@@ -225,7 +216,6 @@ pub(crate) fn few_above_two(few: Few, n: u64) -> (Option<(u64, u64)>, Option<(u6
     }
 }
 
-/// Copies the runs to the slice's front.
 #[inline]
 pub(crate) fn copy_few(few: Few, into: &mut [(u64, u64)]) -> usize {
     match few {
@@ -242,7 +232,6 @@ pub(crate) fn copy_few(few: Few, into: &mut [(u64, u64)]) -> usize {
     }
 }
 
-/// How many runs there are.
 #[inline]
 pub(crate) fn count_few(few: Few) -> usize {
     match few {

@@ -1,7 +1,7 @@
 // Made from crates/qs_ranges/src/maybe_number.rt by rust/erase; not edited by hand.
-//! A number below 2^62, or none, in eight bytes.
+//! A number below 2^62, or none, in eight bytes. A stream has several such numbers, and most end with none.
 
-// The word of no number: above each that there may be.
+// No number that there may be, so no flag is needed.
 const NO_NUMBER: u64 = u64::MAX;
 
 /// No number, or one below 2^62, in eight bytes: an `Option<u64>` takes sixteen.

@@ -1,5 +1,6 @@
 // Made from crates/qs_ranges/src/lib.rt by rust/erase; not edited by hand.
-//! Sets of numbers, kept as the longest runs of their members.
+//! Sets of numbers, kept as the longest runs of their members. One type serves stream offsets and packet numbers: both lie below 2^62, and
+//! both mostly come in order.
 
 use crate::shim::Vec;
 
@@ -22,7 +23,7 @@ pub use bits::{lowest_bit, with_bit};
 pub use maybe_number::MaybeNumber;
 pub use room::reserve;
 
-/// No memory was left.
+/// Memory was refused, and nothing changed.
 #[derive(Clone, Copy, Debug, PartialEq, Eq)]
 pub struct NoMemory;
 
@@ -38,14 +39,15 @@ impl<T> From<AllocFailed<T>> for NoMemory {
     }
 }
 
-/// A set of numbers below 2^62, kept as its longest runs in rising order: two at most in the value itself, and more in blocks.
+/// A set of numbers below 2^62, as its longest runs in rising order: two at most in the value itself, and more in blocks, which only a set
+/// with gaps pays for.
 pub struct RangeSet {
     few: Few,
     blocks: Vec<Block>,
 }
 
 impl RangeSet {
-    /// The empty set. It takes no memory.
+    /// The empty set. It takes no memory, so what has one needs no way to fail.
     #[inline]
     pub fn new(alloc: Global) -> Self {
         Self {
@@ -54,7 +56,7 @@ impl RangeSet {
         }
     }
 
-    /// The set of all numbers below `n`. It takes no memory.
+    /// The set of all numbers below `n`. It takes no memory: it stands for a set whose members aren't worth keeping apart any more.
     #[inline]
     pub fn below(alloc: Global, n: u64) -> Self {
         debug_assert!(n <= 1 << 62);
@@ -71,7 +73,8 @@ impl RangeSet {
 
     /// Adds the numbers from `lo` on and below `hi`; an empty range changes nothing. `NoMemory` leaves the set as it was.
     ///
-    /// It takes constant time at or past the end of the set, and elsewhere two searches and moves within blocks.
+    /// Constant time at or past the end of the set, where packet numbers and bytes in order go; elsewhere two searches and moves within
+    /// blocks.
     #[inline]
     pub fn insert(&mut self, lo: u64, hi: u64) -> Result<(), NoMemory> {
         debug_assert!(lo <= hi);
@@ -99,14 +102,14 @@ impl RangeSet {
         remove_many(&mut self.few, &mut self.blocks, lo, hi)
     }
 
-    /// Takes out the numbers below `n`. It takes constant time up to the end of the first run.
+    /// Takes out the numbers below `n`, without memory. Constant time up to the end of the first run.
     #[inline]
     pub fn drop_below(&mut self, n: u64) {
         let _never = self.remove(0, n.min(1 << 62));
     }
 
-    /// Copies the longest runs of members to the slice's front, each a first number and the number after the last, and answers how many
-    /// there are.
+    /// Copies the longest runs of members to the slice's front, each as its first number and the one after its last, and returns how many
+    /// there are. Copied, since blocks have no one slice to lend, and one vector would move all runs behind each that comes between.
     #[inline]
     pub fn copy_pairs(&self, into: &mut [(u64, u64)]) -> usize {
         if self.blocks.is_empty() {
@@ -161,7 +164,8 @@ impl RangeSet {
         }
     }
 
-    /// The first gap from `lo` on and below `hi`: its first missing number, and the next member or `hi`. `None` where no number is missing.
+    /// The first gap from `lo` on and below `hi`: its first missing number, and the next member or `hi`. `None` if no number is missing.
+    /// One search gives both edges, and bytes are copied gap by gap.
     #[inline]
     pub fn first_gap(&self, lo: u64, hi: u64) -> Option<(u64, u64)> {
         if lo >= hi {
@@ -183,7 +187,7 @@ impl RangeSet {
         }
     }
 
-    /// How many runs there are: the members whose predecessor is not a member. It takes constant time.
+    /// How many runs there are: members whose predecessor isn't one. Constant time, as it is asked after each frame.
     #[inline]
     pub fn count(&self) -> usize {
         match self.few {
@@ -197,7 +201,6 @@ impl RangeSet {
         matches!(self.run_above(n), Some((start, _)) if start <= n)
     }
 
-    // The first run that ends above `n`.
     fn run_above(&self, n: u64) -> Option<(u64, u64)> {
         if self.blocks.is_empty() {
             return few_above(self.few, n);
@@ -209,7 +212,6 @@ impl RangeSet {
         first
     }
 
-    // The first run that ends above `n`, and the one behind it.
     fn runs_above(&self, n: u64) -> (Option<(u64, u64)>, Option<(u64, u64)>) {
         if self.blocks.is_empty() {
             return few_above_two(self.few, n);

@@ -1,10 +1,9 @@
 // Made from crates/qs_recv/src/credit.rt by rust/erase; not edited by hand.
 //! How much more a peer may send.
 
-// The largest value of a variable-length integer.
 const MAX_VARINT: u64 = (1 << 62) - 1;
 
-/// A part of a window, or of a grant.
+/// Shares are few, so that a step needs no division, and a half keeps its share in a byte.
 #[derive(Clone, Copy, Debug, PartialEq, Eq)]
 pub enum Share {
     Half,
@@ -13,8 +12,8 @@ pub enum Share {
     Sixteenth,
 }
 
-/// The limit that follows one where so much was taken of a window: it moves once that is such a share of it, or more (RFC 9000,
-/// section 4.2).
+/// The limit that follows one after so much was consumed of a window: it moves once that is such a share more, so that not each read costs
+/// a frame (RFC 9000, section 4.2).
 #[inline]
 pub fn next_limit(limit: u64, taken: u64, window: u64, share: Share) -> u64 {
     debug_assert!(limit <= 0x3fff_ffff_ffff_ffff);
@@ -29,7 +28,8 @@ pub fn next_limit(limit: u64, taken: u64, window: u64, share: Share) -> u64 {
     }
 }
 
-/// The limit under another window: a greater one moves it at once, and under a smaller one it stands (RFC 9000, section 4.2).
+/// The limit under another window. A greater one moves it at once: a step that is never reached would hide it. Under a smaller one it
+/// stays, since no limit may fall (RFC 9000, section 4.1).
 #[inline]
 pub(crate) fn limit_with(present: u64, granted: u64, taken: u64, window: u64) -> u64 {
     debug_assert!(granted <= 0x3fff_ffff_ffff_ffff);
@@ -42,7 +42,7 @@ pub(crate) fn limit_with(present: u64, granted: u64, taken: u64, window: u64) ->
     }
 }
 
-/// Such a share of a window or of a grant, and 1 at least: by so much a limit or a count moves.
+/// A share rounds down, and is 1 at least: a limit that moves by 0 would never move.
 #[inline]
 pub fn step_of(share: Share, whole: u64) -> u64 {
     let part = match share {

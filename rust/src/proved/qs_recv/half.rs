@@ -10,38 +10,39 @@ use crate::proved::qs_recv::rest::Rest;
 use crate::proved::qs_ranges::NoMemory;
 use crate::shim::alloc::Global;
 
-/// Why data or a reset is refused. The half is left as it was. Each but NoMemory is an error of the peer, and the last is
-/// told by `check_bytes` alone.
+/// Why data or a reset is refused. The half stays as it was. Each but NoMemory is an error of the peer; ChangedByte comes from
+/// `check_bytes` alone, since it is judged after the connection's limit.
 #[derive(Debug, Clone, Copy, PartialEq, Eq)]
 pub enum RecvFault {
-    /// Another final size is named, or one below what came, or data lies past it: FINAL_SIZE_ERROR (section 4.5).
+    /// Another final size is named, or one below what came, or data past it: FINAL_SIZE_ERROR (section 4.5).
     FinalSize,
     /// The stream's limit is exceeded: FLOW_CONTROL_ERROR (section 4.1).
     StreamCredit,
-    /// A growth was refused.
+    /// Memory was refused.
     NoMemory,
     /// Another byte stands at an offset that is still stored: PROTOCOL_VIOLATION (section 2.2).
     ChangedByte,
 }
 
-/// The highest offset of a stream before and after a frame: the final size if known, else one more than the largest offset
-/// that came, or 0.
+/// The highest offset of a stream before and after a frame: the final size if known, else one more than the largest offset received, or 0.
+/// Both, so that the caller holds the growth against the connection's limit.
 #[derive(Debug, Clone, Copy, PartialEq, Eq)]
 pub struct Highest {
     pub before: u64,
     pub after: u64,
 }
 
-/// What is said of a STREAM frame: of its offsets and its end, with what it does to the highest offset; and of its bytes.
+/// What is said of a STREAM frame in one look: whether its offsets and its end may be taken, with what that does to the highest offset; and
+/// whether its bytes are those that are stored.
 #[derive(Debug, Clone, Copy, PartialEq, Eq)]
 pub struct Judged {
     pub stream: Result<Highest, RecvFault>,
     pub bytes: Result<(), RecvFault>,
 }
 
-/// What a half adds to the sums over all of them: the highest offset; what credit is paid back for, which is that after a reset or a
-/// stop, else the bytes read; how many bytes are stored; and how many runs the offsets make that came, of which none are kept after
-/// a reset, or once all came and nothing is to be told. And whether it was stopped, so that what comes counts as taken.
+/// What a half adds to the sums over all of them: the highest offset; what counts as consumed; how many bytes are stored; into how many
+/// runs the received offsets fall, none after a reset or once all was read; and whether it was stopped, so that what arrives counts as
+/// consumed. Sums are kept by differences of these, since a walk over all streams at each call would cost with their count.
 #[derive(Debug, Clone, Copy, PartialEq, Eq)]
 pub struct Sizes {
     pub spent: u64,
@@ -51,14 +52,13 @@ pub struct Sizes {
     pub is_stopped: bool,
 }
 
-/// Whether a read of one byte would tell something new, and whether the end or a reset was told.
 #[derive(Debug, Clone, Copy, PartialEq, Eq)]
 pub struct Standing {
     pub is_readable: bool,
     pub has_ended: bool,
 }
 
-/// What a reader is told: so many bytes were read, all data was read, the stream was reset with a code, or nothing is next.
+/// What a read returns: so many bytes were read, all data was read, the stream was reset with a code, or nothing is next.
 #[derive(Debug, Clone, Copy, PartialEq, Eq)]
 pub enum Read {
     Bytes(usize),
@@ -67,8 +67,8 @@ pub enum Read {
     Wait,
 }
 
-/// What a look at a stream tells, without reading: the bytes that are next, in one piece of memory or two; that all data was read; that
-/// the stream was reset with a code; or that nothing is next.
+/// What a look at a stream shows, without reading: the next bytes, in one piece of memory or two; that all data was read; that the stream
+/// was reset with a code; or that nothing is next.
 #[derive(Debug, Clone, Copy, PartialEq, Eq)]
 pub enum Peek<'a> {
     Bytes(&'a [u8], &'a [u8]),
@@ -90,8 +90,9 @@ pub enum RecvState {
 
 /// The receiving half of a stream, over any assembly. Offsets and sizes count bytes from the start of the stream.
 ///
-/// It is a record of 24 bytes. One that was read to its end stands in it; one that never carried a byte or was reset, and one that was
-/// forgotten while no offset is missing, takes a box of 64 bytes beside; and one that may store bytes a greater one, with its assembly.
+/// A half is kept until its connection ends, so what one takes that is over counts for every stream that ever was. Its record has 24 bytes.
+/// One that was read to its end stands in it. One that never carried a byte or was reset, and one that was stopped and has no gap, takes a
+/// box of 64 bytes beside; and one that may store bytes a larger one, with its assembly.
 pub struct RecvHalf<A: Assembly> {
     alloc: Global,
     parts: Parts<A>,
@@ -102,15 +103,15 @@ enum Parts<A: Assembly> {
     Live(Box<LiveHalf<A>>),
 }
 
-// One that stores nothing. It is an enum of its own, so that a look at one that may takes one comparison.
+// An enum of its own, so that a half that may store bytes, the one of nearly each call, is found by one comparison.
 enum Kept {
     Over(Over),
     Rest(Box<Rest>),
 }
 
 impl<A: Assembly> RecvHalf<A> {
-    /// A half that grants `window` bytes beyond what was taken, and moves its limit by such a share of these. Its box is taken at once, so
-    /// that a reset can be taken without memory.
+    /// A half that grants `window` bytes beyond what was consumed, and moves its limit by such a share of these. Its box is taken at once,
+    /// so that a reset never needs memory: `take_reset` has no error for it.
     #[inline]
     pub fn new(alloc: Global, window: u64, share: Share) -> Result<Self, NoMemory> {
         debug_assert!(1 <= window);
@@ -124,7 +125,8 @@ impl<A: Assembly> RecvHalf<A> {
         })
     }
 
-    /// What is said of a STREAM frame by a half for which nothing came. It takes no memory.
+    /// What is said of a STREAM frame by a half that received nothing: of a stream that the frame would open, before it opens. It takes no
+    /// memory.
     #[inline]
     pub fn judge_first(alloc: Global, window: u64, offset: u64, bytes: &[u8], fin: bool) -> Judged {
         debug_assert!(1 <= window);
@@ -134,7 +136,7 @@ impl<A: Assembly> RecvHalf<A> {
         fresh.judge(offset, bytes, fin)
     }
 
-    /// Whether a RESET_STREAM frame may be taken by a half for which nothing came. It takes no memory.
+    /// Whether a half that received nothing may take a RESET_STREAM. It takes no memory.
     #[inline]
     pub fn check_first_reset(alloc: Global, window: u64, size: u64) -> Result<Highest, RecvFault> {
         debug_assert!(1 <= window);
@@ -145,8 +147,7 @@ impl<A: Assembly> RecvHalf<A> {
         fresh.check_reset(size)
     }
 
-    /// Whether a STREAM frame may be taken, and what it does to the highest offset. The final size is tested before the
-    /// credit.
+    /// Whether a STREAM frame may be taken, and what it does to the highest offset. The final size is tested before the limit.
     #[inline]
     pub fn check_stream(&self, offset: u64, len: u64, fin: bool) -> Result<Highest, RecvFault> {
         match &self.parts {
@@ -158,8 +159,7 @@ impl<A: Assembly> RecvHalf<A> {
         }
     }
 
-    /// Whether a STREAM frame's bytes are those that are stored at their offsets, where some are still stored. It takes no
-    /// memory.
+    /// Whether a STREAM frame's bytes are those that are stored at their offsets, as far as some still are. It takes no memory.
     #[inline]
     pub fn check_bytes(&self, offset: u64, bytes: &[u8]) -> Result<(), RecvFault> {
         match &self.parts {
@@ -175,8 +175,8 @@ impl<A: Assembly> RecvHalf<A> {
         }
     }
 
-    /// What is said of a STREAM frame: whether it may be taken, where the final size is tested before the credit, and whether its bytes
-    /// are those that are stored. A caller with credit of its own asks for that in between. It takes no memory.
+    /// What is said of a STREAM frame: whether it may be taken, with the final size tested before the limit, and whether its bytes are
+    /// those that are stored. A caller with a limit of its own tests that in between. It takes no memory.
     #[inline]
     pub fn judge(&self, offset: u64, bytes: &[u8], fin: bool) -> Judged {
         match &self.parts {
@@ -188,8 +188,8 @@ impl<A: Assembly> RecvHalf<A> {
         }
     }
 
-    /// Whether a STREAM frame that passed both checks would change the half: it tells the final size, or one of its offsets didn't
-    /// come before, and no reset did.
+    /// Whether a STREAM frame that passed both checks would change the half: it names the final size first, or brings a new offset, and no
+    /// reset came.
     #[inline]
     pub fn stream_changes(&self, offset: u64, len: u64, fin: bool) -> bool {
         match &self.parts {
@@ -201,8 +201,8 @@ impl<A: Assembly> RecvHalf<A> {
         }
     }
 
-    /// Takes a STREAM frame that passed both checks. The only error is NoMemory, where a growth was refused. After a reset
-    /// or a stop its bytes are counted and thrown away.
+    /// Takes a STREAM frame that passed both checks. The only error is NoMemory. After a reset or a stop its bytes are counted and
+    /// discarded.
     #[inline]
     pub fn take_stream(&mut self, offset: u64, bytes: &[u8], fin: bool) -> Result<(), RecvFault> {
         match &mut self.parts {
@@ -241,8 +241,8 @@ impl<A: Assembly> RecvHalf<A> {
         }
     }
 
-    /// Takes a RESET_STREAM frame that passed the check: what is stored is thrown away, and so is what was noted of the offsets
-    /// that came. Once all data came, or after another reset, nothing changes.
+    /// Takes a RESET_STREAM frame that passed the check: what is stored is discarded, and so is what was noted of the received offsets, for
+    /// which nothing asks any more. Once all data arrived, or after another reset, nothing changes.
     #[inline]
     pub fn take_reset(&mut self, code: u64, size: u64) {
         debug_assert!(size <= 0x3fff_ffff_ffff_ffff);
@@ -261,7 +261,7 @@ impl<A: Assembly> RecvHalf<A> {
         }
     }
 
-    /// Reads the bytes that are next into the slice's front, or tells how the stream stands. The rest of the slice stays.
+    /// Reads the next bytes into the slice's front, or says how the stream stands. The rest of the slice stays.
     #[inline]
     pub fn read(&mut self, into: &mut [u8]) -> Read {
         let answer = match &mut self.parts {
@@ -278,8 +278,8 @@ impl<A: Assembly> RecvHalf<A> {
         answer
     }
 
-    /// Throws the stored bytes away, and those that come from now on (section 3.5). The first code stays;
-    /// a code is at most 2^62 - 1, so that a frame can tell it. Once the end was told, or a reset, it changes nothing.
+    /// Discards the stored bytes, and those that arrive from now on (section 3.5). The first code stays; a code is at most 2^62 - 1, so
+    /// that a frame can carry it. Once the end or a reset was read it changes nothing, so that a half that is over keeps no code.
     #[inline]
     pub fn stop(&mut self, code: u64) {
         debug_assert!(code <= 0x3fff_ffff_ffff_ffff);
@@ -290,8 +290,7 @@ impl<A: Assembly> RecvHalf<A> {
         }
     }
 
-    /// Stops it, and tells nothing more of it: it counts as read to its end as soon as that comes, or as a reset does
-    /// (sections 3.2 and 3.5).
+    /// Stops it for a reader that won't ask again: it counts as read to its end as soon as that or a reset comes (sections 3.2 and 3.5).
     #[inline]
     pub fn stop_and_forget(&mut self, code: u64) {
         debug_assert!(code <= 0x3fff_ffff_ffff_ffff);
@@ -302,8 +301,8 @@ impl<A: Assembly> RecvHalf<A> {
         }
     }
 
-    /// Raises the limit by what was taken, once that is the half's share of its window or more, and answers the new one where it rose
-    /// (section 4.2). Once the final size is known it stays.
+    /// Raises the limit by what was consumed, once that is the half's share of its window or more, and returns the new one if it rose
+    /// (section 4.2). Once the final size is known it stays, since nobody needs it.
     #[inline]
     pub fn raise(&mut self) -> Option<u64> {
         match &mut self.parts {
@@ -316,8 +315,8 @@ impl<A: Assembly> RecvHalf<A> {
         }
     }
 
-    /// Sets another window (section 4.2): a greater one moves the limit at once, be it by less than the half's share of it, and
-    /// under a smaller one the limit stands until so much was taken that it moves again. Once the final size is known it stays.
+    /// Sets another window (section 4.2): a greater one raises the limit at once, even by less than the half's share, and under a smaller
+    /// one the limit stays until enough is consumed. Once the final size is known it stays.
     #[inline]
     pub fn set_window(&mut self, window: u64) {
         debug_assert!(1 <= window);
@@ -339,8 +338,8 @@ impl<A: Assembly> RecvHalf<A> {
         }
     }
 
-    /// Whether a read of one byte would tell something new: bytes, or an end or a reset that wasn't told yet; and whether either was.
-    /// Of a stopped half only the end and a reset are told (sections 2.2, 3.2 and 3.5).
+    /// Whether a read of one byte would return something new: bytes, or the end or a reset that wasn't read yet; and whether either was. Of
+    /// a stopped half only the end and a reset are read (sections 2.2, 3.2 and 3.5). Both in one look, for the marks of all streams.
     #[inline]
     pub fn standing(&self) -> Standing {
         match &self.parts {
@@ -350,7 +349,7 @@ impl<A: Assembly> RecvHalf<A> {
         }
     }
 
-    /// Whether the end or a reset was told: Data Read and Reset Read (section 3.2).
+    /// Whether the end or a reset was read: Data Read and Reset Read (section 3.2).
     #[inline]
     pub fn has_ended(&self) -> bool {
         match &self.parts {
@@ -370,7 +369,7 @@ impl<A: Assembly> RecvHalf<A> {
         }
     }
 
-    /// How long the stream is, where that is known (section 4.5).
+    /// How long the stream is, if that is known (section 4.5).
     #[inline]
     pub fn final_size(&self) -> Option<u64> {
         match &self.parts {
@@ -380,7 +379,7 @@ impl<A: Assembly> RecvHalf<A> {
         }
     }
 
-    /// Whether all is told that is to be: the end or a reset was, or it was stopped and forgotten.
+    /// Whether its reader knows all there is: the end or a reset was read, or it was stopped and forgotten.
     #[inline]
     pub fn is_told(&self) -> bool {
         match &self.parts {
@@ -390,7 +389,7 @@ impl<A: Assembly> RecvHalf<A> {
         }
     }
 
-    /// The state by what came and what a reader was told (section 3.2).
+    /// The state by what arrived and what was read (section 3.2).
     #[inline]
     pub fn state(&self) -> RecvState {
         match &self.parts {
@@ -400,8 +399,8 @@ impl<A: Assembly> RecvHalf<A> {
         }
     }
 
-    /// Whether a read of one byte would tell something new: bytes, or an end or a reset that wasn't told yet. Of a stopped half only the
-    /// end and a reset are told (sections 2.2, 3.2 and 3.5).
+    /// Whether a read of one byte would return something new: bytes, or the end or a reset that wasn't read yet. Of a stopped half only the
+    /// end and a reset are read (sections 2.2, 3.2 and 3.5).
     #[inline]
     pub fn is_readable(&self) -> bool {
         match &self.parts {
@@ -411,8 +410,8 @@ impl<A: Assembly> RecvHalf<A> {
         }
     }
 
-    /// How many bytes of memory are taken to store some, as the assembly counts them: at most 4,096, or while some are stored
-    /// four times the highest offset less what was taken; none once the end was told, or where bytes are thrown away.
+    /// How many bytes of memory it takes to store some, as the assembly counts them: at most 4,096, or while some are stored four times the
+    /// highest offset less what was consumed; none once the end was read, or if bytes are discarded.
     #[inline]
     pub fn held(&self) -> u64 {
         match &self.parts {
@@ -442,7 +441,7 @@ impl<A: Assembly> RecvHalf<A> {
         }
     }
 
-    /// The code of the reset that was taken, if there was one.
+    /// The code of the reset that took effect, if one did.
     #[inline]
     pub fn reset_code(&self) -> Option<u64> {
         match &self.parts {
@@ -452,7 +451,7 @@ impl<A: Assembly> RecvHalf<A> {
         }
     }
 
-    // A half that was read to its end stands in the record itself, and its box is given back.
+    // Its box is freed: a half that is over stands in its record.
     #[inline(never)]
     fn end(&mut self) {
         let over = match &self.parts {
@@ -465,7 +464,7 @@ impl<A: Assembly> RecvHalf<A> {
         }
     }
 
-    // A half that stores nothing any more is kept by its numbers alone, where no offset is missing and memory for them isn't refused.
+    // Without an assembly, if no offset is missing. If the smaller box is refused the larger one stays, and no answer shows it.
     fn settle(&mut self) {
         let Parts::Live(live) = &self.parts else {
             return;
@@ -475,7 +474,7 @@ impl<A: Assembly> RecvHalf<A> {
         }
     }
 
-    // It is seldom called, and apart so that the other is small.
+    // Seldom called, and apart so that the other is small.
     #[inline(never)]
     fn settle_apart(&mut self) {
         let Parts::Live(live) = &self.parts else {
@@ -489,15 +488,15 @@ impl<A: Assembly> RecvHalf<A> {
         }
     }
 
-    // A half at rest, with an assembly that stores nothing.
+    // Made on the stack for a question that needs one, so that a half at rest is defined once.
     fn revived(&self, rest: &Rest) -> LiveHalf<A> {
         LiveHalf::revived(self.alloc, rest)
     }
 }
 
 impl<A: Peeking> RecvHalf<A> {
-    /// Tells what a read with room enough would, and changes nothing: the bytes that are next stay where they are, and all of them are
-    /// shown, up to the first that didn't come.
+    /// What a read with room enough would return, and changes nothing: the next bytes stay where they are, all of them, up to the first
+    /// that is missing.
     #[inline]
     pub fn peek(&self) -> Peek<'_> {
         match &self.parts {
@@ -512,7 +511,7 @@ impl<A: Peeking> RecvHalf<A> {
 }
 
 impl<A: Skipping> RecvHalf<A> {
-    /// Takes the bytes that are next, as a read into a slice of so many bytes does, and copies none; or tells how the stream stands.
+    /// Takes the next bytes, as a read into a slice of so many bytes does, and copies none; or says how the stream stands.
     #[inline]
     pub fn skip(&mut self, most: usize) -> Read {
         let answer = match &mut self.parts {

@@ -9,7 +9,7 @@ use crate::proved::qs_recv::rest::{Rest, given};
 use crate::proved::qs_recv::window::Windows;
 use crate::shim::alloc::Global;
 
-/// A receiving half with its assembly. `RecvHalf` tells what the calls do.
+/// Numbers and their flags apart: an `Option<u64>` takes twice the bytes. `RecvHalf` says what the calls do.
 pub(crate) struct LiveHalf<A: Assembly> {
     assembly: A,
     read_count: u64,
@@ -26,7 +26,7 @@ pub(crate) struct LiveHalf<A: Assembly> {
 }
 
 impl<A: Assembly> LiveHalf<A> {
-    /// The same half as one at rest. It takes no memory.
+    /// For a question to a half at rest; it takes no memory.
     #[inline]
     pub(crate) fn revived(alloc: Global, rest: &Rest) -> Self {
         let widest = rest.windows.widest as u64;
@@ -53,19 +53,18 @@ impl<A: Assembly> LiveHalf<A> {
         }
     }
 
-    /// Lets the assembly go: it becomes the same half as one at rest.
+    /// The box stays if a smaller one was refused, and goes on as a half at rest.
     #[inline]
     pub(crate) fn let_go(&mut self, alloc: Global, rest: &Rest) {
         *self = LiveHalf::revived(alloc, rest);
     }
 
-    /// Whether the end was told, or nothing is stored any more since it was stopped.
     #[inline]
     pub(crate) fn is_done(&self) -> bool {
         self.told || self.is_stopped
     }
 
-    /// The same half at rest, where it is done and every offset below the largest that came came.
+    /// None while an offset is missing: a late frame could then want its assembly.
     #[inline]
     pub(crate) fn rested(&self) -> Option<Rest> {
         if !self.is_done() || !self.assembly.received().covers(0, self.received_end) {
@@ -86,7 +85,6 @@ impl<A: Assembly> LiveHalf<A> {
         })
     }
 
-    /// The same half in few bytes, where it was read to its end.
     #[inline]
     pub(crate) fn over(&self) -> Option<Over> {
         match self.rested() {
@@ -188,7 +186,7 @@ impl<A: Assembly> LiveHalf<A> {
         })
     }
 
-    /// What a reset that passed its check makes of it: a half at rest, which takes its place. None where nothing changes.
+    /// What a reset that passed its check makes of it: a half at rest, which takes its place. None if nothing changes.
     #[inline]
     pub(crate) fn reset(&mut self, code: u64, size: u64) -> Option<Rest> {
         debug_assert!(size <= 0x3fff_ffff_ffff_ffff);
@@ -403,24 +401,21 @@ impl<A: Assembly> LiveHalf<A> {
         given(self.is_reset, self.reset)
     }
 
-    /// Whether the end was told, or a reset.
     #[inline]
     pub(crate) fn is_over(&self) -> bool {
         self.told && (self.is_reset || self.is_whole())
     }
 
-    // Whether all of the stream was read.
     fn is_at_end(&self) -> bool {
         self.is_sized && self.read_count == self.size
     }
 
-    // Whether the final size is known and every offset below it came. It is seldom called, and apart so that its callers are small.
+    // Seldom called, and apart so that its callers are small.
     #[inline(never)]
     fn is_whole(&self) -> bool {
         self.is_sized && self.assembly.received().covers(0, self.size)
     }
 
-    // Whether a frame with len bytes at offset names another final size, or lies outside the known one.
     fn breaks_final_size(&self, offset: u64, len: u64, fin: bool) -> bool {
         let end = offset + len;
         if self.is_sized {
@@ -481,7 +476,6 @@ impl<A: Skipping> LiveHalf<A> {
     }
 }
 
-// One more than the largest offset, once the len offsets from another one on came too.
 fn end_with(before: u64, offset: u64, len: u64) -> u64 {
     if len == 0 {
         before

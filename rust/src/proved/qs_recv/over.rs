@@ -1,10 +1,11 @@
 // Made from crates/qs_recv/src/over.rt by rust/erase; not edited by hand.
-//! A receiving half that was read to its end, in 24 bytes.
+//! A receiving half that was read to its end, in 24 bytes. Most streams that ever were are such: whole, read, neither reset nor stopped.
 
 use crate::proved::qs_recv::rest::Rest;
 use crate::proved::qs_recv::window::Windows;
 
-/// A receiving half that was read to its end: its length, how far its limit lies past that, and its windows.
+/// Its length, how far its limit lies past that (at most the greatest window, so four bytes do), and its windows. Nothing that may still
+/// come or be called changes any of it but another window, so it needs no box.
 pub(crate) struct Over {
     pub(crate) end: u64,
     pub(crate) past: u32,
@@ -12,7 +13,6 @@ pub(crate) struct Over {
 }
 
 impl Over {
-    /// The same half at rest.
     #[inline]
     pub(crate) fn rest(&self) -> Rest {
         Rest {
@@ -30,7 +30,6 @@ impl Over {
         }
     }
 
-    /// Sets another window.
     #[inline]
     pub(crate) fn set_window(&mut self, window: u64) {
         debug_assert!(1 <= window);
@@ -38,7 +37,6 @@ impl Over {
         self.windows = self.windows.with(window);
     }
 
-    /// What holds of the half at all times.
     #[inline]
     pub(crate) fn is_over(&self) {
         let _ = &self.end;

@@ -1,5 +1,6 @@
 // Made from crates/qs_recv/src/pages.rt by rust/erase; not edited by hand.
-//! Bytes that stand apart from a ring, far past it, in pages of their own.
+//! Bytes that lie far past a ring, in pages of their own. A ring that reached to them would fill the hole before them: two bytes, one at
+//! the front and one half a window on, would write half a window.
 use crate::shim::Vec;
 
 use crate::proved::qs_recv::ring::{Ring, is_at, write_at};
@@ -7,10 +8,11 @@ use crate::proved::qs_ranges::{NoMemory, reserve};
 use crate::shim::alloc::Global;
 use crate::shim::collections::BTreeMap;
 
-// A page has the bytes of so many offsets.
+// Small, since a peer may send one byte for each page; and large enough that few notes are needed. A list of pieces of any length would
+// cost some hundred bytes for each byte that comes alone, and a table by offset would grow with the window.
 pub(crate) const PAGE: u64 = 2048;
 
-/// The pages that are in use, each by its number: an offset's page has the offset divided by a page's bytes as its number.
+/// Each page by its number: the offsets that it has, divided by a page's size.
 pub(crate) struct Pages {
     pages: BTreeMap<u64, Vec<u8>>,
 }
@@ -28,13 +30,12 @@ impl Pages {
         self.pages.is_empty()
     }
 
-    /// How many pages are in use.
     #[inline]
     pub(crate) fn count(&self) -> u64 {
         self.pages.len() as u64
     }
 
-    /// Takes each page that the offsets from `from` on and below `to` lie in.
+    /// Takes them before any byte is written, so that a refusal leaves what was stored as it was.
     #[inline]
     pub(crate) fn make(&mut self, alloc: Global, from: u64, to: u64) -> Result<(), NoMemory> {
         debug_assert!(to <= 0x3fff_ffff_ffff_ffff);
@@ -49,7 +50,6 @@ impl Pages {
         Ok(())
     }
 
-    /// Gives back the pages that begin at `from` or past it and below `to`.
     #[inline]
     pub(crate) fn give_back(&mut self, from: u64, to: u64) {
         debug_assert!(to <= 0x3fff_ffff_ffff_ffff);
@@ -62,7 +62,6 @@ impl Pages {
         }
     }
 
-    /// Writes bytes to the offsets from `at` on.
     #[inline]
     pub(crate) fn write(&mut self, at: u64, bytes: &[u8]) {
         let mut done = 0;
@@ -78,7 +77,6 @@ impl Pages {
         }
     }
 
-    /// Whether bytes are those of the offsets from `at` on.
     #[inline]
     pub(crate) fn are_at(&self, at: u64, bytes: &[u8]) -> bool {
         let mut done = 0;
@@ -99,7 +97,7 @@ impl Pages {
         true
     }
 
-    /// Where the first page past an offset begins that isn't in use, or the end where that comes first.
+    /// Pages move into the ring up to there: what is next to be read always stands in the ring, so a read needs no look at the pages.
     #[inline]
     pub(crate) fn gap_past(&self, at: u64, end: u64) -> u64 {
         debug_assert!(end <= 0x3fff_ffff_ffff_ffff);
@@ -111,7 +109,7 @@ impl Pages {
         (number * PAGE).min(end)
     }
 
-    /// Moves the pages past that of `from` that begin below `to` into a ring, as far as their offsets lie below that.
+    /// Each byte moves once, as the ring comes to reach its page.
     #[inline]
     pub(crate) fn move_into(&mut self, ring: &mut Ring, from: u64, to: u64) {
         debug_assert!(to <= 0x3fff_ffff_ffff_ffff);
@@ -131,7 +129,6 @@ impl Pages {
     }
 }
 
-// A page of zeros.
 fn zeros(alloc: Global) -> Result<Vec<u8>, NoMemory> {
     let mut page = Vec::new(alloc);
     let size = reserve(&mut page, PAGE as usize)?;

@@ -1,13 +1,15 @@
 // Made from crates/qs_recv/src/rest.rt by rust/erase; not edited by hand.
-//! A receiving half that stores nothing, in few bytes.
+//! A receiving half that stores nothing, in few bytes. A half is kept until its connection ends, so what one takes that is over counts for
+//! every stream that ever was.
 
 use crate::proved::qs_recv::credit::{Share, limit_with, next_limit};
 use crate::proved::qs_recv::half::{Peek, Read, RecvState, Sizes, Standing};
 use crate::proved::qs_recv::over::Over;
 use crate::proved::qs_recv::window::Windows;
 
-/// A receiving half that stores nothing, and of which the offsets that came are those below `received_end`: one that never
-/// carried a byte, or that is over. An `Option<u64>` would take twice the bytes of its number.
+/// A receiving half that stores nothing, and has received exactly the offsets below `received_end`: one that never carried a byte, or that
+/// is over. It could be so whenever all that came was read, but then a stream that is read as it arrives would take a box and a ring for
+/// each frame. Numbers with a flag apart, since an `Option<u64>` takes twice the bytes.
 pub(crate) struct Rest {
     pub(crate) read_count: u64,
     pub(crate) received_end: u64,
@@ -23,7 +25,6 @@ pub(crate) struct Rest {
 }
 
 impl Rest {
-    /// A half for which nothing came.
     #[inline]
     pub(crate) fn new(window: u64, share: Share) -> Self {
         debug_assert!(1 <= window);
@@ -47,8 +48,8 @@ impl Rest {
         }
     }
 
-    /// Takes a frame that passed its check, where that stores no byte and the offsets that came stay those below a number.
-    /// Else it answers false, and changes nothing.
+    /// Takes a frame that passed its check, if that stores no byte and leaves no gap. Else it answers false and changes nothing: the half
+    /// needs its assembly, and so memory.
     #[inline]
     pub(crate) fn takes(&mut self, offset: u64, bytes: &[u8], fin: bool) -> bool {
         let Some(received_end) = self.end_with(offset, bytes) else {
@@ -62,7 +63,6 @@ impl Rest {
         true
     }
 
-    /// Takes a reset that passed its check.
     #[inline]
     pub(crate) fn take_reset(&mut self, code: u64, size: u64) {
         debug_assert!(size <= 0x3fff_ffff_ffff_ffff);
@@ -75,7 +75,7 @@ impl Rest {
         self.reset = code;
     }
 
-    /// What a reader is told: bytes never are.
+    /// There are no bytes, so it takes no slice.
     #[inline]
     pub(crate) fn read(&mut self) -> Read {
         if self.is_reset {
@@ -89,7 +89,6 @@ impl Rest {
         Read::Wait
     }
 
-    /// What a look tells: bytes never are.
     #[inline]
     pub(crate) fn peek(&self) -> Peek<'_> {
         if self.is_reset {
@@ -103,7 +102,7 @@ impl Rest {
         self.told
     }
 
-    /// Notes a stop: the first code stays, and what is over isn't stopped.
+    /// The first code stays, and what is over isn't stopped: so a half that is over keeps no code, and its numbers are few.
     #[inline]
     pub(crate) fn stop(&mut self, code: u64) {
         debug_assert!(code <= 0x3fff_ffff_ffff_ffff);
@@ -116,7 +115,7 @@ impl Rest {
         }
     }
 
-    /// Notes a stop, and tells nothing more.
+    /// Setting `told` with the stop is all: a half is over once its reader knows the end, and that reader doesn't ask.
     #[inline]
     pub(crate) fn stop_and_forget(&mut self, code: u64) {
         debug_assert!(code <= 0x3fff_ffff_ffff_ffff);
@@ -124,7 +123,6 @@ impl Rest {
         self.told = true;
     }
 
-    /// Raises the limit, and answers the new one where it rose.
     #[inline]
     pub(crate) fn raise(&mut self) -> Option<u64> {
         if self.is_sized {
@@ -139,7 +137,6 @@ impl Rest {
         Some(next)
     }
 
-    /// Sets another window.
     #[inline]
     pub(crate) fn set_window(&mut self, window: u64) {
         debug_assert!(1 <= window);
@@ -176,13 +173,11 @@ impl Rest {
         }
     }
 
-    /// The limit on the highest offset that was granted.
     #[inline]
     pub(crate) fn limit(&self) -> u64 {
         self.limit
     }
 
-    /// What credit is paid back for.
     #[inline]
     pub(crate) fn taken(&self) -> u64 {
         if self.is_reset || self.is_stopped {
@@ -192,7 +187,6 @@ impl Rest {
         }
     }
 
-    /// The final size if known, else one more than the largest offset that came, or 0.
     #[inline]
     pub(crate) fn highest(&self) -> u64 {
         if self.is_sized {
@@ -202,7 +196,6 @@ impl Rest {
         }
     }
 
-    /// How many runs the offsets make that came: one at most.
     #[inline]
     pub(crate) fn noted(&self) -> u64 {
         if self.keeps_none() {
@@ -211,38 +204,32 @@ impl Rest {
         if self.received_end > 0 { 1 } else { 0 }
     }
 
-    /// How long the stream is, where that is known.
     #[inline]
     pub(crate) fn final_size(&self) -> Option<u64> {
         given(self.is_sized, self.size)
     }
 
-    /// How many bytes are stored: none.
     #[inline]
     pub(crate) fn stored(&self) -> u64 {
         let _ = &self.limit;
         0
     }
 
-    /// How many bytes were read.
     #[inline]
     pub(crate) fn read_count(&self) -> u64 {
         self.read_count
     }
 
-    /// The code of the first stop, if there was one.
     #[inline]
     pub(crate) fn stop_code(&self) -> Option<u64> {
         given(self.is_stopped, self.stop)
     }
 
-    /// The code of the reset that was taken, if there was one.
     #[inline]
     pub(crate) fn reset_code(&self) -> Option<u64> {
         given(self.is_reset, self.reset)
     }
 
-    /// The state by what came and what a reader was told.
     #[inline]
     pub(crate) fn state(&self) -> RecvState {
         if self.is_reset {
@@ -264,7 +251,6 @@ impl Rest {
         }
     }
 
-    /// The same in few bytes, where it was read to its end.
     #[inline]
     pub(crate) fn over(&self) -> Option<Over> {
         if !self.told || self.is_reset || self.is_stopped || !self.is_sized {
@@ -277,8 +263,7 @@ impl Rest {
         })
     }
 
-    // The number below which the offsets are that came, once a frame's did. None where one of its bytes would be stored, or
-    // offsets lie apart.
+    // None if one of its bytes would be stored, or the offsets would lie apart: only then an assembly is needed.
     fn end_with(&self, offset: u64, bytes: &[u8]) -> Option<u64> {
         let end = offset + bytes.len() as u64;
         if self.is_reset || end <= offset || end <= self.received_end {
@@ -290,7 +275,6 @@ impl Rest {
         None
     }
 
-    // Whether a reader is told of the end, where it isn't of a reset.
     fn ends(&self) -> bool {
         if self.is_stopped {
             self.is_whole()
@@ -299,30 +283,26 @@ impl Rest {
         }
     }
 
-    /// Whether bytes that come are thrown away.
     #[inline]
     pub(crate) fn discards(&self) -> bool {
         self.is_reset || self.is_stopped
     }
 
-    // Whether nothing is noted of the offsets that came.
+    // After a reset, or once over: nothing asks any more which offsets came.
     fn keeps_none(&self) -> bool {
         (self.told && self.is_whole()) || self.is_reset
     }
 
-    /// Whether the end was told, or a reset.
     #[inline]
     pub(crate) fn is_over(&self) -> bool {
         self.told && (self.is_reset || self.is_whole())
     }
 
-    // Whether the final size is known and every offset below it came.
     fn is_whole(&self) -> bool {
         self.is_sized && self.size <= self.received_end
     }
 }
 
-/// The number, where there is one.
 #[inline]
 pub(crate) fn given(is_there: bool, number: u64) -> Option<u64> {
     if is_there { Some(number) } else { None }

@@ -1,17 +1,17 @@
 // Made from crates/qs_recv/src/ring.rt by rust/erase; not edited by hand.
-//! A ring of bytes of which only the written ones are kept, so that a new one needn't be filled.
+//! A ring of bytes of which only the written ones are kept, so that a new one needn't be filled with zeros.
 use crate::shim::Vec;
 
 use crate::proved::qs_ranges::{NoMemory, reserve};
 use crate::shim::alloc::Global;
 
-/// The byte of an offset stands at the offset modulo the ring's size. As the ring is made, the place of an offset is chosen at
-/// which the kept bytes begin: what comes in order from there on is appended.
+/// The byte of an offset stands at the offset modulo the ring's size, so arrival in any order costs copies alone. As the ring is made, the
+/// place is chosen at which the kept bytes begin: what comes in order from there on is appended.
 pub(crate) struct Ring {
-    // There is room for as many as there are places. What lies behind them was never written.
+    // Shorter than the room until all of it was written: what lies behind was never filled.
     bytes: Vec<u8>,
     size: usize,
-    // How far each place lies further on in the kept bytes, around the ring's end.
+    // How far on in `bytes` the places begin. Choosing it anew when a ring grows keeps each byte where it stands.
     turn: usize,
 }
 
@@ -30,7 +30,6 @@ impl Ring {
         self.size
     }
 
-    /// Writes bytes to the places of the offsets from `at` on, in two pieces where these wrap.
     #[inline]
     pub(crate) fn write(&mut self, at: u64, bytes: &[u8]) {
         debug_assert!(at <= 1 << 62);
@@ -45,7 +44,6 @@ impl Ring {
         }
     }
 
-    /// Copies the bytes of the offsets from `at` on out, in two pieces where their places wrap.
     #[inline]
     pub(crate) fn copy_out(&mut self, at: u64, into: &mut [u8]) {
         debug_assert!(at <= 1 << 62);
@@ -64,7 +62,7 @@ impl Ring {
         write_at(into, front.len(), back);
     }
 
-    /// So many bytes, from that of the offset `at` on, in two pieces where their places wrap. All of them were written.
+    /// All of them were written, which the invariant of an assembly says of what came and wasn't read.
     #[inline]
     pub(crate) fn front(&self, at: u64, count: usize) -> (&[u8], &[u8]) {
         debug_assert!(at <= 1 << 62);
@@ -73,7 +71,6 @@ impl Ring {
         pieces(&self.bytes, self.size, place, count)
     }
 
-    /// Whether bytes are the ones at the places of the offsets from `at` on, in two pieces where these wrap.
     #[inline]
     pub(crate) fn are_at(&self, at: u64, bytes: &[u8]) -> bool {
         debug_assert!(at <= 1 << 62);
@@ -90,7 +87,7 @@ impl Ring {
         is_at(&self.bytes, place, front) && is_at(&self.bytes, 0, back)
     }
 
-    /// A ring of another size, with the bytes of so many offsets from `from` on. What is written behind these is appended.
+    /// What is written behind these bytes is appended.
     #[inline]
     pub(crate) fn resized(
         &mut self,
@@ -123,8 +120,7 @@ impl Ring {
         })
     }
 
-    /// Brings the ring to a larger size, with the bytes of so many offsets from `from` on: in memory that grows, where they keep
-    /// their place, unless they go around the ring's end.
+    /// In memory that grows bytes keep their place. Only if they go around the ring's end a new ring is taken and they are copied.
     #[inline(never)]
     pub(crate) fn widen(
         &mut self,
@@ -150,7 +146,8 @@ impl Ring {
         Ok(())
     }
 
-    /// Brings the ring to a smaller size in place, with the bytes of so many offsets from `from` on.
+    /// In place, for a read must not fail and a copy may be refused memory: turned so that what is next stands first, cut off, and turned
+    /// back.
     #[inline]
     pub(crate) fn narrow(&mut self, from: u64, count: usize, size: usize) {
         debug_assert!(from <= 1 << 62);
@@ -165,7 +162,7 @@ impl Ring {
     }
 }
 
-// The place of an offset in a ring of that size. Most are powers of two, at which no division is made.
+// Most sizes are powers of two, unless a window cuts one, and there the low bits are the place: no division.
 fn place_of(at: u64, size: usize) -> usize {
     debug_assert!(0 < size);
     if size.is_power_of_two() {
@@ -175,7 +172,6 @@ fn place_of(at: u64, size: usize) -> usize {
     }
 }
 
-// How far the places of a ring of that size lie further on, that an offset has the given one.
 fn turn_to(place: usize, from: u64, size: usize) -> usize {
     debug_assert!(size <= 1 << 30);
     debug_assert!(place < size);
@@ -183,7 +179,7 @@ fn turn_to(place: usize, from: u64, size: usize) -> usize {
     if turn <= size { turn } else { turn - size }
 }
 
-// Makes that so many bytes from a place on are kept. Those that never were written are zero.
+// Zeros only before a place that is written past the end; in order there are none.
 fn fill(bytes: &mut Vec<u8>, size: usize, place: usize, count: usize) {
     debug_assert!(size <= 1 << 30);
     debug_assert!(place < size);
@@ -194,7 +190,6 @@ fn fill(bytes: &mut Vec<u8>, size: usize, place: usize, count: usize) {
     }
 }
 
-// So many bytes from a place on, in two pieces where they go around the ring's end.
 fn pieces(bytes: &[u8], size: usize, place: usize, count: usize) -> (&[u8], &[u8]) {
     debug_assert!(bytes.len() <= size);
     debug_assert!(place < size);
@@ -207,7 +202,7 @@ fn pieces(bytes: &[u8], size: usize, place: usize, count: usize) -> (&[u8], &[u8
     }
 }
 
-// Keeps the same bytes alone. Where they go around the ring's end the others move, too.
+// By rotation, so that it needs no second buffer.
 fn bring_to_front(bytes: &mut Vec<u8>, place: usize, count: usize) {
     if count <= bytes.len() - place {
         bytes.copy_within(place..place + count, 0);
@@ -218,7 +213,6 @@ fn bring_to_front(bytes: &mut Vec<u8>, place: usize, count: usize) {
     bytes.truncate(count);
 }
 
-// The same in one piece, in memory that has room for it.
 fn copy_to(made: &mut Vec<u8>, bytes: &[u8], size: usize, place: usize, count: usize) {
     debug_assert!(bytes.len() <= size);
     debug_assert!(place < size);
@@ -228,7 +222,6 @@ fn copy_to(made: &mut Vec<u8>, bytes: &[u8], size: usize, place: usize, count: u
     let _copied = made.extend_from_slice(back);
 }
 
-// Writes bytes from a place on, behind zeros where none were written before it.
 #[inline(always)]
 fn write_over(into: &mut Vec<u8>, place: usize, bytes: &[u8]) {
     if place + bytes.len() <= into.len() {
@@ -241,13 +234,11 @@ fn write_over(into: &mut Vec<u8>, place: usize, bytes: &[u8]) {
     let _written = into.extend_from_slice(bytes);
 }
 
-// Writes bytes from a place on.
 #[inline]
 pub(crate) fn write_at(into: &mut [u8], place: usize, bytes: &[u8]) {
     into[place..place + bytes.len()].copy_from_slice(bytes);
 }
 
-// Whether those bytes stand from a place on, where what was never written is zero.
 #[inline]
 pub(crate) fn is_at(kept: &[u8], place: usize, bytes: &[u8]) -> bool {
     let end = place + bytes.len();

@@ -1,6 +1,5 @@
 // Made from crates/qs_recv/src/ring_assembly.rt by rust/erase; not edited by hand.
-//! An assembly that keeps what came in one ring: the byte of an offset stands at the offset modulo the ring's size. What lies
-//! far past it stands apart.
+//! An assembly that keeps what arrived in one ring, whatever the order, and what lies far past it in pages.
 
 use crate::proved::qs_recv::assembly::{Assembly, Peeking, Skipping};
 use crate::proved::qs_recv::pages::{PAGE, Pages};
@@ -8,39 +7,40 @@ use crate::proved::qs_recv::ring::Ring;
 use crate::proved::qs_ranges::{NoMemory, RangeSet};
 use crate::shim::alloc::Global;
 
-// A ring begins with so many bytes.
+// One small message fits, and a stream that is only opened has no ring at all.
 const LEAST_SIZE: u64 = 64;
 
-// One of no more is kept where little or nothing is stored, so that a steady flow takes no memory anew.
+// Up to here an empty ring stays until the stream's end was read, so that a steady flow takes no memory anew. Above it is given back: one
+// that stayed would let a peer hold memory for bytes that were read.
 const IDLE_SIZE: u64 = 4096;
 
-// A ring isn't let grow where no more than one of so many of its bytes would be one that came.
+// Below one stored byte in so many a ring would be nearly empty, and pages take less.
 const THIN: u64 = 64;
 
-/// A ring beside the set of every offset that came. As bytes are stored that lie past it, it grows to reach from what was
-/// read to the last of them: to a power of two, less than twice as far or 64 bytes, and never past the window. What is stored
-/// keeps its place in memory that grows, unless it goes around the ring's end; where its offsets can't be noted, the ring shrinks
-/// again. As bytes are read and it is larger than 4,096 bytes and than three times as far, it shrinks in place, to half more
-/// at least. It is given back where bytes are thrown away, and where nothing is stored: at once if it is larger than 4,096
-/// bytes, else once that is asked for.
+/// A ring beside the set of every received offset. As bytes come that lie past it, it grows to reach them: to a power of two, and never
+/// past the window, so one byte takes no whole window. If its offsets can't be noted then, it shrinks again, so that a refusal leaves what
+/// was held.
 ///
-/// Bytes that begin a page of 2 KiB or more past the ring's, and would leave most of it empty, stand apart in pages: where what is
-/// stored and what comes are each less than a 64th of how far the ring would reach. As others come before them the ring reaches
-/// over the pages that follow without a gap, and these move into it: so what is next to be read stands in the ring.
+/// As bytes are read and it is larger than 4,096 bytes and than three times what it has to reach, it shrinks in place, to half more at
+/// least. A ring that followed each read and each frame could be made to move for a byte. This one can't: after it grew at least a sixth of
+/// its bytes is read before it shrinks, after it shrank at least a third is free, and all its shrinking between two growths moves no more
+/// bytes than it has.
 ///
-/// A put searches the set once for each gap that it fills, and once behind the last if more came there, but not for bytes past
-/// all that came; it copies the bytes of each gap, and notes the offsets by one insert. A take is one search and one copy. A
-/// copy is made in two pieces where its places wrap. What shrinking moves between two growths is less than the ring, and a
-/// sixth of the ring at least was read before.
+/// Bytes that begin a page or more past the ring's end, and would leave most of it empty, go to pages. As others come before them the ring
+/// grows over all pages that follow without a gap, and these move into it. So a put pays one comparison where there are no pages, and a
+/// read nothing.
+///
+/// A put searches the set once for each gap that it fills, and not at all for bytes past all that arrived; it copies the bytes of each gap,
+/// and notes the offsets by one insert. A take is one search and one copy.
 pub struct RingAssembly {
     alloc: Global,
     ring: Ring,
     apart: Pages,
     received: RangeSet,
     read_count: u64,
-    // What lies from here on stands apart.
+    // Pages begin here: a put of bytes below it, which is nearly each, looks no further.
     near: u64,
-    // One more than the largest offset that came, until bytes are thrown away.
+    // Bytes at or past it are new without a search, as most are.
     end: u64,
     stored: u64,
     window: u64,
@@ -169,8 +169,7 @@ impl Assembly for RingAssembly {
 }
 
 impl RingAssembly {
-    // Stores bytes beside some that stand apart, or past the ring's end. The first offsets that didn't come are those from
-    // `first` on and below `stop`.
+    // The usual put stays small without it. The first missing offsets are those from `first` on and below `stop`.
     #[inline(never)]
     fn put_beyond(
         &mut self,
@@ -216,7 +215,7 @@ impl RingAssembly {
         }
     }
 
-    // Stores bytes that lie far past the ring's apart.
+    // The pages are taken first: if one is refused, nothing was written.
     fn put_apart(
         &mut self,
         first: u64,
@@ -246,7 +245,7 @@ impl RingAssembly {
         }
     }
 
-    // Moves what stands apart into the ring, up to the first page past `end` that isn't in use.
+    // Before new bytes are stored, so that each byte moves once, and what is next to be read always stands in the ring.
     fn draw(&mut self, end: u64) -> Result<(), NoMemory> {
         debug_assert!(end <= 0x3fff_ffff_ffff_ffff);
         if self.apart.is_empty() {
@@ -268,7 +267,6 @@ impl RingAssembly {
         Ok(())
     }
 
-    // So many of the bytes that are next were read.
     #[inline(always)]
     fn pass(&mut self, count: u64) {
         self.read_count += count;
@@ -310,7 +308,7 @@ impl Peeking for RingAssembly {
     }
 }
 
-// The size of a ring that reaches so far past what was read.
+// A power of two, so that the place of an offset is its low bits.
 fn size_for(span: u64, window: u64) -> u64 {
     debug_assert!(window <= 1 << 30);
     debug_assert!(span <= window);
@@ -319,13 +317,12 @@ fn size_for(span: u64, window: u64) -> u64 {
     least.min(window)
 }
 
-// Where a ring that is made begins: where nothing is kept, with the first byte that comes, so that none before it is filled.
+// An empty ring begins with the first byte that comes, so that none before it is filled.
 #[inline(always)]
 fn front_of(kept: u64, first: u64, from: u64) -> u64 {
     if kept == 0 { first } else { from }
 }
 
-// Lets a ring reach so many offsets past `from`, with the bytes of the first `kept` of these.
 fn reach(
     alloc: Global,
     ring: &mut Ring,
@@ -344,8 +341,8 @@ fn reach(
     ring.widen(alloc, from, kept as usize, size as usize)
 }
 
-// Lets go of what a ring of more than 4,096 bytes has too much: all of it where nothing is stored, and where it is larger than
-// three times the span from `from` to the end of what is, what lies past the least power of two that is half more than that.
+// All of it if nothing is stored. Else, if it is larger than three times the span of what is, to the least power of two that is half more
+// than that span: so that growing and shrinking don't take turns.
 #[inline(always)]
 fn shed(alloc: Global, ring: &mut Ring, from: u64, span: u64, window: u64) {
     debug_assert!(window <= 1 << 30);
@@ -362,8 +359,7 @@ fn shed(alloc: Global, ring: &mut Ring, from: u64, span: u64, window: u64) {
     ring.narrow(from, span as usize, size as usize);
 }
 
-// Stores the bytes at offsets that didn't come before, notes the offsets, and answers how many are new. The first such
-// offsets are those from `first` on and below `stop`.
+// New bytes are written before their offsets are noted: a refusal then leaves the set as it was, and nobody sees the bytes.
 #[inline(always)]
 fn store(
     ring: &mut Ring,
@@ -381,8 +377,6 @@ fn store(
     Ok(count)
 }
 
-// Writes the bytes at offsets that didn't come before to their places, and answers how many these are. The first such
-// offsets are those from `first` on and below `stop`.
 #[inline(always)]
 fn fill_gaps(
     ring: &mut Ring,
@@ -415,7 +409,7 @@ fn fill_gaps(
     count
 }
 
-// The same, apart from the ring. Where memory is refused, what was taken of it may stay.
+// If memory is refused, pages that were taken may stay: they hold nothing that counts as received.
 fn store_apart(
     alloc: Global,
     apart: &mut Pages,
@@ -434,8 +428,6 @@ fn store_apart(
     Ok(count)
 }
 
-// Writes the bytes at offsets that didn't come before to their pages, and answers how many these are. The first such
-// offsets are those from `first` on and below `stop`.
 fn fill_apart(
     apart: &mut Pages,
     received: &RangeSet,
@@ -460,8 +452,7 @@ fn fill_apart(
     count
 }
 
-// Where the next offsets from `at` on and below the end begin that didn't come, and where what came does behind them, or the
-// end is. Where there are none, the first is no less than the end.
+// If there are none, the first is no less than the end.
 fn next_gap(received: &RangeSet, at: u64, end: u64) -> (u64, u64) {
     if at >= end {
         return (at, at);
@@ -472,7 +463,7 @@ fn next_gap(received: &RangeSet, at: u64, end: u64) -> (u64, u64) {
     }
 }
 
-// The same, without a search where none came from `at` on, as none did from `last` on.
+// Without a search past all that arrived, where most bytes go.
 fn first_gap(received: &RangeSet, last: u64, at: u64, end: u64) -> (u64, u64) {
     if last <= at && at < end {
         return (at, end);
@@ -480,7 +471,6 @@ fn first_gap(received: &RangeSet, last: u64, at: u64, end: u64) -> (u64, u64) {
     next_gap(received, at, end)
 }
 
-// Where the next offsets from `at` on that came begin, and where the gap behind them does: both at most at the end.
 fn next_run(received: &RangeSet, at: u64, end: u64) -> (u64, u64) {
     debug_assert!(at < end);
     match received.run_from(at) {
@@ -489,7 +479,6 @@ fn next_run(received: &RangeSet, at: u64, end: u64) -> (u64, u64) {
     }
 }
 
-// Whether the bytes at those offsets from `start` on that came are the ones that are kept.
 #[inline(never)]
 fn is_kept(
     ring: &Ring,

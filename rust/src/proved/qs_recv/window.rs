@@ -1,9 +1,10 @@
 // Made from crates/qs_recv/src/window.rt by rust/erase; not edited by hand.
-//! The windows of a receiving half and the share of one by which a limit moves, in 12 bytes.
+//! The windows of a receiving half and the share by which its limit moves, in 12 bytes. They stay with the half, so that no call hands them
+//! in and no stream costs a look at the settings.
 
 use crate::proved::qs_recv::credit::Share;
 
-/// The greatest window that was set and the present one, each of at most 2^30 bytes.
+/// The greatest window that was set bounds what an assembly may hold, since credit that was granted stays.
 #[derive(Clone, Copy)]
 pub(crate) struct Windows {
     pub(crate) widest: u32,
@@ -12,7 +13,6 @@ pub(crate) struct Windows {
 }
 
 impl Windows {
-    /// The same, once another window is set.
     #[inline]
     pub(crate) fn with(self, window: u64) -> Self {
         debug_assert!(window <= 1 << 30);

@@ -1,15 +1,15 @@
 // Made from crates/qs_send/src/ack_pass.rt by rust/erase; not edited by hand.
-//! Which outstanding packets an ACK names.
+//! Which outstanding packets an ACK names. The work is counted here, since a peer chooses the ACK.
 
 use crate::proved::qs_send::records::Records;
 use crate::proved::qs_wire::AckRanges;
 
 mod late;
 
-/// One pass over the outstanding records, or over the lost ones, from the highest number that an ACK's ranges name down to the lowest
-/// (RFC 9000, section 13.3).
+/// One pass over the outstanding records, or over the lost ones, from the highest number that an ACK's ranges name down to the lowest (RFC
+/// 9000, section 13.3). Downwards, as the ranges come: so each slot and each range is met once, and a pass that began anew at a range would
+/// break the count.
 pub struct AckPass<'a> {
-    // Of the range that was read last, the numbers from `low` on and below `below` are left.
     low: u64,
     below: u64,
     ranges: AckRanges<'a>,
@@ -17,7 +17,6 @@ pub struct AckPass<'a> {
 }
 
 impl<'a> AckPass<'a> {
-    /// A pass over the ranges that are left of an ACK.
     #[inline]
     pub fn new(ranges: AckRanges<'a>) -> AckPass<'a> {
         AckPass {
@@ -28,9 +27,9 @@ impl<'a> AckPass<'a> {
         }
     }
 
-    /// The greatest outstanding number that the ranges name below the one given last, `None` where there is none. A turn is a range that
-    /// it reads, or a look below the last one: at a word of bits, together with the word of words and the slot that it leads to, or at a
-    /// slot without a bit.
+    /// The greatest outstanding number that the ranges name below the last one returned; `None` if there is none. A turn is a range that it
+    /// reads, or a look below the last one: at a word of bits, with the word of words and the slot that it leads to, or at a slot without a
+    /// bit. How many numbers a word passes is in no clause: the bits only say which slots are surely empty.
     #[inline]
     pub fn next(&mut self, records: &Records) -> Option<u64> {
         let _turns = self.turns;
@@ -56,7 +55,6 @@ impl<'a> AckPass<'a> {
         self.turns
     }
 
-    // The next range, `false` after the last.
     fn read_range(&mut self) -> bool {
         let Some((low, high)) = self.ranges.next() else {
             return false;
@@ -67,7 +65,6 @@ impl<'a> AckPass<'a> {
         true
     }
 
-    // The greatest outstanding number of the range that was read last, below the one given last.
     fn in_range(&mut self, records: &Records) -> Option<u64> {
         match records.within(self.low, self.below, &mut self.turns) {
             Some(number) => {
@@ -82,7 +79,7 @@ impl<'a> AckPass<'a> {
     }
 }
 
-/// One turn more. The count stays at its greatest value.
+/// The count stops at its greatest value instead of going around, so a clause can bound it.
 #[inline]
 pub(crate) fn one_more(turns: u64) -> u64 {
     turns.saturating_add(1)

@@ -1,5 +1,5 @@
 // Made from crates/qs_send/src/by_number.rt by rust/erase; not edited by hand.
-//! Records of lost packets by number.
+//! Records of lost packets by number: a pass over an ACK finds each by one search, and mostly by a look beside the last.
 use crate::shim::Vec;
 
 use crate::proved::qs_send::lost_record::{LostRecord, hold};
@@ -8,7 +8,8 @@ use crate::proved::qs_ranges::NoMemory;
 use crate::shim::alloc::Global;
 use crate::shim::mem;
 
-/// The records in the order of their numbers, and the memory for the pieces of the next one.
+/// The records in the order of their numbers, and the memory for the pieces of the next one, so that losing packets one after the other
+/// takes none.
 pub(crate) struct ByNumber {
     alloc: Global,
     records: Vec<LostRecord>,
@@ -16,7 +17,6 @@ pub(crate) struct ByNumber {
 }
 
 impl ByNumber {
-    /// No records. It takes no memory.
     #[inline]
     pub(crate) fn new(alloc: Global) -> Self {
         ByNumber {
@@ -26,7 +26,7 @@ impl ByNumber {
         }
     }
 
-    /// Makes room for one piece more of a number.
+    /// Apart from `add`, so that a caller asks for memory before it moves a piece.
     #[inline]
     pub(crate) fn reserve(&mut self, number: u64) -> Result<(), NoMemory> {
         match self.place_of(number) {
@@ -35,7 +35,6 @@ impl ByNumber {
         }
     }
 
-    /// One piece more of a number, behind those that it has. It takes no memory.
     #[inline]
     pub(crate) fn add(&mut self, number: u64, piece: Piece) {
         match self.place_of(number) {
@@ -44,7 +43,6 @@ impl ByNumber {
         }
     }
 
-    /// The first piece of a number.
     #[inline]
     pub(crate) fn first(&self, number: u64) -> Option<Piece> {
         match self.place_of(number) {
@@ -53,7 +51,6 @@ impl ByNumber {
         }
     }
 
-    /// Lets the first piece of a number go, and the record with the last.
     #[inline]
     pub(crate) fn drop_first(&mut self, number: u64) {
         if let Ok(place) = self.place_of(number) {
@@ -65,7 +62,7 @@ impl ByNumber {
         }
     }
 
-    /// Lets the record of a number go, if there is one. Its memory, if it is little, stays for the next one's pieces.
+    /// Little memory stays for the next record's pieces; much would stay for ever.
     #[inline]
     pub(crate) fn remove(&mut self, number: u64) {
         if let Ok(place) = self.place_of(number) {
@@ -73,14 +70,12 @@ impl ByNumber {
         }
     }
 
-    /// Whether a number has a record.
     #[inline]
     pub(crate) fn is_held(&self, number: u64) -> bool {
         self.place_of(number).is_ok()
     }
 
-    /// The greatest number below `number` that has a record. It is looked for at the place `near` first, and the next one below it
-    /// may stand at the place that `near` is then.
+    /// Looks at the place `near` first, and leaves there the place of the next one below: a pass goes from high numbers to low.
     #[inline]
     pub(crate) fn below(&self, number: u64, near: &mut usize) -> Option<u64> {
         let records = &self.records;
@@ -92,7 +87,7 @@ impl ByNumber {
         Some(records[count - 1].number())
     }
 
-    // How many records are those of numbers below `number`: without a search where these are `near`.
+    // Without a search if the guess is right.
     fn count_near(&self, number: u64, near: usize) -> usize {
         if self.parts_at(number, near) {
             return near;
@@ -100,7 +95,6 @@ impl ByNumber {
         self.count_below(number)
     }
 
-    // Whether the first `count` records are those of numbers below `number`.
     fn parts_at(&self, number: u64, count: usize) -> bool {
         let records = &self.records;
         if count > records.len() {
@@ -115,7 +109,6 @@ impl ByNumber {
         true
     }
 
-    // How many records are those of numbers below `number`.
     fn count_below(&self, number: u64) -> usize {
         match self.place_of(number) {
             Ok(place) => place,
@@ -123,8 +116,7 @@ impl ByNumber {
         }
     }
 
-    // Where the record of a number is, or where it would go: with no search past the last record and at the first, where a packet that
-    // is lost goes in mostly, and the oldest one out.
+    // No search past the last record and at the first: lost packets mostly go in at the back, and the oldest leaves at the front.
     fn place_of(&self, number: u64) -> Result<usize, usize> {
         let records = &self.records;
         let count = records.len();
@@ -137,21 +129,18 @@ impl ByNumber {
         self.search_for(number)
     }
 
-    // The same by a search.
     #[inline(never)]
     fn search_for(&self, number: u64) -> Result<usize, usize> {
         self.records
             .binary_search_by_key(&number, |record| record.number())
     }
 
-    // Makes room for a record more with one piece.
     fn reserve_record(&mut self) -> Result<(), NoMemory> {
         self.records.reserve(1)?;
         self.spare.reserve(1)?;
         Ok(())
     }
 
-    // A record of one piece.
     fn insert(&mut self, place: usize, number: u64, piece: Piece) {
         hold(&mut self.spare, piece);
         let pieces = mem::replace(&mut self.spare, Vec::new(self.alloc));

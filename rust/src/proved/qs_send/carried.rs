@@ -5,7 +5,7 @@ use crate::shim::Vec;
 use crate::proved::qs_send::piece::Piece;
 use crate::proved::qs_send::remaining::Remaining;
 
-/// The pieces of a packet that were not let go.
+/// The pieces of a packet that are neither acknowledged nor lost yet.
 pub(crate) struct Carried {
     pieces: Pieces,
 }
@@ -18,7 +18,6 @@ enum Pieces {
 }
 
 impl Carried {
-    /// Of a number without a record.
     #[inline]
     pub(crate) fn empty() -> Self {
         Carried {
@@ -26,7 +25,6 @@ impl Carried {
         }
     }
 
-    /// One piece.
     #[inline]
     pub(crate) fn one(piece: Piece) -> Self {
         Carried {
@@ -34,7 +32,7 @@ impl Carried {
         }
     }
 
-    /// Pieces that come with their memory.
+    /// With their memory, so that putting them into a record takes none.
     #[inline]
     pub(crate) fn several(pieces: Vec<Piece>) -> Self {
         Carried {
@@ -60,7 +58,6 @@ impl Carried {
         }
     }
 
-    /// Lets the first piece go, and the memory with the last.
     #[inline]
     pub(crate) fn drop_first(&mut self) {
         if self.len() <= 1 {

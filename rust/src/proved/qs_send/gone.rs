@@ -1,26 +1,23 @@
 // Made from crates/qs_send/src/gone.rt by rust/erase; not edited by hand.
-//! Which slots are empty, as far as it was noted: a bit for each, in words, and a bit for each word in which all are.
+//! Which slots are empty, as far as it was noted: a bit for each, and a bit for each word in which all are. With hints alone no clause of
+//! the records speaks of them, and none of their memory has to be there.
 
 use crate::proved::qs_send::ack_pass::one_more;
 use crate::proved::qs_ranges::{lowest_bit, with_bit};
 use crate::shim::alloc::Global;
 use crate::shim::collections::VecDeque;
 
-/// How many slots a word has bits for.
 pub(crate) const PER_WORD: usize = 64;
 
-/// How many slots a word of words has bits for.
 pub(crate) const PER_GROUP: usize = PER_WORD * PER_WORD;
 
-/// The bits of the slots, by index.
 pub(crate) struct Gone {
     words: VecDeque<u64>,
-    // Of each word whether all of its bits are set, as far as it was noted.
+    // A search over many empty slots passes 4,096 by one look.
     full: VecDeque<u64>,
 }
 
 impl Gone {
-    /// No bits. It takes no memory.
     #[inline]
     pub(crate) fn new(alloc: Global) -> Self {
         Gone {
@@ -35,7 +32,7 @@ impl Gone {
         self.full.clear();
     }
 
-    /// Makes room for the bits up to that of an index. Where memory is refused, it is not noted which of them are empty.
+    /// If memory is refused, slots are looked at themselves: slower, and right.
     #[inline]
     pub(crate) fn make_room(&mut self, index: usize) {
         if index / PER_WORD >= self.words.len() {
@@ -44,14 +41,12 @@ impl Gone {
         }
     }
 
-    /// The slot of an index holds something, and there is a bit for it, if there are bits for all lower ones and room for one word more.
     #[inline]
     pub(crate) fn begin(&mut self, index: usize) {
         begin(&mut self.full, index / PER_WORD);
         begin(&mut self.words, index);
     }
 
-    /// The slot of an index is empty.
     #[inline]
     pub(crate) fn note(&mut self, index: usize) {
         note(&mut self.words, index);
@@ -61,16 +56,15 @@ impl Gone {
         }
     }
 
-    /// The bits of the first slots go, so many as a word of words has.
+    /// In groups, so that the words of the words move along by whole words.
     #[inline]
     pub(crate) fn drop_group(&mut self) {
         drop_words(&mut self.words);
         let _ = self.full.pop_front();
     }
 
-    /// An end as low as can be, down to `low`, behind which all indexes below `end` are noted as empty. Each look is one more of `looks`:
-    /// at a word, together with the word of words below it and the slot before the end that these lead to, or at that slot where it has no
-    /// bit.
+    /// Each look is counted in `looks`: at a word, together with the word of words and the slot before the end that these lead to, or at
+    /// that slot if it has no bit. So the count of a pass stays below that of the slots.
     #[inline]
     pub(crate) fn end_of_left(&self, low: usize, end: usize, looks: &mut u64) -> usize {
         let mut left = end;
@@ -86,7 +80,6 @@ impl Gone {
     }
 }
 
-// Makes room for the bits up to that of an index, if there is memory.
 fn make_room(words: &mut VecDeque<u64>, index: usize) {
     let place = index / PER_WORD;
     if place >= words.len() {
@@ -94,7 +87,6 @@ fn make_room(words: &mut VecDeque<u64>, index: usize) {
     }
 }
 
-// The bit of an index is cleared, or begins so.
 fn begin(words: &mut VecDeque<u64>, index: usize) {
     let place = index / PER_WORD;
     if place < words.len() {
@@ -104,7 +96,6 @@ fn begin(words: &mut VecDeque<u64>, index: usize) {
     }
 }
 
-// The bit of an index is set.
 fn note(words: &mut VecDeque<u64>, index: usize) {
     let place = index / PER_WORD;
     if place < words.len() {
@@ -112,7 +103,6 @@ fn note(words: &mut VecDeque<u64>, index: usize) {
     }
 }
 
-// The first words go, so many as a word has bits.
 fn drop_words(words: &mut VecDeque<u64>) {
     let mut left = PER_WORD;
     while left > 0 {
@@ -121,12 +111,10 @@ fn drop_words(words: &mut VecDeque<u64>) {
     }
 }
 
-// Whether a word has all of its bits set.
 fn is_full(words: &VecDeque<u64>, place: usize) -> bool {
     place < words.len() && words[place] == u64::MAX
 }
 
-// An end as low as one word tells, behind which all indexes below `end` are noted as empty.
 fn end_in_word(words: &VecDeque<u64>, end: usize) -> usize {
     if end == 0 {
         return 0;
@@ -142,7 +130,7 @@ fn end_in_word(words: &VecDeque<u64>, end: usize) -> usize {
     }
 }
 
-// The bit of an index in its word. The lower one's lies above, so that a search for the greatest index is one for the lowest bit.
+// The lower index has the higher bit, so that a search for the greatest index is one for the lowest bit.
 fn bit_of(index: usize) -> usize {
     PER_WORD - 1 - index % PER_WORD
 }

@@ -1,5 +1,5 @@
 // Made from crates/qs_send/src/halves.rt by rust/erase; not edited by hand.
-//! The sending halves of the streams of one type, by index. One that is over takes 24 bytes.
+//! The sending halves of the streams of one type, by index. One that is over takes 24 bytes, since it stays for the connection's life.
 use crate::shim::Vec;
 
 pub(crate) mod slot;
@@ -10,10 +10,9 @@ use crate::proved::qs_ranges::NoMemory;
 use slot::SendSlot;
 use crate::shim::alloc::Global;
 
-/// The sending halves of the streams of one type, by index. Each has a slot. One that is over stands in it; the others stand apart, in a
-/// row, and their slots name their places.
+/// Each half has a slot. One that is over stands in it; the others stand in a vector, and their slots name their places: a half that is
+/// over fills its slot, so a box wouldn't fit beside it.
 pub struct SendHalves {
-    // The type of the streams, 0 to 3.
     stream_type: u64,
     slots: Vec<SendSlot>,
     full: Vec<SendHalf>,
@@ -68,7 +67,7 @@ impl SendHalves {
         self.full.get_mut(place)
     }
 
-    /// Takes the memory for so many more.
+    /// Takes the memory for so many more, before any of several streams opens.
     #[inline]
     pub fn reserve(&mut self, more: usize) -> Result<(), NoMemory> {
         if let Err(_refused) = self.slots.reserve(more) {
@@ -94,7 +93,7 @@ impl SendHalves {
         Ok(())
     }
 
-    /// Takes the halves from a count on away.
+    /// Takes the halves from a count on away: an opening that found no memory for the rest is undone.
     #[inline]
     pub fn truncate(&mut self, count: usize) {
         while self.slots.len() > count {
@@ -104,7 +103,7 @@ impl SendHalves {
         }
     }
 
-    /// Keeps a half in its slot where it is over. That takes no memory, and gives some back.
+    /// Keeps a half in its slot if it is over. That takes no memory, and frees some.
     #[inline]
     pub fn settle(&mut self, index: usize) {
         let slot = self.slots[index];
@@ -118,7 +117,7 @@ impl SendHalves {
         put_over(&mut self.slots, &mut self.full, index, over);
     }
 
-    /// Takes in that the peer allows the offsets of a half below a limit.
+    /// Raises the peer's limit of a half.
     #[inline]
     pub fn allow(&mut self, index: usize, limit: u64) {
         debug_assert!(limit <= 0x3fff_ffff_ffff_ffff);
@@ -143,7 +142,7 @@ impl SendHalves {
         slot.widest = slot.widest.max(size);
     }
 
-    /// Takes in that a STREAM_DATA_BLOCKED was sent.
+    /// Notes that a STREAM_DATA_BLOCKED was sent.
     #[inline]
     pub fn note_blocked(&mut self, index: usize) {
         let slot = &mut self.slots[index];
@@ -155,8 +154,8 @@ impl SendHalves {
     }
 }
 
-// Puts a slot of a half that is over where another stands, and lets its half go. The last half moves to the place that is left. Its slot has
-// to name that, so nothing changes where the half's number doesn't tell the slot.
+// The last half moves to the place that gets free, so that the vector has no holes. Its slot has to name that, so nothing changes if the
+// half's number doesn't lead to the slot.
 fn put_over(slots: &mut Vec<SendSlot>, full: &mut Vec<SendHalf>, index: usize, over: SendSlot) {
     let slot = slots[index];
     if slot.is_over() {

@@ -1,19 +1,18 @@
 // Made from crates/qs_send/src/kept.rt by rust/erase; not edited by hand.
-//! Bytes that come in at the back and are let go at the front.
+//! Bytes that come in at the back and are freed at the front.
 use crate::shim::Vec;
 
 use crate::proved::qs_ranges::{NoMemory, reserve};
 use crate::shim::alloc::Global;
 
-// The most bytes of room that stay where nothing is kept, so that a few bytes now and then take no memory anew.
+// So much room stays when nothing is kept, so that a few bytes now and then take no memory anew.
 const IDLE_ROOM: usize = 4096;
 
-/// The bytes stand in a ring, so that none is moved while others come and go.
+/// A ring: none is moved while others come and go. A row that is moved to the front once half of it is free moves each byte once more, when
+/// it has left the processor's caches, and takes twice the memory.
 pub struct Kept {
     alloc: Global,
-    // As long as there is room.
     ring: Vec<u8>,
-    // The place of the first byte.
     start: usize,
     count: usize,
 }
@@ -34,14 +33,14 @@ impl Kept {
         self.count
     }
 
-    /// How many bytes of memory are taken: at least those that are kept, and no more than 4,096 where none is.
+    /// How many bytes of memory it takes: at least those that are kept, and no more than 4,096 if none is.
     #[inline]
     pub fn held(&self) -> usize {
         self.ring.len()
     }
 
-    /// Appends the bytes. Where `most` bytes at most are ever kept, no more than twice as many are
-    /// allocated, and while these are there nothing is.
+    /// Appends the bytes. It grows by doubling, since only then bytes are moved: so for `most` bytes at most no more than twice as many are
+    /// allocated.
     #[inline]
     pub fn append(&mut self, bytes: &[u8], most: usize) -> Result<(), NoMemory> {
         let count = self.count + bytes.len();
@@ -59,7 +58,6 @@ impl Kept {
         Ok(())
     }
 
-    /// Leaves the first `n` bytes.
     #[inline]
     pub fn truncate(&mut self, n: usize) {
         if n == 0 && self.ring.len() > IDLE_ROOM {
@@ -69,8 +67,7 @@ impl Kept {
         }
     }
 
-    /// Lets the first `n` bytes go. Where nothing is left a room of more than 4,096 bytes is given back, and any where
-    /// nothing more comes.
+    /// Frees the first `n` bytes. If nothing is left, memory of more than 4,096 bytes is given back, and any if nothing more comes.
     #[inline]
     pub fn let_go(&mut self, n: usize, is_over: bool) {
         let count = self.count - n;
@@ -85,15 +82,14 @@ impl Kept {
         }
     }
 
-    /// The `len` bytes from a place on: a front, and where they go around the ring's end, a back.
+    /// In two pieces if they go around the ring's end.
     #[inline]
     pub fn part(&self, from: usize, len: usize) -> (&[u8], &[u8]) {
         let start = place(self.ring.len(), self.start + from);
         pieces(&self.ring, start, len)
     }
 
-    // Moves the bytes to the front of a ring with so many places, and puts those behind them that come. Unchanged where memory is
-    // refused.
+    // Unchanged if memory is refused.
     fn move_to(&mut self, size: usize, bytes: &[u8]) -> Result<(), NoMemory> {
         debug_assert!(0 < bytes.len());
         let (front, back) = pieces(&self.ring, self.start, self.count);
@@ -104,7 +100,6 @@ impl Kept {
         Ok(())
     }
 
-    // Keeps nothing, and takes no memory.
     fn give_back(&mut self) {
         self.ring = Vec::new(self.alloc);
         self.start = 0;
@@ -112,12 +107,10 @@ impl Kept {
     }
 }
 
-// Where in a ring of so many places the byte stands that is so many places past the front.
 fn place(size: usize, at: usize) -> usize {
     if at < size { at } else { at - size }
 }
 
-// So many bytes of a ring, in two pieces where they go around its end.
 fn pieces(ring: &[u8], start: usize, count: usize) -> (&[u8], &[u8]) {
     debug_assert!(start <= ring.len());
     debug_assert!(count <= ring.len());
@@ -129,7 +122,7 @@ fn pieces(ring: &[u8], start: usize, count: usize) -> (&[u8], &[u8]) {
     }
 }
 
-// Puts bytes behind the first `count` of a ring, which goes on where it stands, to so many places. Unchanged where memory is refused.
+// Used while the bytes don't go around: then growing where they stand moves none. Unchanged if memory is refused.
 fn grow(ring: &mut Vec<u8>, count: usize, bytes: &[u8], size: usize) -> Result<(), NoMemory> {
     let room = reserve(ring, size)?;
     ring.truncate(count);
@@ -138,7 +131,6 @@ fn grow(ring: &mut Vec<u8>, count: usize, bytes: &[u8], size: usize) -> Result<(
     Ok(())
 }
 
-// Writes bytes behind those that stand in a ring, in two pieces where they go around its end.
 fn write_behind(ring: &mut [u8], start: usize, count: usize, bytes: &[u8]) {
     debug_assert!(start <= ring.len());
     let at = place(ring.len(), start + count);
@@ -152,12 +144,10 @@ fn write_behind(ring: &mut [u8], start: usize, count: usize, bytes: &[u8]) {
     }
 }
 
-// Writes bytes from a place on.
 fn write_at(into: &mut [u8], at: usize, bytes: &[u8]) {
     into[at..at + bytes.len()].copy_from_slice(bytes);
 }
 
-// The bytes one behind the other, at the front of a ring of so many places.
 fn joined(
     alloc: Global,
     front: &[u8],

@@ -1,24 +1,23 @@
 // Made from crates/qs_send/src/live_offsets.rt by rust/erase; not edited by hand.
-//! The written offsets of a half of which some are still to be sent, or to be acknowledged.
+//! The written offsets of a half of which some are still to be sent or acknowledged.
 
 use crate::proved::qs_send::edits::{add, forget};
 use crate::proved::qs_send::kept::Kept;
 use crate::proved::qs_ranges::{NoMemory, RangeSet};
 use crate::shim::alloc::Global;
 
-/// Offsets that were written: their bytes, which of them are due, and which are acknowledged.
 pub(crate) struct LiveOffsets {
     written: u64,
-    // From the lowest offset not acknowledged on.
+    // From the lowest unacknowledged offset on, since a buffer frees only at its front.
     kept: Kept,
     acked: RangeSet,
-    // The offsets that were noted as due; the due ones are those not acknowledged.
+    // As due; those of them that aren't acknowledged are. So acknowledging need not touch this set, which might want memory.
     noted: RangeSet,
     sent_end: u64,
 }
 
 impl LiveOffsets {
-    /// So many that are all acknowledged. They take no memory.
+    /// All acknowledged, so it takes no memory: a half that has not been written to is so.
     #[inline]
     pub(crate) fn at_rest(alloc: Global, written: u64) -> Self {
         debug_assert!(written <= 0x3fff_ffff_ffff_ffff);
@@ -36,7 +35,6 @@ impl LiveOffsets {
         self.sent_end
     }
 
-    /// The lowest offset that isn't acknowledged.
     #[inline]
     pub(crate) fn unacked_from(&self) -> u64 {
         self.acked.first_missing(0)
@@ -47,19 +45,16 @@ impl LiveOffsets {
         self.kept.len()
     }
 
-    /// How many bytes of memory those take that are kept.
     #[inline]
     pub(crate) fn held(&self) -> usize {
         self.kept.held()
     }
 
-    /// The bytes that are kept, so many from a place on, in two pieces.
     #[inline(always)]
     pub(crate) fn part(&self, from: usize, len: usize) -> (&[u8], &[u8]) {
         self.kept.part(from, len)
     }
 
-    /// Takes bytes in behind those that were written. Where `most` are ever kept, they take no more memory than for twice as many.
     #[inline]
     pub(crate) fn write(&mut self, bytes: &[u8], most: usize) -> Result<(), NoMemory> {
         let before = self.kept.len();
@@ -73,7 +68,6 @@ impl LiveOffsets {
         Ok(())
     }
 
-    /// Takes in that the offsets below `end` were sent.
     #[inline]
     pub(crate) fn sent(&mut self, end: u64) {
         let before = self.sent_end;
@@ -81,23 +75,20 @@ impl LiveOffsets {
         self.sent_end = before.max(end);
     }
 
-    /// Takes in that the offsets from `lo` on and below `hi` are acknowledged. Where nothing is left, and nothing more comes, the
-    /// buffer's memory goes. Unchanged where memory was refused.
+    /// Once nothing is left and nothing more comes, the buffer's memory goes. Unchanged if memory was refused.
     #[inline]
     pub(crate) fn acked(&mut self, lo: u64, hi: u64, is_over: bool) -> Result<(), NoMemory> {
         debug_assert!(lo <= hi);
         let from = self.written - self.kept.len() as u64;
         add(&mut self.acked, lo, hi)?;
-        // What is acknowledged need not stay noted.
+        // It needn't stay noted, and each run that goes is one fewer to search.
         forget(&mut self.noted, lo, hi);
         let low = self.acked.first_missing(0);
-        // Where none is kept, none is let go.
         self.kept.let_go(low.saturating_sub(from) as usize, is_over);
         Ok(())
     }
 
-    /// Takes in that the offsets from `lo` on and below `hi` are lost: what isn't acknowledged is due again. Unchanged where memory
-    /// was refused.
+    /// What isn't acknowledged is due again. Unchanged if memory was refused.
     #[inline]
     pub(crate) fn lost(&mut self, lo: u64, hi: u64) -> Result<(), NoMemory> {
         debug_assert!(lo <= hi);
@@ -106,7 +97,6 @@ impl LiveOffsets {
         Ok(())
     }
 
-    /// Nothing is to be sent any more, so nothing is kept, and the buffer's memory goes.
     #[inline]
     pub(crate) fn let_all_go(&mut self) {
         let count = self.kept.len();
@@ -114,13 +104,11 @@ impl LiveOffsets {
         self.noted.drop_below(self.written);
     }
 
-    /// Whether each offset is acknowledged: then nothing is kept or due.
     #[inline]
     pub(crate) fn rests(&self) -> bool {
         self.acked.first_missing(0) == self.written
     }
 
-    /// The lowest due offsets that stand in a row.
     #[inline]
     pub(crate) fn due_run(&self) -> Option<(u64, u64)> {
         let mut from = 0;

@@ -1,5 +1,5 @@
 // Made from crates/qs_send/src/lost_pass.rt by rust/erase; not edited by hand.
-//! One pass over the lost packets.
+//! One pass over the lost packets, for a caller without outstanding ones.
 
 use crate::proved::qs_send::ack_pass::AckPass;
 use crate::proved::qs_send::lost_records::LostRecords;

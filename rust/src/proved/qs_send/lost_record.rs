@@ -5,10 +5,10 @@ use crate::shim::Vec;
 use crate::proved::qs_send::piece::Piece;
 use crate::proved::qs_ranges::NoMemory;
 
-// The memory for so many pieces goes from one record to the next.
+// The memory for so many pieces goes from one record to the next; more is given back, so that one large packet doesn't make it stay.
 const FEW: usize = 4;
 
-/// The pieces of a packet in the order in which they were declared lost. The first `start` ones of the vector were let go.
+/// The pieces of a packet in the order in which they were declared lost. The first `start` are gone, which costs no move.
 pub(crate) struct LostRecord {
     number: u64,
     start: usize,
@@ -38,26 +38,23 @@ impl LostRecord {
         }
     }
 
-    /// Whether no other piece follows the first one.
     #[inline]
     pub(crate) fn is_last(&self) -> bool {
         self.pieces.len() - self.start <= 1
     }
 
-    /// Makes room for one piece more.
     #[inline]
     pub(crate) fn reserve(&mut self) -> Result<(), NoMemory> {
         self.pieces.reserve(1)?;
         Ok(())
     }
 
-    /// One piece more. It takes no memory.
     #[inline]
     pub(crate) fn push(&mut self, piece: Piece) {
         hold(&mut self.pieces, piece);
     }
 
-    /// The memory of the pieces, of which none is kept; none where it is for many, so that it doesn't stay for ever.
+    /// Empty memory for the next record; none if it is for many, so that it doesn't stay for ever.
     #[inline]
     pub(crate) fn emptied(self) -> Vec<Piece> {
         let mut pieces = self.pieces;
@@ -68,14 +65,13 @@ impl LostRecord {
         pieces
     }
 
-    /// Lets the first piece go, of several.
     #[inline]
     pub(crate) fn drop_first(&mut self) {
         self.start += 1;
     }
 }
 
-// One piece more, for which there is memory.
+// One more piece, for which there is memory.
 #[inline]
 pub(crate) fn hold(pieces: &mut Vec<Piece>, piece: Piece) {
     let _ = match piece {

@@ -7,13 +7,12 @@ use crate::proved::qs_ranges::NoMemory;
 use crate::shim::alloc::Global;
 use crate::shim::collections::VecDeque;
 
-/// So many records stay.
+/// // An ACK may come late for any of them, and a bound keeps a peer that acknowledges nothing from holding memory.
 const MOST: usize = 256;
 
-/// The pieces of each packet that was declared lost, by packet number: a late acknowledgement may still name it (RFC 9000,
-/// section 13.2.1).
+/// The pieces of each packet that was declared lost, by packet number: a late ACK may still name it (RFC 9000, section 13.2.1).
 ///
-/// The 256 latest stay, by the order in which they were first declared lost.
+/// The 256 latest stay, by the order in which they were first declared lost: that is the order in which their ACKs stop being likely.
 pub struct LostRecords {
     list: ByNumber,
     order: VecDeque<u64>,
@@ -31,7 +30,7 @@ impl LostRecords {
         }
     }
 
-    /// Makes room for one piece more of a packet, in the place of the room that was made before. Unchanged where memory was refused.
+    /// Makes room for one more piece of a packet, in the place of the room made before. Unchanged if memory was refused.
     #[inline]
     pub fn make_room(&mut self, number: u64) -> Result<(), NoMemory> {
         self.order.reserve(1)?;
@@ -40,7 +39,7 @@ impl LostRecords {
         Ok(())
     }
 
-    /// Holds one piece more of a packet. Where that makes one packet too many, the oldest goes. It takes no memory.
+    /// Holds one more piece of a packet. If that makes one packet too many, the oldest goes. It takes no memory.
     #[inline]
     pub fn add(&mut self, number: u64, piece: Piece) {
         self.ready = None;
@@ -56,7 +55,8 @@ impl LostRecords {
         self.list.first(number)
     }
 
-    /// Lets the first piece of a packet go, and the record with the last. Room that was made goes too.
+    /// Drops the first piece of a packet, and the record with the last. Room that was made may go too: it may have been the packet's own
+    /// memory.
     #[inline]
     pub fn drop_first(&mut self, number: u64) {
         self.ready = None;
@@ -79,8 +79,7 @@ impl LostRecords {
         self.below_near(number, &mut near)
     }
 
-    /// The same for a pass from high numbers to low ones, which hands `near` on from each call to the next: it is where the search
-    /// begins.
+    /// For a pass from high numbers to low ones: `near` is where the search begins, and goes from call to call.
     #[inline]
     pub(crate) fn below_near(&self, number: u64, near: &mut usize) -> Option<u64> {
         self.list.below(number, near)
@@ -94,14 +93,12 @@ impl LostRecords {
 
 }
 
-// The order with a number behind it, if it isn't held.
 fn note(order: &mut VecDeque<u64>, number: u64, held: bool) {
     if !held {
         order.push_back_reserved(number);
     }
 }
 
-// Where there is one record too many, the oldest goes.
 fn drop_oldest(order: &mut VecDeque<u64>, list: &mut ByNumber) {
     if order.len() > MOST {
         if let Some(oldest) = order.pop_front() {
@@ -110,7 +107,6 @@ fn drop_oldest(order: &mut VecDeque<u64>, list: &mut ByNumber) {
     }
 }
 
-// The order without a number.
 fn forget(order: &mut VecDeque<u64>, number: u64) {
     order.retain(|k| *k != number);
 }

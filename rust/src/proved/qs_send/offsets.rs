@@ -1,21 +1,21 @@
 // Made from crates/qs_send/src/offsets.rt by rust/erase; not edited by hand.
-//! The written offsets of a half. Those that are at rest take no memory.
+//! The written offsets of a half. Those that are all acknowledged take no memory.
 use crate::shim::Box;
 
 use crate::proved::qs_send::live_offsets::LiveOffsets;
 use crate::proved::qs_ranges::NoMemory;
 use crate::shim::alloc::Global;
 
-/// Offsets that were written. They are at rest as a half begins, and again once the acknowledgement has come with which it is over.
+/// Without a box as a half begins, and again once its last ACK has come: most streams are then over, and stay for the connection's life. In
+/// between the box stays, since a stream that is written to again would take it anew.
 pub(crate) struct Offsets {
     alloc: Global,
     written: u64,
-    // None at rest: each is acknowledged, and nothing is kept or due.
+    // None: each offset is acknowledged, and nothing is kept or due.
     live: Option<Box<LiveOffsets>>,
 }
 
 impl Offsets {
-    /// None was written. They take no memory.
     #[inline]
     pub(crate) fn new(alloc: Global) -> Self {
         Self {
@@ -30,7 +30,6 @@ impl Offsets {
         self.written
     }
 
-    /// The number after the largest offset that was sent; 0 where none was.
     #[inline(always)]
     pub(crate) fn sent_end(&self) -> u64 {
         match &self.live {
@@ -39,7 +38,6 @@ impl Offsets {
         }
     }
 
-    /// The lowest offset that isn't acknowledged.
     #[inline]
     pub(crate) fn unacked_from(&self) -> u64 {
         match &self.live {
@@ -56,7 +54,6 @@ impl Offsets {
         }
     }
 
-    /// How many bytes of memory those take that are kept.
     #[inline]
     pub(crate) fn held(&self) -> usize {
         match &self.live {
@@ -65,7 +62,6 @@ impl Offsets {
         }
     }
 
-    /// The bytes that are kept, so many from a place on, in two pieces.
     #[inline(always)]
     pub(crate) fn part(&self, from: usize, len: usize) -> (&[u8], &[u8]) {
         match &self.live {
@@ -74,7 +70,6 @@ impl Offsets {
         }
     }
 
-    /// Takes bytes in behind those that were written. Where `most` are ever kept, they take no more memory than for twice as many.
     #[inline]
     pub(crate) fn write(&mut self, bytes: &[u8], most: usize) -> Result<(), NoMemory> {
         let Some(live) = &mut self.live else {
@@ -85,7 +80,7 @@ impl Offsets {
         Ok(())
     }
 
-    // The first bytes behind those that are at rest: they take a box.
+    // The first bytes of a half take its box: the one allocation besides the buffer.
     fn begin(&mut self, bytes: &[u8], most: usize) -> Result<(), NoMemory> {
         let mut live = Box::new(self.alloc, LiveOffsets::at_rest(self.alloc, self.written))?;
         live.write(bytes, most)?;
@@ -94,7 +89,6 @@ impl Offsets {
         Ok(())
     }
 
-    /// Takes in that the offsets below `end` were sent.
     #[inline(always)]
     pub(crate) fn sent(&mut self, end: u64) {
         let Some(live) = &mut self.live else {
@@ -103,8 +97,7 @@ impl Offsets {
         live.sent(end);
     }
 
-    /// Takes in that the offsets from `lo` on and below `hi` are acknowledged, and whether with this nothing more comes. Where each
-    /// offset is then acknowledged, they are at rest. Unchanged where memory was refused.
+    /// With the last ACK the box goes. Unchanged if memory was refused.
     #[inline]
     pub(crate) fn acked(&mut self, lo: u64, hi: u64, is_over: bool) -> Result<(), NoMemory> {
         debug_assert!(lo <= hi);
@@ -118,8 +111,7 @@ impl Offsets {
         Ok(())
     }
 
-    /// Takes in that the offsets from `lo` on and below `hi` are lost: what isn't acknowledged is due again. Unchanged where memory
-    /// was refused.
+    /// What isn't acknowledged is due again. Unchanged if memory was refused.
     #[inline]
     pub(crate) fn lost(&mut self, lo: u64, hi: u64) -> Result<(), NoMemory> {
         debug_assert!(lo <= hi);
@@ -130,7 +122,6 @@ impl Offsets {
         Ok(())
     }
 
-    /// Nothing is to be sent any more, so nothing is kept, and the buffer's memory goes.
     #[inline]
     pub(crate) fn let_all_go(&mut self) {
         let Some(live) = &mut self.live else {
@@ -139,7 +130,6 @@ impl Offsets {
         live.let_all_go();
     }
 
-    /// The lowest due offsets that stand in a row.
     #[inline]
     pub(crate) fn due_run(&self) -> Option<(u64, u64)> {
         match &self.live {

@@ -1,7 +1,7 @@
 // Made from crates/qs_send/src/parts.rt by rust/erase; not edited by hand.
 //! What the calls of a sending half name.
 
-/// A part of a lane that goes out in one frame, with or without the lane's end.
+/// A part of a lane that goes out in one frame, with or without its FIN.
 #[derive(Debug, Clone, Copy, PartialEq, Eq)]
 pub struct Chunk {
     pub offset: u64,
@@ -9,7 +9,6 @@ pub struct Chunk {
     pub fin: bool,
 }
 
-/// A lane that was broken off.
 #[derive(Debug, Clone, Copy, PartialEq, Eq)]
 pub struct Reset {
     pub code: u64,

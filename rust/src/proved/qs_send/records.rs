@@ -12,12 +12,13 @@ use crate::shim::collections::VecDeque;
 
 /// The pieces of each outstanding packet, in the order in which they went in, by packet number (RFC 9000, section 13.3).
 ///
-/// Each number from `base` on has a slot, up to the last one that was put in. A slot with no piece is empty.
+/// Each number from `base` on has a slot, so a record is found in constant time. A slot is empty if its packet carried nothing or is done:
+/// one packet that stays outstanding while many later ones come and go keeps a slot for each of those.
 pub struct Records {
     base: u64,
     slots: VecDeque<Carried>,
-    // Which slots are empty, as bits, of which the first is that of number `first`: a search looks at one word for 64 of them, and at one
-    // for 4,096 where all are. Where there was no memory for its bit, an empty slot is looked at itself.
+    // Hints as bits, of which the first is that of number `first`: a search looks at one word for 64 slots, and at one for 4,096 that are
+    // empty. A slot without a bit, for want of memory, is looked at itself.
     first: u64,
     gone: Gone,
 }
@@ -34,7 +35,7 @@ impl Records {
         }
     }
 
-    /// Makes room for the record of a number, which stays until a `put`.
+    /// Makes room for the record of a number, which stays until a `put`: before a packet is filled, so that a refusal changes nothing.
     #[inline]
     pub fn make_room(&mut self, number: u64) -> Result<(), NoMemory> {
         if self.slots.is_empty() {
@@ -55,7 +56,7 @@ impl Records {
         Ok(())
     }
 
-    /// Holds the pieces of a packet, which come with their memory. It takes none.
+    /// Holds the pieces of a packet, which come with their memory, so it takes none.
     #[inline]
     pub fn put(&mut self, number: u64, pieces: Vec<Piece>) {
         self.drop_from(number);
@@ -64,7 +65,7 @@ impl Records {
         self.push_slot(Carried::several(pieces));
     }
 
-    /// Holds the one piece of a packet, in its slot: so a steady flow takes no memory for it.
+    /// Holds the one piece of a packet in its slot: with a vector for each, a steady flow of one stream cost a seventh more time.
     #[inline]
     pub fn put_one(&mut self, number: u64, piece: Piece) {
         self.drop_from(number);
@@ -73,7 +74,7 @@ impl Records {
         self.push_slot(Carried::one(piece));
     }
 
-    /// The first piece of a packet, `None` where the number isn't held.
+    /// The first piece of a packet, `None` if the number isn't held.
     #[inline]
     pub fn first(&self, number: u64) -> Option<Piece> {
         match self.slot_of(number) {
@@ -82,7 +83,7 @@ impl Records {
         }
     }
 
-    /// Lets the first piece of a packet go, and the record with the last. Where the number isn't held, nothing changes.
+    /// Drops the first piece of a packet, and the record with the last. If the number isn't held, nothing changes.
     #[inline]
     pub fn drop_first(&mut self, number: u64) {
         if let Some(place) = self.slot_of(number) {
@@ -91,7 +92,7 @@ impl Records {
         }
     }
 
-    /// Lets the empty slots before the first record go, so that the first slot has a record where one is left.
+    /// Drops the empty slots before the first record. After an ACK or a loss, and not as records go: a pass that goes on keeps its places.
     #[inline]
     pub fn trim(&mut self) {
         while self.starts_empty() {
@@ -134,8 +135,8 @@ impl Records {
         self.base
     }
 
-    /// The greatest number from `low` on and below `below` that is held. Each look is one more of `looks`: at a word of bits, together
-    /// with the word of words and the slot that it leads to, or at a slot without a bit.
+    /// Each look is counted in `looks`: at a word of bits, with the word of words and the slot that it leads to, or at a slot without a
+    /// bit.
     #[inline]
     pub(crate) fn within(&self, low: u64, below: u64, looks: &mut u64) -> Option<u64> {
         let from = low.saturating_sub(self.base) as usize;
@@ -147,7 +148,6 @@ impl Records {
         self.last_from(from, count, looks)
     }
 
-    // The place of a number's slot. A number without one isn't held.
     fn slot_of(&self, number: u64) -> Option<usize> {
         if number < self.base {
             return None;
@@ -160,13 +160,11 @@ impl Records {
         }
     }
 
-    // The greatest number that is held in the first slots.
     fn last_of(&self, count: usize) -> Option<u64> {
         let _slots = &self.slots;
         self.last_from(0, count, &mut 0)
     }
 
-    // The greatest number that is held in the first slots, from one of them on.
     #[inline(always)]
     fn last_from(&self, from: usize, count: usize, looks: &mut u64) -> Option<u64> {
         let mut place = count;
@@ -183,7 +181,6 @@ impl Records {
         None
     }
 
-    // The same by a look at each slot.
     fn last_looked_at(&self, from: usize, count: usize, looks: &mut u64) -> Option<u64> {
         let mut place = count;
         while place > from {
@@ -196,8 +193,7 @@ impl Records {
         None
     }
 
-    // An end of the first slots behind which none that is below `count` has a record, as low as the bits tell, down to `from`. Each look
-    // is counted, also that at the slot before the end.
+    // As low as the bits permit, down to `from`. Each look is counted, also that at the slot before the end.
     fn end_of_left(&self, from: usize, count: usize, looks: &mut u64) -> usize {
         debug_assert!(from < count);
         let skew = (self.base - self.first) as usize;
@@ -213,7 +209,7 @@ impl Records {
         }
     }
 
-    // It is noted that a slot is empty, where it is. No clause sees it. Of few slots each is looked at itself.
+    // No clause sees the note, which is a hint. Of few slots each is looked at itself, so that a short queue pays for no bits.
     fn note(&mut self, place: usize) {
         if self.slots.len() >= gone::PER_WORD && !self.is_filled(place) {
             let skew = (self.base - self.first) as usize;
@@ -221,12 +217,11 @@ impl Records {
         }
     }
 
-    // Whether a slot has a record.
     fn is_filled(&self, place: usize) -> bool {
         self.slots[place].len() > 0
     }
 
-    // The bits of slots that went go, once there are so many of these. No clause sees it.
+    // In groups, so that bits move along by whole words. No clause sees it.
     fn drop_group(&mut self) {
         if self.base - self.first >= gone::PER_GROUP as u64 {
             self.gone.drop_group();
@@ -234,7 +229,6 @@ impl Records {
         }
     }
 
-    // Whether the first slot is an empty one.
     fn starts_empty(&self) -> bool {
         match self.slots.front() {
             Some(slot) => slot.len() == 0,
@@ -242,7 +236,6 @@ impl Records {
         }
     }
 
-    // The first slot, which is empty, goes.
     fn drop_front(&mut self) {
         drop(self.slots.pop_front());
         if !self.slots.is_empty() {
@@ -250,24 +243,22 @@ impl Records {
         }
     }
 
-    // The slots of a number and of those above it go, which are empty. Mostly there are none.
+    // Mostly there are none: a number that was claimed, or an ACK alone, left them.
     fn drop_from(&mut self, number: u64) {
         while self.ends_past(number) {
             self.drop_back();
         }
     }
 
-    // Whether the last slot is that of a number or of one above it.
     fn ends_past(&self, number: u64) -> bool {
         number.saturating_sub(self.base) < self.slots.len() as u64
     }
 
-    // The last slot, which is empty, goes.
     fn drop_back(&mut self) {
         drop(self.slots.pop_back());
     }
 
-    // Without slots the first one is to be that of the number.
+    // Otherwise the slots of all numbers since would be filled in, empty.
     fn start_at(&mut self, number: u64) {
         if self.slots.is_empty() {
             self.base = number;
@@ -276,7 +267,6 @@ impl Records {
         }
     }
 
-    // Empty slots for the numbers below `number`, so that the next slot is that number's.
     fn fill_to(&mut self, number: u64) {
         while self.ends_before(number) {
             let place = self.slots.len();
@@ -285,12 +275,10 @@ impl Records {
         }
     }
 
-    // Whether a number below `number` has no slot yet.
     fn ends_before(&self, number: u64) -> bool {
         self.slots.len() < (number - self.base) as usize
     }
 
-    // One slot more.
     fn push_slot(&mut self, slot: Carried) {
         let index = (self.base - self.first) as usize + self.slots.len();
         self.gone.begin(index);
@@ -298,7 +286,6 @@ impl Records {
     }
 }
 
-// Whether one of the slots has the piece.
 fn some_has(slots: &VecDeque<Carried>, piece: Piece) -> bool {
     slots.iter().any(|slot| slot.has(piece))
 }

@@ -4,7 +4,7 @@ use crate::shim::Vec;
 
 use crate::proved::qs_send::piece::Piece;
 
-/// The pieces of a vector without the first `start` ones, which were let go.
+/// The pieces of a vector without the first `start` ones: dropping the first costs no move.
 pub(crate) struct Remaining {
     start: usize,
     pieces: Vec<Piece>,
@@ -29,7 +29,6 @@ impl Remaining {
         }
     }
 
-    /// Lets the first piece go, of one or more.
     #[inline]
     pub(crate) fn drop_first(&mut self) {
         self.start += 1;

@@ -1,23 +1,21 @@
 // Made from crates/qs_send/src/view.rt by rust/erase; not edited by hand.
-//! A sending half to be read, be it over or not.
+//! A sending half to be read, over or not. One type for both, so that a caller needn't know how a half is kept.
 
 use crate::proved::qs_send::half::SendHalf;
 use crate::proved::qs_send::halves::slot::SendSlot;
 use crate::proved::qs_send::parts::{Chunk, SendFault, SendState};
 
-/// A sending half to be read.
 pub struct SendView<'a> {
     half: Viewed<'a>,
 }
 
-/// One that is over, or another.
 #[derive(Clone, Copy)]
 pub(crate) enum Viewed<'a> {
     Over(Over),
     Full(&'a SendHalf),
 }
 
-/// What is kept of a half that is over.
+/// What a slot says, put together again: the numbers of a half that is over.
 #[derive(Clone, Copy)]
 pub(crate) struct Over {
     number: u64,
@@ -29,7 +27,6 @@ pub(crate) struct Over {
 }
 
 impl<'a> SendView<'a> {
-    /// A half that is over, of that number.
     #[inline(always)]
     pub(crate) fn of_over(number: u64, written: u64, slot: SendSlot) -> Self {
         debug_assert!(number <= 0x3fff_ffff_ffff_ffff);
@@ -45,7 +42,6 @@ impl<'a> SendView<'a> {
         }
     }
 
-    /// Another.
     #[inline(always)]
     pub(crate) fn of_full(half: &'a SendHalf) -> Self {
         SendView {
@@ -53,7 +49,7 @@ impl<'a> SendView<'a> {
         }
     }
 
-    /// The half, where it isn't over.
+    /// The half, if it isn't over.
     #[inline(always)]
     pub fn not_over(&self) -> Option<&'a SendHalf> {
         match self.half {
@@ -80,7 +76,7 @@ impl<'a> SendView<'a> {
         }
     }
 
-    /// Whether one would change it whose owner answers it.
+    /// Whether one that the application answers would change it.
     #[inline(always)]
     pub fn told_changes(&self) -> bool {
         match self.half {
@@ -161,7 +157,7 @@ impl<'a> SendView<'a> {
         }
     }
 
-    /// How many bytes of memory the buffer takes, as `SendHalf::held` tells.
+    /// How many bytes of memory the buffer takes, as of `SendHalf::held`.
     #[inline(always)]
     pub fn held(&self) -> u64 {
         match self.half {
@@ -179,7 +175,7 @@ impl<'a> SendView<'a> {
         }
     }
 
-    /// The longest chunk that may go, as `SendHalf::next_chunk` tells.
+    /// The longest chunk that may go, as of `SendHalf::next_chunk`.
     #[inline(always)]
     pub fn next_chunk(&self, room: usize, fresh: u64) -> Option<Chunk> {
         match self.half {
@@ -188,7 +184,7 @@ impl<'a> SendView<'a> {
         }
     }
 
-    /// Whether the room alone holds a chunk back, as `SendHalf::is_held_by_room` tells.
+    /// Whether the room alone holds a chunk back, as of `SendHalf::is_held_by_room`.
     #[inline(always)]
     pub fn is_held_by_room(&self, room: usize, fresh: u64) -> bool {
         match self.half {
@@ -206,7 +202,7 @@ impl<'a> SendView<'a> {
         }
     }
 
-    /// The bytes of a chunk that is still in the buffer: a front, and where they go around the buffer's end, a back.
+    /// The bytes of a chunk that is still in the buffer, in two pieces if they go around the ring's end.
     #[inline(always)]
     pub fn bytes(&self, chunk: Chunk) -> (&'a [u8], &'a [u8]) {
         match self.half {

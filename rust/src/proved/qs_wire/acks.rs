@@ -5,7 +5,8 @@ use crate::proved::qs_wire::fault::Full;
 use crate::proved::qs_wire::varint::{number_at, varint_len};
 use crate::proved::qs_wire::writing::{put_number, put_numbers};
 
-/// Gives the ranges of an ACK frame as smallest and largest packet number, the highest first.
+/// Gives the ranges of an ACK frame as smallest and largest packet number, the highest first. They stay a slice of the payload: an ACK may
+/// have many, and reading takes no memory.
 #[derive(Debug)]
 pub struct AckRanges<'a> {
     largest: u64,
@@ -23,8 +24,8 @@ impl<'a> AckRanges<'a> {
         }
     }
 
-    /// The smallest and the largest number of the next range, `None` after the last. A range that fell
-    /// below zero, which no frame has that was read, begins at 0.
+    /// The smallest and the largest number of the next range, `None` after the last. It never fails: a range that fell below zero, which no
+    /// frame has that was read, begins at 0.
     #[inline]
     pub fn next(&mut self) -> Option<(u64, u64)> {
         let largest = self.largest;
@@ -42,14 +43,13 @@ impl<'a> AckRanges<'a> {
     }
 }
 
-/// The two numbers that spell a range below the range that begins at a number.
 fn gap_and_length(above: u64, pair: (u64, u64)) -> (u64, u64) {
     debug_assert!(above <= 1 << 62);
     let (start, end) = pair;
     (above - end - 1, end - 1 - start)
 }
 
-/// Whether the shortest spellings of two numbers fit the room. They are measured only where it is scarce.
+/// Measured only if the room is scarce, since mostly all ranges fit.
 #[inline]
 fn two_fit(a: u64, b: u64, room: usize) -> bool {
     debug_assert!(a < 1 << 62);
@@ -60,7 +60,7 @@ fn two_fit(a: u64, b: u64, room: usize) -> bool {
     varint_len(a) + varint_len(b) <= room
 }
 
-/// Writes as many of the ranges below a number as fit, at a place, and answers how many these are and the place after them.
+/// As many as fit from the highest on: the older ranges were in earlier ACKs.
 fn put_ranges(smallest: u64, pairs: &[(u64, u64)], at: usize, out: &mut [u8]) -> (usize, usize) {
     debug_assert!(smallest <= 1 << 62);
     debug_assert!(at <= out.len());
@@ -82,15 +82,14 @@ fn put_ranges(smallest: u64, pairs: &[(u64, u64)], at: usize, out: &mut [u8]) ->
 
 const ACK: u64 = 0x02;
 
-/// Writes an ACK frame without delay and ECN counts, of as many ranges as fit, at the slice's front, and answers
-/// how many and the frame's length in bytes. The ranges are half-open, the highest first. Where not even one
-/// fits, nothing is written.
+/// Writes an ACK frame without delay and ECN counts at the slice's front, of as many ranges as fit, and returns how many and the frame's
+/// length in bytes. The ranges are half-open, the highest first. If not even one fits, nothing is written.
 #[inline]
 pub fn put_ack(pairs: &[(u64, u64)], out: &mut [u8]) -> Result<(usize, usize), Full> {
     put_delayed_ack(pairs, 0, out)
 }
 
-/// The same of an ACK frame that tells a delay.
+/// The same of an ACK frame with a delay.
 #[inline]
 pub fn put_delayed_ack(
     pairs: &[(u64, u64)],

@@ -1,5 +1,6 @@
 // Made from crates/qs_wire/src/bodies.rt by rust/erase; not edited by hand.
-//! Reading the fields of each frame, behind its type, and judging their values.
+//! Reading the fields of each frame, and judging their values once the whole frame is there: a frame that is cut short is cut short,
+//! whatever its numbers.
 
 use crate::proved::qs_wire::fault::FaultKind;
 use crate::proved::qs_wire::fields::{
@@ -51,7 +52,6 @@ fn stop_sending_at(bytes: &[u8]) -> Result<(Frame<'_>, &[u8]), FaultKind> {
     Ok((Frame::StopSending { stream, code }, rest))
 }
 
-/// Whether the bytes that stand at an offset of a stream end below 2^62.
 fn ends_in_range(offset: u64, bytes: &[u8]) -> bool {
     match offset.checked_add(bytes.len() as u64) {
         Some(end) => end < 1 << 62,
@@ -183,7 +183,7 @@ fn application_close_at(bytes: &[u8]) -> Result<(Frame<'_>, &[u8]), FaultKind> {
     Ok((Frame::ApplicationClose { code, reason }, rest))
 }
 
-/// The frame of a type, whose values break nothing, and the bytes after it.
+/// Its values break nothing.
 #[inline]
 pub(crate) fn body_at(frame_type: FrameType, bytes: &[u8]) -> Result<(Frame<'_>, &[u8]), FaultKind> {
     match frame_type {

@@ -18,12 +18,12 @@ pub enum FaultKind {
     CountTooLarge,
     /// An ACK names a number below zero (RFC 9000, section 19.3.1).
     BelowZero,
-    /// A connection identifier has no byte or more than 20 (RFC 9000, section 19.15).
+    /// A connection ID has no byte or more than 20 (RFC 9000, section 19.15).
     IdentifierLength,
 }
 
 impl FaultKind {
-    /// The number that QUIC closes a connection with (RFC 9000, section 20.1).
+    /// The code to close a connection with (RFC 9000, section 20.1).
     #[inline]
     pub fn code(self) -> u64 {
         match self {
@@ -58,9 +58,9 @@ pub struct WireFault {
     pub kind: FaultKind,
     /// Where the frame's first byte stands.
     pub place: usize,
-    /// The number that QUIC closes a connection with.
+    /// The code to close a connection with.
     pub code: u64,
-    /// The frame's type, 0 where none was read.
+    /// The frame's type, 0 if none was read.
     pub frame_type: u64,
 }
 

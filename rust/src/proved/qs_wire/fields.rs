@@ -5,7 +5,6 @@ use crate::proved::qs_wire::fault::FaultKind;
 use crate::proved::qs_wire::frame::EcnCounts;
 use crate::proved::qs_wire::varint::number_at;
 
-/// So many bytes.
 #[inline]
 pub(crate) fn plain_at(len: u64, bytes: &[u8]) -> Result<(&[u8], &[u8]), FaultKind> {
     if (bytes.len() as u64) < len {
@@ -14,14 +13,13 @@ pub(crate) fn plain_at(len: u64, bytes: &[u8]) -> Result<(&[u8], &[u8]), FaultKi
     Ok(bytes.split_at(len as usize))
 }
 
-/// The bytes that a number counts.
 #[inline]
 pub(crate) fn counted_at(bytes: &[u8]) -> Result<(&[u8], &[u8]), FaultKind> {
     let (len, rest) = number_at(bytes)?;
     plain_at(len, rest)
 }
 
-/// The bytes that one byte counts, which has to be the length of a connection identifier.
+/// Judged as soon as the length is read, since the bytes that follow can't be counted with it.
 #[inline]
 pub(crate) fn identifier_at(bytes: &[u8]) -> Result<(&[u8], &[u8]), FaultKind> {
     let Some((&len, rest)) = bytes.split_first() else {
@@ -33,7 +31,6 @@ pub(crate) fn identifier_at(bytes: &[u8]) -> Result<(&[u8], &[u8]), FaultKind> {
     }
 }
 
-/// A number, or 0 where there is none.
 #[inline]
 pub(crate) fn number_if(there: bool, bytes: &[u8]) -> Result<(u64, &[u8]), FaultKind> {
     if there {
@@ -43,7 +40,7 @@ pub(crate) fn number_if(there: bool, bytes: &[u8]) -> Result<(u64, &[u8]), Fault
     }
 }
 
-/// The bytes that a number counts, or all where none does.
+/// All if no number counts them: a STREAM without a length goes on to the payload's end.
 #[inline]
 pub(crate) fn counted_if(there: bool, bytes: &[u8]) -> Result<(&[u8], &[u8]), FaultKind> {
     if there {
@@ -60,7 +57,6 @@ fn counts_at(bytes: &[u8]) -> Result<(Option<EcnCounts>, &[u8]), FaultKind> {
     Ok((Some(EcnCounts { ect0, ect1, ce }), rest))
 }
 
-/// The counts, or none where there are none.
 #[inline]
 pub(crate) fn ecn_if(there: bool, bytes: &[u8]) -> Result<(Option<EcnCounts>, &[u8]), FaultKind> {
     if there {
@@ -70,7 +66,8 @@ pub(crate) fn ecn_if(there: bool, bytes: &[u8]) -> Result<(Option<EcnCounts>, &[
     }
 }
 
-/// What follows so many numbers, and what is left of a limit from which each takes one more than itself.
+/// What follows so many numbers, and what is left of a limit from which each takes one more than itself: so a sum that falls below zero is
+/// found without a list.
 fn skip_numbers(count: u64, limit: u64, bytes: &[u8]) -> Result<(u64, &[u8]), FaultKind> {
     let mut left = limit;
     let mut rest = bytes;
@@ -82,7 +79,7 @@ fn skip_numbers(count: u64, limit: u64, bytes: &[u8]) -> Result<(u64, &[u8]), Fa
     Ok((left, rest))
 }
 
-/// The numbers of an ACK's ranges, and whether the ranges fall below zero from the largest number.
+/// The numbers of an ACK's ranges, and whether they fall below zero. Told apart, since that is judged only when the whole frame was read.
 #[inline]
 pub(crate) fn ranges_at(largest: u64, bytes: &[u8]) -> Result<(&[u8], bool, &[u8]), FaultKind> {
     debug_assert!(largest < 1 << 62);

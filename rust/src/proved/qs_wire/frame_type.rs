@@ -3,7 +3,8 @@
 
 use crate::proved::qs_wire::stream_id::Dir;
 
-/// What a frame type's number tells of the frame.
+/// What the number of a type says: of STREAM three bits, of the others the frame alone. One name for each, so that reader and writer share
+/// the numbers.
 #[derive(Clone, Copy)]
 pub(crate) enum FrameType {
     Padding,
@@ -36,7 +37,6 @@ const LEN: u64 = 0x02;
 const OFF: u64 = 0x04;
 
 impl FrameType {
-    /// The type of that number.
     #[inline]
     pub(crate) fn of(number: u64) -> Option<FrameType> {
         match number {

@@ -7,7 +7,7 @@ use crate::proved::qs_wire::frame::Frame;
 use crate::proved::qs_wire::frame_type::FrameType;
 use crate::proved::qs_wire::varint::{read_varint, varint_len};
 
-/// What is wrong with a frame, of which type.
+/// A fault lacks its place, which only the caller knows.
 #[derive(Clone, Copy)]
 pub(crate) struct Broken {
     pub(crate) kind: FaultKind,
@@ -22,7 +22,7 @@ fn type_at(bytes: &[u8]) -> Result<(u64, &[u8]), Broken> {
     }
 }
 
-/// The number of a type, however long.
+/// Apart, since types of more than one byte are rare: they are always a fault here.
 fn long_type_at(bytes: &[u8]) -> Result<(u64, &[u8]), Broken> {
     let Some((frame_type, len)) = read_varint(bytes) else {
         return Err(Broken {
@@ -39,7 +39,6 @@ fn long_type_at(bytes: &[u8]) -> Result<(u64, &[u8]), Broken> {
     Ok((frame_type, &bytes[len..]))
 }
 
-/// The frame that begins the bytes behind the number of its type, and the bytes after it.
 #[inline]
 pub(crate) fn frame_at(bytes: &[u8]) -> Result<(u64, Frame<'_>, &[u8]), Broken> {
     let (frame_type, rest) = type_at(bytes)?;

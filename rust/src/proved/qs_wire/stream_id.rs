@@ -1,14 +1,14 @@
 // Made from crates/qs_wire/src/stream_id.rt by rust/erase; not edited by hand.
 //! The numbers of streams.
 
-/// An end of a connection.
+/// Which of the two endpoints of a connection.
 #[derive(Clone, Copy, Debug, PartialEq, Eq)]
 pub enum Role {
     Client,
     Server,
 }
 
-/// Whether both ends send.
+/// Whether both endpoints send.
 #[derive(Clone, Copy, Debug, PartialEq, Eq)]
 pub enum Dir {
     Bidi,
@@ -32,14 +32,14 @@ impl StreamId {
         }
     }
 
-    /// The stream of a number that a payload spells.
+    /// A payload can't spell a greater one, so this needs no error.
     #[inline]
     pub(crate) fn of_varint(value: u64) -> StreamId {
         debug_assert!(value < 1 << 62);
         StreamId { value }
     }
 
-    /// The stream of an initiator and a direction that has that index.
+    /// The stream of an initiator and a direction that has that index; `None` from 2^60 on, since the type takes two of the 62 bits.
     #[inline]
     pub fn from_parts(initiator: Role, dir: Dir, index: u64) -> Option<StreamId> {
         if index >= 1 << 60 {
@@ -58,7 +58,7 @@ impl StreamId {
         })
     }
 
-    /// The end that opens the stream.
+    /// The endpoint that opens the stream.
     #[inline]
     pub fn initiator(self) -> Role {
         match self.value % 2 {

@@ -5,8 +5,8 @@ use crate::proved::qs_wire::frame::Frame;
 use crate::proved::qs_wire::frames::Frames;
 use crate::proved::qs_wire::stream_id::StreamId;
 
-/// The stream of the last STREAM frame that is read in a payload, up to its end or to the first fault; `None` where there is none. An
-/// owner whose streams send by turns goes on behind it.
+/// The stream of the last STREAM frame in a payload, up to its end or its first fault; `None` if there is none. For round-robin, the next
+/// packet goes on behind it.
 #[inline]
 pub fn last_stream(payload: &[u8]) -> Option<StreamId> {
     let mut frames = Frames::new(payload);

@@ -18,7 +18,6 @@ fn parse(bytes: &[u8]) -> Option<(u64, usize)> {
     }
 }
 
-/// The number at the front of the bytes, and the bytes after it.
 #[inline]
 pub(crate) fn number_at(bytes: &[u8]) -> Result<(u64, &[u8]), FaultKind> {
     let Some((&first, after)) = bytes.split_first() else {
@@ -61,8 +60,8 @@ pub fn varint_len(value: u64) -> usize {
     }
 }
 
-/// Writes the shortest spelling at the front and answers its length. `None` where the value is 2^62
-/// or more or where the spelling doesn't fit; then nothing is written.
+/// Writes the shortest spelling at the front and returns its length. `None` if the number is 2^62 or more or doesn't fit; then nothing is
+/// written.
 #[inline]
 pub fn write_varint(value: u64, out: &mut [u8]) -> Option<usize> {
     if value >= 1 << 62 {
@@ -75,7 +74,6 @@ pub fn write_varint(value: u64, out: &mut [u8]) -> Option<usize> {
     Some(spell(value, out))
 }
 
-/// Writes the shortest spelling at the front and answers its length.
 #[inline]
 pub(crate) fn spell(value: u64, out: &mut [u8]) -> usize {
     debug_assert!(value < 1 << 62);
@@ -90,7 +88,7 @@ pub(crate) fn spell(value: u64, out: &mut [u8]) -> usize {
     spell_long(value, out)
 }
 
-// The same of a number that takes four bytes or eight.
+// Apart, so that the short sizes, which are most, stay small where they are called.
 #[inline(never)]
 fn spell_long(value: u64, out: &mut [u8]) -> usize {
     debug_assert!(16384 <= value);

@@ -1,5 +1,6 @@
 // Made from crates/qs_wire/src/writing.rt by rust/erase; not edited by hand.
-//! Writing frames.
+//! Writing frames. A frame is a list of parts, of which one function knows the length and another the text: so that what is measured is
+//! what is written.
 
 use crate::proved::qs_wire::fault::Full;
 use crate::proved::qs_wire::frame::{EcnCounts, Frame};
@@ -8,17 +9,16 @@ use crate::proved::qs_wire::stream_id::StreamId;
 use crate::proved::qs_wire::varint::{read_varint, spell, varint_len};
 use Part::{Counted, Counts, Identifier, Number, Plain, Ranges};
 
-/// A part of a frame's canonical text.
 #[derive(Clone, Copy)]
 pub(crate) enum Part<'a> {
     Nothing,
     Number(u64),
     Plain(&'a [u8]),
-    /// The bytes behind their count.
     Counted(&'a [u8]),
-    /// The bytes behind one byte that counts them.
+    /// The bytes behind one byte that counts them: a connection ID's length isn't a variable-length integer.
     Identifier(&'a [u8]),
-    /// The numbers that the bytes spell, behind the count of pairs that follow the first.
+    /// The numbers that the bytes spell, behind the count of pairs that follow the first. They are read and written anew, so that each gets
+    /// its shortest spelling.
     Ranges(&'a [u8]),
     Counts(Option<EcnCounts>),
 }
@@ -39,7 +39,6 @@ impl<'a> Part<'a> {
         }
     }
 
-    /// Writes the part at a place, and answers the place after it.
     fn put(self, at: usize, out: &mut [u8]) -> usize {
         match self {
             Part::Nothing | Part::Counts(None) => at,
@@ -57,14 +56,12 @@ impl<'a> Part<'a> {
     }
 }
 
-/// Writes a number at a place, and answers the place after it.
 #[inline]
 pub(crate) fn put_number(value: u64, at: usize, out: &mut [u8]) -> usize {
     debug_assert!(value < 1 << 62);
     at + spell(value, &mut out[at..])
 }
 
-/// Writes numbers at the front, and answers the place after them.
 #[inline]
 pub(crate) fn put_numbers(numbers: &[u64], out: &mut [u8]) -> usize {
     let mut at = 0;
@@ -74,7 +71,7 @@ pub(crate) fn put_numbers(numbers: &[u64], out: &mut [u8]) -> usize {
     at
 }
 
-/// Writes numbers at the front, where they fit, and answers the place after them.
+/// Measured before anything is written, so that `Full` leaves the slice as it was.
 fn put_fitting(numbers: &[u64], out: &mut [u8]) -> Result<usize, Full> {
     let mut len = 0;
     for number in numbers {
@@ -87,21 +84,19 @@ fn put_fitting(numbers: &[u64], out: &mut [u8]) -> Result<usize, Full> {
     Ok(put_numbers(numbers, out))
 }
 
-/// Writes bytes at a place, and answers the place after them.
 fn put_bytes(bytes: &[u8], at: usize, out: &mut [u8]) -> usize {
     let end = at + bytes.len();
     out[at..end].copy_from_slice(bytes);
     end
 }
 
-/// Writes bytes behind their count at a place, and answers the place after them.
 fn put_counted(bytes: &[u8], at: usize, out: &mut [u8]) -> usize {
     debug_assert!(bytes.len() < 1 << 62);
     let next = put_number(bytes.len() as u64, at, out);
     put_bytes(bytes, next, out)
 }
 
-/// Writes the bytes of two pieces behind their count at a place, and answers the place after them.
+/// Two pieces, as a ring has them, so that no caller joins them first.
 fn put_pieces(front: &[u8], back: &[u8], at: usize, out: &mut [u8]) -> usize {
     let count = front.len() + back.len();
     let next = put_number(count as u64, at, out);
@@ -113,14 +108,12 @@ fn counts_len(counts: EcnCounts) -> usize {
     varint_len(counts.ect0) + varint_len(counts.ect1) + varint_len(counts.ce)
 }
 
-/// Writes the three counts at a place, and answers the place after them.
 fn put_counts(counts: EcnCounts, at: usize, out: &mut [u8]) -> usize {
     let next = put_number(counts.ect0, at, out);
     let next = put_number(counts.ect1, next, out);
     put_number(counts.ce, next, out)
 }
 
-/// How many numbers the bytes spell, and how long their shortest spellings are together.
 fn shortest(numbers: &[u8]) -> (u64, usize) {
     let mut count = 0;
     let mut shortest_len = 0;
@@ -134,7 +127,6 @@ fn shortest(numbers: &[u8]) -> (u64, usize) {
     (count, shortest_len)
 }
 
-/// Writes the shortest spelling of each number that the bytes spell, and answers the place after them.
 fn put_shortest(numbers: &[u8], at: usize, out: &mut [u8]) -> usize {
     let mut next = at;
     let mut rest = numbers;
@@ -146,7 +138,7 @@ fn put_shortest(numbers: &[u8], at: usize, out: &mut [u8]) -> usize {
     next
 }
 
-/// A type and up to four fields.
+/// Four fields are the most that a frame has here.
 fn parts<'a>(
     frame_type: FrameType,
     a: Part<'a>,
@@ -159,7 +151,6 @@ fn parts<'a>(
 
 const NONE: Part<'static> = Part::Nothing;
 
-/// The type and the fields of a frame, the others being nothing.
 macro_rules! parts {
     ($frame_type:expr $(,)?) => {
         parts($frame_type, NONE, NONE, NONE, NONE)
@@ -178,7 +169,6 @@ macro_rules! parts {
     };
 }
 
-/// The parts of a frame's canonical text, in order.
 fn parts_of<'a>(frame: &Frame<'a>) -> [Part<'a>; 5] {
     match *frame {
         Frame::Padding => parts!(FrameType::Padding),
@@ -294,7 +284,7 @@ fn number_if<'a>(there: bool, value: u64) -> Part<'a> {
     }
 }
 
-/// How many bytes the parts take, if the room is enough.
+/// None as soon as the room is too small, so the sum can't overflow.
 #[inline]
 pub(crate) fn len_within(parts: &[Part], room: usize) -> Option<usize> {
     let mut len = 0;
@@ -308,7 +298,6 @@ pub(crate) fn len_within(parts: &[Part], room: usize) -> Option<usize> {
     Some(len)
 }
 
-/// Writes the parts at the front.
 #[inline]
 pub(crate) fn put_parts(parts: &[Part], out: &mut [u8]) {
     let mut at = 0;
@@ -317,13 +306,11 @@ pub(crate) fn put_parts(parts: &[Part], out: &mut [u8]) {
     }
 }
 
-/// How many bytes a number takes, if it is there.
 fn len_if(there: bool, value: u64) -> usize {
     debug_assert!(value < 1 << 62);
     if there { varint_len(value) } else { 0 }
 }
 
-/// Writes a number at a place, if it is there, and answers the place after it.
 fn put_number_if(there: bool, value: u64, at: usize, out: &mut [u8]) -> usize {
     debug_assert!(value < 1 << 62);
     if there {
@@ -333,8 +320,8 @@ fn put_number_if(there: bool, value: u64, at: usize, out: &mut [u8]) -> usize {
     }
 }
 
-/// Writes the canonical text of a STREAM frame at the slice's front, as `put` does, with the bytes of a front and a back: a ring has
-/// them in two pieces (RFC 9000, section 19.8). Most bytes go in such a frame, so it is written without a list of parts.
+/// Writes the canonical text of a STREAM frame at the slice's front, as `put` does, with the bytes of a front and a back: a ring has them
+/// in two pieces (RFC 9000, section 19.8). Most bytes go in such a frame, so it is written without a list of parts.
 #[inline]
 pub fn put_stream(
     id: StreamId,
@@ -362,7 +349,6 @@ pub fn put_stream(
     Ok(put_pieces(front, back, next, out))
 }
 
-/// Writes a frame part by part, as `put` does.
 fn put_any(frame: &Frame, out: &mut [u8]) -> Result<usize, Full> {
     let parts = parts_of(frame);
     let len = len_within(&parts, out.len()).ok_or(Full)?;
@@ -370,9 +356,8 @@ fn put_any(frame: &Frame, out: &mut [u8]) -> Result<usize, Full> {
     Ok(len)
 }
 
-/// Writes the canonical text of a frame at the slice's front and answers its length in bytes: each number
-/// in its shortest spelling; of a STREAM frame the length always, and the offset where it is not 0. Where
-/// the text does not fit, nothing is written.
+/// Writes the canonical text of a frame at the slice's front and returns its length in bytes: each number in its shortest spelling; of a
+/// STREAM frame the length always, and the offset if that isn't 0. If the text does not fit, nothing is written.
 #[inline]
 pub fn put(frame: &Frame, out: &mut [u8]) -> Result<usize, Full> {
     match *frame {
@@ -382,7 +367,7 @@ pub fn put(frame: &Frame, out: &mut [u8]) -> Result<usize, Full> {
             fin,
             bytes,
         } => put_stream(stream, offset, fin, bytes, &[], out),
-        // What an endpoint tells most often, without a list of parts.
+        // What an endpoint sends most often goes without a list of parts.
         Frame::MaxData { maximum } => put_fitting(&[FrameType::MaxData.number(), maximum], out),
         Frame::MaxStreamData { stream, maximum } => put_fitting(
             &[FrameType::MaxStreamData.number(), stream.value(), maximum],

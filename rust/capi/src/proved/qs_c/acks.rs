@@ -5,7 +5,7 @@ use crate::proved::qs_c::answers::{FULL, INVALID, NONE, OK};
 use crate::proved::qs_c::reads::skip;
 use crate::proved::qs_wire::{AckRanges, put_delayed_ack};
 
-/// The packet numbers from one to another, both among them.
+/// Both ends of a range are in it, as in the frame.
 #[repr(C)]
 #[derive(Clone, Copy)]
 pub struct GvRange {
@@ -17,7 +17,7 @@ const LIMIT: u64 = 1 << 62;
 
 const MOST: usize = 32;
 
-/// Writes an ACK of as many of the ranges as fit.
+/// As many as fit, the highest first: those left out are the oldest.
 pub(crate) fn put(
     ranges: &[GvRange],
     delay: u64,
@@ -39,7 +39,7 @@ pub(crate) fn put(
     }
 }
 
-/// Whether each range has a number, and lies below those before it with a number between.
+/// Checked, since C's numbers have no type that says so, and the writer below requires it.
 fn is_apart(ranges: &[GvRange]) -> bool {
     let mut above = LIMIT + 1;
     for range in ranges {
@@ -61,8 +61,7 @@ fn pairs_of(ranges: &[GvRange]) -> [(u64, u64); 32] {
     pairs
 }
 
-/// Gives the next range that the front of the bytes spells below a number, how many bytes it takes, and the largest number of the
-/// range behind it.
+/// How many bytes the range takes and where the next begins are returned, so that C keeps the place and no handle is needed.
 pub(crate) fn next_range(
     bytes: &[u8],
     largest: &mut u64,

@@ -5,7 +5,7 @@ use crate::proved::qs_c::loose::Loose;
 use crate::proved::qs_c::thing::Thing;
 use crate::shim::alloc::Global;
 
-/// Room for a box's address. Where there is one it owns what the box owned.
+/// Room for a box's address, which C can lay out: a flag and a word. It owns what the box owned.
 #[repr(C)]
 pub struct Cell {
     pub(crate) at: *mut u8,

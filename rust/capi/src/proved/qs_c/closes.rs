@@ -1,5 +1,5 @@
 // Made from crates/qs_c/src/closes.rt by rust/erase; not edited by hand.
-//! An end is told that the connection closed, and tells it again.
+//! A close that the endpoint didn't see is noted, and returned.
 
 use crate::proved::qs_c::answers::{INVALID, NONE, OK};
 use crate::proved::qs_c::handle::Handle;
@@ -8,7 +8,7 @@ use crate::proved::qs_c::thing::Thing;
 use crate::proved::qs_calls::{CloseKind, Closer, ToldClose};
 use crate::shim::alloc::Global;
 
-/// A close that the stack above the packets saw or made itself: 0 by this side or the transport, 1 by the peer or the application.
+/// By numbers, which C checks against nothing: 0 is this side or the transport, 1 the peer or the application, and another is refused.
 pub fn gvp_tell_closed(
     alloc: Global,
     end: &mut Handle,
@@ -24,7 +24,7 @@ pub fn gvp_tell_closed(
     status
 }
 
-/// The close that the end was told of, as numbers of the same meaning.
+/// As numbers of the same meaning. One struct, so that one contract says all of it.
 pub fn gvp_told_close(alloc: Global, end: &mut Handle, told: &mut GvTold) -> u32 {
     let Some(thing) = end.take(alloc) else {
         return INVALID;

@@ -1,5 +1,6 @@
 // Made from crates/qs_c/src/events.rt by rust/erase; not edited by hand.
-//! What an owner hears of its end, and what it tells for that. What was heard has a handle of its own, beside that of the end.
+//! What was reported to an application, and what it notes for that. A handle of its own, beside that of the endpoint, so that no contract
+//! of another call speaks of it.
 use crate::shim::Box;
 
 use crate::proved::qs_c::answers::{INVALID, NO_MEMORY, OK};
@@ -15,7 +16,8 @@ use crate::proved::qs_conn::{Endpoint, Heard};
 use crate::proved::qs_wire::StreamId;
 use crate::shim::alloc::Global;
 
-/// Takes the memory for what an owner heard: the handle holds it then, and nothing was heard. A handle that holds some loses it.
+/// Takes the memory for the notes, apart from the endpoint's: they take 2.9 KB, and many applications want no events. A handle that holds
+/// some loses it.
 pub fn gvp_heard_new(alloc: Global, heard: &mut ListenerHandle) -> u32 {
     let nothing = Heard::new(alloc);
     let Ok(boxed) = Box::new(alloc, Listener { heard: nothing }) else {
@@ -25,12 +27,11 @@ pub fn gvp_heard_new(alloc: Global, heard: &mut ListenerHandle) -> u32 {
     OK
 }
 
-/// Drops what a handle holds.
 pub fn gvp_heard_drop(alloc: Global, heard: &mut ListenerHandle) {
     let _gone = heard.take(alloc);
 }
 
-/// Tells the first piece of news of an end, and notes that it was heard.
+/// Returns the first event and notes that it was reported.
 pub fn gvp_next_news(
     alloc: Global,
     heard: &mut ListenerHandle,
@@ -45,7 +46,7 @@ pub fn gvp_next_news(
     status
 }
 
-/// So many bytes are about to be written to a stream of the end.
+/// Before the write, since afterwards nobody knows what was offered.
 pub fn gvp_will_write(
     alloc: Global,
     heard: &mut ListenerHandle,
@@ -61,7 +62,6 @@ pub fn gvp_will_write(
     status
 }
 
-/// A stream of a direction is to be opened once one may.
 pub fn gvp_wants(alloc: Global, heard: &mut ListenerHandle, dir: u32) -> u32 {
     let Some(mut listener) = heard.take(alloc) else {
         return INVALID;
@@ -71,7 +71,6 @@ pub fn gvp_wants(alloc: Global, heard: &mut ListenerHandle, dir: u32) -> u32 {
     status
 }
 
-/// A stream of the end was read, or stopped.
 pub fn gvp_was_read(
     alloc: Global,
     heard: &mut ListenerHandle,
@@ -86,7 +85,7 @@ pub fn gvp_was_read(
     status
 }
 
-/// A frame of these bytes was handed in, which may say what holds the peer back.
+/// A frame that was passed in, which may say what blocks the peer.
 pub fn gvp_was_told(
     alloc: Global,
     heard: &mut ListenerHandle,

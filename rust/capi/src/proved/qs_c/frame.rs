@@ -1,9 +1,10 @@
 // Made from crates/qs_c/src/frame.rt by rust/erase; not edited by hand.
-//! A frame, as C is told it.
+//! A frame as C gets it.
 
 use crate::proved::qs_wire::{Dir, EcnCounts, Frame, WireFault};
 
-/// A frame of a kind: what a frame of its kind does not have is 0. Its bytes and its token are told by where they stand.
+/// One struct for all kinds, since C has no enum with fields: what a frame of its kind doesn't have is 0. Its bytes and its token are given
+/// by their places, so that nothing is lent.
 #[repr(C)]
 #[derive(Clone, Copy)]
 pub struct GvFrame {
@@ -41,7 +42,6 @@ pub struct GvFault {
 }
 
 impl GvFrame {
-    /// A frame's kind and numbers.
     pub(crate) fn of(frame: &Frame) -> GvFrame {
         match *frame {
             Frame::Padding => of_kind(0),
@@ -151,7 +151,6 @@ impl GvFrame {
     }
 }
 
-/// A frame of a kind that has no number.
 pub(crate) fn of_kind(kind: u32) -> GvFrame {
     GvFrame {
         kind,
@@ -200,7 +199,7 @@ fn with_counts(ecn: Option<EcnCounts>, frame: GvFrame) -> GvFrame {
 }
 
 impl GvFault {
-    /// The fault of what stands at a place, which was read as if it stood at the front.
+    /// It was read as if it stood at the front, so its place is added.
     pub(crate) fn of(fault: WireFault, place: usize) -> GvFault {
         GvFault {
             kind: fault.kind.number(),

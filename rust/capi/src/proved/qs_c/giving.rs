@@ -1,5 +1,5 @@
 // Made from crates/qs_c/src/giving.rt by rust/erase; not edited by hand.
-//! Frames of one packet are handed in.
+//! Frames of one packet are passed in.
 use crate::shim::Vec;
 
 use crate::proved::qs_c::answers::{INVALID, NO_MEMORY, of_taken};
@@ -10,7 +10,6 @@ use crate::proved::qs_c::thing::Thing;
 use crate::proved::qs_wire::{Frame, StreamId};
 use crate::shim::alloc::Global;
 
-/// A frame with its bytes.
 #[repr(C)]
 #[derive(Clone, Copy)]
 pub struct GvGiven<'a> {
@@ -18,7 +17,7 @@ pub struct GvGiven<'a> {
     pub bytes: &'a [u8],
 }
 
-/// Hands frames in, after which the limits move once. It takes memory for them.
+/// Limits move once. It takes memory for the frames, since those of C are other structs.
 pub fn gvp_take_frames(
     alloc: Global,
     end: &mut Handle,
@@ -50,7 +49,7 @@ impl Thing {
     }
 }
 
-/// Whether each is a frame, of a stream that has a number.
+/// Before any takes effect, so that `Invalid` changes nothing.
 fn are_given(frames: &[GvGiven<'_>]) -> bool {
     for given in frames {
         if !is_known(&given.frame) || StreamId::new(given.frame.stream).is_none() {
@@ -60,7 +59,6 @@ fn are_given(frames: &[GvGiven<'_>]) -> bool {
     true
 }
 
-/// The frames that C gives; `None` where there is no memory.
 fn given_in<'a>(alloc: Global, frames: &[GvGiven<'a>]) -> Option<Vec<Frame<'a>>> {
     let Ok(mut all) = Vec::with_capacity(alloc, frames.len()) else {
         return None;

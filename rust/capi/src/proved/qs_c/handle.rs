@@ -1,5 +1,5 @@
 // Made from crates/qs_c/src/handle.rt by rust/erase; not edited by hand.
-//! A handle that C holds.
+//! A handle that C holds. It may hold nothing: C can't be kept from passing one that was freed and cleared.
 use crate::shim::Box;
 
 use crate::proved::qs_c::cell::Cell;
@@ -9,7 +9,6 @@ use crate::shim::alloc::Global;
 use crate::shim::mem::replace;
 use crate::shim::ptr::null_mut;
 
-/// An endpoint's handle, or none.
 #[repr(C)]
 pub struct Handle {
     live: bool,
@@ -32,7 +31,7 @@ impl Handle {
         };
     }
 
-    /// The end that the handle holds, lent as long as the handle is.
+    /// Lent as long as the handle is, which is why C may use what a look shows until the next call.
     pub(crate) fn held(&mut self) -> Option<&Thing> {
         if !self.live {
             return None;

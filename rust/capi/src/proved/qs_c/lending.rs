@@ -5,7 +5,7 @@ use crate::proved::qs_c::cell::Cell;
 use crate::proved::qs_c::thing::Thing;
 
 impl Cell {
-    /// What the cell holds. It is the cell's again once the borrow ends.
+    /// It is the cell's again once the borrow ends, so nothing is taken out that could be lost on the way.
     pub(crate) fn lend(&mut self) -> &mut Thing {
         unsafe { &mut *(self.at as *mut Thing) }
     }

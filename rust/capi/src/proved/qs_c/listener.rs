@@ -3,7 +3,7 @@
 
 use crate::proved::qs_conn::Heard;
 
-/// What an owner heard of at its end, as one value of this crate.
+/// What was reported, as one value of this crate.
 pub struct Listener {
     pub(crate) heard: Heard,
 }

@@ -5,7 +5,7 @@ use crate::proved::qs_c::listener::Listener;
 use crate::proved::qs_c::loose::Loose;
 use crate::shim::alloc::Global;
 
-/// As `Cell`, of what was heard.
+/// As `Cell`, of what was reported.
 #[repr(C)]
 pub struct ListenerCell {
     at: *mut u8,

@@ -9,7 +9,6 @@ use crate::shim::alloc::Global;
 use crate::shim::mem::replace;
 use crate::shim::ptr::null_mut;
 
-/// What an owner heard of at its end, or none.
 #[repr(C)]
 pub struct ListenerHandle {
     live: bool,

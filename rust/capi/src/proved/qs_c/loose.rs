@@ -4,7 +4,7 @@ use crate::shim::Box;
 
 use crate::shim::alloc::Allocator;
 
-/// A box as the address of its value. It owns what the box owned.
+/// A box as the address of its value. It owns what the box owned, and is the one place where an address becomes a box again.
 pub(crate) struct Loose<T, A: Allocator> {
     pub(crate) at: *mut T,
     pub(crate) alloc: A,

@@ -1,8 +1,9 @@
 // Made from crates/qs_c/src/lib.rt by rust/erase; not edited by hand.
-//! The calls of C: the front of Gotsavena's endpoint for the C layer in `c/src`, which offers them as `gv_*`.
+//! The calls of C: what the C layer in `c/src` offers as `gv_*` stands on them.
 //!
-//! Each takes a handle, tests what the endpoint's own call requires, and tells the answer by a number of `specs/Statuses` and through
-//! its pointers. Its contract is that of the endpoint's call, with how the answer is told.
+//! Each takes a handle, checks what the endpoint's own call requires, and answers by a number of `specs/Statuses` and through its pointers.
+//! Its contract is that of the endpoint's call, with how the answer is given. The C layer adds no number of its own, so what is proved here
+//! is what C gets.
 
 pub(crate) mod acks;
 pub(crate) mod answers;
@@ -56,12 +57,12 @@ pub use sums::{gvp_kept_sum, gvp_taken, gvp_taken_sum, gvp_unsent_sum};
 pub use telling::gvp_receive_telling;
 pub use tokens::{gvp_token_acked, gvp_token_and, gvp_token_lost, gvp_token_of};
 
-/// Takes the memory for an end: the handle holds one then, which `gvp_new` makes another. A handle that holds one loses it.
+/// Apart from `gvp_new`, so that making an endpoint can't fail for memory once its settings passed. A handle that holds one loses it.
 pub fn gvp_reserve(alloc: Global, end: &mut Handle) -> u32 {
     starts::reserve(alloc, end)
 }
 
-/// Makes the end that a handle holds a new one. It takes no memory.
+/// It takes no memory: `gvp_reserve` took it.
 pub fn gvp_new(
     alloc: Global,
     end: &mut Handle,
@@ -78,7 +79,6 @@ pub fn gvp_new(
     status
 }
 
-/// Drops the end that a handle holds.
 pub fn gvp_free(alloc: Global, end: &mut Handle) {
     let _gone = end.take(alloc);
 }
@@ -568,12 +568,11 @@ pub fn gvp_raise_limits(alloc: Global, end: &mut Handle, limits: &GvLimits) -> u
     status
 }
 
-/// The stream of the last STREAM frame in a payload.
 pub fn gvp_last_stream(payload: &[u8], stream: &mut u64) -> u32 {
     of_stream(last_stream(payload), stream)
 }
 
-/// The frame that stands in a payload at a place, and the place behind it.
+/// The place behind it is returned, so that C keeps the walk and no handle is needed.
 pub fn gvp_frames_next(
     payload: &[u8],
     place: &mut usize,
@@ -583,7 +582,7 @@ pub fn gvp_frames_next(
     reads::next(payload, place, frame, fault)
 }
 
-/// Writes a frame of these bytes and this token.
+/// The token apart, since a frame's struct has only places.
 pub fn gvp_put(
     frame: &GvFrame,
     bytes: &[u8],
@@ -594,7 +593,6 @@ pub fn gvp_put(
     puts::put_frame(frame, bytes, token, out, len)
 }
 
-/// Writes an ACK frame of as many of the ranges as fit.
 pub fn gvp_put_ack(
     ranges: &[GvRange],
     delay: u64,
@@ -605,7 +603,6 @@ pub fn gvp_put_ack(
     acks::put(ranges, delay, out, count, len)
 }
 
-/// The next range that the bytes of an ACK frame spell below a number.
 pub fn gvp_ack_next(
     bytes: &[u8],
     largest: &mut u64,

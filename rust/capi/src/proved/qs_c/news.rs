@@ -1,5 +1,5 @@
 // Made from crates/qs_c/src/news.rt by rust/erase; not edited by hand.
-//! A piece of news, as C is told it.
+//! An event as C gets it.
 
 use crate::proved::qs_c::answers::{NO_MEMORY, NONE, OK};
 use crate::proved::qs_calls::News;
@@ -28,7 +28,7 @@ const STREAM_DATA_BLOCKED: u32 = 9;
 
 const STREAMS_BLOCKED: u32 = 10;
 
-/// What its kind hasn't is 0.
+/// What its kind doesn't have is 0, as in a frame's struct.
 #[repr(C)]
 #[derive(Clone, Copy)]
 pub struct GvNews {

@@ -1,12 +1,11 @@
 // Made from crates/qs_c/src/peeking.rt by rust/erase; not edited by hand.
-//! The bytes that are next are lent where they lie.
+//! The next bytes are lent where they are.
 
 use crate::proved::qs_c::answers::{INVALID, of_peek};
 use crate::proved::qs_c::handle::Handle;
 use crate::proved::qs_c::thing::Thing;
 use crate::proved::qs_wire::StreamId;
 
-/// Bytes of a stream, in two pieces of memory.
 #[repr(C)]
 #[derive(Clone, Copy)]
 pub struct GvPieces<'a> {
@@ -14,7 +13,8 @@ pub struct GvPieces<'a> {
     pub back: &'a [u8],
 }
 
-/// Tells what a read would. The pieces are lent as long as the handle is.
+/// The pieces are lent as long as the handle is: the rules on borrows say so, and no promise beside them. The price is a `&mut` for a call
+/// that changes nothing.
 pub fn gvp_peek<'a>(
     end: &'a mut Handle,
     stream: u64,

@@ -12,7 +12,6 @@ const MOST_STREAMS: u64 = 1 << 60;
 
 const HANDSHAKE_DONE: u32 = 20;
 
-/// Writes a frame of these bytes and this token at the front.
 pub(crate) fn put_frame(
     frame: &GvFrame,
     bytes: &[u8],
@@ -36,12 +35,12 @@ pub(crate) fn put_frame(
     OK
 }
 
-/// Whether a frame is of one of the kinds and in one of the directions.
+/// Checked before a frame is made of it, since other numbers mean none.
 pub(crate) fn is_known(frame: &GvFrame) -> bool {
     frame.kind <= HANDSHAKE_DONE && frame.dir <= 1
 }
 
-/// The frame that C gives, whose kind and direction are known; `None` where its stream has no number.
+/// `None` if its stream has no number: the types of the source rule that out, those of C don't.
 pub(crate) fn frame_of<'a>(frame: &GvFrame, bytes: &'a [u8], token: &'a [u8]) -> Option<Frame<'a>> {
     let stream = StreamId::new(frame.stream);
     Some(match frame.kind {
@@ -136,7 +135,7 @@ fn counts_of(frame: &GvFrame) -> Option<EcnCounts> {
     }
 }
 
-/// Whether a frame has a text.
+/// What the writer below requires. A caller in C needn't know it, and gets `Invalid`.
 fn fits(frame: &Frame) -> bool {
     match *frame {
         Frame::Padding => true,
@@ -201,7 +200,7 @@ fn counts_fit(ecn: Option<EcnCounts>) -> bool {
     }
 }
 
-/// Whether the bytes spell ranges below a number.
+/// C passes ranges as bytes, so they may be anything.
 fn are_ranges(largest: u64, bytes: &[u8]) -> bool {
     if largest >= LIMIT {
         return false;
@@ -213,7 +212,6 @@ fn are_ranges(largest: u64, bytes: &[u8]) -> bool {
     !falls_below_zero(largest, bytes)
 }
 
-/// Whether ranges that begin at a number fall below zero.
 fn falls_below_zero(largest: u64, numbers: &[u8]) -> bool {
     debug_assert!(largest < 1 << 62);
     let mut left = largest + 1;

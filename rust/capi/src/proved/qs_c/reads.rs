@@ -5,7 +5,6 @@ use crate::proved::qs_c::answers::{FAULT, INVALID, NONE, OK};
 use crate::proved::qs_c::frame::{GvFault, GvFrame, of_kind};
 use crate::proved::qs_wire::{Frame, Frames, Placed, read_varint};
 
-/// Gives the frame that stands in a payload at a place, and moves on behind it.
 pub(crate) fn next(
     payload: &[u8],
     place: &mut usize,
@@ -35,7 +34,7 @@ pub(crate) fn next(
     }
 }
 
-/// The first frame of the bytes, which stand at a place, as C is told it, and the place behind it.
+/// By places in the payload, so that C's struct holds no pointer of Rust's.
 fn told_of(placed: &Placed, at: usize, bytes: &[u8]) -> (GvFrame, usize) {
     let (mid, len, token, trail) = sizes(&placed.frame);
     let numbers = lead(placed.frame_type);
@@ -75,7 +74,7 @@ fn lead(frame_type: u64) -> usize {
     }
 }
 
-/// How many numbers of ranges a frame has, how many bytes, how many of a token, and how many numbers behind them.
+/// From these the places follow, since the fields of each kind have one order.
 fn sizes(frame: &Frame) -> (usize, usize, usize, usize) {
     match *frame {
         Frame::Ack { ranges, ecn, .. } => {
@@ -97,7 +96,6 @@ fn sizes(frame: &Frame) -> (usize, usize, usize, usize) {
     }
 }
 
-/// Where the bytes of a frame stand, how many of them are numbers of ranges, and where the frame ends.
 fn laid(
     lead: usize,
     mid: usize,
@@ -117,7 +115,6 @@ fn laid(
     Some((at, ranges, next + skip(trail, &bytes[next..])))
 }
 
-/// How many bytes so many numbers take at the front.
 pub(crate) fn skip(count: usize, bytes: &[u8]) -> usize {
     let mut at = 0;
     let mut rest = bytes;
@@ -132,7 +129,6 @@ pub(crate) fn skip(count: usize, bytes: &[u8]) -> usize {
     at
 }
 
-/// How many numbers the bytes spell.
 pub(crate) fn numbers_in(bytes: &[u8]) -> usize {
     let mut count = 0;
     let mut rest = bytes;

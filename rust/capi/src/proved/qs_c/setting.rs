@@ -1,5 +1,5 @@
 // Made from crates/qs_c/src/setting.rt by rust/erase; not edited by hand.
-//! What an owner sets anew while the connection lasts.
+//! What an application changes while the connection lasts.
 
 use crate::proved::qs_c::answers::{INVALID, of_set};
 use crate::proved::qs_c::calls::dir_of;
@@ -8,7 +8,6 @@ use crate::proved::qs_c::thing::Thing;
 use crate::proved::qs_wire::StreamId;
 use crate::shim::alloc::Global;
 
-/// The connection's window.
 pub fn gvp_set_conn_window(alloc: Global, end: &mut Handle, window: u64) -> u32 {
     let Some(mut thing) = end.take(alloc) else {
         return INVALID;
@@ -18,7 +17,6 @@ pub fn gvp_set_conn_window(alloc: Global, end: &mut Handle, window: u64) -> u32 
     status
 }
 
-/// How many streams of a direction the peer may have open.
 pub fn gvp_set_grant(alloc: Global, end: &mut Handle, dir: u32, streams: u64) -> u32 {
     let Some(mut thing) = end.take(alloc) else {
         return INVALID;
@@ -28,7 +26,6 @@ pub fn gvp_set_grant(alloc: Global, end: &mut Handle, dir: u32, streams: u64) ->
     status
 }
 
-/// How many bytes that aren't acknowledged a stream keeps.
 pub fn gvp_set_send_buffer(
     alloc: Global,
     end: &mut Handle,
@@ -43,7 +40,6 @@ pub fn gvp_set_send_buffer(
     status
 }
 
-/// How far what comes of a stream may run ahead of what is taken of it.
 pub fn gvp_set_stream_window(
     alloc: Global,
     end: &mut Handle,

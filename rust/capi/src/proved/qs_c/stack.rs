@@ -1,5 +1,5 @@
 // Made from crates/qs_c/src/stack.rt by rust/erase; not edited by hand.
-//! The calls of C for a stack that owns its packets: it hands frames in, and has what is due filled in.
+//! The calls of C for a stack with packets of its own: it passes frames in, and has pending ones filled in.
 
 use crate::proved::qs_c::answers::{INVALID, of_filled, of_taken};
 use crate::proved::qs_c::frame::GvFrame;
@@ -11,7 +11,7 @@ use crate::proved::qs_calls::Fill;
 use crate::proved::qs_wire::StreamId;
 use crate::shim::alloc::Global;
 
-/// Hands a frame of these bytes in. The token of a NEW_CONNECTION_ID isn't asked for: that frame is the stack's own.
+/// The token of a NEW_CONNECTION_ID isn't asked for: that frame is the stack's own.
 pub fn gvp_take_frame(
     alloc: Global,
     end: &mut Handle,
@@ -27,7 +27,6 @@ pub fn gvp_take_frame(
     status
 }
 
-/// Fills a slice with what is due and wanted.
 pub fn gvp_fill(
     alloc: Global,
     end: &mut Handle,

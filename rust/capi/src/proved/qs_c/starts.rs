@@ -1,5 +1,5 @@
 // Made from crates/qs_c/src/starts.rt by rust/erase; not edited by hand.
-//! An end is made.
+//! Making an endpoint.
 use crate::shim::Box;
 
 use crate::proved::qs_c::answers::{INVALID, NO_MEMORY, OK, of_setup};
@@ -10,7 +10,7 @@ use crate::proved::qs_conn::{Endpoint, PeerLimits, Settings};
 use crate::proved::qs_wire::Role;
 use crate::shim::alloc::Global;
 
-/// The least that an end may be set to. An end of it holds the memory until there is another one.
+/// The least settings: an endpoint of them holds the memory until the right one takes its place.
 const LEAST: Settings = Settings {
     conn_window: 1,
     bidi_local: 1,

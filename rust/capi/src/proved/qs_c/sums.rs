@@ -1,5 +1,5 @@
 // Made from crates/qs_c/src/sums.rt by rust/erase; not edited by hand.
-//! The calls of C for what an owner has to know of all streams: what waits to be sent, what is kept, and what was taken.
+//! The calls of C for what is counted over all streams: what waits to be sent, what is kept, and what was consumed.
 
 use crate::proved::qs_c::answers::{INVALID, OK, of_number};
 use crate::proved::qs_c::handle::Handle;
@@ -7,7 +7,6 @@ use crate::proved::qs_c::thing::Thing;
 use crate::proved::qs_wire::StreamId;
 use crate::shim::alloc::Global;
 
-/// How many bytes of all streams wait to be sent for the first time.
 pub fn gvp_unsent_sum(alloc: Global, end: &mut Handle, count: &mut u64) -> u32 {
     let Some(thing) = end.take(alloc) else {
         return INVALID;
@@ -17,7 +16,6 @@ pub fn gvp_unsent_sum(alloc: Global, end: &mut Handle, count: &mut u64) -> u32 {
     status
 }
 
-/// How many bytes of all streams are kept until they are acknowledged.
 pub fn gvp_kept_sum(alloc: Global, end: &mut Handle, count: &mut u64) -> u32 {
     let Some(thing) = end.take(alloc) else {
         return INVALID;
@@ -27,7 +25,6 @@ pub fn gvp_kept_sum(alloc: Global, end: &mut Handle, count: &mut u64) -> u32 {
     status
 }
 
-/// How many bytes of a stream count as taken.
 pub fn gvp_taken(alloc: Global, end: &mut Handle, stream: u64, count: &mut u64) -> u32 {
     let Some(thing) = end.take(alloc) else {
         return INVALID;
@@ -37,7 +34,6 @@ pub fn gvp_taken(alloc: Global, end: &mut Handle, stream: u64, count: &mut u64) 
     status
 }
 
-/// The same of all streams.
 pub fn gvp_taken_sum(alloc: Global, end: &mut Handle, count: &mut u64) -> u32 {
     let Some(thing) = end.take(alloc) else {
         return INVALID;

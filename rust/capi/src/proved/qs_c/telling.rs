@@ -1,5 +1,5 @@
 // Made from crates/qs_c/src/telling.rt by rust/erase; not edited by hand.
-//! A payload is taken in, and C is told which packets it newly acknowledges.
+//! A payload is processed, and C gets the packets that it newly acknowledges.
 
 use crate::proved::qs_c::answers::{FULL, INVALID, of_received};
 use crate::proved::qs_c::handle::Handle;
@@ -10,7 +10,7 @@ use crate::shim::alloc::Global;
 
 const LIMIT: u64 = 1 << 62;
 
-/// Notes numbers in a slice, as long as it has room.
+/// Notes numbers in a slice that C lends, as long as it has room: a callback into C in the middle of a call could call the endpoint.
 pub(crate) struct Notes<'a> {
     room: &'a mut [u64],
     count: usize,
@@ -25,8 +25,8 @@ impl Told for Notes<'_> {
     }
 }
 
-/// As `gvp_receive`, and writes the numbers of the packets that the payload newly acknowledges. Where `told` hasn't a place for each
-/// number from the least outstanding packet's to the greatest's, nothing changes.
+/// As `gvp_receive`, and writes the numbers of the packets that the payload newly acknowledges. If `told` hasn't a place for each number
+/// from the lowest outstanding to the highest, nothing changes: a number that finds no place would be lost.
 pub fn gvp_receive_telling(
     alloc: Global,
     end: &mut Handle,
@@ -68,7 +68,6 @@ impl Thing {
         of_received(answer, closing)
     }
 
-    // Whether the outstanding packets' numbers lie within so many in a row.
     fn lie_within(&self, room: usize) -> bool {
         let Some(least) = self.end.next_outstanding(0) else {
             return true;

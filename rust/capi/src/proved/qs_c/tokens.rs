@@ -7,7 +7,6 @@ use crate::proved::qs_c::structs::GvToken;
 use crate::proved::qs_c::thing::Thing;
 use crate::shim::alloc::Global;
 
-/// The token of the packet of that number.
 pub fn gvp_token_of(
     alloc: Global,
     end: &mut Handle,
@@ -22,7 +21,6 @@ pub fn gvp_token_of(
     OK
 }
 
-/// One token for two that follow one another.
 pub fn gvp_token_and(token: &GvToken, next: &GvToken, both: &mut GvToken) -> u32 {
     match token.token().and(next.token()) {
         Some(one) => {

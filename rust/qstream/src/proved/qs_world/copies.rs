@@ -1,11 +1,11 @@
 // Made from crates/qs_world/src/copies.rt by rust/erase; not edited by hand.
-//! Copies of what happened, in memory of their own.
+//! Copies of what happened, in memory of their own: for whoever keeps the log and hands it out.
 use crate::shim::Vec;
 
 use crate::proved::qs_calls::{Act, Answer, Event};
 use crate::shim::alloc::{AllocError, Global};
 
-/// A copy of an event. It takes memory for the bytes of a write alone.
+/// Only the bytes of a write take memory.
 pub fn copy_event(alloc: Global, event: &Event) -> Result<Event, AllocError> {
     let act = copy_act(alloc, &event.act)?;
     Ok(Event {
@@ -14,13 +14,11 @@ pub fn copy_event(alloc: Global, event: &Event) -> Result<Event, AllocError> {
     })
 }
 
-/// A copy of an answer. It takes memory for the bytes of a read and for a payload alone.
 fn copy_answer(alloc: Global, answer: &Answer) -> Result<Answer, AllocError> {
     let room = Vec::with_capacity(alloc, bytes_of(answer).len())?;
     Ok(copy_into(room, answer))
 }
 
-/// The bytes of a read, or the payload.
 fn bytes_of(answer: &Answer) -> &[u8] {
     match answer {
         Answer::ReadUpTo(_, bytes) => bytes,
@@ -29,7 +27,7 @@ fn bytes_of(answer: &Answer) -> &[u8] {
     }
 }
 
-/// A copy of an answer, its bytes in a vector that has room for them. It takes no memory.
+/// It takes no memory, so that nothing can fail once the event happened.
 pub(crate) fn copy_into(room: Vec<u8>, answer: &Answer) -> Answer {
     match answer {
         Answer::OpenStream(result) => Answer::OpenStream(*result),
@@ -46,13 +44,11 @@ pub(crate) fn copy_into(room: Vec<u8>, answer: &Answer) -> Answer {
     }
 }
 
-/// The bytes, in a vector that has room for them.
 fn filled(mut room: Vec<u8>, bytes: &[u8]) -> Vec<u8> {
     let _ = room.extend_from_slice(bytes);
     room
 }
 
-/// A copy of a log, in the same order.
 pub(crate) fn copy_log(
     alloc: Global,
     log: &[(Event, Answer)],

@@ -1,5 +1,5 @@
 // Made from crates/qs_world/src/drained.rt by rust/erase; not edited by hand.
-//! Events are played, and then both ends are led to rest.
+//! Events are played, and then what is left is played to its end.
 use crate::shim::Vec;
 
 use crate::proved::qs_world::playing::play_each;
@@ -9,8 +9,8 @@ use crate::proved::qs_calls::Event;
 use crate::proved::qs_conn::Settings;
 use crate::shim::alloc::Global;
 
-/// Plays the events between two new ends, as [`crate::proved::qs_world::play`] does, and then plain rounds until both are at rest, or until that many events
-/// more happened, as [`World::drain`] does. The report tells all of it, as of one run.
+/// Plays the events between two new endpoints, as [`crate::proved::qs_world::play`] does, and then plain rounds until both are at rest, or that many more
+/// events happened, as [`World::drain`] does. The report has all of it, as of one run.
 ///
 /// Refused as [`crate::proved::qs_world::play`] is.
 pub fn play_drained(
@@ -33,7 +33,6 @@ pub fn play_drained(
     }
 }
 
-// Leads both ends to rest, and reports.
 fn drain_and_report(mut world: World, most: u64) -> Result<(Report, Drained), PlayFault> {
     match world.drain(most) {
         Ok(drained) => match world.into_report() {

@@ -1,5 +1,5 @@
 // Made from crates/qs_world/src/draws.rt by rust/erase; not edited by hand.
-//! Events drawn at random.
+//! Events drawn at random. The table is the specification's, so that a seed means the same script everywhere.
 
 use crate::shim::Vec;
 
@@ -9,13 +9,12 @@ use crate::shim::rand_core::utils::NextWord;
 use crate::shim::rand_pcg::Lcg64Xsh32;
 use crate::shim::alloc::{AllocError, Global};
 
-/// The kinds of events that are drawn.
 #[derive(Clone, Copy)]
 pub enum Kind {
     Open,
     Accept,
     Write,
-    /// The sender ends a stream by a finish or a reset, or its receiver by a stop.
+    /// By a finish, a reset or a stop.
     End,
     Read,
     Make,
@@ -24,7 +23,6 @@ pub enum Kind {
 }
 
 impl Kind {
-    /// The kind that a draw of 16 chooses.
     fn of(draw: u64) -> Kind {
         match draw {
             0 => Kind::Open,
@@ -39,13 +37,11 @@ impl Kind {
     }
 }
 
-/// The generator's next word modulo a count.
 pub(crate) fn draw(words: &mut Lcg64Xsh32, count: u64) -> u64 {
     debug_assert!(0 < count);
     u64::from(words.next_word()) % count
 }
 
-/// The end at which an event happens.
 pub fn draw_side(words: &mut Lcg64Xsh32) -> Side {
     if draw(words, 2) == 0 {
         Side::A
@@ -62,7 +58,7 @@ fn draw_dir(words: &mut Lcg64Xsh32) -> Dir {
     }
 }
 
-/// One of the first eight streams.
+/// Of the first eight, so that streams meet.
 fn draw_stream(words: &mut Lcg64Xsh32) -> StreamId {
     match StreamId::new(draw(words, 8)) {
         Some(id) => id,
@@ -70,12 +66,10 @@ fn draw_stream(words: &mut Lcg64Xsh32) -> StreamId {
     }
 }
 
-/// A count from 1 to 64.
 fn draw_size(words: &mut Lcg64Xsh32) -> usize {
     1 + draw(words, 64) as usize
 }
 
-/// So many bytes.
 fn draw_bytes(alloc: Global, words: &mut Lcg64Xsh32, count: usize) -> Result<Vec<u8>, AllocError> {
     let mut bytes = Vec::with_capacity(alloc, count)?;
     while bytes.len() < count {
@@ -84,7 +78,6 @@ fn draw_bytes(alloc: Global, words: &mut Lcg64Xsh32, count: usize) -> Result<Vec
     Ok(bytes)
 }
 
-/// How a stream is ended.
 fn draw_end(words: &mut Lcg64Xsh32) -> Act {
     let id = draw_stream(words);
     match draw(words, 8) {
@@ -94,7 +87,7 @@ fn draw_end(words: &mut Lcg64Xsh32) -> Act {
     }
 }
 
-/// What an end does that made so many packets.
+/// Only packets that were made are lost or delivered.
 pub fn draw_act(alloc: Global, words: &mut Lcg64Xsh32, made: u64) -> Result<Act, AllocError> {
     let kind = Kind::of(draw(words, 16));
     draw_of_kind(alloc, words, kind, made)

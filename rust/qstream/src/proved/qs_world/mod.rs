@@ -1,5 +1,5 @@
 // Made from crates/qs_world/src/lib.rt by rust/erase; not edited by hand.
-//! Two ends of a connection, and what happens between them.
+//! Two endpoints of a connection, and what happens between them.
 
 mod copies;
 mod drained;

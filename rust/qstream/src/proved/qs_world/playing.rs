@@ -9,14 +9,14 @@ use crate::proved::qs_calls::Event;
 use crate::proved::qs_conn::Settings;
 use crate::shim::alloc::Global;
 
-/// Plays events between two new ends, in order, and reports what came of it. Each event goes into the log as a copy.
+/// Plays events between two new endpoints, in order, and reports what came of it. Each event goes into the log as a copy.
 ///
-/// What happened is a run of the two ends that agrees: what is read is a prefix of what was written, and all of it once the end was told
-/// to a reader that hadn't stopped; a repeat spends no credit; a stream that counts as received was taken in whole; final sizes that are
-/// known are the sender's; and neither end closes.
+/// What happened is a run of the two that agrees: what is read is a prefix of what was written, and all of it once a reader that hadn't
+/// stopped got the end; a repeat spends no credit; a stream that counts as received was taken in whole; final sizes that are known are the
+/// sender's; and neither endpoint closes.
 ///
-/// Refused: `Setup` as [`crate::proved::qs_world::World::new`]; `NoSuchPacket` at the first event that delivers a packet which its end hasn't made; and
-/// `NoMemory` where the log or a copy found none.
+/// Refused: `Setup` as [`crate::proved::qs_world::World::new`]; `NoSuchPacket` at the first event that delivers a packet which wasn't made; and `NoMemory` if
+/// the log or a copy found none.
 pub fn play(alloc: Global, a: Settings, b: Settings, events: &[Event]) -> Result<Report, PlayFault> {
     let mut world = match World::new(alloc, a, b) {
         Ok(world) => world,
@@ -31,9 +31,9 @@ pub fn play(alloc: Global, a: Settings, b: Settings, events: &[Event]) -> Result
     }
 }
 
-/// Plays the events themselves, as [`play`] does copies of them: they go into the log as they are.
+/// Plays the events themselves, as [`play`] does copies of them: they go into the log as they are, so that nothing is copied.
 ///
-/// Refused as there, but that `NoMemory` comes where the log found none.
+/// Refused as there, but `NoMemory` comes if the log found none.
 pub fn play_all(
     alloc: Global,
     a: Settings,
@@ -53,7 +53,6 @@ pub fn play_all(
     }
 }
 
-// Plays copies of the events in order, up to the first that is refused.
 fn play_copies(alloc: Global, world: &mut World, events: &[Event]) -> Result<(), PlayFault> {
     for event in events {
         let Ok(copy) = copy_event(alloc, event) else {
@@ -66,7 +65,6 @@ fn play_copies(alloc: Global, world: &mut World, events: &[Event]) -> Result<(),
     Ok(())
 }
 
-// Plays the events in order, up to the first that is refused.
 pub(crate) fn play_each(world: &mut World, events: Vec<Event>) -> Result<(), PlayFault> {
     for event in events {
         if let Err(fault) = world.happen(event) {

@@ -10,8 +10,8 @@ use crate::proved::qs_script::standard_settings;
 use crate::shim::rand_pcg::Lcg64Xsh32;
 use crate::shim::alloc::Global;
 
-/// So many random events between two ends of the standard settings. Each is drawn from the words of a generator that the seed
-/// determines, and from how many packets its end has made by then.
+/// So many random events between two endpoints of the standard settings. Each is drawn from the words of a generator that the seed
+/// determines, and from how many packets its endpoint has made by then.
 ///
 /// Refused: `NoMemory`.
 pub fn random_script(alloc: Global, seed: u64, n: usize) -> Result<Vec<Event>, PlayFault> {
@@ -30,7 +30,7 @@ pub fn random_script(alloc: Global, seed: u64, n: usize) -> Result<Vec<Event>, P
     events_of(alloc, world.into_log())
 }
 
-/// One more event happens between the two ends, drawn from the generator's next words.
+/// The event is played as it is drawn, since the next draw depends on the packets that were made.
 fn draw_step(alloc: Global, world: &mut World, words: &mut Lcg64Xsh32) -> Result<(), PlayFault> {
     let end = draw_side(words);
     let made = world.made(end);
@@ -43,7 +43,6 @@ fn draw_step(alloc: Global, world: &mut World, words: &mut Lcg64Xsh32) -> Result
     }
 }
 
-/// The events of a log, in order.
 fn events_of(alloc: Global, log: Vec<(Event, Answer)>) -> Result<Vec<Event>, PlayFault> {
     match log.into_iter().map(|(event, _)| event).collected_in(alloc) {
         Ok(events) => Ok(events),

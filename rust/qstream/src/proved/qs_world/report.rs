@@ -1,5 +1,5 @@
 // Made from crates/qs_world/src/report.rt by rust/erase; not edited by hand.
-//! What two ends have come to.
+//! What two endpoints have come to.
 
 use crate::shim::Vec;
 use crate::proved::qs_calls::{Answer, Event, Side};
@@ -15,7 +15,7 @@ pub struct LaneTotals {
     pub written: u64,
     /// How many bytes were read at the receiver.
     pub read: u64,
-    /// Whether every byte and the end are acknowledged.
+    /// Whether every byte and the FIN are acknowledged.
     pub received: bool,
     /// The final size that the sender declared.
     pub declared: Option<u64>,
@@ -23,16 +23,16 @@ pub struct LaneTotals {
     pub known: Option<u64>,
 }
 
-/// The credit of an end.
+/// The credit of an endpoint.
 #[derive(Clone, Copy, Debug, PartialEq, Eq)]
 pub struct EndTotals {
-    /// How many bytes of the connection's credit the peer used up.
+    /// How much of the connection's credit the peer used.
     pub spent: u64,
-    /// The connection limit that this end granted.
+    /// The connection limit that this endpoint granted.
     pub granted: u64,
     /// How many bytes are stored until they are read.
     pub stored: u64,
-    /// Why this end closed.
+    /// Why this endpoint closed.
     pub closing: Option<Closing>,
 }
 
@@ -50,7 +50,7 @@ pub struct Report {
 #[derive(Clone, Copy, Debug, PartialEq, Eq)]
 pub enum PlayFault {
     NoMemory,
-    /// A packet was to be delivered that its end has not made. Events are counted from 1.
+    /// A packet was to be delivered that wasn't made. Events are counted from 1.
     NoSuchPacket { event: usize },
     Setup(SetupFault),
 }

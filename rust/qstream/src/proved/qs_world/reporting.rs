@@ -1,5 +1,5 @@
 // Made from crates/qs_world/src/reporting.rt by rust/erase; not edited by hand.
-//! What two ends have come to is reported.
+//! The report of what two endpoints have come to.
 use crate::shim::Vec;
 
 use crate::proved::qs_world::copies::copy_log;
@@ -11,10 +11,9 @@ use crate::proved::qs_send::SendState;
 use crate::proved::qs_wire::StreamId;
 use crate::shim::alloc::{AllocError, Global};
 
-// How many streams of one type have a number (RFC 9000, section 2.1).
 const INDEXES: u64 = 1 << 60;
 
-// What is told of a half that an end hasn't opened.
+// A half that isn't open has no report, and a line of the text wants one.
 const NEVER_SENT: SendReport = SendReport {
     state: SendState::Ready,
     written: 0,
@@ -33,7 +32,6 @@ const NEVER_RECEIVED: RecvReport = RecvReport {
     stop_code: None,
 };
 
-/// What came of two ends and their log, of which the report has a copy.
 ///
 /// Refused: `NoMemory`.
 pub(crate) fn report_of(
@@ -55,8 +53,7 @@ pub(crate) fn report_of(
     })
 }
 
-/// Each lane of each stream that either end has opened, by stream number, A as sender before B. It looks once at each number up to the
-/// last that is open in any type of stream.
+/// One look at each number up to the last that is open in any type of stream, so that the lanes come in order without being sorted.
 pub(crate) fn all_lanes(
     alloc: Global,
     a: &Endpoint,
@@ -74,7 +71,6 @@ pub(crate) fn all_lanes(
     Err(AllocError)
 }
 
-/// The credit of an end, and why it closed.
 pub(crate) fn end_totals(end: &Endpoint) -> EndTotals {
     EndTotals {
         spent: end.spent(),
@@ -84,7 +80,6 @@ pub(crate) fn end_totals(end: &Endpoint) -> EndTotals {
     }
 }
 
-// Adds the lanes of the four streams of an index, one of each type.
 fn push_index(
     lanes: &mut Vec<LaneTotals>,
     a: &Endpoint,
@@ -99,7 +94,6 @@ fn push_index(
     Ok(())
 }
 
-// Adds the lanes of a stream, A as sender first.
 fn push_stream(
     lanes: &mut Vec<LaneTotals>,
     a: &Endpoint,

@@ -1,5 +1,5 @@
 // Made from crates/qs_world/src/world.rt by rust/erase; not edited by hand.
-//! Two ends, and what happened to them.
+//! Two endpoints, and what happened to them.
 use crate::shim::Vec;
 
 use crate::proved::qs_world::copies::copy_into;
@@ -19,7 +19,7 @@ mod draining;
 mod happening;
 mod log;
 
-/// Two ends, each made with the other's limits, and the log of what happened to them.
+/// Two endpoints, each made with the other's limits, and the log of what happened to them.
 ///
 /// Contracts see the log, the newest first, and the two ends.
 pub struct World {
@@ -30,7 +30,7 @@ pub struct World {
 }
 
 impl World {
-    /// Two new ends, A the client, each told the other's limits. It takes no memory.
+    /// Two new endpoints, A the client, each given the other's limits. It takes no memory.
     ///
     /// Refused as [`Endpoint::new`] is, A first.
     pub fn new(alloc: Global, a: Settings, b: Settings) -> Result<World, SetupFault> {
@@ -44,9 +44,9 @@ impl World {
         })
     }
 
-    /// One event happens, as by [`World::happen`], and its answer is handed out, with bytes of its own.
+    /// One event happens, as by [`World::happen`], and its answer is returned, with bytes of its own.
     ///
-    /// Refused, and then nothing changed: `NoSuchPacket` as there; and `NoMemory` where the log or those bytes found none.
+    /// Refused, and then nothing changed: `NoSuchPacket` as there; and `NoMemory` if the log or those bytes found none.
     pub fn step(&mut self, event: Event) -> Result<Answer, PlayFault> {
         let Ok(room) = Vec::with_capacity(self.alloc, room_of(&event.act)) else {
             return Err(PlayFault::NoMemory);
@@ -57,7 +57,7 @@ impl World {
         }
     }
 
-    // A copy of the newest answer, its bytes in a vector that has room for them.
+    // Its bytes have room already: what a copy needs is taken before the event happens, so that a refusal leaves the world as it was.
     fn last_answer(&self, room: Vec<u8>) -> Answer {
         match self.log.entries().last() {
             Some((_, answer)) => copy_into(room, answer),
@@ -65,10 +65,11 @@ impl World {
         }
     }
 
-    /// One event happens, and stands with its answer last in [`World::log`]. A refusal of memory by an end is an answer.
+    /// One event happens, and stands with its answer last in [`World::log`], where it is read: so nothing is copied. A refusal of memory by
+    /// an endpoint is an answer.
     ///
-    /// Refused, and then nothing changed: `NoSuchPacket` where a packet is to be delivered that its end hasn't made, with one more than
-    /// the events so far; and `NoMemory` where the log found none.
+    /// Refused, and then nothing changed: `NoSuchPacket` if a packet is to be delivered that wasn't made, with one more than the events so
+    /// far; and `NoMemory` if the log found none.
     pub fn happen(&mut self, event: Event) -> Result<(), PlayFault> {
         if is_missing(&self.log, &event) {
             return Err(PlayFault::NoSuchPacket {
@@ -91,22 +92,22 @@ impl World {
         self.log.entries()
     }
 
-    /// How many packets an end has made, with those of the numbers that it claimed. Their numbers begin at 0.
+    /// How many packets an endpoint has made, with those of the numbers that it claimed. Their numbers begin at 0.
     pub fn made(&self, end: Side) -> u64 {
         self.log.made(end)
     }
 
-    /// The payload of a packet that the end made, or a PING where it claimed the number.
+    /// The payload of a packet that the endpoint made, or a PING if it claimed the number.
     pub fn payload(&self, end: Side, number: u64) -> Option<&[u8]> {
         self.log.payload(end, number)
     }
 
-    /// What happened, each stream that either end opened, and the credit of both ends. The world stays.
+    /// What happened, each stream that either has opened, and the credit of both. The world stays.
     pub fn report(&self) -> Result<Report, PlayFault> {
         report_of(self.alloc, self.log.entries(), &self.a, &self.b)
     }
 
-    /// The same report, with the log itself in place of a copy.
+    /// With the log itself in place of a copy.
     pub(crate) fn into_report(self) -> Result<Report, PlayFault> {
         let lanes = all_lanes(self.alloc, &self.a, &self.b);
         let ends = [end_totals(&self.a), end_totals(&self.b)];
@@ -122,7 +123,6 @@ impl World {
         self.into_log();
     }
 
-    /// What happened, in order.
     pub(crate) fn into_log(self) -> Vec<(Event, Answer)> {
         self.log.into_entries()
     }

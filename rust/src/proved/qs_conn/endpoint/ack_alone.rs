@@ -1,5 +1,5 @@
 // Made from crates/qs_conn/src/endpoint/ack_alone.rt by rust/erase; not edited by hand.
-//! Packets of an ACK alone.
+//! Packets with an ACK alone.
 
 use super::Endpoint;
 use crate::proved::qs_conn::filling::put_kept;
@@ -11,7 +11,7 @@ impl Endpoint {
     /// 13.2 and 19.3). Such a packet doesn't count as in flight, so it may go where the congestion window is full (RFC 9002, sections 2
     /// and 7); what else is due stays due. It takes no memory.
     ///
-    /// Refused, and then unchanged: `Closed`; `Exhausted` where the last packet number was used.
+    /// Refused, and then unchanged: `Closed`; `Exhausted` if the last packet number was used.
     #[inline]
     pub fn make_ack(&mut self, delay: u64, out: &mut [u8]) -> Result<Option<Made>, MakeFault> {
         debug_assert!(delay < 1 << 62);

@@ -1,5 +1,5 @@
 // Made from crates/qs_conn/src/endpoint/alone.rt by rust/erase; not edited by hand.
-//! Frames are taken in without their packet.
+//! Frames without their packet, for a stack with packet numbers and ACKs of its own.
 
 use super::receiving::told_of_us;
 use super::{Endpoint, is_uni};
@@ -9,21 +9,22 @@ use crate::proved::qs_calls::{Closed, Closer, Closing, TakeFault, Taken, ToldClo
 use crate::proved::qs_send::Item;
 use crate::proved::qs_wire::{Frame, StreamId};
 
-// A frame has values that no text has (RFC 9000, section 20.1).
+// A payload can't hold such values, so the reader has no word for it (RFC 9000, section 20.1).
 const FRAME_ENCODING_ERROR: u64 = 0x07;
 
 impl Endpoint {
-    /// Takes in a frame that comes without its packet, for a stack that owns its packet numbers and its ACKs (RFC 9000, section 13.1).
-    /// Frames of streams and of flow control take effect as in a payload, and then the limits move; the stack acknowledges their packet
-    /// to the peer only after each of them was taken.
+    /// Processes one frame without its packet, for a stack that has packet numbers and ACKs of its own (RFC 9000, section 13.1). Frames of
+    /// streams and flow control take effect as in a payload, and then limits move. The stack acknowledges their packet only after each of
+    /// them was taken.
     ///
-    /// Answers `Took` where that changed something, and `Unchanged` where it didn't: what the frame carries came before, or it raises
-    /// nothing. A stack counts these against a peer that only makes work. `NotOurs` answers a frame of any other kind, which changes
-    /// nothing: an ACK (its packets are told by `acked`), a CONNECTION_CLOSE, PADDING and the like.
+    /// Returns `Took` if that changed something, and `Unchanged` if not: its content came before, or raises nothing. A stack counts these
+    /// against a peer that only makes work. `NotOurs` is for a frame of any other kind, which changes nothing: an ACK (report its packets
+    /// by `acked`), a CONNECTION_CLOSE, PADDING and the like.
     ///
-    /// Refused: `Closing` where the frame breaks a rule (sections 4, 19 and 20.1), or has values that no text has, FRAME_ENCODING_ERROR;
-    /// the end is closed from now on. It names the type of the frame's canonical text and place 0. `NoMemory` where memory was refused:
-    /// nothing changed, and the frame may come again. An end that is closed says so again: `Closing`, or `PeerClosed` with the peer's code.
+    /// Refused: `Closing` if the frame breaks a rule (sections 4, 19 and 20.1), or has values that no text has, FRAME_ENCODING_ERROR; the
+    /// endpoint is closed from now on. It names the type of the frame's canonical text and place 0, since there is no payload to point
+    /// into. `NoMemory`: nothing changed, and the frame may come again. A closed endpoint returns its close again: `Closing`, or
+    /// `PeerClosed` with the peer's code.
     ///
     /// ```text
     /// match end.take_frame(&frame)? { Taken::Took => {} Taken::Unchanged => idle += 1, Taken::NotOurs => stack.take(&frame)? }
@@ -41,7 +42,8 @@ impl Endpoint {
         taken
     }
 
-    /// Takes in a STREAM frame that comes without its packet, as `take_frame` does, for a caller that knows its kind.
+    /// Processes a STREAM frame without its packet, as `take_frame` does, for a caller that knows its kind: most frames are of it, and its
+    /// own call has one path less.
     ///
     /// ```text
     /// end.take_stream_frame(stream, offset, bytes, fin)?;
@@ -68,12 +70,12 @@ impl Endpoint {
         taken
     }
 
-    /// Takes in the frames of one packet, as `take_frame` each of them, one after the other, but that the limits move once, as this call
-    /// ends (RFC 9000, sections 4.1 and 12.4).
+    /// Processes the frames of one packet, each as `take_frame` does, one after the other, but limits move once, as this call ends (RFC
+    /// 9000, sections 4.1 and 12.4): so it is what `receive` does with them.
     ///
-    /// Answers `Took` where one of them changed something, else `Unchanged` where one was taken, and `NotOurs` where all are of other
-    /// kinds. Refused as `take_frame` is, by the first frame that it refuses:
-    /// the frames before it took effect. After `NoMemory` the same frames may come again.
+    /// Returns `Took` if one of them changed something, else `Unchanged` if one was taken, and `NotOurs` if all are of other kinds. Refused
+    /// as `take_frame` is, by the first frame that it refuses: the frames before it took effect. After `NoMemory` the same frames may come
+    /// again.
     ///
     /// ```text
     /// end.take_frames(&frames)?;
@@ -88,7 +90,6 @@ impl Endpoint {
         taken
     }
 
-    // The frames take effect, one after the other, as far as they may.
     fn take_each(&mut self, frames: &[Frame<'_>]) -> Result<Taken, TakeFault> {
         let mut taken = Taken::NotOurs;
         for frame in frames {
@@ -99,7 +100,6 @@ impl Endpoint {
         Ok(taken)
     }
 
-    // A frame takes effect, or finds no memory, or this end closes for it.
     #[inline(always)]
     fn take_one(&mut self, frame: &Frame<'_>) -> Result<Taken, TakeFault> {
         if !has_text(frame) {
@@ -119,7 +119,8 @@ impl Endpoint {
         Ok(Taken::Took)
     }
 
-    // Whether a frame without a fault changes this end. Of a STREAM frame it is mostly sure, with no look.
+    // Asked before the frame takes effect, since afterwards it would be old. Of a STREAM frame the judging mostly knew, so no half is
+    // looked at again.
     #[inline(always)]
     fn changes(&self, is_sure: bool, seen: &SeenFrame<'_>) -> bool {
         if is_sure {
@@ -170,7 +171,7 @@ impl Endpoint {
         }
     }
 
-    // Whether a stream is the peer's, and a half of it isn't open.
+    // Opening it is a change, whatever else the frame does.
     fn is_yet_to_open(&self, stream: StreamId) -> bool {
         if self.is_own(stream) {
             return false;
@@ -181,7 +182,6 @@ impl Endpoint {
         !is_uni(stream) && !self.core.outbox.is_open(stream)
     }
 
-    // This end closes for a frame that came alone.
     fn close_alone(&mut self, frame: &Frame<'_>, code: u64) -> Closing {
         debug_assert!(code < 1 << 62);
         let closing = Closing {
@@ -193,7 +193,6 @@ impl Endpoint {
         closing
     }
 
-    // What an end that is closed answers to a frame.
     fn closed_fault(&self) -> Option<TakeFault> {
         match self.closed {
             Some(Closed::ByUs(closing)) => Some(TakeFault::Closing(closing)),
@@ -204,7 +203,7 @@ impl Endpoint {
     }
 }
 
-// What an end that was told of a close says again.
+// In the words that the call has, so that a stack needs no other way for it.
 fn told_fault(close: ToldClose) -> TakeFault {
     match close.by {
         Closer::Us => TakeFault::Closing(told_of_us(close.code)),
@@ -212,7 +211,6 @@ fn told_fault(close: ToldClose) -> TakeFault {
     }
 }
 
-// What came of two frames.
 fn of_both(one: Taken, later: Taken) -> Taken {
     match (one, later) {
         (Taken::Took, _) => Taken::Took,

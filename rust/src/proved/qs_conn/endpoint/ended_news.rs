@@ -1,5 +1,5 @@
 // Made from crates/qs_conn/src/endpoint/ended_news.rt by rust/erase; not edited by hand.
-//! Which streams came to their end.
+//! Which streams are over.
 
 use super::{Endpoint, is_uni, role_bit};
 use crate::proved::qs_conn::marks::Marks;
@@ -8,8 +8,8 @@ use crate::proved::qs_conn::told_streams::ToldStreams;
 use crate::proved::qs_wire::StreamId;
 
 impl Endpoint {
-    /// The least stream at or above `from` whose every half here came to its end: the end or the reset was told to the reader, and all
-    /// that was sent is acknowledged, or the reset (RFC 9000, section 3). `None` where there is none.
+    /// The lowest stream at or above `from` whose every half here is over: its end or reset was read, and all that was sent was
+    /// acknowledged, or the reset (RFC 9000, section 3). `None` if there is none.
     ///
     /// It takes no memory, and looks at one word of marks of each half for 64 streams of a type.
     #[inline]
@@ -18,7 +18,7 @@ impl Endpoint {
         self.next_ended_untold(&none, from.value())
     }
 
-    /// The same, of those that weren't told.
+    /// Of those that weren't reported, so that an event needs no list.
     #[inline(always)]
     pub(crate) fn next_ended_untold(&self, told: &ToldStreams, from: u64) -> Option<StreamId> {
         debug_assert!(from <= 1 << 62);
@@ -33,7 +33,7 @@ impl Endpoint {
         lesser(bidi, uni)
     }
 
-    // The least such one of a type. Where none is over a caller pays for the look at that alone.
+    // Apart, so that a caller pays for one look at the counts if no stream is over.
     #[inline(always)]
     fn next_ended_of(&self, stream_type: usize, told: &ToldStreams, from: u64) -> Option<StreamId> {
         debug_assert!(stream_type < 4);
@@ -52,7 +52,7 @@ impl Endpoint {
         None
     }
 
-    // The least number from one on of a stream that may be over and wasn't told. None of those between is.
+    // None of the streams between is over.
     #[inline(never)]
     fn next_ended_marked(
         &self,
@@ -68,7 +68,7 @@ impl Endpoint {
         StreamId::new((index * 4 + stream_type) as u64)
     }
 
-    // The marks of both halves of the streams of a type, by index, or twice those of the only half. One that is over has both.
+    // Of a stream with one half its marks twice, so that the search is the same for all types.
     #[inline(always)]
     fn ended_marks(&self, stream_type: usize) -> (&Marks, &Marks) {
         debug_assert!(stream_type < 4);
@@ -83,7 +83,6 @@ impl Endpoint {
         }
     }
 
-    // Whether every half of a stream here came to its end.
     fn has_ended(&self, stream: StreamId) -> bool {
         if !is_uni(stream) {
             self.core.recvs.has_ended(stream) && self.core.outbox.has_ended(stream)

@@ -1,5 +1,5 @@
 // Made from crates/qs_conn/src/endpoint/filling.rt by rust/erase; not edited by hand.
-//! What is due is filled in, for a packet of a stack that owns its packets.
+//! Frames for a packet of a stack that has packets of its own.
 
 use super::Endpoint;
 use crate::proved::qs_conn::filling::Wish;
@@ -12,8 +12,8 @@ impl Endpoint {
     /// answers names them later, acknowledged or lost. `None` where nothing that is asked for may go, or the room is too little: with
     /// `MIN_FILL` bytes it says that nothing may. The slice may have any length; of it changes only what is filled.
     ///
-    /// Refused, and then unchanged: `Closed`; `Exhausted` where the last number was used; `NoMemory` where something that is asked for
-    /// may go and memory was refused.
+    /// Refused, and then unchanged: `Closed`; `Exhausted` if the last number was used; `NoMemory`, only if something that is asked for may
+    /// go.
     #[inline]
     pub fn fill(&mut self, out: &mut [u8], want: &Fill) -> Result<Option<Filled>, MakeFault> {
         if self.closed.is_some() {
@@ -51,7 +51,7 @@ impl Endpoint {
         }))
     }
 
-    // What a call answers that found no memory: where nothing that is asked for may go, it needs none.
+    // Room for pieces is taken before anything is put, and may be refused when nothing would have gone: then memory wasn't needed.
     fn unfilled(&self, want: &Fill) -> Result<Option<Filled>, MakeFault> {
         // (the cap of bytes holds nothing back that memory does)
         if self.has_more(want, 1, None) {
@@ -60,8 +60,7 @@ impl Endpoint {
         Ok(None)
     }
 
-    // Whether something that is asked for is due that no limit holds back, where so many bytes are left of the cap. The stream that sent
-    // last is asked first.
+    // The stream that sent last is asked first, since it mostly has more.
     fn has_more(&self, want: &Fill, left: usize, last: Option<StreamId>) -> bool {
         self.core.has_wanted(want, left, last)
     }

@@ -1,5 +1,5 @@
 // Made from crates/qs_conn/src/endpoint/frames.rt by rust/erase; not edited by hand.
-//! What the frames of a payload do.
+//! How frames are judged. Nothing changes here, so a frame that offends leaves everything as it was.
 
 use super::{Endpoint, is_uni, role_bit};
 use crate::proved::qs_conn::places::Place;
@@ -9,7 +9,6 @@ use crate::proved::qs_recv::{Highest, RecvFault};
 use crate::proved::qs_send::Item;
 use crate::proved::qs_wire::StreamId;
 
-// Codes of errors (RFC 9000, section 20.1).
 const FLOW_CONTROL_ERROR: u64 = 0x03;
 
 const STREAM_LIMIT_ERROR: u64 = 0x04;
@@ -21,7 +20,6 @@ const FINAL_SIZE_ERROR: u64 = 0x06;
 const PROTOCOL_VIOLATION: u64 = 0x0a;
 
 impl Endpoint {
-    // The code with which a frame closes the connection.
     #[inline(always)]
     pub(super) fn verdict(&self, seen: &SeenFrame<'_>) -> Option<u64> {
         match *seen {
@@ -48,7 +46,7 @@ impl Endpoint {
         }
     }
 
-    // Of an ACK, which may name no number that wasn't used (RFC 9000, section 13.1).
+    // A number that was never used shows a peer that guesses (RFC 9000, section 13.1).
     fn ack_fault(&self, largest: u64) -> Option<u64> {
         if largest >= self.core.outbox.next() {
             Some(PROTOCOL_VIOLATION)
@@ -57,7 +55,7 @@ impl Endpoint {
         }
     }
 
-    // The code with which a frame closes the connection. Of another frame it may be sure already that it changes this end.
+    // With it comes whether a frame is sure to change this endpoint, which is known on the way: `take_frame` needs no second look.
     #[inline(always)]
     pub(super) fn judge(&self, seen: &SeenFrame<'_>) -> Result<bool, u64> {
         if let SeenFrame::Stream {
@@ -83,8 +81,8 @@ impl Endpoint {
         }
     }
 
-    // The bytes come last, and only those that are still stored are compared (RFC 9000, section 2.2). A frame that raises the highest offset
-    // changes this end.
+    // The bytes come last, after both limits, and only those that are still stored are compared (RFC 9000, section 2.2). A frame that
+    // raises the highest offset changes this endpoint.
     fn judge_stream(&self, stream: Place, offset: u64, bytes: &[u8], fin: bool) -> Result<bool, u64> {
         if let Some(code) = self.state_fault_in(stream) {
             return Err(code);
@@ -102,7 +100,7 @@ impl Endpoint {
         }
     }
 
-    // The first frame of a stream opens it, so it changes this end.
+    // Judged as by a half that received nothing, before one is made: a frame that offends opens nothing.
     fn judge_first(&self, stream: Place, offset: u64, bytes: &[u8], fin: bool) -> Result<bool, u64> {
         let window = self.window(stream.id);
         let judged = Half::judge_first(self.alloc, window, offset, bytes, fin);
@@ -125,7 +123,6 @@ impl Endpoint {
         self.credit_fault(check)
     }
 
-    // Of a frame on what the peer sends.
     fn state_fault_in(&self, stream: Place) -> Option<u64> {
         if stream.stream_type % 2 == role_bit(self.core.limits.role) {
             return match self.core.recvs.half(stream) {
@@ -146,7 +143,6 @@ impl Endpoint {
         }
     }
 
-    // Of a frame on what this end sends.
     fn state_fault_out(&self, stream: StreamId) -> Option<u64> {
         if self.is_own(stream) {
             if self.core.outbox.is_open(stream) {
@@ -163,7 +159,7 @@ impl Endpoint {
         }
     }
 
-    // What a half's check says, and then whether the connection has the credit.
+    // The half's check first: the stream's fault is the closer one.
     fn credit_fault(&self, check: Result<Highest, RecvFault>) -> Option<u64> {
         match check {
             Err(fault) => Some(code_of(fault)),
@@ -178,7 +174,6 @@ impl Endpoint {
         }
     }
 
-    // How many streams of its type the peer may open (RFC 9000, section 4.6).
     fn grant(&self, stream: StreamId) -> u64 {
         if is_uni(stream) {
             self.core.limits.granted_streams.uni
@@ -188,7 +183,6 @@ impl Endpoint {
     }
 }
 
-// Whether the highest offset rises.
 fn is_rise(check: Result<Highest, RecvFault>) -> bool {
     match check {
         Ok(highest) => highest.before < highest.after,
@@ -196,7 +190,6 @@ fn is_rise(check: Result<Highest, RecvFault>) -> bool {
     }
 }
 
-// The code of a half's fault.
 fn code_of(fault: RecvFault) -> u64 {
     match fault {
         RecvFault::FinalSize => FINAL_SIZE_ERROR,

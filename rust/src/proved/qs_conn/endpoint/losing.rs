@@ -5,11 +5,11 @@ use super::Endpoint;
 use crate::proved::qs_calls::LostFault;
 
 impl Endpoint {
-    /// Declares the packet of a number lost: what it carried and is still of use is due again (RFC 9000, section 13.3). It is kept
-    /// for a late acknowledgement, of the latest 256 packets by the order in which they were first declared lost (section 13.2.1).
+    /// Declares the packet of a number lost: what it carried is due again as far as it is still needed (RFC 9000, section 13.3). It is kept
+    /// for a late ACK, among the latest 256 by the order in which they were first declared lost (section 13.2.1).
     ///
-    /// Refused: `Closed`; `NotOutstanding` where no such packet is outstanding; and `NoMemory` where memory was refused. Then the
-    /// first pieces of the packet may be lost already; the others are outstanding still, and the call may be made again.
+    /// Refused: `Closed`; `NotOutstanding` if no such packet is outstanding; and `NoMemory`. Then the first pieces of the packet may be
+    /// lost already; the others are still outstanding, and the call may be made again.
     #[inline]
     pub fn declare_lost(&mut self, number: u64) -> Result<(), LostFault> {
         if let Some(fault) = self.lose_refusal(number) {
@@ -21,7 +21,6 @@ impl Endpoint {
         }
     }
 
-    // Why the packet can't be lost.
     fn lose_refusal(&self, number: u64) -> Option<LostFault> {
         if self.closed.is_some() {
             return Some(LostFault::Closed);

@@ -10,12 +10,11 @@ use crate::proved::qs_wire::StreamId;
 const MAX_NUMBER: u64 = (1 << 62) - 1;
 
 impl Endpoint {
-    /// Makes the next packet: writes its payload at the slice's front. `None` where nothing is to be sent that the limits allow. What
-    /// is due goes in as far as there is room, in the order ACK, control items, bytes of streams, lower streams first (RFC 9000, sections
-    /// 4, 13.2 and 13.3). An ACK tells a delay of 0.
+    /// Makes the next packet: writes its payload at the slice's front. `None` if nothing that is due may go under the limits. What is due
+    /// goes in as far as there is room, in the order ACK, control frames, data of streams, lower streams first (RFC 9000, sections 4, 13.2
+    /// and 13.3). An ACK carries a delay of 0, which is true if packets are asked for as soon as an ACK is due.
     ///
-    /// Refused, and then unchanged: `Closed`; `Exhausted` where the last packet number was used; `NoMemory` where something
-    /// may go and memory was refused.
+    /// Refused, and then unchanged: `Closed`; `Exhausted` if the last packet number was used; `NoMemory`, only if something may go.
     #[inline]
     pub fn make_packet(&mut self, out: &mut [u8]) -> Result<Option<Made>, MakeFault> {
         debug_assert!(128 <= out.len());
@@ -23,8 +22,9 @@ impl Endpoint {
         self.make(Fill::all().first, 0, out)
     }
 
-    /// Makes the next packet, as `make_packet` does, with bytes from stream `first` on and with this delay in an ACK: lower streams go
-    /// first, and then those below `first`; the delay is in the unit that the peer was told (RFC 9000, sections 2.3, 18.2 and 19.3).
+    /// Makes the next packet, as `make_packet` does, with two choices: data goes in from stream `first` on, lower streams first, and then
+    /// from those below it; and an ACK carries this delay, in the unit that the peer was given (RFC 9000, sections 2.3, 18.2 and 19.3). A
+    /// number instead of an order of all streams, which would need memory, faults and calls of its own.
     #[inline]
     pub fn make_packet_from(
         &mut self,
@@ -38,7 +38,6 @@ impl Endpoint {
         self.make(first, delay, out)
     }
 
-    // Makes the next packet: bytes go in from stream `first` on, and an ACK tells the delay.
     fn make(
         &mut self,
         first: StreamId,
@@ -86,7 +85,7 @@ impl Endpoint {
         }))
     }
 
-    // What a call answers that found no memory for a packet: where nothing may go, it needs none.
+    // Room is taken before it is known whether anything goes: if nothing does, memory wasn't needed.
     fn without_memory(&self) -> Result<Option<Made>, MakeFault> {
         if self.may_make() {
             return Err(MakeFault::NoMemory);
@@ -94,7 +93,6 @@ impl Endpoint {
         Ok(None)
     }
 
-    // Whether something is due that no limit holds back.
     fn may_make(&self) -> bool {
         if self.ack_due {
             return true;

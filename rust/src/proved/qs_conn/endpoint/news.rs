@@ -1,5 +1,5 @@
 // Made from crates/qs_conn/src/endpoint/news.rt by rust/erase; not edited by hand.
-//! Which streams wait for their owner, and which have something for a packet.
+//! Which streams wait for the application, and which have something for a packet.
 
 use super::Endpoint;
 use crate::proved::qs_conn::recv_marks::RecvTask;

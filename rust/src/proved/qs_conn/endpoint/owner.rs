@@ -1,5 +1,5 @@
 // Made from crates/qs_conn/src/endpoint/owner.rt by rust/erase; not edited by hand.
-//! What an end's owner does with its streams.
+//! What the application does with its streams.
 
 use super::Endpoint;
 use crate::proved::qs_calls::{Closed, Closing, Consumed, LaneReport, UseFault};
@@ -15,8 +15,8 @@ impl Endpoint {
     /// ([`Tuning::send_window`]) it takes no more than that leaves beside all that they keep until it is acknowledged (section 13.3),
     /// and asks for no memory where nothing is left. It takes constant time beside the bytes.
     ///
-    /// Refused, and then unchanged: `Closed`; `NoSuchStream` or `WrongDirection` where the stream has no sending half; `WasReset`;
-    /// `Finished`; and `NoMemory` where memory was refused.
+    /// Refused, and then unchanged: `Closed`; `NoSuchStream` or `WrongDirection` if the stream has no sending half; `WasReset`; `Finished`;
+    /// and `NoMemory`.
     #[inline]
     pub fn write(&mut self, stream: StreamId, bytes: &[u8]) -> Result<usize, UseFault> {
         if let Some(fault) = self.no_sender(stream) {
@@ -25,7 +25,7 @@ impl Endpoint {
         let bytes = self.offered(stream, bytes);
         match self.core.outbox.write(stream, bytes) {
             Ok(count) => {
-                // A write of nothing leaves the half as it was.
+                // A write of nothing leaves the half as it was, so no mark has to be looked at.
                 if count > 0 {
                     self.core
                         .untold_sends
@@ -38,7 +38,7 @@ impl Endpoint {
         }
     }
 
-    // As many of the bytes as credit lets go, and as the window over all streams leaves.
+    // Cut before the half sees them, so that a half knows no credit but its own.
     fn offered<'a>(&self, stream: StreamId, bytes: &'a [u8]) -> &'a [u8] {
         let bytes = self.let_go(stream, bytes);
         match self.window_left() {
@@ -47,7 +47,7 @@ impl Endpoint {
         }
     }
 
-    // As many of the bytes as credit lets go, where writes keep within it.
+    // What waits on other streams uses up credit first.
     fn let_go<'a>(&self, stream: StreamId, bytes: &'a [u8]) -> &'a [u8] {
         if !self.core.limits.tuning.within_credit {
             return bytes;
@@ -55,7 +55,7 @@ impl Endpoint {
         front(bytes, self.credit_for(stream))
     }
 
-    /// Asks for the end of the stream after the bytes written so far.
+    /// Ends the stream after the bytes written so far.
     ///
     /// Refused as `write` is, but never for want of memory.
     #[inline]
@@ -72,7 +72,7 @@ impl Endpoint {
         }
     }
 
-    /// Breaks the stream's sending half off with the application's code, below 2^62 (RFC 9000, sections 3.1 and 20.2).
+    /// Resets the stream's sending half with the application's code, below 2^62 (RFC 9000, sections 3.1 and 20.2).
     ///
     /// Refused, and then unchanged: as `write` is; `Finished` only once all was acknowledged.
     #[inline]
@@ -91,15 +91,16 @@ impl Endpoint {
         }
     }
 
-    /// Reads the bytes that are next, or tells how the stream stands (RFC 9000, section 2.2).
+    /// Reads the next bytes, or says how the stream stands (RFC 9000, section 2.2).
     ///
-    /// Refused, and then unchanged: `Closed`, but where the end's tuning has `reads_when_closed`: then what came before is read on; `NoSuchStream` or `WrongDirection` where the stream has no receiving half.
+    /// Refused, and then unchanged: `Closed`, unless the tuning has `reads_when_closed`: then what came before is read on; `NoSuchStream`
+    /// or `WrongDirection` if the stream has no receiving half.
     #[inline]
     pub fn read(&mut self, stream: StreamId, into: &mut [u8]) -> Result<Read, UseFault> {
         if let Some(fault) = self.no_reader(stream) {
             return Err(fault);
         }
-        // To look at a stream without news costs no more than its marks.
+        // A read of a stream without news costs no more than its marks, so an application may go through all of them.
         if !self.core.recvs.may_tell(stream) {
             self.settle();
             return Ok(Read::Wait);
@@ -113,10 +114,10 @@ impl Endpoint {
         Ok(answer)
     }
 
-    /// Takes the bytes that are next, at most so many, as `read` into a slice of that size does, and copies none. Where that reaches the
-    /// final size the end counts as told, so that nothing is left to ask of the stream (RFC 9000, sections 2.2, 3.2 and 4.5).
+    /// Consumes the next bytes, at most so many, as `read` into a slice of that size does, and copies none. If that reaches the final size
+    /// the end counts as read, so that no further call is needed (RFC 9000, sections 2.2, 3.2 and 4.5).
     ///
-    /// Answers what such a read tells, and whether the end is told.
+    /// Returns what such a read would, and whether the end was reached.
     ///
     /// Refused as `read` is.
     ///
@@ -137,7 +138,7 @@ impl Endpoint {
         })
     }
 
-    // Takes the bytes that are next at an open stream, and moves no limit yet.
+    // Limits move once, behind this and the end.
     fn skip(&mut self, stream: StreamId, most: usize) -> Read {
         let was = self.core.is_over(stream);
         let answer = self.core.recvs.skip(stream, most);
@@ -147,10 +148,10 @@ impl Endpoint {
         answer
     }
 
-    /// Throws the stream's bytes away, those stored and those still to come (RFC 9000, section 3.5). The first code
-    /// stays; the application's codes lie below 2^62.
+    /// Discards the stream's bytes, those stored and those still to come (RFC 9000, section 3.5). The first code stays; the application's
+    /// codes lie below 2^62.
     ///
-    /// Refused, and then unchanged: `Closed`; `NoSuchStream` or `WrongDirection` where the stream has no receiving half.
+    /// Refused, and then unchanged: `Closed`; `NoSuchStream` or `WrongDirection` if the stream has no receiving half.
     #[inline]
     pub fn stop(&mut self, stream: StreamId, code: u64) -> Result<(), UseFault> {
         debug_assert!(code < 1 << 62);
@@ -189,7 +190,7 @@ impl Endpoint {
         Ok(())
     }
 
-    /// How the halves of a stream stand at this end, `None` where it isn't open.
+    /// The states of the stream's halves at this endpoint, `None` if it isn't open.
     #[inline]
     pub fn lane_report(&self, stream: StreamId) -> Option<LaneReport> {
         match (
@@ -201,7 +202,7 @@ impl Endpoint {
         }
     }
 
-    /// Why this end closed, `None` where it is open or saw its peer close (RFC 9000, section 10.2).
+    /// Why this endpoint closed, `None` if it is open or the peer closed (RFC 9000, section 10.2).
     #[inline]
     pub fn closing(&self) -> Option<Closing> {
         match self.closed {
@@ -210,7 +211,6 @@ impl Endpoint {
         }
     }
 
-    // Why the stream can't be sent on.
     fn no_sender(&self, stream: StreamId) -> Option<UseFault> {
         if self.closed.is_some() {
             Some(UseFault::Closed)
@@ -221,18 +221,15 @@ impl Endpoint {
         }
     }
 
-    // Why the stream can't be read.
     #[inline]
     pub(super) fn no_reader(&self, stream: StreamId) -> Option<UseFault> {
         self.no_receiver_where(self.is_read_no_more(), stream)
     }
 
-    // Why the stream can't be stopped.
     fn no_receiver(&self, stream: StreamId) -> Option<UseFault> {
         self.no_receiver_where(self.closed.is_some(), stream)
     }
 
-    // Why a call on a receiving half is refused, where the end is shut for it or not.
     fn no_receiver_where(&self, is_shut: bool, stream: StreamId) -> Option<UseFault> {
         if is_shut {
             Some(UseFault::Closed)
@@ -243,7 +240,6 @@ impl Endpoint {
         }
     }
 
-    // Whether nothing is read of this end any more.
     #[inline]
     pub(super) fn is_read_no_more(&self) -> bool {
         self.closed.is_some() && !self.core.limits.tuning.reads_when_closed
@@ -270,7 +266,6 @@ fn use_fault(fault: SendFault) -> UseFault {
     }
 }
 
-// As many of the bytes.
 fn front(bytes: &[u8], most: u64) -> &[u8] {
     if most < bytes.len() as u64 {
         &bytes[..most as usize]

@@ -1,5 +1,5 @@
 // Made from crates/qs_conn/src/endpoint/raising.rt by rust/erase; not edited by hand.
-//! Limits of the peer that rise after the end was made.
+//! Limits of the peer that rise after the endpoint was made.
 
 use super::Endpoint;
 use crate::proved::qs_conn::setup::limits_fault;
@@ -7,11 +7,11 @@ use crate::proved::qs_calls::{PeerLimits, RaiseFault};
 use crate::proved::qs_wire::StreamId;
 
 impl Endpoint {
-    /// Takes in limits of the peer that weren't known as the end was made: a client that began with those that it remembered hands in
-    /// those of the handshake (RFC 9000, section 7.4.1). Each limit becomes the greater one of what stands and what comes, of open
-    /// streams too, and streams that open later begin with it; none falls. It looks at each open sending half.
+    /// Raises the peer's limits to those of the handshake: a client that began with remembered ones calls it (RFC 9000, section 7.4.1).
+    /// Each limit becomes the greater of the two, for open streams too, and streams that open later begin with it; none falls. It looks at
+    /// each open sending half.
     ///
-    /// Refused, and then unchanged: `Closed`; `Refused` where no end can be made of such limits, with the fault that `new` answers.
+    /// Refused, and then unchanged: `Closed`; `Refused` for limits that `new` would refuse, with its fault.
     #[inline]
     pub fn raise_limits(&mut self, limits: &PeerLimits) -> Result<(), RaiseFault> {
         if let Some(fault) = self.raise_refusal(limits) {
@@ -26,7 +26,6 @@ impl Endpoint {
         Ok(())
     }
 
-    // Why limits are refused.
     fn raise_refusal(&self, limits: &PeerLimits) -> Option<RaiseFault> {
         if self.closed.is_some() {
             return Some(RaiseFault::Closed);
@@ -37,7 +36,7 @@ impl Endpoint {
         }
     }
 
-    // The first limits and the counts are known, and the connection's limit; open streams aren't looked at.
+    // Apart from the open streams, which aren't many when limits rise.
     fn know_limits(&mut self, limits: &PeerLimits) {
         self.peer = greater_limits(&self.peer, limits);
         self.core.limits.known_data = self.core.limits.known_data.max(limits.max_data);
@@ -55,7 +54,6 @@ impl Endpoint {
             .max(limits.streams_uni);
     }
 
-    // Each open half of a type may send what one may that opens now.
     fn allow_type(&mut self, stream_type: usize) {
         debug_assert!(stream_type < 4);
         let limit = self.first_send_limit(StreamId::new(stream_type as u64).unwrap());
@@ -65,14 +63,12 @@ impl Endpoint {
         }
     }
 
-    // An open half may send the offsets below a limit.
     fn allow_to(&mut self, stream: StreamId, limit: u64) {
         debug_assert!(limit <= 0x3fff_ffff_ffff_ffff);
         self.core.allow(stream, limit);
     }
 }
 
-// Of two limits each the greater one.
 fn greater_limits(a: &PeerLimits, b: &PeerLimits) -> PeerLimits {
     PeerLimits {
         max_data: a.max_data.max(b.max_data),

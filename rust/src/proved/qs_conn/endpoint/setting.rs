@@ -1,5 +1,6 @@
 // Made from crates/qs_conn/src/endpoint/setting.rt by rust/erase; not edited by hand.
-//! What an owner sets anew while the connection lasts.
+//! What an application changes while the connection lasts. What the peer was given at first stays beside it: each sentence on first limits
+//! speaks of that.
 
 use super::Endpoint;
 use crate::proved::qs_conn::setup::is_between;
@@ -49,7 +50,7 @@ impl Endpoint {
     /// [`Settings::send_buffer`]. A stream that opens later begins with the setting. No byte that is kept goes: where more are kept,
     /// writes accept none until enough of them are acknowledged. Of a half that was finished or reset it changes the number alone.
     ///
-    /// Refused, and then unchanged: `Closed`; `OutOfRange`; `NoSuchStream` or `WrongDirection` where the stream has no sending half.
+    /// Refused, and then unchanged: `Closed`; `OutOfRange`; `NoSuchStream` or `WrongDirection` if the stream has no sending half.
     #[inline]
     pub fn set_send_buffer(&mut self, stream: StreamId, size: usize) -> Result<(), SetFault> {
         if self.closed.is_some() {
@@ -72,8 +73,8 @@ impl Endpoint {
     /// and none moves once the final size is known. A stream that opens later begins with the window that the peer was told at first. In
     /// constant time, beside what any call looks at; it takes no memory.
     ///
-    /// Refused, and then unchanged: `Closed`; `OutOfRange` below 1 and above 2^30; `NoSuchStream` or `WrongDirection` where the stream
-    /// has no receiving half.
+    /// Refused, and then unchanged: `Closed`; `OutOfRange` below 1 and above 2^30; `NoSuchStream` or `WrongDirection` if the stream has no
+    /// receiving half.
     #[inline]
     pub fn set_stream_window(&mut self, stream: StreamId, size: u64) -> Result<(), SetFault> {
         if self.closed.is_some() {
@@ -91,14 +92,12 @@ impl Endpoint {
         Ok(())
     }
 
-    // The window is in force.
     fn force_window(&mut self, window: u64) {
         let taken = self.core.recvs.tally().taken;
         self.core.limits.set_conn_window(window, taken);
         self.is_settled = false;
     }
 
-    // The grant is in force.
     fn force_grant(&mut self, dir: Dir, streams: u64) {
         let ended = self.core.ended.of(dir);
         self.core.limits.set_grant(dir, streams, ended);

@@ -10,7 +10,7 @@ use crate::proved::qs_send::Item;
 use crate::proved::qs_wire::{Dir, StreamId};
 
 impl Endpoint {
-    // A frame takes effect, or finds no memory and changes nothing; of an ACK some packets may be acknowledged then.
+    // If it finds no memory it changes nothing, but that of an ACK some packets may be acknowledged then: each is let go by itself.
     #[inline(always)]
     pub(super) fn on_frame<T: Told>(
         &mut self,
@@ -51,7 +51,7 @@ impl Endpoint {
         }
     }
 
-    // The packets that an ACK names are acknowledged, also those that were declared lost (RFC 9000, sections 13.2.1 and 13.3).
+    // Also those that were declared lost: a late ACK shows that they arrived (RFC 9000, sections 13.2.1 and 13.3).
     fn on_ack<T: Told>(&mut self, largest: u64, ranges: &[u8], told: &mut T) -> Result<(), NoMemory> {
         debug_assert!(largest < 1 << 62);
         let before = self.core.ended;
@@ -60,20 +60,17 @@ impl Endpoint {
         taken
     }
 
-    // The peer allows so many bytes on all streams.
     fn on_max_data(&mut self, maximum: u64) {
         debug_assert!(maximum <= 0x3fff_ffff_ffff_ffff);
         self.core.limits.known_data = self.core.limits.known_data.max(maximum);
     }
 
-    // The peer allows so many streams of a direction.
     fn on_max_streams(&mut self, dir: Dir, count: u64) {
         debug_assert!(count <= 1 << 60);
         let known = &mut self.core.limits.known_streams;
         known.set(dir, known.of(dir).max(count));
     }
 
-    // The peer allows the offsets of a stream below a limit.
     fn on_max_stream_data(&mut self, stream: StreamId, maximum: u64) -> Result<(), NoMemory> {
         debug_assert!(maximum <= 0x3fff_ffff_ffff_ffff);
         self.open_by_peer(stream)?;
@@ -81,7 +78,7 @@ impl Endpoint {
         Ok(())
     }
 
-    // The peer reads a stream no more: that breaks it off, or its owner answers it.
+    // Either the half is reset at once, which no application can forget, or the application chose to answer.
     fn on_stop_sending(&mut self, stream: StreamId, code: u64) -> Result<(), NoMemory> {
         debug_assert!(code <= 0x3fff_ffff_ffff_ffff);
         self.open_by_peer(stream)?;
@@ -91,7 +88,6 @@ impl Endpoint {
         Ok(())
     }
 
-    // The peer broke a stream off.
     fn on_reset_stream(&mut self, stream: StreamId, code: u64, size: u64) -> Result<(), NoMemory> {
         debug_assert!(size <= 0x3fff_ffff_ffff_ffff);
         let _granted = self.core.limits.granted;
@@ -104,7 +100,8 @@ impl Endpoint {
         Ok(())
     }
 
-    // Bytes of a stream came. Mostly they move nothing but what came of it.
+    // Most frames are of a stream that is open and of which no end, reset or stop came. Such a frame is taken by its half alone: no limit
+    // is looked at as the call ends, and no stream counted anew.
     fn on_stream(
         &mut self,
         stream: Place,
@@ -119,7 +116,6 @@ impl Endpoint {
         self.on_any_stream(stream.id, offset, bytes, fin)
     }
 
-    // Whether a stream is open, and no end, reset or stop was told of it: a frame moves no limit then, and no count of streams.
     fn is_plain(&self, stream: Place) -> bool {
         let Some(half) = self.core.recvs.half(stream) else {
             return false;
@@ -139,7 +135,7 @@ impl Endpoint {
         stream.index < self.core.outbox.count_of(stream.stream_type)
     }
 
-    // Bytes of a stream came, which they may open.
+    // The longer way: it may open streams, and end one.
     fn on_any_stream(
         &mut self,
         stream: StreamId,

@@ -1,5 +1,5 @@
 // Made from crates/qs_conn/src/endpoint/telling.rt by rust/erase; not edited by hand.
-//! An end is told that the connection closed.
+//! A close that the endpoint didn't see is noted. Otherwise streams would go on as if the connection were open.
 
 use super::Endpoint;
 use crate::proved::qs_calls::{Closed, ToldClose};

@@ -1,12 +1,12 @@
 // Made from crates/qs_conn/src/endpoint/tokens.rt by rust/erase; not edited by hand.
-//! Packets are told by their tokens.
+//! Packets named by tokens.
 
 use super::Endpoint;
 use crate::proved::qs_calls::{LostFault, Token, TokenFault};
 use crate::proved::qs_ranges::NoMemory;
 
 impl Endpoint {
-    /// The token of the packet of a number: that of a packet which was made (`Made`), where the layer beneath tells its packets by tokens.
+    /// The token of the packet of a number: that of a packet which was made (`Made`), if the stack reports all packets by tokens.
     #[inline]
     pub fn token_of(&self, number: u64) -> Token {
         Token {
@@ -16,12 +16,12 @@ impl Endpoint {
         }
     }
 
-    /// The peer acknowledged the packet of a token: what an ACK of that packet alone does, in time or after it was declared lost (RFC
-    /// 9000, section 13.3). Call it only where the peer did so. Of a packet that is done it changes nothing. Of a token that was joined it
-    /// is the ACK of all that it names; it takes a turn for each number.
+    /// The peer acknowledged the packet of a token: what an ACK of that packet alone does, in time or after it was declared lost (RFC 9000,
+    /// section 13.3), so that nothing is defined twice. Call it only if the peer did so. For a packet that is done it changes nothing. For
+    /// a token that was joined it is the ACK of all that it names; it takes a turn for each number.
     ///
-    /// Refused: `Closed`; `NotGiven` where not all of its packets were made yet, or the token is of another epoch; and `NoMemory` where
-    /// memory was refused. Then some of the packet's first pieces may be acknowledged already, and the call may be made again.
+    /// Refused: `Closed`; `NotGiven` if not all of its packets were made yet, or the token is of another epoch; and `NoMemory`. Then some
+    /// of the packet's first pieces may be acknowledged already, and the call may be made again.
     ///
     /// ```text
     /// for token in acknowledged { end.acked(token)?; }
@@ -39,12 +39,12 @@ impl Endpoint {
         }
     }
 
-    /// The packet of a token is declared lost, as `declare_lost` does: what it carried and is still of use is due again, and a late
-    /// `acked` still counts (RFC 9000, section 13.3). Of a packet that is done it changes nothing. Of a token that was joined each of the
-    /// packets is lost, from the highest number down.
+    /// The packet of a token is declared lost, as `declare_lost` does: what it carried is due again as far as it is still needed, and a
+    /// late `acked` still counts (RFC 9000, section 13.3). For a packet that is done it changes nothing, so a stack needn't remember which
+    /// are. Of a token that was joined each of the packets is lost, from the highest number down.
     ///
-    /// Refused: `Closed`; `NotGiven` where not all of its packets were made yet, or the token is of another epoch; and `NoMemory` where
-    /// memory was refused. Then some pieces may be lost already, and the call may be made again.
+    /// Refused: `Closed`; `NotGiven` if not all of its packets were made yet, or the token is of another epoch; and `NoMemory`. Then some
+    /// pieces may be lost already, and the call may be made again.
     #[inline]
     pub fn lost(&mut self, token: Token) -> Result<(), TokenFault> {
         if let Some(fault) = self.token_refusal(token) {
@@ -53,7 +53,7 @@ impl Endpoint {
         self.lose_each(token.first, token.number + 1)
     }
 
-    // The packets from one number on and below another are lost, from the highest number down.
+    // From the highest down, as an ACK goes, so that after a refusal the rest is the lower part.
     fn lose_each(&mut self, first: u64, end: u64) -> Result<(), TokenFault> {
         let mut number = end;
         while number > first {
@@ -63,7 +63,6 @@ impl Endpoint {
         Ok(())
     }
 
-    // A packet is lost, or nothing changes where it is done.
     fn lose_one(&mut self, number: u64) -> Result<(), TokenFault> {
         match self.declare_lost(number) {
             Ok(()) => Ok(()),
@@ -73,7 +72,6 @@ impl Endpoint {
         }
     }
 
-    // Why nothing is told of a token.
     fn token_refusal(&self, token: Token) -> Option<TokenFault> {
         if self.closed.is_some() {
             return Some(TokenFault::Closed);
@@ -84,7 +82,6 @@ impl Endpoint {
         None
     }
 
-    // Whether this end made the packets of a token.
     fn gave(&self, token: Token) -> bool {
         let limits = &self.core.limits;
         token.epoch == limits.tuning.epoch
@@ -92,7 +89,6 @@ impl Endpoint {
             && token.number < self.core.outbox.next()
     }
 
-    // The packets of a token are acknowledged, as by an ACK of them alone.
     fn ack_only(&mut self, token: Token) -> Result<(), NoMemory> {
         let before = self.core.ended;
         let taken = self.core.ack_range(token.first, token.number + 1);

@@ -14,8 +14,7 @@ use crate::proved::qs_ranges::RangeSet;
 use crate::proved::qs_wire::{Dir, StreamId};
 
 impl Core {
-    /// Fills a packet from its first byte on with what is asked for, and answers how far it is: the ACK, control items, and the
-    /// bytes of streams (RFC 9000, sections 4, 13.2 and 13.3).
+    /// From the first byte on, with what is asked for: the ACK, control frames, and data (RFC 9000, sections 4, 13.2 and 13.3).
     #[inline]
     pub(crate) fn fill(&mut self, done: &RangeSet, wish: &Wish, out: &mut [u8]) -> Course {
         let len = put_ack_if(done, wish, out);
@@ -27,14 +26,14 @@ impl Core {
         self.put_streams(wish, out, packet)
     }
 
-    /// How many pieces a packet of that many bytes holds at most: each takes two or more, and where nothing of a stream is due there are
-    /// the connection's own items alone.
+    /// Each takes two bytes or more; and if nothing of a stream is due, there are the connection's own items alone, so that little memory
+    /// is asked for.
     #[inline]
     pub(crate) fn most_pieces(&self, room: usize) -> usize {
         if self.is_still() { OWN_ITEMS } else { room / 2 }
     }
 
-    // Whether nothing of a stream is due. It looks at how many marks there are, and at no half.
+    // It looks at how many marks there are, and at no half.
     fn is_still(&self) -> bool {
         if self.outbox.may_have(Task::Bytes) {
             return false;
@@ -45,7 +44,6 @@ impl Core {
         !self.untold_recvs.may_have()
     }
 
-    // Puts the control items into the packet that are due, if they are asked for.
     fn put_items(&mut self, wish: &Wish, out: &mut [u8], packet: Packet) -> Packet {
         if !wish.want.items {
             return packet;
@@ -62,7 +60,7 @@ impl Core {
         self.put_own_slot(Slot::StreamsBlocked(Dir::Uni), out, packet)
     }
 
-    // Puts the items of a kind into the packet that are due. Mostly a look at how many marks there are tells that none is.
+    // Mostly a look at how many marks there are shows that none is due.
     #[inline(always)]
     fn put_kind(&mut self, kind: Kind, out: &mut [u8], packet: Packet) -> Packet {
         if self.may_tell(kind) {
@@ -71,8 +69,7 @@ impl Core {
         packet
     }
 
-    // The same by a search, lower stream numbers first. It stands apart, so that where no stream has a mark a caller pays for the look above
-    // alone.
+    // Apart, so that a caller pays for the look above alone if no stream has a mark. Lower stream numbers first.
     #[inline(never)]
     fn put_marked(&mut self, kind: Kind, out: &mut [u8], packet: Packet) -> Packet {
         if packet.is_full {
@@ -91,7 +88,6 @@ impl Core {
         packet
     }
 
-    /// Whether a stream may have an item of a kind. It looks at how many marks there are.
     #[inline(always)]
     pub(super) fn may_tell(&self, kind: Kind) -> bool {
         match kind {
@@ -100,7 +96,6 @@ impl Core {
         }
     }
 
-    /// The least number from one on of a stream that may have an item of a kind. Of the streams between none is due.
     #[inline]
     pub(super) fn next_untold(&self, kind: Kind, from: u64) -> Option<StreamId> {
         debug_assert!(from <= 1 << 62);
@@ -110,7 +105,7 @@ impl Core {
         }
     }
 
-    // Puts the item of a slot of the connection into the packet, if it is due. Mostly a look at two numbers tells that none is.
+    // Mostly a look at two numbers shows that none is due.
     #[inline(always)]
     fn put_own_slot(&mut self, slot: Slot, out: &mut [u8], packet: Packet) -> Packet {
         if self.limits.has_told(&self.outbox, &self.own, &slot) {
@@ -119,7 +114,6 @@ impl Core {
         self.put_slot(slot, out, packet)
     }
 
-    // Puts the item of a slot into the packet, if it is due.
     fn put_slot(&mut self, slot: Slot, out: &mut [u8], packet: Packet) -> Packet {
         if packet.is_full {
             return packet;
@@ -135,8 +129,7 @@ impl Core {
         packet
     }
 
-    // Puts the bytes of the streams into the packet that are asked for: of one alone, or of those from it on before the others and lower
-    // numbers first, as far as the limits and the room allow.
+    // From the stream that the caller names on and then around, so that it can go by turns.
     fn put_streams(&mut self, wish: &Wish, out: &mut [u8], packet: Packet) -> Course {
         let packet = Course {
             len: packet.len,
@@ -150,14 +143,13 @@ impl Core {
             return self.put_open(wish.want.first, out, packet);
         }
         let packet = self.put_way(wish.want.first, false, out, packet);
-        // Below the least stream there is no other.
+        // Below the lowest stream there is no other.
         if wish.want.first.value() == 0 {
             return packet;
         }
         self.put_way(wish.want.first, true, out, packet)
     }
 
-    // Puts the bytes of the streams of a way into the packet, lower numbers first, as far as the limits and the room allow.
     fn put_way(&mut self, first: StreamId, around: bool, out: &mut [u8], packet: Course) -> Course {
         if packet.is_full {
             return packet;
@@ -177,8 +169,8 @@ impl Core {
         packet
     }
 
-    /// The least number from one on of a stream of which something may go. Of the streams between nothing does. While the connection's
-    /// credit is used up, bytes that weren't sent before don't (RFC 9000, section 4.1).
+    /// While the connection's credit is used up, only bytes that were sent before may go (RFC 9000, section 4.1): streams with new ones are
+    /// passed over by their marks.
     #[inline(always)]
     pub(super) fn next_going(&self, from: u64) -> Option<StreamId> {
         debug_assert!(from <= 1 << 62);
@@ -188,7 +180,6 @@ impl Core {
         self.outbox.next_marked(Task::Again, from)
     }
 
-    // Puts chunks of a stream into the packet, if it is one that can send.
     #[inline(always)]
     fn put_open(&mut self, stream: StreamId, out: &mut [u8], packet: Course) -> Course {
         if self.outbox.is_open(stream) {
@@ -197,7 +188,7 @@ impl Core {
         packet
     }
 
-    // Puts chunks of a stream into the packet, one for each run of due offsets, as far as the limits, the room and the cap allow.
+    // One for each run of due offsets: a chunk is a run, and what lies between was acknowledged or is in flight.
     fn put_chunks(&mut self, stream: StreamId, out: &mut [u8], packet: Course) -> Course {
         if packet.is_full {
             return packet;
@@ -240,7 +231,7 @@ impl Core {
     }
 }
 
-// A sending half of which a chunk went is marked where it stands at its limit with more written, unless it is known that it doesn't.
+// Unless the chunk itself showed that no limit holds the stream back.
 #[inline(always)]
 fn look_unless_free(marks: &mut Untold, outbox: &Outbox, stream: StreamId, is_free: bool) {
     if !is_free {
@@ -248,13 +239,11 @@ fn look_unless_free(marks: &mut Untold, outbox: &Outbox, stream: StreamId, is_fr
     }
 }
 
-// Where the way begins: at `first`, or, on the way around, at the least stream.
 #[inline(always)]
 fn way_start(around: bool, first: StreamId) -> u64 {
     if around { 0 } else { first.value() }
 }
 
-// Whether a stream is one of the way: from `first` on, or, on the way around, below it.
 #[inline(always)]
 fn is_on_way(around: bool, first: StreamId, stream: StreamId) -> bool {
     if around {

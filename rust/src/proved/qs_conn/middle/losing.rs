@@ -6,7 +6,6 @@ use crate::proved::qs_conn::untold::look_again;
 use crate::proved::qs_ranges::NoMemory;
 
 impl Core {
-    /// The pieces of a packet are lost, and the packet is outstanding no more (RFC 9000, section 13.3).
     #[inline]
     pub(crate) fn lose(&mut self, number: u64) -> Result<(), NoMemory> {
         let result = self.lose_pieces(number);
@@ -14,7 +13,7 @@ impl Core {
         result
     }
 
-    // The pieces of a packet are lost, from the first on.
+    // One by one, so that after a refusal each piece is either lost or outstanding.
     fn lose_pieces(&mut self, number: u64) -> Result<(), NoMemory> {
         while let Some(piece) = self.outbox.first(number) {
             look_again(&mut self.untold_recvs, &mut self.untold_sends, &piece);

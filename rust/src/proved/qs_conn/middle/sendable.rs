@@ -1,5 +1,5 @@
 // Made from crates/qs_conn/src/middle/sendable.rt by rust/erase; not edited by hand.
-//! Whether anything is due that may go.
+//! Whether anything is due that may go. By marks and counts, since it is asked before each packet.
 
 use super::Core;
 use crate::proved::qs_conn::slot::{Kind, Slot};
@@ -7,7 +7,6 @@ use crate::proved::qs_calls::Fill;
 use crate::proved::qs_wire::{Dir, StreamId};
 
 impl Core {
-    /// Whether a control item is due, or bytes of a stream or its end may go (RFC 9000, sections 3.1, 3.3 and 4.1).
     #[inline]
     pub(crate) fn has_frame(&self) -> bool {
         if self.has_stream() {
@@ -16,21 +15,19 @@ impl Core {
         self.has_item()
     }
 
-    /// Whether of what is asked for a control item is due, or bytes of a stream or its end may go (RFC 9000, sections 3.1, 3.3 and 4.1). With
-    /// no byte left of the cap no stream is asked for. The stream that sent last is asked before others are looked for.
+    /// With no byte left of the cap no stream is asked. The stream that sent last is asked before others are searched: it mostly has more.
     #[inline]
     pub(crate) fn has_wanted(&self, want: &Fill, left: usize, last: Option<StreamId>) -> bool {
         if left == 0 {
             return self.has_wanted_item(want);
         }
-        // Where there is more, it is mostly bytes.
+        // If there is more, it is mostly data.
         if self.has_wanted_stream(want, last) {
             return true;
         }
         self.has_wanted_item(want)
     }
 
-    // A control item is due, and items are asked for.
     fn has_wanted_item(&self, want: &Fill) -> bool {
         if want.items {
             return self.has_item();
@@ -38,7 +35,6 @@ impl Core {
         false
     }
 
-    // Bytes of a stream that is asked for may go, or its end.
     fn has_wanted_stream(&self, want: &Fill, last: Option<StreamId>) -> bool {
         if !want.streams {
             return false;
@@ -54,7 +50,6 @@ impl Core {
         self.has_stream()
     }
 
-    // A control item is due.
     fn has_item(&self) -> bool {
         let found = self.has_own_slot(Slot::MaxData, false);
         let found = self.has_own_slot(Slot::MaxStreams(Dir::Bidi), found);
@@ -68,7 +63,7 @@ impl Core {
         self.has_own_slot(Slot::StreamsBlocked(Dir::Uni), found)
     }
 
-    // An item of a kind is due, or one was found before. Mostly a look at how many marks there are tells that none is.
+    // Mostly a look at how many marks there are shows that none is due.
     #[inline(always)]
     fn has_kind(&self, kind: Kind, is_found: bool) -> bool {
         if self.may_tell(kind) {
@@ -77,7 +72,6 @@ impl Core {
         is_found
     }
 
-    // The same by a search.
     #[inline(never)]
     fn has_marked(&self, kind: Kind, is_found: bool) -> bool {
         let mut is_found = is_found;
@@ -92,7 +86,7 @@ impl Core {
         is_found
     }
 
-    // The item of a slot of the connection is due, or one was found before. Mostly a look at two numbers tells that none is.
+    // Mostly a look at two numbers shows that none is due.
     #[inline(always)]
     fn has_own_slot(&self, slot: Slot, is_found: bool) -> bool {
         if is_found {
@@ -104,7 +98,6 @@ impl Core {
         self.has_slot(slot, false)
     }
 
-    // The item of a slot is due, or one was found before.
     fn has_slot(&self, slot: Slot, is_found: bool) -> bool {
         if is_found {
             return true;
@@ -115,7 +108,6 @@ impl Core {
         !self.has_covered(&item)
     }
 
-    // Bytes of some stream may go, or its end.
     fn has_stream(&self) -> bool {
         let mut from = 0;
         while let Some(stream) = self.next_going(from) {
@@ -127,7 +119,6 @@ impl Core {
         false
     }
 
-    // Bytes of a stream may go, or its end.
     fn has_bytes(&self, stream: StreamId) -> bool {
         // With room for any frame's head and one byte, only limits hold a chunk back.
         const ENOUGH: usize = 25;

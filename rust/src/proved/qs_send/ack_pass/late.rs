@@ -5,15 +5,15 @@ use super::{AckPass, one_more};
 use crate::proved::qs_send::lost_records::LostRecords;
 
 impl<'a> AckPass<'a> {
-    /// The greatest lost number that the ranges name below the one given last, `None` where there is none. Where no packet is lost, it
-    /// reads no range (RFC 9000, section 13.2.1). Each record that it looks at, also one below the range, and each range that it reads
-    /// takes one turn. It looks at none twice.
+    /// The greatest lost number that the ranges name below the last one returned, `None` if there is none. If no packet is lost, it reads
+    /// no range, which is the usual case (RFC 9000, section 13.2.1). Each record that it looks at, also one below the range, and each range
+    /// takes one turn, and none is looked at twice.
     #[inline]
     pub fn next_lost(&mut self, records: &LostRecords) -> Option<u64> {
         if records.len() == 0 {
             return None;
         }
-        // The number of the record that was looked at last; before the first look the bound itself.
+        // Before the first look the bound itself.
         let mut seen = self.below;
         // The highest range mostly lies above all of them.
         let mut near = records.len();
@@ -28,7 +28,7 @@ impl<'a> AckPass<'a> {
         }
     }
 
-    // The greatest lost number of the range that was read last, below the one given last. Another record is looked at in one turn.
+    // A record below the range stays in hand until a range begins at it or below, so that it is looked at once.
     fn lost_in_range(
         &mut self,
         records: &LostRecords,
@@ -47,8 +47,7 @@ impl<'a> AckPass<'a> {
         Some(number)
     }
 
-    // The greatest lost number below the one given last: the one that was looked at last, where it lies below, else another one, in one
-    // turn.
+    // The last one looked at, if it is below; else another one, in one turn.
     fn look(&mut self, records: &LostRecords, seen: u64, near: &mut usize) -> Option<u64> {
         if seen < self.below {
             return Some(seen);

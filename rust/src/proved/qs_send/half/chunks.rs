@@ -7,9 +7,8 @@ use crate::proved::qs_send::parts::Chunk;
 use crate::proved::qs_wire::varint_len;
 
 impl SendHalf {
-    /// The longest chunk from the lowest due offset on whose STREAM frame takes at most `room` bytes, with
-    /// `fresh` bytes of connection credit left for bytes that were never sent. It carries the end where
-    /// the end is due and it reaches the last written byte. `None` where no chunk may go.
+    /// The longest chunk from the lowest due offset on whose STREAM frame takes at most `room` bytes, with `fresh` bytes of connection
+    /// credit left for new bytes. It carries the FIN if that is due and it reaches the last written byte. `None` if no chunk may go.
     #[inline]
     pub fn next_chunk(&self, room: usize, fresh: u64) -> Option<Chunk> {
         let Some((offset, end)) = self.offsets.due_run() else {
@@ -37,8 +36,8 @@ impl SendHalf {
         })
     }
 
-    /// Whether the room alone holds a chunk back: one that is due, below the stream's limit and within the
-    /// credit, and whose frame is longer than `room`.
+    /// Whether the room alone holds a chunk back: one is due, below the stream's limit and within the credit, and its frame is longer than
+    /// `room`. Then a packet is full; else no room would be enough, and the next stream may have a turn.
     #[inline]
     pub fn is_held_by_room(&self, room: usize, fresh: u64) -> bool {
         match self.next_chunk(usize::MAX, fresh) {
@@ -47,14 +46,13 @@ impl SendHalf {
         }
     }
 
-    /// The lowest due offset.
     #[inline(always)]
     pub fn lowest_due(&self) -> Option<u64> {
         let (offset, _) = self.offsets.due_run()?;
         Some(offset)
     }
 
-    /// Whether bytes that were never sent may go by the half's own limit.
+    /// Whether new bytes may go by the half's own limit.
     #[inline]
     pub fn has_unsent(&self) -> bool {
         self.reset_code().is_none() && self.sent_end() < self.written().min(self.limit())
@@ -66,7 +64,7 @@ impl SendHalf {
         self.fin_noted && !self.fin_acked
     }
 
-    /// The bytes of a chunk that is still in the buffer: a front, and where they go around the buffer's end, a back.
+    /// The bytes of a chunk that is still in the buffer, in two pieces if they go around the ring's end.
     #[inline]
     pub fn bytes(&self, chunk: Chunk) -> (&[u8], &[u8]) {
         let first = self.offsets.written() - self.offsets.kept_len() as u64;
@@ -74,7 +72,7 @@ impl SendHalf {
             .part((chunk.offset - first) as usize, chunk.len)
     }
 
-    /// Writes the bytes of a chunk that is still in the buffer into the slice.
+    /// Copies the bytes of a chunk that is still in the buffer.
     #[inline]
     pub fn copy(&self, chunk: Chunk, into: &mut [u8]) {
         let (front, back) = self.bytes(chunk);
@@ -99,7 +97,7 @@ impl SendHalf {
             && (!chunk.fin || self.fin_sent)
     }
 
-    // A frame without bytes, where no byte is due.
+    // A FIN alone: no byte is due that could carry it.
     fn end_chunk(&self, room: usize) -> Option<Chunk> {
         if !self.end_due() {
             return None;
@@ -115,7 +113,6 @@ impl SendHalf {
         })
     }
 
-    // The length of a frame's type, stream and offset.
     fn head_len(&self, offset: u64) -> usize {
         debug_assert!(offset <= 0x3fff_ffff_ffff_ffff);
         let id_len = varint_len(self.id.value());

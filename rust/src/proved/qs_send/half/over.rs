@@ -1,5 +1,5 @@
 // Made from crates/qs_send/src/half/over.rt by rust/erase; not edited by hand.
-//! A half that is over, as few bytes.
+//! A half that is over, as a few bytes.
 
 use super::SendHalf;
 use crate::proved::qs_send::halves::slot::SendSlot;
@@ -12,13 +12,12 @@ impl SendHalf {
         self.fin_acked
     }
 
-    /// How many streams of its type have a lower number.
     #[inline]
     pub(crate) fn index(&self) -> u64 {
         self.id.value() / 4
     }
 
-    /// The slot of a half of that number that is over: all of it was acknowledged, and neither a reset nor a STOP_SENDING came.
+    /// Only if it was neither reset nor stopped: the codes wouldn't fit a slot.
     #[inline]
     pub(crate) fn over(&self, number: u64) -> Option<SendSlot> {
         if self.id.value() != number {

@@ -1,21 +1,21 @@
 // Made from crates/qs_send/src/halves/slot.rt by rust/erase; not edited by hand.
-//! A slot for a half: in it stands one that is over.
+//! A slot of 24 bytes: in it stands a half that is over, of another its place.
 
 use crate::proved::qs_ranges::MaybeNumber;
 
-/// A slot in 24 bytes: of a half that is over it holds all, of another the place.
+/// Most streams that ever were are over, so what they take is what counts.
 #[derive(Clone, Copy)]
 pub(crate) struct SendSlot {
-    // How many bytes were written to a half that is over.
+    // None: the half isn't over.
     pub(crate) written: MaybeNumber,
-    // Of a half that is over twice its limit, and one more where a STREAM_DATA_BLOCKED was sent; of another its place.
+    // Of a half that is over twice its limit, and one more if a STREAM_DATA_BLOCKED was sent, since a flag of its own would take eight
+    // bytes; of another its place.
     pub(crate) rest: u64,
     pub(crate) buffer: u32,
     pub(crate) widest: u32,
 }
 
 impl SendSlot {
-    /// Of a half that stands at a place.
     #[inline]
     pub(crate) fn full(place: usize) -> Self {
         SendSlot {
@@ -26,7 +26,6 @@ impl SendSlot {
         }
     }
 
-    /// Of no half: one that is over, and to which nothing was written.
     #[inline]
     pub(crate) fn none() -> Self {
         SendSlot {
@@ -37,13 +36,11 @@ impl SendSlot {
         }
     }
 
-    /// Whether the half is over.
     #[inline(always)]
     pub(crate) fn is_over(&self) -> bool {
         self.written.get().is_some()
     }
 
-    /// The place of a half that isn't over.
     #[inline(always)]
     pub(crate) fn place_or(&self, none: usize) -> usize {
         if self.is_over() {

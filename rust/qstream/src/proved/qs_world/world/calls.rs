@@ -1,5 +1,5 @@
 // Made from crates/qs_world/src/world/calls.rt by rust/erase; not edited by hand.
-//! What an end's owner does.
+//! What an application does.
 use crate::shim::Vec;
 
 use crate::proved::qs_calls::{Act, Answer};
@@ -7,7 +7,7 @@ use crate::proved::qs_conn::{Endpoint, Made, MakeFault, UseFault};
 use crate::proved::qs_recv::Read;
 use crate::proved::qs_wire::StreamId;
 
-/// The most bytes with which the act is answered.
+/// Taken before the call, so that its answer can always be kept.
 pub(crate) fn room_of(act: &Act) -> usize {
     match act {
         Act::ReadUpTo(_, size) => *size,
@@ -16,7 +16,7 @@ pub(crate) fn room_of(act: &Act) -> usize {
     }
 }
 
-/// The owner's call, answered with the buffer's front where it answers bytes.
+/// The buffer becomes the answer's bytes, so that a read copies once.
 pub(crate) fn own_call(end: &mut Endpoint, act: &Act, buffer: Vec<u8>) -> Answer {
     match act {
         Act::OpenStream(dir) => Answer::OpenStream(end.open(*dir)),

@@ -1,5 +1,5 @@
 // Made from crates/qs_world/src/world/draining.rt by rust/erase; not edited by hand.
-//! Plain rounds lead two ends to rest.
+//! Plain rounds, until nothing is left to do.
 
 use super::World;
 use super::log::same_side;
@@ -8,34 +8,29 @@ use crate::proved::qs_calls::{Act, Answer, Event, MAX_VARINT, Side};
 use crate::proved::qs_conn::Endpoint;
 use crate::proved::qs_wire::StreamId;
 
-/// The room of a packet that is made in a plain round, in bytes.
 const ROOM: usize = 1200;
 
-/// The most bytes that a read of a plain round asks for.
 const SIZE: usize = 1024;
 
 /// What plain rounds came to.
 #[derive(Clone, Copy, Debug, PartialEq, Eq)]
 pub enum Drained {
-    /// Both ends are at rest: nothing but an ACK may go out of them, no packet is outstanding, and no stream has news for its reader.
+    /// Both are at rest: nothing but an ACK may go out, no packet is outstanding, and no stream has news for its reader.
     AtRest,
-    /// As many events happened as were allowed, and the ends aren't at rest.
+    /// As many events happened as were allowed, and not both are at rest. A bound, since a call may be refused memory for ever.
     UsedUp,
 }
 
-/// Whose turn it is in a round, and for what.
 #[derive(Clone, Copy)]
 pub enum Turn {
-    /// All that is outstanding is declared lost.
     Lose(Side),
-    /// Packets are made until none is made, and each is delivered at once.
+    /// Each is delivered at once, so none is lost in a round.
     Make(Side),
-    /// Each stream is read until there is nothing new.
     Read(Side),
 }
 
 impl Turn {
-    /// The turn that follows. A round has six, and begins with A's losses.
+    /// A round has six, and begins with A's losses: what was under way goes out again.
     fn after(self) -> Turn {
         match self {
             Turn::Lose(end) => Turn::Make(end),
@@ -55,7 +50,7 @@ impl World {
     /// At rest all is done: what was written was read, unless its stream was reset or stopped, all credit is back, and resets and stops
     /// have come to their end.
     ///
-    /// Refused: `NoMemory` where the log found none. What happened until then stays.
+    /// Refused: `NoMemory` if the log found none. What happened until then stays.
     pub fn drain(&mut self, most: u64) -> Result<Drained, PlayFault> {
         let mut left = most;
         let mut turn = Turn::Lose(Side::A);
@@ -83,7 +78,6 @@ impl World {
         is_idle(&self.a) && is_idle(&self.b)
     }
 
-    // The next event of a turn.
     fn next_event(&self, turn: Turn) -> Option<Event> {
         match turn {
             Turn::Lose(end) => self.next_loss(end),
@@ -102,7 +96,6 @@ impl World {
         }
     }
 
-    // The packet that was just made is delivered, or else one is made.
     fn next_making(&self, end: Side) -> Event {
         match self.just_made(end) {
             Some(number) => Event {
@@ -126,7 +119,6 @@ impl World {
         }
     }
 
-    // The packet of that end that the newest event made.
     fn just_made(&self, end: Side) -> Option<u64> {
         let Some((event, answer)) = self.log.entries().last() else {
             return None;
@@ -138,7 +130,6 @@ impl World {
         }
     }
 
-    // Whether the newest event was to make a packet, and made none.
     fn has_made_none(&self) -> bool {
         match self.log.entries().last() {
             Some((_, Answer::Make(Ok(Some(_)), _))) => false,
@@ -155,7 +146,6 @@ impl World {
     }
 }
 
-// The number of the packet that an answer tells of.
 fn number_made(answer: &Answer) -> Option<u64> {
     match answer {
         Answer::Make(Ok(Some(made)), _) => Some(made.number),
@@ -173,7 +163,6 @@ fn is_idle(end: &Endpoint) -> bool {
     }
 }
 
-// Whether no stream has news for its reader.
 fn has_no_news(end: &Endpoint) -> bool {
     match next_news(end) {
         Some(_) => false,
@@ -181,7 +170,6 @@ fn has_no_news(end: &Endpoint) -> bool {
     }
 }
 
-// The least stream that has news for its reader.
 fn next_news(end: &Endpoint) -> Option<StreamId> {
     end.next_readable(first_stream())
 }

@@ -1,5 +1,5 @@
 // Made from crates/qs_world/src/world/happening.rt by rust/erase; not edited by hand.
-//! One event happens to two ends.
+//! One event happens to two endpoints.
 use crate::shim::{Vec, vec};
 
 use super::calls::own_call;
@@ -8,7 +8,6 @@ use crate::proved::qs_calls::{Act, Answer, Event, Side};
 use crate::proved::qs_conn::{Closing, Endpoint, Received};
 use crate::shim::alloc::{AllocError, Global};
 
-/// Whether the event delivers a packet that its end hasn't made.
 pub(crate) fn is_missing(log: &Log, event: &Event) -> bool {
     match &event.act {
         Act::Deliver(number) => log.payload(event.end, *number).is_none(),
@@ -16,12 +15,11 @@ pub(crate) fn is_missing(log: &Log, event: &Event) -> bool {
     }
 }
 
-/// A buffer of that many bytes.
+/// Taken before anything happens, so that a refusal leaves the world as it was.
 pub(crate) fn buffer_of(alloc: Global, size: usize) -> Result<Vec<u8>, AllocError> {
     vec![in alloc; 0; size]
 }
 
-/// One event happens, and is answered with the buffer's front where it is answered with bytes.
 pub(crate) fn happen(
     log: &Log,
     a: &mut Endpoint,
@@ -35,7 +33,6 @@ pub(crate) fn happen(
     }
 }
 
-// The same, where the event is one of that side.
 fn happen_at(
     log: &Log,
     side: Side,
@@ -50,7 +47,6 @@ fn happen_at(
     }
 }
 
-// The payload that one end made under that number comes to the other.
 fn deliver(log: &Log, from: Side, to: &mut Endpoint, number: u64) -> Result<Received, Closing> {
     debug_assert!(number < 1 << 62);
     let Some(text) = log.payload(from, number) else {

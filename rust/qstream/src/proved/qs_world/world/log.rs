@@ -5,7 +5,7 @@ use crate::shim::Vec;
 use crate::proved::qs_calls::{Act, Answer, Event, Side};
 use crate::shim::alloc::{AllocError, Global};
 
-/// What happened, in order, and the places of the payloads that each end made.
+/// The places of payloads are kept beside, so that a payload stands in memory once and is found in constant time.
 ///
 /// Contracts see the log, the newest first, and whether there is room for one event more.
 pub(crate) struct Log {
@@ -15,7 +15,6 @@ pub(crate) struct Log {
 }
 
 impl Log {
-    /// Nothing has happened. It takes no memory.
     pub(crate) fn new(alloc: Global) -> Log {
         Log {
             entries: Vec::new(alloc),
@@ -24,17 +23,14 @@ impl Log {
         }
     }
 
-    /// How many events happened.
     pub(crate) fn len(&self) -> usize {
         self.entries.len()
     }
 
-    /// How many packets an end has made.
     pub(crate) fn made(&self, end: Side) -> u64 {
         self.places(end).len() as u64
     }
 
-    /// The payload of a packet that the end made.
     pub(crate) fn payload(&self, end: Side, number: u64) -> Option<&[u8]> {
         let Some(place) = self.place(end, number) else {
             return None;
@@ -42,12 +38,10 @@ impl Log {
         text_of(&self.entries[place].1)
     }
 
-    // Where the payload stands.
     fn place(&self, end: Side, number: u64) -> Option<usize> {
         nth(self.places(end), number)
     }
 
-    // Where the payloads stand that the end made.
     fn places(&self, end: Side) -> &[usize] {
         match end {
             Side::A => &self.made_a,
@@ -55,7 +49,7 @@ impl Log {
         }
     }
 
-    /// Makes room for one event more, which stays until the next `push`.
+    /// It stays until the next `push`, so that what happened is always logged.
     pub(crate) fn make_room(&mut self) -> Result<(), AllocError> {
         self.entries.reserve(1)?;
         self.made_a.reserve(1)?;
@@ -63,7 +57,7 @@ impl Log {
         Ok(())
     }
 
-    /// One event happened, and was answered. It takes no memory.
+    /// It takes no memory: `make_room` did.
     pub(crate) fn push(&mut self, event: Event, answer: Answer) {
         let place = self.entries.len();
         let by_a = makes(Side::A, &event, &answer);
@@ -73,28 +67,24 @@ impl Log {
         add(&mut self.entries, event, answer);
     }
 
-    /// What happened, in order.
     pub(crate) fn entries(&self) -> &[(Event, Answer)] {
         &self.entries
     }
 
-    /// The same, handed out.
     pub(crate) fn into_entries(self) -> Vec<(Event, Answer)> {
         self.entries
     }
 }
 
-// The number at a place.
 fn nth(numbers: &[usize], place: u64) -> Option<usize> {
     numbers.get(place as usize).copied()
 }
 
-// What the layer beneath sends under a number that it claimed: a PING.
+// Under a claimed number the transport sends a packet of its own: a PING.
 fn ping_text() -> &'static [u8] {
     b"\x01"
 }
 
-// The payload of the packet with whose number a call was answered.
 fn text_of(answer: &Answer) -> Option<&[u8]> {
     match answer {
         Answer::Make(_, text) => Some(text),
@@ -103,7 +93,6 @@ fn text_of(answer: &Answer) -> Option<&[u8]> {
     }
 }
 
-// Whether the event made a packet of that end, or claimed a number for one.
 fn makes(end: Side, event: &Event, answer: &Answer) -> bool {
     if same_side(end, event.end) {
         makes_by(&event.act, answer)
@@ -112,7 +101,6 @@ fn makes(end: Side, event: &Event, answer: &Answer) -> bool {
     }
 }
 
-// Whether the call made a packet, or claimed a number for one.
 fn makes_by(act: &Act, answer: &Answer) -> bool {
     match (act, answer) {
         (Act::Make(_), Answer::Make(Ok(Some(_)), _)) => true,
@@ -129,14 +117,12 @@ pub(super) fn same_side(a: Side, b: Side) -> bool {
     }
 }
 
-// The place is noted, where there is room for it.
 fn note(places: &mut Vec<usize>, made: bool, place: usize) {
     if made {
         let _ = places.push(place);
     }
 }
 
-// The event goes in last, where there is room for it.
 fn add(entries: &mut Vec<(Event, Answer)>, event: Event, answer: Answer) {
     let _ = entries.push((event, answer));
 }
