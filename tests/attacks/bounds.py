@@ -30,7 +30,8 @@ BESIDE = {
     "many-apart": Beside(count=3.2),
     # At 4,096 a payload takes two pages of 2 KiB for each of its 64 pairs, 264 KB, and gives them back as the reset is read. What is free at the
     # heap's end glibc hands to the kernel above 128 KiB, and asks for it anew: 13.5 pages for a payload, 3,465 in the whole play. With
-    # glibc.malloc.trim_threshold at 1 MiB there are 88.
+    # glibc.malloc.trim_threshold at 1 MiB there are 88. With pages of 1.5 KiB the whole play has 889, half of quinn's; but then a ring of 4,096
+    # and two pages take more than four times what their bytes span, which is proved to be the most.
     "edges-apart": Beside(count=3.2, pages=2.2),
     "drawn-up": Beside(count=3.2),
     "said-beside-limits": Beside(count=4),

@@ -43,6 +43,20 @@ fn place(stream: StreamId) -> usize {
     (number / 4 + number % 4 * 16) as usize % 64
 }
 
+impl Notes {
+    // A write to a stream was cut short.
+    #[inline]
+    fn note_short(&mut self, end: &conn::Endpoint, stream: StreamId) -> Result<(), NoMemory> {
+        let short = &mut self.short[place(stream)];
+        if *short != stream.value() {
+            // The application is about to write the rest: more than any buffer has room for, because some may be free again by now.
+            self.heard.will_write(end, stream.inner(), usize::MAX)?;
+            *short = stream.value();
+        }
+        Ok(())
+    }
+}
+
 impl Hearing {
     pub(super) fn new() -> Hearing {
         Hearing {
@@ -77,8 +91,9 @@ impl Hearing {
     /// vain.
     #[inline]
     pub(super) fn was_cut_short(&mut self, end: &conn::Endpoint, stream: StreamId) {
-        if let Some(notes) = &self.notes {
-            if notes.short[place(stream)] == stream.value() {
+        // Once notes stand the mark is set here, as a call costs as much as the mark does.
+        if let Some(notes) = &mut self.notes {
+            if notes.note_short(end, stream).is_ok() {
                 return;
             }
         }
@@ -99,10 +114,7 @@ impl Hearing {
         let Some(stream) = self.unnoted else {
             return Ok(());
         };
-        let notes = self.notes()?;
-        // The application is about to write the rest: more than any buffer has room for, because some may be free again by now.
-        notes.heard.will_write(end, stream.inner(), usize::MAX)?;
-        notes.short[place(stream)] = stream.value();
+        self.notes()?.note_short(end, stream)?;
         self.unnoted = None;
         Ok(())
     }
