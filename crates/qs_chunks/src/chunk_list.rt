@@ -13,7 +13,7 @@ use std::collections::VecDeque;
 use std::marker::Model;
 use std::mem;
 
-/// Chunks, and a buffer that is free.
+/// One buffer that is free, so that a chunk that is read gives its memory to the next.
 #[derive(Drop)]
 pub(crate) struct ChunkList {
     alloc: Global,
@@ -33,8 +33,8 @@ impl Model for ChunkList {
     ghost view = { λ l. l.chunks.items };
 }
 
-/// A range of offsets from `from` on and below `to`. The chunks at places from `first` on and before `after` lie within
-/// it and hold `held` bytes. Where it joins, the chunk before them ends at `from`.
+/// A range of offsets from `from` on and below `to`. The chunks at places from `first` on and before `after` lie within it and hold `held`
+/// bytes. If it joins, the chunk before them ends at `from`, and grows instead of a new one.
 #[derive(Clone, Copy)]
 pub(crate) struct Spot {
     pub(crate) first: usize,
@@ -100,7 +100,7 @@ impl ChunkList {
         &self.chunks[place]
     }
 
-    // How many chunks begin at `start` or below it. Where all do, none but the last is looked at.
+    // All of them begin there for bytes in order, so the last is looked at first.
     fn place_past(&self, start: u64) -> usize
         requires { IsOrdered 0 self.now }
         ensures within { result ≤ length self.now }

@@ -10,7 +10,7 @@ use std::alloc::Global;
 use std::collections::VecDeque;
 use std::marker::Model;
 
-/// A wire in memory. Datagrams wait at an end in the order in which they were sent to it.
+/// A wire in memory, whose failures a test chooses. Datagrams wait at an endpoint in the order in which they were sent to it.
 #[derive(Drop)]
 pub struct MemoryWire<'a> {
     alloc: Global,
@@ -84,7 +84,7 @@ impl<'a> Wire for MemoryWire<'a> {
         }
     }
 
-    /// It fails also where nothing waits. What waits stays where it fails.
+    /// It fails also if nothing waits, as a socket's timeout does. What waits stays if it fails.
     fn recv(&mut self, at: Side, into: &mut [u8]) -> Result<usize, WireError> {
         self.recvs = self.recvs.saturating_add(1);
         if self.failing_recvs.contains(&self.recvs) {
@@ -105,7 +105,6 @@ impl<'a> Wire for MemoryWire<'a> {
     }
 }
 
-/// Copies what fits, and answers how many bytes that is.
 fn copy_front(from: &[u8], into: &mut [u8]) -> usize
     ensures { result ≤ length into.new }
 {

@@ -8,15 +8,15 @@ use crate::shim::alloc::Global;
 use crate::shim::collections::VecDeque;
 use crate::shim::mem;
 
-/// Chunks, and a buffer that is free.
+/// One buffer that is free, so that a chunk that is read gives its memory to the next.
 pub(crate) struct ChunkList {
     alloc: Global,
     chunks: VecDeque<Chunk>,
     spare: Vec<u8>,
 }
 
-/// A range of offsets from `from` on and below `to`. The chunks at places from `first` on and before `after` lie within
-/// it and hold `held` bytes. Where it joins, the chunk before them ends at `from`.
+/// A range of offsets from `from` on and below `to`. The chunks at places from `first` on and before `after` lie within it and hold `held`
+/// bytes. If it joins, the chunk before them ends at `from`, and grows instead of a new one.
 #[derive(Clone, Copy)]
 pub(crate) struct Spot {
     pub(crate) first: usize,
@@ -67,7 +67,7 @@ impl ChunkList {
         &self.chunks[place]
     }
 
-    // How many chunks begin at `start` or below it. Where all do, none but the last is looked at.
+    // All of them begin there for bytes in order, so the last is looked at first.
     fn place_past(&self, start: u64) -> usize {
         match self.chunks.back() {
             Some(last) if last.offset() > start => {

@@ -13,7 +13,7 @@ use crate::proved::qs_world::{
 use crate::shim::alloc::{AllocError, Global};
 use crate::shim::io;
 
-/// The most bytes of a datagram that is looked at. A number of eight bytes and a payload are fewer.
+/// A longer datagram is a stranger's: a number of eight bytes and the largest payload are fewer.
 const MAX_DATAGRAM: usize = 16_392;
 
 /// Plays a script between two ends of the standard settings over a wire, and writes the report as [`udp_events`] does. The fault of a
@@ -27,7 +27,8 @@ pub fn run_udp<Wi: Wire, W: io::Write>(
     status_of(report_udp(alloc, script, wire, out))
 }
 
-/// As [`run_udp`], and it answers the report that it wrote.
+/// As [`run_udp`], and it returns the report that it wrote, so that a trace is of the very log that was printed and nothing is played
+/// twice.
 pub fn report_udp<Wi: Wire, W: io::Write>(
     alloc: Global,
     script: &[u8],
@@ -134,7 +135,6 @@ fn carried_text(
     Ok(text)
 }
 
-/// Appends the line of the wire.
 fn push_wire_line(text: &mut String, failures: u64, strangers: u64) -> Result<(), AllocError> {
     write!(text, "wire failures {failures} strangers {strangers}\n")
 }
@@ -152,7 +152,6 @@ fn carry_events<Wi: Wire>(
     carry_each(alloc, events, wire, world, &mut room)
 }
 
-/// The same, with room for the datagrams.
 fn carry_each<Wi: Wire>(
     alloc: Global,
     events: &[Event],
@@ -170,12 +169,11 @@ fn carry_each<Wi: Wire>(
     Ok(strangers)
 }
 
-/// One stranger's datagram more, if one came.
 fn counted(stranger: bool, count: u64) -> u64 {
     if stranger { one_more(count) } else { count }
 }
 
-/// Room for the datagram that is sent, and for the one that is received.
+/// Taken once, so that memory is refused before anything is played, and not amid a run.
 struct Room {
     sent: Vec<u8>,
     received: Vec<u8>,
@@ -189,7 +187,6 @@ impl Room {
         })
     }
 
-    /// The datagram of that packet is to be sent.
     fn put(&mut self, number: u64, payload: &[u8]) -> Result<(), AllocError> {
         self.sent.clear();
         self.sent.extend_from_slice(&number.to_be_bytes())?;
@@ -254,7 +251,6 @@ fn lose(end: Side, number: u64) -> Event {
     }
 }
 
-/// An event takes place. No stranger's datagram came.
 fn step(world: &mut World, event: Event) -> Result<bool, PlayFault> {
     match world.happen(event) {
         Ok(()) => Ok(false),
@@ -262,7 +258,7 @@ fn step(world: &mut World, event: Event) -> Result<bool, PlayFault> {
     }
 }
 
-/// The number that a datagram bears, where it is the packet that the end made under that number.
+/// Who sent it doesn't matter: a datagram counts by what it holds.
 fn borne(world: &World, end: Side, datagram: &[u8]) -> Option<u64> {
     let (head, text) = datagram.split_first_chunk::<8>()?;
     let number = u64::from_be_bytes(*head);

@@ -9,7 +9,6 @@ use crate::proved::qs_calls::Settings;
 use crate::proved::qs_script::standard_settings;
 use crate::shim::alloc::{AllocError, Global};
 
-/// The most events of a random script.
 const MAX_EVENTS: u64 = 10_000;
 
 /// How many streams of each direction an end grants at first, at most and where nothing else is asked for.
@@ -20,7 +19,6 @@ const USUAL_GRANT: u64 = 8;
 /// How many it grants in all, at most.
 const MAX_LIFETIME: u64 = 65_536;
 
-/// Why the words ask for nothing.
 #[derive(Clone, Copy, Debug, PartialEq, Eq)]
 pub enum Refusal {
     /// They make no sense.
@@ -55,8 +53,8 @@ pub enum Request<'a> {
 }
 
 impl<'a> Request<'a> {
-    /// What the words ask for, the program's name first. `BadUsage` where they make no sense, as a request
-    /// for help does not either, and `NoMemory` where memory was refused.
+    /// What the words ask for, the program's name first. `BadUsage` if they make no sense, as a request for help doesn't either: the tool
+    /// has no text for it. `NoMemory` if memory was refused.
     pub fn parse(alloc: Global, words: &'a [String]) -> Result<Request<'a>, Refusal> {
         let Ok(command) = command(alloc) else {
             return Err(Refusal::NoMemory);
@@ -130,7 +128,7 @@ fn random<'a>(seed: &str, n: &str) -> Option<Request<'a>> {
     })
 }
 
-/// A number in decimal digits alone. Leading zeros are allowed, a sign isn't.
+/// Digits alone, so that a number has one spelling but for leading zeros.
 fn number(word: &str) -> Option<u64> {
     if word.bytes().all(|byte| byte.is_ascii_digit()) {
         word.parse().ok()
