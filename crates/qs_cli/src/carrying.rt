@@ -90,7 +90,6 @@ pub fn report_carried<Wi: Wire, W: io::Write>(
     answer
 }
 
-/// The events take place in a new world, and what took place is written.
 fn carry_and_show<Wi: Wire, W: io::Write>(
     alloc: Global,
     events: &[Event],
@@ -114,7 +113,6 @@ fn carry_and_show<Wi: Wire, W: io::Write>(
     }
 }
 
-/// Writes the report of a world, and the line of the wire. It answers that report.
 fn show_world<W: io::Write>(
     alloc: Global,
     world: &World,
@@ -133,7 +131,6 @@ fn show_world<W: io::Write>(
     }
 }
 
-/// Writes a report, and the line of the wire.
 fn show_report<W: io::Write>(
     alloc: Global,
     report: &Report,
@@ -149,7 +146,6 @@ fn show_report<W: io::Write>(
     }
 }
 
-/// The text of a report, and the line of the wire.
 fn carried_text(
     alloc: Global,
     report: &Report,
@@ -239,7 +235,6 @@ impl Room {
     }
 }
 
-/// One event takes place, or what comes of it over the wire. Answers whether a stranger's datagram came.
 fn carry_event<Wi: Wire>(
     alloc: Global,
     world: &mut World,
@@ -260,7 +255,6 @@ fn carry_event<Wi: Wire>(
     }
 }
 
-/// A packet is sent, and what is received is delivered. Answers whether that was a stranger's datagram.
 fn carry_packet<Wi: Wire>(
     world: &mut World,
     end: Side,

@@ -39,7 +39,6 @@ impl<'a> Model for MemoryWire<'a> {
 }
 
 impl<'a> MemoryWire<'a> {
-    /// Nothing waits at either end. The sends and the receives of these numbers fail, each counted from 1.
     pub fn new(alloc: Global, failing_sends: &'a [u64], failing_recvs: &'a [u64]) -> MemoryWire<'a>
         ensures { result ≡ nothing_waits }
     {
@@ -55,7 +54,6 @@ impl<'a> MemoryWire<'a> {
         }
     }
 
-    /// A stranger's datagram waits at an end, behind those that wait there. Where memory is refused nothing changed.
     pub fn inject(&mut self, at: Side, bytes: &[u8]) -> Result<(), NoMemory>
         ensures ok { OnOk result (self.new ≡ waiting_with at bytes.now self.old) }
         ensures err { OnErr result (self.new ≡ self.old) }

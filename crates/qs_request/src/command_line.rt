@@ -12,7 +12,7 @@ use std::alloc::{AllocError, Global};
 
 const MAX_EVENTS: u64 = 10_000;
 
-/// How many streams of each direction an end grants at first, at most and where nothing else is asked for.
+/// How many streams of each direction an endpoint grants at first, at most and if nothing else is asked for.
 const MAX_GRANT: u64 = 4096;
 
 const USUAL_GRANT: u64 = 8;
@@ -22,26 +22,23 @@ const MAX_LIFETIME: u64 = 65_536;
 
 #[derive(Clone, Copy, Debug, PartialEq, Eq)]
 pub enum Refusal {
-    /// They make no sense.
     BadUsage,
-    /// Memory was refused.
     NoMemory,
 }
 
-/// What the program is asked to do.
 #[derive(Clone, Copy)]
 pub enum Request<'a> {
     /// Show the frames of the payload that the word spells in hex.
     Frames(&'a str),
-    /// Play the script in the file of that name, between two ends of these settings, and lead them to rest where that is asked for. The
-    /// traces of both ends go to files, where a name is given for these.
+    /// Play the script in the file of that name, between two endpoints of these settings, and lead them to rest if that is asked for. The
+    /// traces of both go to files, if a name is given for these.
     Play {
         file: &'a str,
         settings: Settings,
         drain: bool,
         qlog: Option<&'a str>,
     },
-    /// Play the script in the file of that name, with its packets over UDP. The traces of both ends go to files, as above.
+    /// Play the script in the file of that name, with its packets over UDP. The traces of both go to files, as above.
     Udp {
         file: &'a str,
         qlog: Option<&'a str>,
@@ -73,7 +70,6 @@ impl<'a> Request<'a> {
     }
 }
 
-/// What a subcommand of that name asks for with these arguments.
 fn asked_for<'a>(name: &str, found: &ArgMatches<'a>) -> Option<Request<'a>>
     ensures { IfSome result IsPlayable }
 {
@@ -116,7 +112,6 @@ fn settings(grant: Option<&str>, lifetime: Option<&str>) -> Option<Settings>
     })
 }
 
-/// The number that the word spells, or the usual one where there is no word.
 fn number_or(word: Option<&str>, usual: u64) -> Option<u64> {
     match word {
         Some(word) => number(word),
@@ -150,7 +145,6 @@ fn frames_command<'a>(alloc: Global) -> Result<Command<'a>, AllocError> {
     Command::new(alloc, "frames").arg(Arg::new(alloc, "hex").required(true))
 }
 
-/// A subcommand that plays the script in a file.
 fn script_command<'a>(alloc: Global, name: &'a str) -> Result<Command<'a>, AllocError> {
     Command::new(alloc, name)
         .arg(Arg::new(alloc, "file").required(true))?

@@ -103,7 +103,7 @@ impl Assembly for ChunkAssembly {
         self.stored
     }
 
-    // A chunk's buffer may have room for more, so the bound is on twice what it holds.
+    // As it counts: the bytes. A chunk's buffer may have room for more.
     fn held(&self) -> u64 {
         self.stored
     }

@@ -22,7 +22,6 @@ pub struct MemoryWire<'a> {
 }
 
 impl<'a> MemoryWire<'a> {
-    /// Nothing waits at either end. The sends and the receives of these numbers fail, each counted from 1.
     pub fn new(alloc: Global, failing_sends: &'a [u64], failing_recvs: &'a [u64]) -> MemoryWire<'a> {
         MemoryWire {
             alloc,
@@ -36,7 +35,6 @@ impl<'a> MemoryWire<'a> {
         }
     }
 
-    /// A stranger's datagram waits at an end, behind those that wait there. Where memory is refused nothing changed.
     pub fn inject(&mut self, at: Side, bytes: &[u8]) -> Result<(), NoMemory> {
         let datagram = Vec::from_slice(self.alloc, bytes)?;
         match at {
