@@ -1,5 +1,4 @@
-"""What the programs of this folder share: what they build, what they tell of the machine, and their places in docs/PERFORMANCE.md and
-RESULTS.md."""
+"""What the programs of this folder share: what they build, what they tell of the machine, and their places in RESULTS.md."""
 
 import datetime
 import os
@@ -9,7 +8,6 @@ import subprocess
 import sys
 
 HERE = pathlib.Path(__file__).resolve().parent
-PAGE = HERE.parent / "docs" / "PERFORMANCE.md"
 RESULTS = HERE / "RESULTS.md"
 # The builds: cargo's own flags, which a user has, and one codegen unit beside.
 BUILDS = {"release": "default", "one": "one unit"}
@@ -67,19 +65,19 @@ def today():
     return datetime.date.today().isoformat()
 
 
-def parts(begin, end, page=PAGE):
-    """The page up to a mark, what stands between it and another one, and the page from that on."""
-    before, first, rest = page.read_text().partition(begin)
+def parts(begin, end):
+    """The page of results up to a mark, what stands between it and another one, and the page from that on."""
+    before, first, rest = RESULTS.read_text().partition(begin)
     inside, last, after = rest.partition(end)
     if not first or not last:
-        sys.exit(f"bench: {page} lacks one of its marks, {begin} and {end}")
+        sys.exit(f"bench: {RESULTS} lacks one of its marks, {begin} and {end}")
     return before + begin, inside, end + after
 
 
-def write(begin, end, text, page=PAGE):
+def write(begin, end, text):
     """Puts a text between two marks."""
-    before, _old, after = parts(begin, end, page)
-    page.write_text(f"{before}\n\n{text}\n\n{after}")
+    before, _old, after = parts(begin, end)
+    RESULTS.write_text(f"{before}\n\n{text}\n\n{after}")
 
 
 def run(main):
