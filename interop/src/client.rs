@@ -160,7 +160,6 @@ pub fn run_errand<E: Errand>(
     Ok(0)
 }
 
-/// How long a client waits where a connection may bring nothing more.
 struct Patience {
     /// Until when the server has to say something, where its name has another address.
     word_until: Option<Instant>,
@@ -186,7 +185,6 @@ fn is_refusal(sent: &io::Result<usize>) -> bool {
     matches!(sent, Err(error) if error.kind() == ErrorKind::ConnectionRefused)
 }
 
-// Goes on until the connection ends, which it does, too, where there is no patience any more, or no one listens there.
 fn run_until<A: Application>(
     socket: &UdpSocket,
     connection: &mut Connection,

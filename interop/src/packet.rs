@@ -31,7 +31,6 @@ impl Level {
     pub const ALL: [Level; 3] = [Level::Initial, Level::Handshake, Level::Data];
 }
 
-/// A connection identifier of at most 20 bytes.
 #[derive(Clone, Copy, Default, PartialEq, Eq, Hash, PartialOrd, Ord)]
 pub struct ConnectionId {
     len: u8,
@@ -87,7 +86,6 @@ pub struct Packet {
     pub destination: ConnectionId,
     pub source: ConnectionId,
     pub token: Range<usize>,
-    /// Where the packet number stands; of a Retry and a Version Negotiation, what follows the identifiers.
     pub body: usize,
     pub end: usize,
 }
@@ -231,12 +229,10 @@ impl Header<'_> {
         }
     }
 
-    /// Whether it has no bytes: it never has none.
     pub fn is_empty(&self) -> bool {
         false
     }
 
-    /// Writes it behind the bytes. The length of a long header is written as the packet is sealed.
     pub fn write(&self, out: &mut Vec<u8>) -> Draft {
         let start = out.len();
         let number_len = NUMBER_LEN as u8 - 1;

@@ -22,7 +22,6 @@ use std::time::{Duration, Instant};
 /// How many datagrams of a socket are taken in at once, and of a connection sent at once.
 pub const BATCH: usize = 64;
 
-/// The least identifier that a client chooses for a server (RFC 9000, section 7.2).
 const LEAST_FIRST_ID: usize = 8;
 
 /// How long a socket waits where no timer runs.
@@ -138,7 +137,6 @@ pub fn turn<A: Application>(
     Ok(true)
 }
 
-// A server that stops closes a connection once nothing is under way on it that the client doesn't know.
 fn part<A: Application>(phase: Phase, connection: &mut Connection, application: &mut A) {
     let close = Close::new(A::NO_ERROR, "the server stops");
     let is_over = match (phase, connection.end()) {
@@ -156,7 +154,6 @@ fn part<A: Application>(phase: Phase, connection: &mut Connection, application: 
     }
 }
 
-// Of a connection that ended as it is to be a line stands in the log where more is asked for.
 fn tell_end<A: Application>(peer: SocketAddr, was_open: bool, outcome: &Outcome) {
     program::tell_more(&format!("connection with {peer} ended: {outcome}"));
     match outcome {
@@ -192,7 +189,6 @@ impl<A> Table<A> {
 }
 
 impl<A: Application> Server<A> {
-    /// `make` makes what runs over each connection, with the peer of an address.
     pub fn new(
         socket: UdpSocket,
         tls: Arc<ServerConfig>,
@@ -217,12 +213,10 @@ impl<A: Application> Server<A> {
         }
     }
 
-    /// How often a connection was looked at: as a datagram came, as its time was up, and as it went on.
     pub fn looks(&self) -> u64 {
         self.served.looks
     }
 
-    /// Serves until it is asked to stop.
     pub fn run(&mut self, stop: &Stop) -> io::Result<()> {
         let mut out = Vec::new();
         while !stop.is_asked() {

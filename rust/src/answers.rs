@@ -19,10 +19,9 @@ pub struct Closing {
 
 /// A side of the connection, seen from this endpoint.
 #[derive(Clone, Copy, Debug, PartialEq, Eq)]
+#[allow(missing_docs)]
 pub enum Closer {
-    /// This endpoint.
     Us,
-    /// The other one.
     Peer,
 }
 
@@ -37,8 +36,8 @@ pub enum CloseKind {
 
 /// A close that [`Endpoint::tell_closed`](crate::Endpoint::tell_closed) noted: one that never came through this endpoint.
 #[derive(Clone, Copy, Debug, PartialEq, Eq)]
+#[allow(missing_docs)]
 pub struct ToldClose {
-    /// Who closed.
     pub by: Closer,
     /// The kind, without which the code can't be read.
     pub kind: CloseKind,
@@ -69,8 +68,8 @@ pub enum Received {
 
 /// What came of a single frame ([`Endpoint::take_frame`](crate::Endpoint::take_frame)).
 #[derive(Clone, Copy, Debug, PartialEq, Eq)]
+#[allow(missing_docs)]
 pub enum Taken {
-    /// It took effect, and changed something.
     Took,
     /// It changed nothing: its content came before, or it raises no limit. Count these against a peer that only makes work.
     ///
@@ -106,6 +105,7 @@ pub enum Read {
 
 /// What [`Endpoint::peek`](crate::Endpoint::peek) shows. Nothing counts as read by it.
 #[derive(Clone, Copy, Debug, PartialEq, Eq)]
+#[allow(missing_docs)]
 pub enum Peek<'a> {
     /// The bytes that are next, in order: those of the first slice, which has at least one, and then those of the second. There are two
     /// because the receive buffer is a ring; the second is empty unless the bytes go around its edge.
@@ -114,7 +114,6 @@ pub enum Peek<'a> {
     End,
     /// The peer reset the stream, with this code.
     Reset(u64),
-    /// Nothing can be read now.
     Wait,
 }
 
@@ -131,10 +130,10 @@ pub struct Consumed {
 
 /// A packet that was made.
 #[derive(Clone, Copy, Debug, PartialEq, Eq)]
+#[allow(missing_docs)]
 pub struct Made {
     /// Its packet number, below 2^62. Send the packet under this one: ACKs will name it (RFC 9000, section 12.3).
     pub number: u64,
-    /// The length of its payload in bytes.
     pub len: usize,
     /// Whether it asks for an ACK: it holds a frame other than ACK (RFC 9000, section 13.2.1). One that doesn't isn't in flight for
     /// congestion control (RFC 9002, section 2), and has nothing to retransmit, so it can't be declared lost.
@@ -198,12 +197,12 @@ impl Token {
     }
 }
 
-/// How much memory an endpoint uses for the bytes of its streams, in bytes.
+/// How much memory an endpoint uses for the bytes of its streams, in bytes: those that wait to be read, and those that wait to be
+/// acknowledged. Apart, since a peer makes the first grow, and the application the second.
 #[derive(Clone, Copy, Debug, PartialEq, Eq)]
+#[allow(missing_docs)]
 pub struct Held {
-    /// By receive buffers, for bytes that wait to be read.
     pub receiving: u64,
-    /// By sending buffers, for bytes that wait to be acknowledged.
     pub sending: u64,
 }
 
@@ -218,30 +217,27 @@ pub struct StreamReport {
 
 /// A sending half (RFC 9000, section 3.1).
 #[derive(Clone, Copy, Debug, PartialEq, Eq)]
+#[allow(missing_docs)]
 pub struct SendReport {
     /// Its state. `DataRecvd` is what a sender waits for: the peer has everything.
     pub state: SendState,
-    /// How many bytes were accepted.
     pub written: u64,
     /// The final size in bytes, once it is declared by a FIN or a reset.
     pub final_size: Option<u64>,
     /// The code of its reset, if there was one: the application's, or that of the peer's STOP_SENDING (section 3.5).
     pub reset_code: Option<u64>,
-    /// The limit on offsets that the peer granted.
     pub limit: u64,
 }
 
 /// A receiving half (RFC 9000, section 3.2).
 #[derive(Clone, Copy, Debug, PartialEq, Eq)]
+#[allow(missing_docs)]
 pub struct RecvReport {
-    /// Its state.
     pub state: RecvState,
-    /// How many bytes were read.
     pub read_count: u64,
     /// The final size if it is known, else one more than the largest offset received, or 0. Flow control counts this, not the bytes that
     /// arrived.
     pub highest: u64,
-    /// The limit on offsets that the peer was granted.
     pub limit: u64,
     /// The final size in bytes, once it is known.
     pub final_size: Option<u64>,
@@ -252,37 +248,30 @@ pub struct RecvReport {
     pub stop_code: Option<u64>,
 }
 
-/// The states of a sending half (RFC 9000, section 3.1).
+/// The states of a sending half, with the standard's names (RFC 9000, section 3.1). `DataSent` has sent its FIN, and may still have to send
+/// lost bytes again; in `DataRecvd` everything was acknowledged. `ResetSent` also follows the peer's STOP_SENDING.
 #[derive(Clone, Copy, Debug, PartialEq, Eq)]
+#[allow(missing_docs)]
 pub enum SendState {
-    /// Nothing was sent.
     Ready,
-    /// Something was sent, but not the FIN.
     Send,
-    /// The FIN was sent. Lost bytes may still be sent again.
     DataSent,
-    /// Everything was acknowledged, the FIN too.
     DataRecvd,
-    /// It was reset, by the application or by a STOP_SENDING.
     ResetSent,
-    /// The reset was acknowledged.
     ResetRecvd,
 }
 
-/// The states of a receiving half (RFC 9000, section 3.2).
+/// The states of a receiving half, with the standard's names (RFC 9000, section 3.2). In `SizeKnown` bytes are missing; in `DataRecvd` none
+/// is, but the end wasn't read. Only in `DataRead` and `ResetRead`, when `read` returned the end or the reset, the peer may open another
+/// stream.
 #[derive(Clone, Copy, Debug, PartialEq, Eq)]
+#[allow(missing_docs)]
 pub enum RecvState {
-    /// Bytes arrive, and the final size isn't known.
     Recv,
-    /// The final size is known, but bytes are missing.
     SizeKnown,
-    /// All bytes arrived. Not all are read, or the end isn't.
     DataRecvd,
-    /// All bytes were read, and `read` returned the end.
     DataRead,
-    /// The peer reset it.
     ResetRecvd,
-    /// `read` returned the peer's reset, so the stream is over.
     ResetRead,
 }
 

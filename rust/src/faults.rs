@@ -28,12 +28,12 @@ pub enum RaiseFault {
 /// Why a setting wasn't changed. Nothing changed.
 #[derive(Clone, Copy, Debug, PartialEq, Eq)]
 #[non_exhaustive]
+#[allow(missing_docs)]
 pub enum SetFault {
     /// The connection is closed, so limits mean nothing any more.
     Closed,
     /// The value is out of the range that [`Endpoint::new_wide`](crate::Endpoint::new_wide) has for it.
     OutOfRange,
-    /// No stream of that number is open.
     NoSuchStream,
     /// The stream has no such half here: it is unidirectional.
     WrongDirection,
@@ -42,21 +42,21 @@ pub enum SetFault {
 /// Why no stream was opened.
 #[derive(Clone, Copy, Debug, PartialEq, Eq)]
 #[non_exhaustive]
+#[allow(missing_docs)]
 pub enum OpenFault {
     /// So many streams were opened, ended ones too, which is the peer's count so far (RFC 9000, section 4.6). A STREAMS_BLOCKED tells it to
     /// the peer. It permits more as streams end; [`Event::Available`](crate::Event::Available) says when.
     Blocked(u64),
     /// The connection is closed, and all streams end with it.
     Closed,
-    /// Memory was refused. Nothing changed.
     NoMemory,
 }
 
 /// Why a stream can't be used so. Nothing changed.
 #[derive(Clone, Copy, Debug, PartialEq, Eq)]
 #[non_exhaustive]
+#[allow(missing_docs)]
 pub enum UseFault {
-    /// No stream of that number is open.
     NoSuchStream,
     /// The stream has no such half here: it is unidirectional.
     WrongDirection,

@@ -10,8 +10,9 @@ use core::ops::Range;
 
 mod between;
 
-/// A frame (RFC 9000, section 19). Its bytes are lent by the payload, so reading copies nothing.
+/// A frame, with the fields of RFC 9000, section 19. Its bytes are lent by the payload, so reading copies nothing.
 #[derive(Clone, Copy, Debug, PartialEq, Eq)]
+#[allow(missing_docs)]
 pub enum Frame<'a> {
     /// Section 19.1. Each byte is a frame of its own, so a padded payload has many.
     Padding,
@@ -19,7 +20,6 @@ pub enum Frame<'a> {
     Ping,
     /// Section 19.3, of both types: that with ECN counts and that without.
     Ack {
-        /// The largest number that is acknowledged.
         largest: u64,
         /// The delay as in the payload: in microseconds divided by two to the power of `ack_delay_exponent` (section 18.2), which only the
         /// transport knows.
@@ -27,46 +27,27 @@ pub enum Frame<'a> {
         /// The length of the first range, and then of each next one the gap before it and its length, as the payload spells them: an ACK
         /// may have many. [`AckRanges`] reads them.
         ranges: &'a [u8],
-        /// The counts of a frame of type 0x03.
         ecn: Option<EcnCounts>,
     },
     /// Section 19.4.
     ResetStream {
-        /// The stream that is reset.
         stream: StreamId,
-        /// The application's code.
         code: u64,
         /// How many bytes the stream has for flow control, sent or not.
         final_size: u64,
     },
     /// Section 19.5.
-    StopSending {
-        /// The stream that isn't read any more.
-        stream: StreamId,
-        /// The application's code.
-        code: u64,
-    },
+    StopSending { stream: StreamId, code: u64 },
     /// Section 19.6.
-    Crypto {
-        /// The offset of the first byte.
-        offset: u64,
-        /// The bytes of the handshake.
-        bytes: &'a [u8],
-    },
+    Crypto { offset: u64, bytes: &'a [u8] },
     /// Section 19.7.
-    NewToken {
-        /// The token.
-        bytes: &'a [u8],
-    },
+    NewToken { bytes: &'a [u8] },
     /// Section 19.8, of all eight types.
     Stream {
-        /// The stream.
         stream: StreamId,
-        /// The offset of the first byte.
         offset: u64,
         /// Whether the stream ends with these bytes.
         fin: bool,
-        /// The bytes.
         bytes: &'a [u8],
     },
     /// Section 19.9.
@@ -76,14 +57,12 @@ pub enum Frame<'a> {
     },
     /// Section 19.10.
     MaxStreamData {
-        /// The stream.
         stream: StreamId,
         /// How many bytes the receiver of this frame may send on it.
         maximum: u64,
     },
     /// Section 19.11, of both types: one for each direction.
     MaxStreams {
-        /// The direction of the streams.
         dir: Dir,
         /// How many of them the receiver of this frame may open, at most 2^60.
         count: u64,
@@ -95,21 +74,18 @@ pub enum Frame<'a> {
     },
     /// Section 19.13.
     StreamDataBlocked {
-        /// The stream.
         stream: StreamId,
         /// The limit that blocks the sender.
         limit: u64,
     },
     /// Section 19.14, of both types: one for each direction.
     StreamsBlocked {
-        /// The direction of the streams.
         dir: Dir,
         /// The count that blocks the sender, at most 2^60.
         count: u64,
     },
     /// Section 19.15.
     NewConnectionId {
-        /// The number of the connection ID.
         sequence: u64,
         /// Connection IDs of lower numbers are to be retired.
         retire: u64,
@@ -119,57 +95,39 @@ pub enum Frame<'a> {
         reset_token: &'a [u8],
     },
     /// Section 19.16.
-    RetireConnectionId {
-        /// The number of the connection ID.
-        sequence: u64,
-    },
-    /// Section 19.17.
-    PathChallenge {
-        /// 8 bytes.
-        bytes: &'a [u8],
-    },
-    /// Section 19.18.
-    PathResponse {
-        /// 8 bytes.
-        bytes: &'a [u8],
-    },
+    RetireConnectionId { sequence: u64 },
+    /// Section 19.17, with 8 bytes.
+    PathChallenge { bytes: &'a [u8] },
+    /// Section 19.18, with 8 bytes.
+    PathResponse { bytes: &'a [u8] },
     /// Section 19.19, type 0x1c: the transport closes.
     ConnectionClose {
-        /// The code of section 20.1.
         code: u64,
         /// The type of the frame that offended, 0 if none did.
         frame_type: u64,
-        /// Why, in words.
         reason: &'a [u8],
     },
     /// Section 19.19, type 0x1d: the application closes. Its codes are numbered apart.
-    ApplicationClose {
-        /// The application's code.
-        code: u64,
-        /// Why, in words.
-        reason: &'a [u8],
-    },
+    ApplicationClose { code: u64, reason: &'a [u8] },
     /// Section 19.20.
     HandshakeDone,
 }
 
 /// How many packets came with each mark of congestion (RFC 9000, section 19.3.2): for the transport's congestion control.
 #[derive(Clone, Copy, Debug, PartialEq, Eq)]
+#[allow(missing_docs)]
 pub struct EcnCounts {
-    /// Packets that came with ECT(0).
     pub ect0: u64,
-    /// Packets that came with ECT(1).
     pub ect1: u64,
-    /// Packets that came with CE.
     pub ce: u64,
 }
 
 /// A frame and its place in a payload.
 #[derive(Clone, Copy, Debug, PartialEq, Eq)]
+#[allow(missing_docs)]
 pub struct Placed<'a> {
     /// Where its first byte stands, counted in bytes from 0.
     pub place: usize,
-    /// The frame.
     pub frame: Frame<'a>,
     /// The number of its type as it was read. A STREAM has eight, which `frame` doesn't tell apart, and a close names the one read.
     pub frame_type: u64,
@@ -198,8 +156,8 @@ pub enum FaultKind {
 
 /// The first fault of a payload. It stands in place of a frame, and nothing behind it is read.
 #[derive(Clone, Copy, Debug, PartialEq, Eq)]
+#[allow(missing_docs)]
 pub struct WireFault {
-    /// What is wrong.
     pub kind: FaultKind,
     /// Where the frame's first byte stands, counted in bytes from 0.
     pub place: usize,

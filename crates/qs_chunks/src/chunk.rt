@@ -6,7 +6,7 @@ ghost use Rattle.qs_chunks.specs.Chunks.{AreOne, Piece, end_of_piece, longer, re
 use qs_ranges::NoMemory;
 use std::marker::Model;
 
-/// The bytes from an offset on. The first `start` ones of the vector were taken away.
+/// The first `start` bytes of the vector are read: dropping them at once would move all others for each read.
 #[derive(Drop)]
 pub(crate) struct Chunk {
     offset: u64,
@@ -29,7 +29,7 @@ impl Model for Chunk {
 }
 
 impl Chunk {
-    /// The bytes, kept in a buffer whose memory is used again.
+    /// In a buffer whose memory is used again, so that bytes in order take none anew.
     pub(crate) fn new(mut buffer: Vec<u8>, offset: u64, bytes: &[u8]) -> Result<Self, NoMemory>
         requires { offset + length bytes.now ≤ MAX_VARINT }
         ensures { IfOk result (λ chunk. chunk ≡ record { offset = offset; bytes = bytes.now }) }
@@ -98,8 +98,7 @@ impl Chunk {
         self.bytes.truncate(self.bytes.len() - count);
     }
 
-    /// Takes the first bytes away. Their memory is let go once it is at least as long as the rest, so that each byte
-    /// moves once on average.
+    /// The memory of read bytes is freed once it is at least as long as the rest, so that each byte moves once on average.
     pub(crate) fn skip(&mut self, count: usize)
         requires { count ≤ length self.old.bytes }
         ensures { self.new ≡ rest_of self.old count }
@@ -120,7 +119,7 @@ impl Chunk {
     }
 }
 
-// Whether two runs of bytes have one byte at each offset that is in both.
+// Whether they agree where they overlap.
 fn are_one(at: u64, own: &[u8], offset: u64, bytes: &[u8]) -> bool
     requires own { at + length own.now ≤ MAX_VARINT }
     requires bytes { offset + length bytes.now ≤ MAX_VARINT }

@@ -13,7 +13,8 @@ use qs_recv::Assembly;
 use std::alloc::Global;
 use std::marker::Model;
 
-/// Chunks in order that lie apart, beside the set of every offset that came.
+/// Chunks in order that lie apart, beside the set of every received offset. It takes memory by what is stored, and one chunk for each gap;
+/// it stands beside the ring to show that the laws of an assembly are enough.
 #[derive(Drop)]
 pub struct ChunkAssembly {
     chunks: ChunkList,
@@ -126,7 +127,7 @@ impl Assembly for ChunkAssembly {
         self.window = self.window.max(window);
     }
 
-    // Chunks that are read are gone.
+    // Chunks that are read are gone, so there is nothing to give back.
     fn give_back(&mut self) {}
 
     fn same(&self, offset: u64, bytes: &[u8]) -> bool {
@@ -137,7 +138,7 @@ impl Assembly for ChunkAssembly {
         self.stored
     }
 
-    // A chunk's buffer may have room for more.
+    // As it counts: the bytes. A chunk's buffer may have room for more.
     fn held(&self) -> u64 {
         self.stored
     }

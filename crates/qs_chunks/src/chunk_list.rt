@@ -13,7 +13,7 @@ use std::collections::VecDeque;
 use std::marker::Model;
 use std::mem;
 
-/// Chunks, and a buffer that is free.
+/// One buffer that is free, so that a chunk that is read gives its memory to the next.
 #[derive(Drop)]
 pub(crate) struct ChunkList {
     alloc: Global,
@@ -33,8 +33,8 @@ impl Model for ChunkList {
     ghost view = { λ l. l.chunks.items };
 }
 
-/// A range of offsets from `from` on and below `to`. The chunks at places from `first` on and before `after` lie within
-/// it and hold `held` bytes. Where it joins, the chunk before them ends at `from`.
+/// A range of offsets from `from` on and below `to`. The chunks at places from `first` on and before `after` lie within it and hold `held`
+/// bytes. If it joins, the chunk before them ends at `from`, and grows instead of a new one.
 #[derive(Clone, Copy)]
 pub(crate) struct Spot {
     pub(crate) first: usize,
@@ -100,7 +100,7 @@ impl ChunkList {
         &self.chunks[place]
     }
 
-    // How many chunks begin at `start` or below it. Where all do, none but the last is looked at.
+    // All of them begin there for bytes in order, so the last is looked at first.
     fn place_past(&self, start: u64) -> usize
         requires { IsOrdered 0 self.now }
         ensures within { result ≤ length self.now }
@@ -115,7 +115,6 @@ impl ChunkList {
         }
     }
 
-    // Where the chunk before a place ends, or 0.
     fn end_before(&self, place: usize) -> u64
         requires { place ≤ length self.now }
         ensures none { place ≡ 0 → result ≡ 0 }
@@ -128,7 +127,6 @@ impl ChunkList {
         }
     }
 
-    // Where the chunk at a place begins, or past all offsets.
     fn next_begin(&self, place: usize) -> u64
         ensures none { length self.now ≤ place → result ≡ 2 ^ 64 - 1 }
         ensures begin { place < length self.now → result ≡ (piece_at self.now place).offset }
@@ -158,7 +156,6 @@ impl ChunkList {
         (after, held)
     }
 
-    /// Whether bytes are those of the chunks at their offsets, where the chunks have some.
     pub(crate) fn agree(&self, offset: u64, bytes: &[u8]) -> bool
         requires ordered { IsOrdered 0 self.now }
         requires in_range { offset + length bytes.now ≤ MAX_VARINT }
@@ -193,7 +190,6 @@ impl ChunkList {
         Ok(new)
     }
 
-    /// Puts bytes behind those of the chunk before a spot.
     pub(crate) fn extend(&mut self, spot: Spot, bytes: &[u8]) -> Result<(), NoMemory>
         requires place { (0 < spot.first) × (spot.first ≤ length self.old) }
         requires in_range { end_of_piece (piece_at self.old (spot.first - 1)) + length bytes.now ≤ MAX_VARINT }
@@ -203,7 +199,6 @@ impl ChunkList {
         self.chunks[spot.first - 1].append(bytes)
     }
 
-    /// Takes the last bytes of the chunk before a spot away.
     pub(crate) fn shorten(&mut self, spot: Spot, count: usize)
         requires place { (0 < spot.first) × (spot.first ≤ length self.old) }
         requires some { count ≤ length (piece_at self.old (spot.first - 1)).bytes }
@@ -212,7 +207,6 @@ impl ChunkList {
         self.chunks[spot.first - 1].truncate(count);
     }
 
-    /// Puts a chunk of its own at a spot, before those in it.
     pub(crate) fn insert(&mut self, spot: Spot, bytes: &[u8]) -> Result<(), NoMemory>
         requires place { spot.first ≤ length self.old }
         requires in_range { spot.from + length bytes.now ≤ MAX_VARINT }
@@ -225,7 +219,6 @@ impl ChunkList {
         Ok(())
     }
 
-    /// Takes a chunk out.
     pub(crate) fn remove(&mut self, place: usize)
         requires { place < length self.old }
         ensures { self.new ≡ remove self.old place }
@@ -233,7 +226,6 @@ impl ChunkList {
         drop(self.chunks.remove(place));
     }
 
-    /// Takes out the `count` chunks behind the one at a place.
     pub(crate) fn clear_behind(&mut self, place: usize, count: usize)
         requires { place + count < length self.old }
         ensures { self.new ≡ take (place + 1) self.old ++ drop (place + 1 + count) self.old }
@@ -244,7 +236,6 @@ impl ChunkList {
         }
     }
 
-    /// Takes as many bytes as fit out of the first chunk.
     pub(crate) fn take_front(&mut self, into: &mut [u8]) -> usize
         requires { 0 < length self.old }
         ensures count { result ≡ min (length (first_bytes self.old)) (length into.old) }
@@ -263,14 +254,12 @@ impl ChunkList {
         count
     }
 
-    /// Whether the first chunk begins at an offset.
     pub(crate) fn begins_at(&self, offset: u64) -> bool
         ensures { IsTrue result ↔ ((0 < length self.now) × (first_offset self.now ≡ offset)) }
     {
         matches!(self.chunks.front(), Some(first) if first.offset() == offset)
     }
 
-    /// Lets all memory go.
     pub(crate) fn clear_all(&mut self)
         ensures { self.new ≡ [] }
     {
@@ -279,7 +268,6 @@ impl ChunkList {
     }
 }
 
-// Copies a chunk's bytes over the bytes that come from an offset on.
 fn patch(bytes: &mut [u8], from: u64, chunk: &Chunk)
     requires begins { from ≤ chunk.now.offset }
     requires ends { end_of_piece chunk.now ≤ from + length bytes.old }

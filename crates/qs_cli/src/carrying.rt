@@ -21,7 +21,7 @@ use qs_world::{
 use std::alloc::{AllocError, Global};
 use std::io;
 
-/// The most bytes of a datagram that is looked at. A number of eight bytes and a payload are fewer.
+/// A longer datagram is a stranger's: a number of eight bytes and the largest payload are fewer.
 const MAX_DATAGRAM: usize = 16_392;
 
 /// Plays a script between two ends of the standard settings over a wire, and writes the report as [`udp_events`] does. The fault of a
@@ -37,7 +37,8 @@ pub fn run_udp<Wi: Wire, W: io::Write>(
     status_of(report_udp(alloc, script, wire, out))
 }
 
-/// As [`run_udp`], and it answers the report that it wrote.
+/// As [`run_udp`], and it returns the report that it wrote, so that a trace is of the very log that was printed and nothing is played
+/// twice.
 pub fn report_udp<Wi: Wire, W: io::Write>(
     alloc: Global,
     script: &[u8],
@@ -89,7 +90,6 @@ pub fn report_carried<Wi: Wire, W: io::Write>(
     answer
 }
 
-/// The events take place in a new world, and what took place is written.
 fn carry_and_show<Wi: Wire, W: io::Write>(
     alloc: Global,
     events: &[Event],
@@ -113,7 +113,6 @@ fn carry_and_show<Wi: Wire, W: io::Write>(
     }
 }
 
-/// Writes the report of a world, and the line of the wire. It answers that report.
 fn show_world<W: io::Write>(
     alloc: Global,
     world: &World,
@@ -132,7 +131,6 @@ fn show_world<W: io::Write>(
     }
 }
 
-/// Writes a report, and the line of the wire.
 fn show_report<W: io::Write>(
     alloc: Global,
     report: &Report,
@@ -148,7 +146,6 @@ fn show_report<W: io::Write>(
     }
 }
 
-/// The text of a report, and the line of the wire.
 fn carried_text(
     alloc: Global,
     report: &Report,
@@ -162,7 +159,6 @@ fn carried_text(
     Ok(text)
 }
 
-/// Appends the line of the wire.
 fn push_wire_line(text: &mut String, failures: u64, strangers: u64) -> Result<(), AllocError>
     ensures { OnOk result (string_bytes text.new ≡ string_bytes text.old ++ wire_line failures strangers) }
 {
@@ -187,7 +183,6 @@ fn carry_events<Wi: Wire>(
     carry_each(alloc, events, wire, world, &mut room)
 }
 
-/// The same, with room for the datagrams.
 fn carry_each<Wi: Wire>(
     alloc: Global,
     events: &[Event],
@@ -210,14 +205,13 @@ fn carry_each<Wi: Wire>(
     Ok(strangers)
 }
 
-/// One stranger's datagram more, if one came.
 fn counted(stranger: bool, count: u64) -> u64
     ensures { result ≡ counted stranger count }
 {
     if stranger { one_more(count) } else { count }
 }
 
-/// Room for the datagram that is sent, and for the one that is received.
+/// Taken once, so that memory is refused before anything is played, and not amid a run.
 #[derive(Drop)]
 struct Room {
     sent: Vec<u8>,
@@ -232,7 +226,6 @@ impl Room {
         })
     }
 
-    /// The datagram of that packet is to be sent.
     fn put(&mut self, number: u64, payload: &[u8]) -> Result<(), AllocError>
         ensures { OnOk result (self.new.sent.items ≡ to_be_bytes w64 number ++ payload.now) }
     {
@@ -242,7 +235,6 @@ impl Room {
     }
 }
 
-/// One event takes place, or what comes of it over the wire. Answers whether a stranger's datagram came.
 fn carry_event<Wi: Wire>(
     alloc: Global,
     world: &mut World,
@@ -263,7 +255,6 @@ fn carry_event<Wi: Wire>(
     }
 }
 
-/// A packet is sent, and what is received is delivered. Answers whether that was a stranger's datagram.
 fn carry_packet<Wi: Wire>(
     world: &mut World,
     end: Side,
@@ -311,7 +302,6 @@ fn lose(end: Side, number: u64) -> Event
     }
 }
 
-/// An event takes place. No stranger's datagram came.
 fn step(world: &mut World, event: Event) -> Result<bool, PlayFault>
     requires { fits event ≡ true }
     ensures { StepsBy world.old event result world.new }
@@ -322,7 +312,7 @@ fn step(world: &mut World, event: Event) -> Result<bool, PlayFault>
     }
 }
 
-/// The number that a datagram bears, where it is the packet that the end made under that number.
+/// Who sent it doesn't matter: a datagram counts by what it holds.
 fn borne(world: &World, end: Side, datagram: &[u8]) -> Option<u64>
     ensures packet { IfSome result (λ number. IsPacketOf end world.now.log number datagram.now) }
     ensures stranger { IfNone result (IsStranger end world.now.log datagram.now) }

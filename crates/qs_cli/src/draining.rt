@@ -17,7 +17,7 @@ use qs_world::{Drained, Event, PlayFault, Report, Settings, parse_script, play_d
 use std::alloc::{AllocError, Global};
 use std::io;
 
-/// The most events that lead the ends to rest.
+/// A bound, since a call may be refused memory for ever.
 const MOST_DRAINED: u64 = 1_000_000;
 
 /// Plays a script between two ends of these settings, and then plain rounds until both ends are at rest or 1,000,000 events more happened.

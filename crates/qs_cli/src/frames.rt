@@ -12,7 +12,6 @@ use qs_text::payload_text;
 use std::alloc::Global;
 use std::io;
 
-/// The most bytes that a payload has.
 const MAX_PAYLOAD: usize = 65_535;
 
 /// Writes the frames of the payload that the word spells in hex, a line for each, and then its
@@ -46,7 +45,7 @@ fn status_of(fault: bool) -> Status
     }
 }
 
-/// Whether a word spells a payload in hex, of at most 65,535 bytes.
+/// Judged before memory is asked for, so that a word which spells no payload is bad usage whatever memory there is.
 fn is_payload(word: &[u8]) -> bool
     ensures payload { result ≡ true → IsPayload word.now }
     ensures none { result ≡ false → IsPayload word.now → ⊥ }

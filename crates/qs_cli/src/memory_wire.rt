@@ -10,7 +10,7 @@ use std::alloc::Global;
 use std::collections::VecDeque;
 use std::marker::Model;
 
-/// A wire in memory. Datagrams wait at an end in the order in which they were sent to it.
+/// A wire in memory, whose failures a test chooses. Datagrams wait at an endpoint in the order in which they were sent to it.
 #[derive(Drop)]
 pub struct MemoryWire<'a> {
     alloc: Global,
@@ -39,7 +39,6 @@ impl<'a> Model for MemoryWire<'a> {
 }
 
 impl<'a> MemoryWire<'a> {
-    /// Nothing waits at either end. The sends and the receives of these numbers fail, each counted from 1.
     pub fn new(alloc: Global, failing_sends: &'a [u64], failing_recvs: &'a [u64]) -> MemoryWire<'a>
         ensures { result ≡ nothing_waits }
     {
@@ -55,7 +54,6 @@ impl<'a> MemoryWire<'a> {
         }
     }
 
-    /// A stranger's datagram waits at an end, behind those that wait there. Where memory is refused nothing changed.
     pub fn inject(&mut self, at: Side, bytes: &[u8]) -> Result<(), NoMemory>
         ensures ok { OnOk result (self.new ≡ waiting_with at bytes.now self.old) }
         ensures err { OnErr result (self.new ≡ self.old) }
@@ -84,7 +82,7 @@ impl<'a> Wire for MemoryWire<'a> {
         }
     }
 
-    /// It fails also where nothing waits. What waits stays where it fails.
+    /// It fails also if nothing waits, as a socket's timeout does. What waits stays if it fails.
     fn recv(&mut self, at: Side, into: &mut [u8]) -> Result<usize, WireError> {
         self.recvs = self.recvs.saturating_add(1);
         if self.failing_recvs.contains(&self.recvs) {
@@ -105,7 +103,6 @@ impl<'a> Wire for MemoryWire<'a> {
     }
 }
 
-/// Copies what fits, and answers how many bytes that is.
 fn copy_front(from: &[u8], into: &mut [u8]) -> usize
     ensures { result ≤ length into.new }
 {

@@ -21,7 +21,6 @@ pub fn play_text(alloc: Global, report: &Report) -> Result<String, AllocError>
     Ok(text)
 }
 
-/// Appends a line for each lane.
 fn push_lanes(text: &mut String, lanes: &[LaneTotals]) -> Result<(), AllocError>
     ensures { OnOk result (string_bytes text.new ≡ string_bytes text.old ++ flat_map (λ l. line (lane_text l)) lanes.now) }
 {
@@ -32,7 +31,6 @@ fn push_lanes(text: &mut String, lanes: &[LaneTotals]) -> Result<(), AllocError>
     Ok(())
 }
 
-/// Appends a number, where there is one.
 fn push_number(text: &mut String, number: Option<u64>) -> Result<(), AllocError>
     ensures { OnOk result (string_bytes text.new ≡ string_bytes text.old ++ number_text number) }
 {
@@ -42,7 +40,6 @@ fn push_number(text: &mut String, number: Option<u64>) -> Result<(), AllocError>
     }
 }
 
-/// Appends what is known of a lane.
 fn push_lane(text: &mut String, lane: &LaneTotals) -> Result<(), AllocError>
     ensures { OnOk result (string_bytes text.new ≡ string_bytes text.old ++ lane_text lane.now) }
 {
@@ -55,7 +52,6 @@ fn push_lane(text: &mut String, lane: &LaneTotals) -> Result<(), AllocError>
     push_sizes(text, lane.declared, lane.known)
 }
 
-/// Appends the final sizes that the sender declared and the receiver knows.
 fn push_sizes(
     text: &mut String,
     declared: Option<u64>,
@@ -69,7 +65,6 @@ fn push_sizes(
     push_number(text, known)
 }
 
-/// Appends a line for each end.
 fn push_ends(text: &mut String, ends: &[EndTotals; 2]) -> Result<(), AllocError>
     ensures { OnOk result (string_bytes text.new ≡ string_bytes text.old ++ ends_text ends.now) }
 {
@@ -80,7 +75,6 @@ fn push_ends(text: &mut String, ends: &[EndTotals; 2]) -> Result<(), AllocError>
     text.push_str("\n")
 }
 
-/// Appends what is known of an end.
 fn push_end(text: &mut String, side: Side, end: &EndTotals) -> Result<(), AllocError>
     ensures { OnOk result (string_bytes text.new ≡ string_bytes text.old ++ end_text side end.now) }
 {
@@ -92,7 +86,6 @@ fn push_end(text: &mut String, side: Side, end: &EndTotals) -> Result<(), AllocE
     push_own_closing(text, end.closing)
 }
 
-/// Appends why an end closed, where it did.
 fn push_own_closing(text: &mut String, closing: Option<Closing>) -> Result<(), AllocError>
     ensures { OnOk result (string_bytes text.new ≡ string_bytes text.old ++ closing_part closing) }
 {

@@ -27,8 +27,7 @@ use std::io;
 /// Plays events between two ends of these settings, and writes the report: a line for each event with its answer, for each lane and for
 /// each end. It answers the exit status. An event that delivers a packet which wasn't made is named in place of it all.
 ///
-/// It is written once the text stands whole: `NoMemory` where memory was refused, and then nothing was written, and `Failed` where
-/// writing failed.
+/// It is written once the text stands whole, so that `NoMemory` means that nothing was written. `Failed` if writing failed.
 pub fn run_events<W: io::Write>(
     alloc: Global,
     settings: Settings,
@@ -58,7 +57,6 @@ pub fn report_events<W: io::Write>(
     show_played(alloc, played, out)
 }
 
-/// Writes the report of what was played, or names the event whose packet wasn't made.
 fn show_played<W: io::Write>(
     alloc: Global,
     played: Result<Report, PlayFault>,
@@ -76,7 +74,6 @@ fn show_played<W: io::Write>(
     }
 }
 
-/// Names the event whose packet wasn't made, unless memory was wanting.
 fn show_play_fault<W: io::Write>(alloc: Global, fault: PlayFault, out: &mut W) -> Status
     requires { (setup : SetupFault) → fault ≡ Setup setup → ⊥ }
     ensures { ShowsPlayFault fault (W.contents out.old) (W.contents out.new) result }
@@ -117,7 +114,6 @@ pub fn written(report: Report, status: Status) -> Result<Report, Status>
     }
 }
 
-/// Writes the line that names an event whose packet wasn't made.
 pub fn show_missing<W: io::Write>(alloc: Global, event: usize, out: &mut W) -> Status
     ensures { Shows (missing_line event) FaultShown (W.contents out.old) (W.contents out.new) result }
 {
@@ -127,7 +123,6 @@ pub fn show_missing<W: io::Write>(alloc: Global, event: usize, out: &mut W) -> S
     }
 }
 
-/// Writes a text, and answers the status that goes with it, or `Failed` where writing did.
 pub fn show<W: io::Write>(text: &String, status: Status, out: &mut W) -> Status
     ensures { Shows (string_bytes text.now) status (W.contents out.old) (W.contents out.new) result }
 {

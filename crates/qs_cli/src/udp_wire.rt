@@ -10,7 +10,7 @@ use std::marker::Model;
 use std::net::{Ipv4Addr, Net, SocketAddr, UdpSocket};
 use std::time::Duration;
 
-/// Two UDP sockets, one for each end. A receive that waits longer than a second fails.
+/// Two UDP sockets, used one after the other. A receive that waits longer than a second fails, so that a lost datagram doesn't stop a run.
 #[derive(Drop)]
 pub struct UdpWire {
     a: UdpSocket,
@@ -18,7 +18,6 @@ pub struct UdpWire {
     failures: Failures,
 }
 
-// It is seen as what failed.
 impl Model for UdpWire {
     ghost use Rattle.qs_cli.specs.Carrying.{Failings, failings_code};
 
@@ -30,7 +29,8 @@ impl Model for UdpWire {
 }
 
 impl UdpWire {
-    /// Binds both sockets to 127.0.0.1, at ports that are free.
+    /// Binds both sockets to 127.0.0.1, at free ports. It takes the value that lets a function open sockets, which only `main` and tests
+    /// have.
     pub fn bind<R: Net>(net: &R) -> Result<UdpWire, WireError>
         ensures { IfOk result (λ wire. wire ≡ none_failed) }
     {

@@ -13,8 +13,9 @@ pub struct WireError;
 
 /// Carries datagrams from each of two ends to the other, and may lose them, hold them up or bring strangers'.
 ///
-/// An error is answered only where the wire failed in that call. The failures are counted, those of sends apart, too, and a count stays at
-/// its greatest value.
+/// An error is returned only if the wire failed in that call, and the wire counts its failures: so a run can't make up one that didn't
+/// happen. Those of sends are counted apart, too, so that a run can't forget to lose a packet that wasn't sent. A count stays at its
+/// greatest value.
 pub trait Wire {
     // How many calls failed, and how many of these were sends.
     ghost failed: { Self → Failings };
@@ -33,7 +34,6 @@ pub trait Wire {
         ensures { result ≡ (failed self.now).calls };
 }
 
-/// How many calls of a wire failed, and how many of these were sends.
 #[derive(Drop)]
 pub(crate) struct Failures {
     calls: u64,
@@ -57,7 +57,6 @@ impl Failures {
         Failures { calls: 0, sends: 0 }
     }
 
-    /// One send more failed, which is answered so.
     pub(crate) fn note_send(&mut self) -> WireError
         ensures { self.new ≡ send_failed self.old }
     {
@@ -66,7 +65,6 @@ impl Failures {
         WireError
     }
 
-    /// One receive more failed, which is answered so.
     pub(crate) fn note_recv(&mut self) -> WireError
         ensures { self.new ≡ recv_failed self.old }
     {
@@ -74,7 +72,6 @@ impl Failures {
         WireError
     }
 
-    /// How many calls failed.
     pub(crate) fn count(&self) -> u64
         ensures { result ≡ self.now.calls }
     {
@@ -82,7 +79,7 @@ impl Failures {
     }
 }
 
-/// One more than a count, which stays at its greatest value.
+/// It stays at its greatest value, so that it can't fall.
 pub(crate) fn one_more(count: u64) -> u64
     ensures { result ≡ one_more count }
 {

@@ -23,9 +23,9 @@ use std::marker::Model;
 
 /// What was reported to an application, so that each event comes once (RFC 9000, sections 2 to 4).
 ///
-/// It stands beside the end and is kept as marks of streams: an end whose owner asks for no news pays nothing for it. Four things the
-/// end doesn't know, so its owner tells them: that it is about to write ([`will_write`](Heard::will_write)), that it waits for a stream
-/// to open ([`wants`](Heard::wants)), that it read a stream ([`was_read`](Heard::was_read)), and that the peer says what holds it back
+/// It stands beside the endpoint and is kept as marks of streams: an endpoint whose application asks for no events pays nothing for it.
+/// Four things it can't know, so its user notes them: that it is about to write ([`will_write`](Heard::will_write)), that it waits for a
+/// stream to open ([`wants`](Heard::wants)), that it read a stream ([`was_read`](Heard::was_read)), and that the peer says what blocks it
 /// ([`was_told`](Heard::was_told)).
 #[derive(Drop)]
 pub struct Heard {
@@ -78,7 +78,7 @@ impl Heard {
         }
     }
 
-    /// Tells the first piece of news of an end, and notes that it was heard. `None` only where there is none. News of a kind come before
+    /// Returns the first event of an endpoint, and notes that it was reported. `None` only if there is none. Events of a kind come before
     /// those of the next, in the order of [`News`], and those of a lower stream first.
     ///
     /// `NoMemory` if there was no memory to note it; then nothing changed, and it comes again. It takes memory if no mark was made yet for
@@ -93,7 +93,8 @@ impl Heard {
         Ok(answer)
     }
 
-    /// The owner is about to write so many bytes to a stream. Where it will be cut short, it is news once the stream takes a byte again.
+    /// The application is about to write so many bytes to a stream. If that will be cut short, it is an event once the stream takes a byte
+    /// again.
     ///
     /// `NoMemory` if there was no memory to note it; then nothing changed. It takes memory if no write to this stream, or to a higher one
     /// of its type, was noted before.
@@ -127,9 +128,9 @@ impl Heard {
         }
     }
 
-    /// A frame of the peer's was taken in. Where it says that a limit of the present holds the peer back, that of the connection, of a
-    /// stream whose final size isn't known, or a count of streams, that is news from now on until it is told, be it that the limit rises
-    /// meanwhile. A limit that rose before isn't, and any other frame changes nothing (RFC 9000, sections 4.1, 4.6 and 19.12 to 19.14).
+    /// A frame of the peer's was processed. If it says that a present limit blocks the peer, that of the connection, of a stream whose
+    /// final size isn't known, or a count of streams, that is an event from now on until it is reported, even if the limit rises meanwhile.
+    /// A limit that rose before isn't one, and any other frame changes nothing (RFC 9000, sections 4.1, 4.6 and 19.12 to 19.14).
     ///
     /// `NoMemory` if there was no memory to note it; then nothing changed. It takes memory if it names a stream, and no limit of this
     /// stream or of a higher one of its type was noted before.

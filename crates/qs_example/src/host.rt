@@ -5,10 +5,9 @@ use qs_conn::{Endpoint, LostFault, Settings};
 use qs_wire::{Frame, Frames, Role};
 use std::alloc::Global;
 
-/// A packet counts as lost once one that was made so many later is acknowledged.
+/// A packet counts as lost once one made so many later is acknowledged: less could be reordering (RFC 9002, section 6.1.1).
 const THRESHOLD: u64 = 3;
 
-/// How many bytes a packet may hold.
 const ROOM: usize = 1_200;
 
 /// A packet on its way. Of a real one the payload is protected, and the number stands in the header.
@@ -18,14 +17,12 @@ pub struct Packet {
     payload: Vec<u8>,
 }
 
-/// One of the two hosts.
 #[derive(Drop)]
 pub struct Host {
     pub end: Endpoint,
     pub alloc: Global,
-    /// The least number that the detector has yet to look at.
+    /// Below it nothing is looked at again, so that each number is judged once.
     unjudged: u64,
-    /// The number of the next packet.
     next: u64,
 }
 
@@ -78,7 +75,7 @@ impl Host {
         self.judge(self.next)
     }
 
-    /// An ACK tells that what was made long before its largest number is lost.
+    /// What was made long before an ACK's largest number is lost: had it arrived, the ACK would name it.
     fn note(&mut self, frame: &Frame) -> anyhow::Result<()> {
         match *frame {
             Frame::Ack { largest, .. } => {

@@ -15,13 +15,12 @@ use qs_wire::{Dir, Role, StreamId};
 use std::alloc::Global;
 use std::process::ExitCode;
 
-/// How many bytes are sent.
 const TOTAL: usize = 100_000;
 
-/// How many bytes a round writes at most.
+/// Less than the stream's buffer, so that a round is soon over.
 const MOST_AT_ONCE: usize = 4_096;
 
-/// More rounds, and more packets in a round, than the transfer takes.
+/// More than the transfer takes, so that a fault ends it instead of a loop.
 const MANY: usize = 1_000;
 
 fn main(rt: HostRuntime) -> ExitCode {
@@ -41,7 +40,6 @@ fn main(rt: HostRuntime) -> ExitCode {
     }
 }
 
-/// Makes the two hosts, and the network between them.
 fn transfer(alloc: Global) -> anyhow::Result<()> {
     let settings = Settings {
         conn_window: 65_536,
@@ -86,7 +84,7 @@ fn send_all(client: &mut Host, server: &mut Host, network: &mut Network) -> anyh
     bail!("the transfer isn't done")
 }
 
-/// Writes as much as the stream's buffer takes, and finishes the stream behind the last byte. Answers where it got to.
+/// As much as the stream's buffer takes, with the FIN behind the last byte. Returns how far it got, since a write may be cut short.
 fn write_more(host: &mut Host, stream: StreamId, place: usize) -> anyhow::Result<usize> {
     if place == TOTAL {
         return Ok(place);
@@ -100,7 +98,7 @@ fn write_more(host: &mut Host, stream: StreamId, place: usize) -> anyhow::Result
     Ok(next)
 }
 
-/// Reads what came, and checks it. Answers where it got to, `None` at the stream's end.
+/// Checked byte by byte, because that is what the example shows. Returns how far it got, `None` at the stream's end.
 fn read_more(end: &mut Endpoint, stream: StreamId, place: usize) -> anyhow::Result<Option<usize>> {
     let mut bytes = [0; 1_024];
     match end.read(stream, &mut bytes)? {
@@ -118,7 +116,7 @@ fn read_more(end: &mut Endpoint, stream: StreamId, place: usize) -> anyhow::Resu
     }
 }
 
-/// Carries packets from one host to the other until none is due. Answers whether there was none at all.
+/// Returns whether there was none at all: then nothing is under way, and time has to pass.
 fn carry(from: &mut Host, to: &mut Host, network: &mut Network) -> anyhow::Result<bool> {
     for count in 0..MANY {
         let Some(packet) = from.send()? else {

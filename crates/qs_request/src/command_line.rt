@@ -10,10 +10,9 @@ use qs_calls::Settings;
 use qs_script::standard_settings;
 use std::alloc::{AllocError, Global};
 
-/// The most events of a random script.
 const MAX_EVENTS: u64 = 10_000;
 
-/// How many streams of each direction an end grants at first, at most and where nothing else is asked for.
+/// How many streams of each direction an endpoint grants at first, at most and if nothing else is asked for.
 const MAX_GRANT: u64 = 4096;
 
 const USUAL_GRANT: u64 = 8;
@@ -21,29 +20,25 @@ const USUAL_GRANT: u64 = 8;
 /// How many it grants in all, at most.
 const MAX_LIFETIME: u64 = 65_536;
 
-/// Why the words ask for nothing.
 #[derive(Clone, Copy, Debug, PartialEq, Eq)]
 pub enum Refusal {
-    /// They make no sense.
     BadUsage,
-    /// Memory was refused.
     NoMemory,
 }
 
-/// What the program is asked to do.
 #[derive(Clone, Copy)]
 pub enum Request<'a> {
     /// Show the frames of the payload that the word spells in hex.
     Frames(&'a str),
-    /// Play the script in the file of that name, between two ends of these settings, and lead them to rest where that is asked for. The
-    /// traces of both ends go to files, where a name is given for these.
+    /// Play the script in the file of that name, between two endpoints of these settings, and lead them to rest if that is asked for. The
+    /// traces of both go to files, if a name is given for these.
     Play {
         file: &'a str,
         settings: Settings,
         drain: bool,
         qlog: Option<&'a str>,
     },
-    /// Play the script in the file of that name, with its packets over UDP. The traces of both ends go to files, as above.
+    /// Play the script in the file of that name, with its packets over UDP. The traces of both go to files, as above.
     Udp {
         file: &'a str,
         qlog: Option<&'a str>,
@@ -56,8 +51,8 @@ pub enum Request<'a> {
 }
 
 impl<'a> Request<'a> {
-    /// What the words ask for, the program's name first. `BadUsage` where they make no sense, as a request
-    /// for help does not either, and `NoMemory` where memory was refused.
+    /// What the words ask for, the program's name first. `BadUsage` if they make no sense, as a request for help doesn't either: the tool
+    /// has no text for it. `NoMemory` if memory was refused.
     pub fn parse(alloc: Global, words: &'a [String]) -> Result<Request<'a>, Refusal>
         ensures { IfOk result IsPlayable }
     {
@@ -75,7 +70,6 @@ impl<'a> Request<'a> {
     }
 }
 
-/// What a subcommand of that name asks for with these arguments.
 fn asked_for<'a>(name: &str, found: &ArgMatches<'a>) -> Option<Request<'a>>
     ensures { IfSome result IsPlayable }
 {
@@ -118,7 +112,6 @@ fn settings(grant: Option<&str>, lifetime: Option<&str>) -> Option<Settings>
     })
 }
 
-/// The number that the word spells, or the usual one where there is no word.
 fn number_or(word: Option<&str>, usual: u64) -> Option<u64> {
     match word {
         Some(word) => number(word),
@@ -139,7 +132,7 @@ fn random<'a>(seed: &str, n: &str) -> Option<Request<'a>>
     })
 }
 
-/// A number in decimal digits alone. Leading zeros are allowed, a sign isn't.
+/// Digits alone, so that a number has one spelling but for leading zeros.
 fn number(word: &str) -> Option<u64> {
     if word.bytes().all(|byte| byte.is_ascii_digit()) {
         word.parse().ok()
@@ -152,7 +145,6 @@ fn frames_command<'a>(alloc: Global) -> Result<Command<'a>, AllocError> {
     Command::new(alloc, "frames").arg(Arg::new(alloc, "hex").required(true))
 }
 
-/// A subcommand that plays the script in a file.
 fn script_command<'a>(alloc: Global, name: &'a str) -> Result<Command<'a>, AllocError> {
     Command::new(alloc, name)
         .arg(Arg::new(alloc, "file").required(true))?

@@ -65,7 +65,7 @@ pub struct ScriptFault {
     pub reason: Reason,
 }
 
-/// The events of a script, in order. The time is linear in the bytes.
+/// The events of a script, in order, or its first faulty line. The time is linear in the bytes.
 pub fn parse_script(alloc: Global, script: &[u8]) -> Result<Vec<Event>, ScriptFault>
     ensures fit { IfOk result (λ events. list_all fits events.items ≡ true) }
     ensures events { IfOk result (λ events. script_of script.now ≡ Ok (map said events.items)) }
@@ -86,7 +86,7 @@ pub fn parse_script(alloc: Global, script: &[u8]) -> Result<Vec<Event>, ScriptFa
     Ok(events)
 }
 
-/// The first line of a text that isn't empty, without its end, and what follows it.
+/// Without its end: a carriage return before the line feed goes, too, and only one.
 fn split_line(text: &[u8]) -> (&[u8], &[u8])
     requires { 0 < length text.now }
     ensures lines { lines_of text.now ≡ result.0.now ∷ lines_of result.1.now }
@@ -102,14 +102,12 @@ fn split_line(text: &[u8]) -> (&[u8], &[u8])
     }
 }
 
-/// Where the first line feed stands.
 fn line_feed(text: &[u8]) -> Option<usize>
     ensures { result ≡ position (λ byte. byte == 10) text.now }
 {
     text.iter().position(|byte| *byte == b'\n')
 }
 
-/// A line without the carriage return at its end.
 #[tactic(auto, using(crate::proofs::ScriptLines::bare_cut, crate::proofs::ScriptLines::bare_whole))]
 fn without_return(line: &[u8]) -> &[u8]
     ensures { result.now ≡ bare line.now }
@@ -125,7 +123,7 @@ fn without_return(line: &[u8]) -> &[u8]
     text
 }
 
-/// Appends the event of a line, where it is one.
+/// Memory is asked for last, so that a faulty line is named whatever memory there is.
 fn push_event(alloc: Global, events: &mut Vec<Event>, line: &[u8]) -> Result<(), Reason>
     requires { list_all fits events.old.items ≡ true }
     ensures fit { OnOk result (list_all fits events.new.items ≡ true) }

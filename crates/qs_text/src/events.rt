@@ -38,7 +38,7 @@ pub fn push_log(alloc: Global, text: &mut String, log: &[(Event, Answer)]) -> Re
     Ok(())
 }
 
-/// Appends an event as a script has it.
+/// The same words as a script has, so that a log can be played again.
 fn push_event(alloc: Global, text: &mut String, event: &Event) -> Result<(), AllocError>
     ensures { OnOk result (string_bytes text.new ≡ string_bytes text.old ++ event_text event.now) }
 {
@@ -61,7 +61,6 @@ fn push_event(alloc: Global, text: &mut String, event: &Event) -> Result<(), All
     }
 }
 
-/// Appends what a call answered.
 fn push_answer(alloc: Global, text: &mut String, answer: &Answer) -> Result<(), AllocError>
     ensures { OnOk result (string_bytes text.new ≡ string_bytes text.old ++ answer_text answer.now) }
 {
@@ -125,7 +124,6 @@ fn lose_name(lost: Result<(), LostFault>) -> &'static str
     }
 }
 
-/// Appends what the opening of a stream answered.
 fn push_opened(text: &mut String, opened: Result<StreamId, OpenFault>) -> Result<(), AllocError>
     ensures { OnOk result (string_bytes text.new ≡ string_bytes text.old ++ open_text opened) }
 {
@@ -137,7 +135,6 @@ fn push_opened(text: &mut String, opened: Result<StreamId, OpenFault>) -> Result
     }
 }
 
-/// Appends what a read answered, with the bytes that were read.
 fn push_read(
     alloc: Global,
     text: &mut String,
@@ -158,7 +155,6 @@ fn push_read(
     }
 }
 
-/// Appends what came of making a packet, with its payload.
 fn push_made(
     alloc: Global,
     text: &mut String,
@@ -177,7 +173,6 @@ fn push_made(
     }
 }
 
-/// Appends what came of claiming a packet number.
 fn push_claimed(text: &mut String, claimed: Result<u64, MakeFault>) -> Result<(), AllocError>
     ensures { OnOk result (string_bytes text.new ≡ string_bytes text.old ++ claim_text claimed) }
 {
@@ -187,7 +182,6 @@ fn push_claimed(text: &mut String, claimed: Result<u64, MakeFault>) -> Result<()
     }
 }
 
-/// Appends what came of a payload.
 fn push_received(text: &mut String, received: Result<Received, Closing>) -> Result<(), AllocError>
     ensures { OnOk result (string_bytes text.new ≡ string_bytes text.old ++ deliver_text received) }
 {

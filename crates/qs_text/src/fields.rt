@@ -15,7 +15,7 @@ use Field::{Bytes, Code, Number, Word};
 use qs_wire::{AckRanges, EcnCounts, Frame};
 use std::alloc::{AllocError, Global};
 
-/// A field of a frame, with the name under which it is shown.
+/// One list for the line that is printed and for its definition.
 #[derive(Clone, Copy)]
 pub enum Field<'a> {
     Nothing,
@@ -28,7 +28,6 @@ pub enum Field<'a> {
     Ecn(&'static str, EcnCounts),
 }
 
-/// Up to four fields, the others being nothing.
 macro_rules! fields {
     ($a:expr $(,)?) => {
         [$a, Field::Nothing, Field::Nothing, Field::Nothing]
@@ -41,7 +40,7 @@ macro_rules! fields {
     };
 }
 
-/// What a frame holds, in the order in which it is shown.
+/// In the order in which they are shown.
 pub fn fields_of<'a>(frame: &Frame<'a>) -> [Field<'a>; 4]
     requires { Fits (view frame.now) }
     ensures { flat_map field_text result ≡ flat_map shown_text (fields_of (view frame.now)) }
@@ -125,7 +124,6 @@ pub fn fields_of<'a>(frame: &Frame<'a>) -> [Field<'a>; 4]
     }
 }
 
-/// What an ACK holds.
 fn ack_fields<'a>(
     largest: u64,
     delay: u64,
@@ -148,7 +146,6 @@ fn ack_fields<'a>(
     ]
 }
 
-/// Appends a field, where there is one.
 fn push_field(alloc: Global, text: &mut String, field: Field) -> Result<(), AllocError>
     ensures { OnOk result (string_bytes text.new ≡ string_bytes text.old ++ field_text field.entry) }
 {
@@ -185,7 +182,6 @@ pub fn push_fields(alloc: Global, text: &mut String, fields: &[Field]) -> Result
     Ok(())
 }
 
-/// Appends the ranges of an ACK, the highest first.
 fn push_ranges(text: &mut String, ranges: AckRanges) -> Result<(), AllocError>
     ensures { OnOk result (string_bytes text.new ≡ string_bytes text.old ++ ranges_text ranges.entry) }
 {

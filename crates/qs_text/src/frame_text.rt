@@ -11,7 +11,6 @@ use crate::words::push_code;
 use qs_wire::{Frame, WireFault};
 use std::alloc::{AllocError, Global};
 
-/// What a frame is called.
 fn name_of(frame: &Frame) -> &'static str
     ensures { result.now ≡ name_of (view frame.now) }
 {

@@ -2,7 +2,7 @@
 
 ghost use Rattle.std.specs.Prelude.{◌≡◌, ◌^◌, ◌<◌};
 
-/// The largest packet number that an ACK names.
+/// A type of its own, so that its bound is known wherever ranges are shown.
 #[derive(Clone, Copy)]
 pub struct Largest {
     number: u64,

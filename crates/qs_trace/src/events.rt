@@ -38,7 +38,6 @@ pub fn vantage_name(side: Side) -> &'static str
     }
 }
 
-/// The trace's own record, up to whose it is.
 #[tactic(auto, unfolding(crate::specs::Records::heading))]
 fn heading() -> &'static str
     ensures { result.now ≡ heading }
@@ -53,7 +52,6 @@ fn heading_end() -> &'static str
     "}}}\n"
 }
 
-/// Appends what the end sees of an event.
 fn push_event(
     alloc: Global,
     text: &mut String,
@@ -71,7 +69,6 @@ fn push_event(
     }
 }
 
-/// Appends what an end's own call tells.
 fn push_own(
     alloc: Global,
     text: &mut String,
@@ -94,7 +91,7 @@ fn push_own(
     }
 }
 
-/// Appends what a call at the other side tells: a packet of the peer's that arrives.
+/// Of the peer's calls it sees the packets that arrive, and nothing else.
 fn push_peers(
     alloc: Global,
     text: &mut String,
@@ -113,7 +110,6 @@ fn push_peers(
     }
 }
 
-/// Appends what comes of a packet that arrived.
 fn push_effect(
     alloc: Global,
     text: &mut String,
@@ -137,7 +133,6 @@ fn push_effect(
     push_item(alloc, text, time, &item)
 }
 
-/// Appends the halves of a stream that this end opened.
 fn push_opened(
     alloc: Global,
     text: &mut String,
@@ -155,7 +150,6 @@ fn push_opened(
     }
 }
 
-/// Appends the halves of a stream that the peer opened.
 fn push_accepted(
     alloc: Global,
     text: &mut String,
@@ -173,7 +167,6 @@ fn push_accepted(
     }
 }
 
-/// Appends the other half of a stream that has both.
 fn push_if_bidi(
     alloc: Global,
     text: &mut String,
@@ -189,7 +182,6 @@ fn push_if_bidi(
     }
 }
 
-/// Appends what was taken from the application.
 fn push_written(
     alloc: Global,
     text: &mut String,
@@ -205,7 +197,6 @@ fn push_written(
     }
 }
 
-/// Appends that a sending half was broken off.
 fn push_reset(
     alloc: Global,
     text: &mut String,
@@ -226,7 +217,6 @@ fn push_reset(
     }
 }
 
-/// Appends what a read gave.
 fn push_read(
     alloc: Global,
     text: &mut String,
@@ -259,7 +249,6 @@ fn push_read(
     }
 }
 
-/// Appends a packet that was made.
 fn push_made(
     alloc: Global,
     text: &mut String,
@@ -279,7 +268,6 @@ fn push_made(
     }
 }
 
-/// Appends a packet that was declared lost.
 fn push_lost(
     alloc: Global,
     text: &mut String,
@@ -295,7 +283,6 @@ fn push_lost(
     }
 }
 
-/// Appends the PING that goes under a number that was claimed.
 fn push_claimed(
     alloc: Global,
     text: &mut String,

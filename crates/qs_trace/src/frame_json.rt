@@ -33,7 +33,6 @@ pub fn push_payload(alloc: Global, text: &mut String, payload: &[u8]) -> Result<
     }
 }
 
-/// Appends a frame.
 fn push_frame(alloc: Global, text: &mut String, frame: &Frame) -> Result<(), AllocError>
     requires { Fits (view frame.now) }
     ensures { OnOk result (string_bytes text.new ≡ string_bytes text.old ++ frame_json (view frame.now)) }
@@ -45,7 +44,6 @@ fn push_frame(alloc: Global, text: &mut String, frame: &Frame) -> Result<(), All
     text.push_str("}")
 }
 
-/// Appends the first member of a frame's object.
 #[tactic(auto, unfolding(crate::specs::FrameJson::naming_frame))]
 fn push_frame_name(text: &mut String, name: &str) -> Result<(), AllocError>
     ensures { OnOk result (string_bytes text.new ≡ string_bytes text.old ++ naming_frame name.now) }
@@ -56,7 +54,6 @@ fn push_frame_name(text: &mut String, name: &str) -> Result<(), AllocError>
     push_quoted(text, name)
 }
 
-/// What a frame is called.
 fn frame_name(frame: &Frame) -> &'static str
     ensures { result.now ≡ frame_name (view frame.now) }
 {
@@ -84,7 +81,7 @@ fn frame_name(frame: &Frame) -> &'static str
     }
 }
 
-/// Appends what a frame on packets or on a stream's halves holds; of data the count.
+/// Of data the count: viewers want no bytes, and traces stay small.
 fn push_stream_members(text: &mut String, frame: &Frame) -> Result<(), AllocError>
     requires { Fits (view frame.now) }
     ensures { OnOk result (string_bytes text.new ≡ string_bytes text.old ++ stream_members (view frame.now)) }
@@ -123,7 +120,7 @@ fn push_stream_members(text: &mut String, frame: &Frame) -> Result<(), AllocErro
     }
 }
 
-/// Appends the delay that an ACK bears.
+/// In microseconds nobody knows it here: it is the number in the frame, under a name of its own.
 #[tactic(auto, unfolding(crate::specs::FrameJson::delay_member))]
 fn push_delay(text: &mut String, delay: u64) -> Result<(), AllocError>
     ensures { OnOk result (string_bytes text.new ≡ string_bytes text.old ++ delay_member delay) }
@@ -131,7 +128,6 @@ fn push_delay(text: &mut String, delay: u64) -> Result<(), AllocError>
     push_number(text, "gotsavena:delay_field", delay)
 }
 
-/// Appends what a frame on credit holds.
 fn push_credit_members(text: &mut String, frame: &Frame) -> Result<(), AllocError>
     ensures { OnOk result (string_bytes text.new ≡ string_bytes text.old ++ credit_members (view frame.now)) }
 {
@@ -158,7 +154,6 @@ fn push_credit_members(text: &mut String, frame: &Frame) -> Result<(), AllocErro
     }
 }
 
-/// Appends what a STREAM frame holds: of its data the count.
 fn push_data(
     text: &mut String,
     id: u64,
@@ -175,7 +170,6 @@ fn push_data(
     text.push_str(flag_name(fin))
 }
 
-/// Appends the ranges that an ACK names, as a member.
 #[tactic(auto, unfolding(crate::specs::FrameJson::acked_json))]
 fn push_acked(text: &mut String, ranges: AckRanges) -> Result<(), AllocError>
     ensures { OnOk result (string_bytes text.new ≡ string_bytes text.old ++ acked_json ranges.entry) }
@@ -186,7 +180,6 @@ fn push_acked(text: &mut String, ranges: AckRanges) -> Result<(), AllocError>
     text.push_str("]")
 }
 
-/// Appends what another frame holds.
 fn push_other_members(alloc: Global, text: &mut String, frame: &Frame) -> Result<(), AllocError>
     ensures { OnOk result (string_bytes text.new ≡ string_bytes text.old ++ other_members (view frame.now)) }
 {
@@ -224,7 +217,6 @@ fn push_other_members(alloc: Global, text: &mut String, frame: &Frame) -> Result
     }
 }
 
-/// Appends who closes, an application or the transport, and with which code.
 fn push_close(text: &mut String, space: &str, code: u64) -> Result<(), AllocError>
     ensures { OnOk result (string_bytes text.new ≡ string_bytes text.old ++ close_members space.now code) }
 {
@@ -232,14 +224,12 @@ fn push_close(text: &mut String, space: &str, code: u64) -> Result<(), AllocErro
     push_number(text, "error_code", code)
 }
 
-/// Appends why it closes.
 fn push_reason(alloc: Global, text: &mut String, reason: &[u8]) -> Result<(), AllocError>
     ensures { OnOk result (string_bytes text.new ≡ string_bytes text.old ++ reason_member reason.now) }
 {
     push_bytes(alloc, text, "reason_bytes", reason)
 }
 
-/// Appends which type of frame was at fault, and why.
 fn push_fault(
     alloc: Global,
     text: &mut String,
@@ -252,7 +242,6 @@ fn push_fault(
     push_reason(alloc, text, reason)
 }
 
-/// Appends the number of an identifier, and up to which others retire.
 fn push_sequence(text: &mut String, sequence: u64, retire: u64) -> Result<(), AllocError>
     ensures { OnOk result (string_bytes text.new ≡ string_bytes text.old ++ sequence_members sequence retire) }
 {
@@ -260,7 +249,6 @@ fn push_sequence(text: &mut String, sequence: u64, retire: u64) -> Result<(), Al
     push_number(text, "retire_prior_to", retire)
 }
 
-/// Appends a connection's identifier and its token.
 fn push_ids(
     alloc: Global,
     text: &mut String,
@@ -273,7 +261,6 @@ fn push_ids(
     push_bytes(alloc, text, "stateless_reset_token", token)
 }
 
-/// Appends the counts of ECN, where there are any.
 fn push_ecn(text: &mut String, ecn: Option<EcnCounts>) -> Result<(), AllocError>
     ensures { OnOk result (string_bytes text.new ≡ string_bytes text.old ++ ecn_json ecn) }
 {
@@ -285,7 +272,6 @@ fn push_ecn(text: &mut String, ecn: Option<EcnCounts>) -> Result<(), AllocError>
     push_number(text, "ce", counts.ce)
 }
 
-/// Appends the ranges of an ACK, the highest first.
 fn push_ranges(text: &mut String, ranges: AckRanges) -> Result<(), AllocError>
     ensures { OnOk result (string_bytes text.new ≡ string_bytes text.old ++ ranges_json ranges.entry) }
 {

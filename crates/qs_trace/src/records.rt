@@ -24,7 +24,6 @@ pub fn push_item(
     text.push_str(ending())
 }
 
-/// The name of an item's event.
 fn item_name(item: &Item) -> &'static str
     ensures { result.now ≡ item_name (item_of item.now) }
 {
@@ -41,7 +40,6 @@ fn item_name(item: &Item) -> &'static str
     }
 }
 
-/// Appends the data of an item.
 fn push_data(alloc: Global, text: &mut String, item: &Item) -> Result<(), AllocError>
     ensures { OnOk result (string_bytes text.new ≡ string_bytes text.old ++ item_data (item_of item.now)) }
 {
@@ -65,7 +63,6 @@ fn push_data(alloc: Global, text: &mut String, item: &Item) -> Result<(), AllocE
     }
 }
 
-/// What a record ends with.
 #[tactic(auto, unfolding(crate::specs::Records::ending))]
 fn ending() -> &'static str
     ensures { result.now ≡ ending }
@@ -107,7 +104,6 @@ fn turn_state(turn: Turn) -> &'static str
     }
 }
 
-/// Appends the first member of an object, which is a number.
 #[tactic(auto, unfolding(crate::specs::Records::first_number))]
 fn push_first(text: &mut String, name: &str, number: u64) -> Result<(), AllocError>
     ensures { OnOk result (string_bytes text.new ≡ string_bytes text.old ++ first_number name.now number) }
@@ -116,7 +112,6 @@ fn push_first(text: &mut String, name: &str, number: u64) -> Result<(), AllocErr
     write!(text, ":{number}")
 }
 
-/// Appends a packet number as the first member of an object.
 #[tactic(auto, unfolding(crate::specs::Records::first_packet))]
 fn push_first_packet(text: &mut String, number: u64) -> Result<(), AllocError>
     ensures { OnOk result (string_bytes text.new ≡ string_bytes text.old ++ first_packet number) }
@@ -124,7 +119,6 @@ fn push_first_packet(text: &mut String, number: u64) -> Result<(), AllocError>
     push_first(text, "packet_number", number)
 }
 
-/// Appends the length of a payload as the first member of an object.
 #[tactic(auto, unfolding(crate::specs::Records::first_length))]
 fn push_first_length(text: &mut String, len: u64) -> Result<(), AllocError>
     ensures { OnOk result (string_bytes text.new ≡ string_bytes text.old ++ first_length len) }
@@ -132,7 +126,6 @@ fn push_first_length(text: &mut String, len: u64) -> Result<(), AllocError>
     push_first(text, "payload_length", len)
 }
 
-/// Appends the code with which a connection ended as the first member of an object.
 #[tactic(auto, unfolding(crate::specs::Records::first_code))]
 fn push_first_code(text: &mut String, code: u64) -> Result<(), AllocError>
     ensures { OnOk result (string_bytes text.new ≡ string_bytes text.old ++ first_code code) }
@@ -140,7 +133,7 @@ fn push_first_code(text: &mut String, code: u64) -> Result<(), AllocError>
     push_first(text, "connection_code", code)
 }
 
-/// Appends what a record begins with: its time and its name.
+/// Time is the place in the log, since a run has no clock.
 #[tactic(auto, unfolding(crate::specs::Records::opening))]
 fn push_opening(text: &mut String, time: usize, name: &str) -> Result<(), AllocError>
     ensures { OnOk result (string_bytes text.new ≡ string_bytes text.old ++ opening time name.now) }
@@ -152,7 +145,6 @@ fn push_opening(text: &mut String, time: usize, name: &str) -> Result<(), AllocE
     text.push_str("{")
 }
 
-/// Appends whose number a packet has.
 #[tactic(auto, unfolding(crate::specs::Records::header))]
 fn push_header(text: &mut String, number: u64) -> Result<(), AllocError>
     ensures { OnOk result (string_bytes text.new ≡ string_bytes text.old ++ header number) }
@@ -164,7 +156,6 @@ fn push_header(text: &mut String, number: u64) -> Result<(), AllocError>
     text.push_str("}")
 }
 
-/// Appends how long a payload is.
 #[tactic(auto, unfolding(crate::specs::Records::raw_member))]
 fn push_raw(text: &mut String, len: usize) -> Result<(), AllocError>
     ensures { OnOk result (string_bytes text.new ≡ string_bytes text.old ++ raw_member len) }
@@ -175,7 +166,6 @@ fn push_raw(text: &mut String, len: usize) -> Result<(), AllocError>
     text.push_str("}")
 }
 
-/// Appends the frames of a payload.
 #[tactic(auto, unfolding(crate::specs::Records::frames_member))]
 fn push_frames(alloc: Global, text: &mut String, payload: &[u8]) -> Result<(), AllocError>
     ensures { OnOk result (string_bytes text.new ≡ string_bytes text.old ++ frames_member payload.now) }
@@ -186,7 +176,6 @@ fn push_frames(alloc: Global, text: &mut String, payload: &[u8]) -> Result<(), A
     text.push_str("]")
 }
 
-/// Appends a half of a stream and its new state.
 #[tactic(auto, unfolding(crate::specs::Records::turn_members))]
 fn push_turn(text: &mut String, id: u64, turn: Turn) -> Result<(), AllocError>
     ensures { OnOk result (string_bytes text.new ≡ string_bytes text.old ++ turn_members id turn) }
@@ -196,7 +185,6 @@ fn push_turn(text: &mut String, id: u64, turn: Turn) -> Result<(), AllocError>
     push_word(text, "new", turn_state(turn))
 }
 
-/// Appends how many bytes of a stream moved, and from where to where.
 #[tactic(auto, unfolding(crate::specs::Records::moved_members))]
 fn push_moved(
     text: &mut String,
@@ -213,7 +201,6 @@ fn push_moved(
     push_word(text, "to", to)
 }
 
-/// Appends the code with which the connection ended, and who ended it.
 #[tactic(auto, unfolding(crate::specs::Records::closed_members))]
 fn push_closed(text: &mut String, code: u64, owner: &str) -> Result<(), AllocError>
     ensures { OnOk result (string_bytes text.new ≡ string_bytes text.old ++ closed_members code owner.now) }

@@ -45,12 +45,10 @@ const MOST_EARLY: usize = 32;
 
 #[derive(Clone, Copy, Debug)]
 pub struct Config {
-    /// The stream layer's settings, of which the peer is told.
     pub settings: Settings,
     pub tuning: Tuning,
     /// How far the window of a stream may grow by itself.
     pub most_window: u64,
-    /// After how long a silence the connection ends.
     pub idle: Duration,
 }
 
@@ -136,7 +134,6 @@ fn random_id() -> Result<ConnectionId, Fault> {
 }
 
 impl Connection {
-    /// A client's connection, which begins with a ClientHello.
     pub fn client(setup: ClientSetup, config: Config, now: Instant) -> Result<Connection, Fault> {
         let own_id = random_id()?;
         let destination = random_id()?;
@@ -153,7 +150,6 @@ impl Connection {
         Ok(connection)
     }
 
-    /// A server's connection, which answers an Initial with these identifiers.
     pub fn server(
         tls: Arc<ServerConfig>,
         config: Config,

@@ -38,7 +38,6 @@ pub struct FileServer {
     peer: SocketAddr,
     session: Option<Session>,
     requests: HashMap<StreamId, Request>,
-    /// Requests that were answered, until all of the answer is acknowledged or it was broken off.
     answered: BTreeMap<StreamId, Entry>,
     patience: Patience,
     /// Requests that were refused and whose bodies come: how much more is read of them, and until when.
@@ -47,7 +46,6 @@ pub struct FileServer {
     /// Once it may open no more than so many, it is told to take a new connection; `None` once it was told.
     away_at: Option<u64>,
     is_stopping: bool,
-    /// Requests that broke a rule, and of which the client may tell that they are over.
     malformed: BTreeSet<StreamId>,
 }
 

@@ -467,7 +467,6 @@ impl Session {
         self.shared().bodies.extend(outgoing);
     }
 
-    /// Asks the peer to send no more of a request that is answered before all of it came (RFC 9114, section 4.1).
     pub fn refuse_rest(&mut self, end: &mut Endpoint, stream: StreamId) -> Result<(), Close> {
         if self.read.contains(&stream) || self.closed.contains(&stream) {
             return Ok(());
@@ -477,13 +476,11 @@ impl Session {
         self.read_no_more(stream)
     }
 
-    /// Tells the peer that it is to send no new requests on this connection (RFC 9114, section 5.2).
     pub fn go_away(&mut self) -> Result<(), Close> {
         // Sound: `conn` is alive.
         check(unsafe { nghttp3_conn_submit_shutdown_notice(self.conn) })
     }
 
-    /// Tells the peer which of its requests are answered still: no later ones (RFC 9114, section 5.2).
     pub fn refuse_more(&mut self) -> Result<(), Close> {
         // Sound: as above.
         check(unsafe { nghttp3_conn_shutdown(self.conn) })
@@ -515,7 +512,6 @@ impl Session {
         Ok(())
     }
 
-    // Answers whether more may come.
     fn read_stream(&mut self, end: &mut Endpoint, stream: StreamId) -> Result<bool, Close> {
         let mut buffer = [0; TURN];
         loop {
@@ -583,7 +579,6 @@ impl Session {
         check(unsafe { nghttp3_conn_shutdown_stream_read(self.conn, number(stream)) })
     }
 
-    /// Breaks a stream off that was asked for: no more of it is wanted, and no more of the request goes (RFC 9114, section 4.1.1).
     pub fn cancel(&mut self, end: &mut Endpoint, stream: StreamId) -> Result<(), Close> {
         end.stop(stream, REQUEST_CANCELLED).map_err(internal)?;
         abandon(end, stream, REQUEST_CANCELLED).map_err(internal)?;

@@ -4,9 +4,7 @@ use crate::erase::{Erased, Eraser};
 
 /// A variant, or the struct itself.
 struct Shape<'a> {
-    /// What stands before its fields in a pattern.
     name: String,
-    /// The message with its quotes.
     message: &'a str,
     fields: Fields,
 }
@@ -17,7 +15,6 @@ enum Fields {
     Numbered(usize),
 }
 
-/// The last token of the item that begins here, behind its derives, and its impls of `Display` and `Error`.
 pub fn impls(eraser: &Eraser<'_>, from: usize) -> Erased<(usize, String)> {
     let (message, at) = message(eraser, from)?;
     let at = at + usize::from(eraser.word(at) == "pub");
@@ -60,7 +57,6 @@ fn variants(eraser: &Eraser<'_>, from: usize, end: usize) -> Erased<Vec<String>>
     Ok(arms)
 }
 
-/// The text of an attribute `error` that stands here, and the token behind it.
 fn message<'a>(eraser: &Eraser<'a>, at: usize) -> Erased<(Option<&'a str>, usize)> {
     if eraser.word(at) != "#" {
         return Ok((None, at));
@@ -72,7 +68,6 @@ fn message<'a>(eraser: &Eraser<'a>, at: usize) -> Erased<(Option<&'a str>, usize
     Ok((Some(eraser.word(at + 4)), close + 1))
 }
 
-/// The shape whose fields begin here, and its last token.
 fn shape<'a>(
     eraser: &Eraser<'a>,
     name: String,
@@ -99,7 +94,6 @@ fn shape<'a>(
     Ok((last, shape))
 }
 
-/// One arm of the match over the error.
 fn arm(eraser: &Eraser<'_>, at: usize, shape: &Shape<'_>) -> Erased<String> {
     let Shape { name, message, .. } = shape;
     let Some(named) = names(message) else {
@@ -125,7 +119,7 @@ fn arm(eraser: &Eraser<'_>, at: usize, shape: &Shape<'_>) -> Erased<String> {
     }
 }
 
-/// The fields that a message names, each once.
+/// Each once, since a pattern may bind a name once.
 fn names(message: &str) -> Option<Vec<&str>> {
     let mut names = Vec::new();
     for part in message.split('{').skip(1) {

@@ -1,11 +1,11 @@
-//! Takes the ghosts out of one file. What stays is left as it is, but for the edits that `KINDS.md` lists.
+//! Takes out of one file what is for the specification alone. What stays is left as it is, but for the edits that `KINDS.md` lists, so that
+//! a token can be compared with its original.
 
 use crate::display;
 use crate::inline::inline;
 use crate::lex::{Kind, Token, tokens};
 use crate::require;
 
-/// Where a file stands: its crate, and what its paths mean.
 pub struct Place<'a> {
     pub krate: &'a str,
     /// The crates that are erased, and so are modules.
@@ -14,11 +14,9 @@ pub struct Place<'a> {
     pub laws: bool,
     /// Whether a function `main` is the program.
     pub program: bool,
-    /// Whether short functions are told to be inlined.
     pub inlines: bool,
 }
 
-/// What the eraser doesn't know, and the byte of the file at which it stands.
 pub struct Unknown {
     pub at: usize,
     pub what: String,
@@ -26,7 +24,6 @@ pub struct Unknown {
 
 pub type Erased<T> = Result<T, Unknown>;
 
-/// The file's text as Rust.
 pub fn erase(place: &Place<'_>, text: &str) -> Erased<String> {
     let tokens = tokens(text).map_err(|at| Unknown {
         at,
@@ -55,7 +52,7 @@ pub fn erase(place: &Place<'_>, text: &str) -> Erased<String> {
 /// Names of Rattle's prelude that Rust's has not, or has with another meaning. A macro is named with its sign.
 const PRELUDE: &str = "Box HostRuntime String Vec assert! assert_eq! format! panic! vec!";
 
-/// Crates for which a module of the shim stands.
+/// A module of the shim stands for each, so that the library has no dependency.
 const SHIMMED: [&str; 6] = ["std", "byteorder", "hex", "rand_core", "rand_pcg", "clap"];
 
 /// Calls that take an allocator and that Rust has under the same name without one: the shim's names for them, and the traits that have
@@ -68,7 +65,7 @@ const CALLS: [(&str, &str, &str); 2] = [
 /// How the name of a step begins that only tells the prover a fact.
 const LEARN: &str = "learn_";
 
-/// Calls that take memory and can't fail, or that the shim has under another name where they can. None may stay.
+/// They take memory and can't fail, or the shim has them under another name. None may stay: an allocation that aborts would slip in.
 const BANNED: &str = "alloc collect concat into_boxed_slice into_vec join repeat sort sort_by sort_by_cached_key sort_by_key to_owned \
                       to_string to_vec";
 
@@ -82,15 +79,12 @@ pub struct Eraser<'a> {
     place: &'a Place<'a>,
     pub text: &'a str,
     pub tokens: Vec<Token>,
-    /// Whether the file has calls for C.
     has_exports: bool,
     edits: Vec<Edit>,
-    /// The names of the shim's prelude that the file needs.
     shim: Vec<&'static str>,
 }
 
 impl<'a> Eraser<'a> {
-    /// Looks at a token, and answers the next one to be looked at.
     fn step(&mut self, at: usize) -> Erased<usize> {
         match self.word(at) {
             "ghost" => self.ghost(at),
@@ -112,7 +106,6 @@ impl<'a> Eraser<'a> {
         }
     }
 
-    /// A ghost import, member or field.
     fn ghost(&mut self, at: usize) -> Erased<usize> {
         if self.word(at + 1) == "use" {
             let end = self.find(at, ";")?;
@@ -247,7 +240,7 @@ impl<'a> Eraser<'a> {
         Ok(body)
     }
 
-    /// A step that only tells the prover a fact goes whole. It takes nothing that may change and answers nothing, so it does nothing.
+    /// It takes nothing that may change and returns nothing, so it does nothing, and its name says that it is for the prover.
     fn learnt(&mut self, at: usize, end: usize, body: usize) -> Erased<usize> {
         let changes = (at..end).any(|i| self.word(i) == "mut" || self.is_sign(i, "->"));
         if changes || self.word(body) != "{" {
@@ -293,7 +286,6 @@ impl<'a> Eraser<'a> {
         star + usize::from(self.is_name(star))
     }
 
-    /// What a contract asks of numbers stands as tests before the body.
     fn tests(&mut self, at: usize, end: usize, body: usize) -> Erased<()> {
         if self.word(body) != "{" {
             return Ok(());
@@ -339,7 +331,6 @@ impl<'a> Eraser<'a> {
             && self.words(body, body + 2) == ["{", "}"]
     }
 
-    /// An import of what only proofs need goes.
     fn import_of(&mut self, at: usize) -> Erased<usize> {
         let end = self.find(at, ";")?;
         let path = self.words(at + 1, end).concat();
@@ -353,7 +344,7 @@ impl<'a> Eraser<'a> {
         Ok(end)
     }
 
-    /// A call for C is a plain function: the package for C, by hand, has one of that name that C can call.
+    /// A plain function: the package for C, by hand, has one of that name that C can call, so that the library forbids unsafe code.
     fn export(&mut self, at: usize) -> Erased<usize> {
         if self.words(at + 1, at + 3) != ["\"C\"", "fn"] {
             return self.unknown(at, "a function of another language");
@@ -432,7 +423,6 @@ impl<'a> Eraser<'a> {
         Ok(at + 1)
     }
 
-    /// `rt.alloc()`.
     fn is_runtime(&self, at: usize) -> bool {
         at >= 2 && self.word(at - 2) == "rt"
     }
@@ -466,7 +456,6 @@ impl<'a> Eraser<'a> {
         }
     }
 
-    /// Imports what the file needs of the shim's prelude, before its first item.
     fn import(&mut self) {
         self.shim.sort_unstable();
         let names: Vec<&str> = self
@@ -489,7 +478,7 @@ impl<'a> Eraser<'a> {
         self.edits.push(edit(at, at, import));
     }
 
-    /// Links of doc comments have the paths that names have.
+    /// Links of doc comments have the paths that names have, so that the documents of the made text hold together.
     fn link(&mut self) {
         let mut at = 0;
         for line in self.text.split_inclusive('\n') {
@@ -508,7 +497,7 @@ impl<'a> Eraser<'a> {
         }
     }
 
-    /// The text with its edits. Blank lines that follow one another become one.
+    /// Blank lines that follow one another become one, for what is taken out leaves its own.
     fn apply(mut self) -> String {
         self.edits.sort_by_key(|edit| (edit.start, edit.end));
         let mut out = String::new();
@@ -561,7 +550,6 @@ impl<'a> Eraser<'a> {
         start
     }
 
-    /// Takes the lines of tokens out.
     fn cut_lines(&mut self, first: usize, last: usize) -> usize {
         self.cut(self.line_start(self.tokens[first].start), last)
     }
@@ -603,7 +591,6 @@ impl<'a> Eraser<'a> {
         self.word(at) == "Model" && self.word(at + 1) == "for"
     }
 
-    /// The next token of that text, over what stands in brackets.
     fn find(&self, from: usize, word: &str) -> Erased<usize> {
         let mut at = from;
         loop {
@@ -616,7 +603,6 @@ impl<'a> Eraser<'a> {
         }
     }
 
-    /// The bracket that closes this one.
     pub fn close(&self, open: usize) -> Erased<usize> {
         let mut depth = 0;
         for at in open..self.tokens.len() {
@@ -632,7 +618,6 @@ impl<'a> Eraser<'a> {
         self.unknown(open, "a bracket that isn't closed")
     }
 
-    /// The bracket that opens where this one closes.
     fn open(&self, close: usize) -> Erased<usize> {
         let mut depth = 0;
         for at in (0..=close).rev() {
@@ -648,7 +633,6 @@ impl<'a> Eraser<'a> {
         self.unknown(close, "a bracket that wasn't opened")
     }
 
-    /// The token's text, empty past the end.
     pub fn word(&self, at: usize) -> &'a str {
         self.tokens
             .get(at)
@@ -669,7 +653,6 @@ impl<'a> Eraser<'a> {
             .is_some_and(|token| token.kind == Kind::Name)
     }
 
-    /// Whether a sign of several characters stands here.
     fn is_sign(&self, at: usize, sign: &str) -> bool {
         self.tokens
             .get(at)

@@ -3,7 +3,7 @@
 
 use crate::lex::{Kind, Token, tokens};
 
-/// How many lines a function has at most, from its visibility to its closing brace, so that it is told to.
+/// Longer functions gain nothing by it.
 const LINES: usize = 40;
 
 /// What stands between an item's beginning and its `fn`. What stands in a visibility's parentheses is behind them.
@@ -58,7 +58,6 @@ impl<'a> File<'a> {
         (lines <= LINES).then_some(start)
     }
 
-    /// The first token of the item, behind its attributes.
     fn first(&self, at: usize) -> usize {
         let mut first = at;
         loop {
@@ -73,7 +72,6 @@ impl<'a> File<'a> {
         }
     }
 
-    /// Where its body ends, if it has one.
     fn end(&self, at: usize) -> Option<usize> {
         let mut depth = 0;
         for at in at..self.tokens.len() {
@@ -89,7 +87,6 @@ impl<'a> File<'a> {
         None
     }
 
-    /// The bracket that opens where this one closes.
     fn open(&self, close: usize) -> Option<usize> {
         let mut depth = 0;
         for at in (0..=close).rev() {

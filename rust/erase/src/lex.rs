@@ -1,16 +1,12 @@
 //! Tokens of a text in Rattle: those of Rust, and of clauses, whose signs are single characters.
 
-/// What kind of token it is.
 #[derive(Clone, Copy, Debug, PartialEq, Eq)]
 pub enum Kind {
     Name,
     Lifetime,
     Number,
-    /// A string or a byte string, raw or not.
     Text,
-    /// A character or a byte.
     Char,
-    /// Any other single character.
     Sign,
 }
 
@@ -22,7 +18,6 @@ pub struct Token {
     pub end: usize,
 }
 
-/// The tokens of a text, or the place of one that has no end.
 pub fn tokens(text: &str) -> Result<Vec<Token>, usize> {
     let mut tokens = Vec::new();
     let mut start = 0;
@@ -48,7 +43,6 @@ pub fn tokens(text: &str) -> Result<Vec<Token>, usize> {
     Ok(tokens)
 }
 
-/// The kind and the length of the token in front.
 fn token(rest: &str, first: char) -> Option<(Kind, usize)> {
     if let Some(len) = raw_len(rest) {
         return Some((Kind::Text, len?));
@@ -83,7 +77,7 @@ fn name_len(rest: &str) -> usize {
         .unwrap_or(rest.len())
 }
 
-/// Digits and letters; a point only where a digit follows.
+/// A point only where a digit follows: a range has two, and a call begins with one.
 fn number_len(rest: &str) -> usize {
     let whole = name_len(rest);
     match rest[whole..].strip_prefix('.') {

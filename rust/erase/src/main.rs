@@ -47,12 +47,10 @@ const TESTS: [&str; 3] = ["qs_units", "qs_ends", "qs_tests"];
 
 const PROGRAM_FOLDER: &str = "rust/qstream/src/proved";
 
-/// The calls for C.
 const CALLS: [&str; 1] = ["qs_c"];
 
 const CALLS_FOLDER: &str = "rust/capi/src/proved";
 
-/// Where crates stand, and how their files end.
 struct Sources {
     folder: &'static str,
     kind: &'static str,
@@ -106,7 +104,6 @@ fn run(top: &Path, is_check: bool) -> Result<usize, String> {
     Ok(made.len())
 }
 
-/// Makes the files of a crate.
 fn make(
     top: &Path,
     krate: &str,
@@ -148,7 +145,7 @@ fn make(
     Ok(())
 }
 
-/// Files of folders that a made file doesn't stand for are taken away. The modules' root is made by hand.
+/// Files that no source stands for any more are taken away, so that none stays behind after a move. The modules' root is made by hand.
 fn keep_only(
     top: &Path,
     folder: &Path,
@@ -185,7 +182,6 @@ fn put(path: &Path, text: &str, is_check: bool) -> Result<(), String> {
     fs::write(path, text).map_err(|e| told(&e))
 }
 
-/// The files of that kind in a folder and those below it, by their names.
 fn files(folder: &Path, kind: &str) -> Result<Vec<PathBuf>, String> {
     let told = |e: std::io::Error| format!("{}: {e}", folder.display());
     let mut found = Vec::new();

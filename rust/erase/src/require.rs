@@ -2,7 +2,6 @@
 
 use crate::erase::Eraser;
 
-/// The types of numbers by value.
 const NUMBERS: [&str; 2] = ["u64", "usize"];
 
 /// The parameters of a function that a test may name, each with its type; a slice has that of its length.
@@ -28,7 +27,7 @@ pub fn params<'a>(eraser: &Eraser<'a>, open: usize, close: usize) -> Params<'a> 
     found
 }
 
-/// The tests of a clause whose tokens these are, `None` where it has others than comparisons of numbers.
+/// `None` if it has others than comparisons of numbers, which Rust can't spell.
 pub fn tests(params: &Params<'_>, words: &[&str]) -> Option<Vec<String>> {
     words
         .split(|word| *word == "×")

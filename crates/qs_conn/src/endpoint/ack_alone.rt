@@ -8,10 +8,10 @@ use crate::filling::put_kept;
 use qs_calls::{MAX_VARINT, Made, MakeFault};
 
 impl Endpoint {
-    /// Makes the next packet, of an ACK alone: writes its payload at the slice's front. `None` where no ACK is due. It names the highest
-    /// numbers kept, as many ranges as there is room for, and tells this delay, in the unit that the peer was told (RFC 9000, sections
-    /// 13.2 and 19.3). Such a packet doesn't count as in flight, so it may go where the congestion window is full (RFC 9002, sections 2
-    /// and 7); what else is due stays due. It takes no memory.
+    /// Makes the next packet, with an ACK alone: writes its payload at the slice's front. `None` if no ACK is due. It names the highest
+    /// numbers kept, as many ranges as there is room for, and carries this delay, in the unit that the peer was given (RFC 9000, sections
+    /// 13.2 and 19.3). Such a packet isn't in flight, so it may go when the congestion window is full (RFC 9002, sections 2 and 7); what
+    /// else is due stays due. It takes no memory.
     ///
     /// Refused, and then unchanged: `Closed`; `Exhausted` if the last packet number was used.
     pub fn make_ack(&mut self, delay: u64, out: &mut [u8]) -> Result<Option<Made>, MakeFault>

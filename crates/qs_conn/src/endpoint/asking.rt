@@ -126,10 +126,9 @@ impl Endpoint {
         known.saturating_sub(self.core.outbox.sent_sum())
     }
 
-    /// How many bytes `write` accepts of a stream now, however many are written: 0 where it is refused, as where the stream has no
-    /// sending half here (RFC 9000, sections 2.2 and 2.4). Credit doesn't count, and what is written beyond it waits; but where writes keep
-    /// within credit ([`Tuning::within_credit`]) it does (section 4.1), and what all streams keep where that is bounded
-    /// ([`Tuning::send_window`]). It takes constant time.
+    /// How many bytes `write` accepts of a stream now, however many are offered: 0 if it would be refused, or if the stream has no sending
+    /// half here (RFC 9000, sections 2.2 and 2.4). Credit doesn't count, since bytes beyond it wait, unless writes keep within credit
+    /// ([`Tuning::within_credit`], section 4.1); what all streams keep counts if that is bounded ([`Tuning::send_window`]). Constant time.
     #[tactic(auto, using(crate::proofs::Within::room_left, crate::proofs::Within::room_free))]
     pub fn room(&self, stream: StreamId) -> u64
         ensures { result ≡ room self.now stream }

@@ -9,10 +9,9 @@ use qs_calls::SetFault;
 use qs_wire::{Dir, StreamId};
 
 impl Endpoint {
-    /// Sets the connection's window anew (RFC 9000, section 4.1): how far, in bytes, what is received on all streams may run ahead of
-    /// what is taken. A greater window moves the connection's limit at once, be it by less than a step; under a smaller one the limit
-    /// stands until so much was taken that it moves again. No limit falls, and what the peer was told at first stays. In constant time,
-    /// beside what any call looks at; it takes no memory.
+    /// Sets the connection's window (RFC 9000, section 4.1): how many bytes may be received on all streams beyond those consumed. A greater
+    /// window raises the limit at once, even by less than a step; under a smaller one the limit stays until enough is consumed. No limit
+    /// falls, and what the peer was given at first stays. Constant time, beside what any call looks at; it takes no memory.
     ///
     /// Refused, and then unchanged: `Closed`; `OutOfRange` below 1 and above 2^40.
     pub fn set_conn_window(&mut self, window: u64) -> Result<(), SetFault>
@@ -29,10 +28,9 @@ impl Endpoint {
         Ok(())
     }
 
-    /// Sets anew how many streams of a direction the peer may have open (RFC 9000, section 4.6). A greater grant moves the count of its
-    /// streams at once, beside those that ended, up to the lifetime's; under a smaller one the count stands until so many ended that it
-    /// moves again. No count falls, and what the peer was told at first stays. In constant time, beside what any call looks at; it takes
-    /// no memory.
+    /// Sets how many streams of a direction the peer may have open (RFC 9000, section 4.6). A greater grant permits more at once, beside
+    /// those that ended, up to the lifetime's count; under a smaller one the count stays until enough ended. No count falls, and what the
+    /// peer was given at first stays. Constant time, beside what any call looks at; it takes no memory.
     ///
     /// Refused, and then unchanged: `Closed`; `OutOfRange` above 2^17.
     pub fn set_grant(&mut self, dir: Dir, streams: u64) -> Result<(), SetFault>
@@ -49,9 +47,9 @@ impl Endpoint {
         Ok(())
     }
 
-    /// Sets how many bytes that aren't acknowledged the stream's sending half keeps at most, within the range of
-    /// [`Settings::send_buffer`]. A stream that opens later begins with the setting. No byte that is kept goes: where more are kept,
-    /// writes accept none until enough of them are acknowledged. Of a half that was finished or reset it changes the number alone.
+    /// Sets how many unacknowledged bytes the stream's sending half keeps at most, within the range of [`Settings::send_buffer`]. A stream
+    /// that opens later begins with the setting. No byte that is kept goes, since it is promised to the reader: if more are kept, writes
+    /// accept none until enough of them are acknowledged. Of a half that was finished or reset it changes the number alone.
     ///
     /// Refused, and then unchanged: `Closed`; `OutOfRange`; `NoSuchStream` or `WrongDirection` if the stream has no sending half.
     #[tactic(auto, using(crate::proofs::Runs::idle_with))]
@@ -72,11 +70,10 @@ impl Endpoint {
         Ok(())
     }
 
-    /// Sets the window of the stream's receiving half anew (RFC 9000, section 4.1), within the range of
-    /// [`Settings::uni`]: how far, in bytes, what is received may run ahead of what is taken. A greater window moves the stream's limit at
-    /// once, be it by less than a step; under a smaller one the limit stands until so much was taken that it moves again. No limit falls,
-    /// and none moves once the final size is known. A stream that opens later begins with the window that the peer was told at first. In
-    /// constant time, beside what any call looks at; it takes no memory.
+    /// Sets the window of the stream's receiving half (RFC 9000, section 4.1), within the range of [`Settings::uni`]: how many bytes may
+    /// arrive beyond those consumed. A greater window raises the stream's limit at once, even by less than a step; under a smaller one the
+    /// limit stays until enough is consumed. No limit falls, and none moves once the final size is known. A stream that opens later begins
+    /// with the window that the peer was given at first. Constant time, beside what any call looks at; it takes no memory.
     ///
     /// Refused, and then unchanged: `Closed`; `OutOfRange` below 1 and above 2^30; `NoSuchStream` or `WrongDirection` if the stream has no
     /// receiving half.

@@ -72,7 +72,7 @@ impl Verb {
         }
     }
 
-    /// How many words follow it.
+    /// Counted before any word is read, so that a line with too many is told by that.
     fn more_words(self) -> usize
         ensures { result ≡ suc (length (kinds_of self)) }
     {
@@ -108,7 +108,6 @@ fn is_comment(line: &[u8]) -> bool
     matches!(line.first(), Some(b'#'))
 }
 
-/// The event of a line's first word and the words that follow it.
 fn parse_event(alloc: Global, first: &[u8], rest: &[u8]) -> Result<Event, Reason>
     ensures read { Reads said (event_of first.now (words_of rest.now)) result }
     ensures fits { IfOk result (λ event. fits event ≡ true) }
@@ -123,7 +122,6 @@ fn parse_event(alloc: Global, first: &[u8], rest: &[u8]) -> Result<Event, Reason
     Ok(Event { end, act })
 }
 
-/// What happens, by the words that follow the end.
 fn parse_act(alloc: Global, verb: Verb, words: &[u8]) -> Result<Act, Reason>
     requires { length (words_of words.now) ≡ length (kinds_of verb) }
     ensures said { Reads values_in (values_of (kinds_of verb) (words_of words.now)) result }

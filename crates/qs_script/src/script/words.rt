@@ -13,7 +13,7 @@ use qs_calls::{MAX_BYTES, MAX_VARINT, Side};
 use qs_wire::{Dir, StreamId};
 use std::alloc::Global;
 
-/// A number has at most so many digits.
+/// The largest of 62 bits has 19 digits. With 20 it is no number, however small its value, so no sum overflows.
 const MAX_DIGITS: usize = 19;
 
 /// The next word of a line, empty where there is none, and what follows it.
@@ -42,7 +42,6 @@ pub fn count_words(line: &[u8]) -> usize
     }
 }
 
-/// How many spaces a line begins with.
 #[tactic(auto, using(crate::proofs::ScriptWords::or_len))]
 fn spaces(line: &[u8]) -> usize
     ensures place { result ≡ position_or_len (λ byte. not (byte == 32)) line.now }
@@ -57,7 +56,6 @@ fn first_other(line: &[u8]) -> Option<usize>
     line.iter().position(|byte| *byte != b' ')
 }
 
-/// How many bytes stand before the first space.
 #[tactic(auto, using(crate::proofs::ScriptWords::or_len))]
 fn word_len(text: &[u8]) -> usize
     ensures place { result ≡ position_or_len (λ byte. byte == 32) text.now }
@@ -118,7 +116,6 @@ fn are_digits(word: &[u8]) -> bool
     word.iter().all(|byte| byte.is_ascii_digit())
 }
 
-/// The number that digits write.
 fn decimal(digits: &[u8]) -> u64
     requires digits { list_all is_ascii_digit digits.now ≡ true }
     requires short { length digits.now ≤ 19 }
@@ -168,7 +165,7 @@ pub fn parse_bytes(alloc: Global, word: &[u8]) -> Result<Vec<u8>, Reason>
     }
 }
 
-/// Whether a word spells bytes in hex.
+/// Before memory is asked for.
 fn is_hex(word: &[u8]) -> bool
     ensures { result ≡ is_ok (decode_of word.now) }
 {

@@ -4,7 +4,7 @@ use crate::shim::Vec;
 
 use crate::proved::qs_ranges::NoMemory;
 
-/// The bytes from an offset on. The first `start` ones of the vector were taken away.
+/// The first `start` bytes of the vector are read: dropping them at once would move all others for each read.
 pub(crate) struct Chunk {
     offset: u64,
     start: usize,
@@ -12,7 +12,7 @@ pub(crate) struct Chunk {
 }
 
 impl Chunk {
-    /// The bytes, kept in a buffer whose memory is used again.
+    /// In a buffer whose memory is used again, so that bytes in order take none anew.
     pub(crate) fn new(mut buffer: Vec<u8>, offset: u64, bytes: &[u8]) -> Result<Self, NoMemory> {
         buffer.clear();
         buffer.extend_from_slice(bytes)?;
@@ -58,8 +58,7 @@ impl Chunk {
         self.bytes.truncate(self.bytes.len() - count);
     }
 
-    /// Takes the first bytes away. Their memory is let go once it is at least as long as the rest, so that each byte
-    /// moves once on average.
+    /// The memory of read bytes is freed once it is at least as long as the rest, so that each byte moves once on average.
     pub(crate) fn skip(&mut self, count: usize) {
         self.offset += count as u64;
         let start = self.start + count;
@@ -77,7 +76,7 @@ impl Chunk {
     }
 }
 
-// Whether two runs of bytes have one byte at each offset that is in both.
+// Whether they agree where they overlap.
 fn are_one(at: u64, own: &[u8], offset: u64, bytes: &[u8]) -> bool {
     let from = at.max(offset);
     let to = (at + own.len() as u64).min(offset + bytes.len() as u64);

@@ -6,7 +6,8 @@ use crate::proved::qs_ranges::{NoMemory, RangeSet};
 use crate::proved::qs_recv::Assembly;
 use crate::shim::alloc::Global;
 
-/// Chunks in order that lie apart, beside the set of every offset that came.
+/// Chunks in order that lie apart, beside the set of every received offset. It takes memory by what is stored, and one chunk for each gap;
+/// it stands beside the ring to show that the laws of an assembly are enough.
 pub struct ChunkAssembly {
     chunks: ChunkList,
     received: RangeSet,
@@ -91,7 +92,7 @@ impl Assembly for ChunkAssembly {
         self.window = self.window.max(window);
     }
 
-    // Chunks that are read are gone.
+    // Chunks that are read are gone, so there is nothing to give back.
     fn give_back(&mut self) {}
 
     fn same(&self, offset: u64, bytes: &[u8]) -> bool {
@@ -102,7 +103,7 @@ impl Assembly for ChunkAssembly {
         self.stored
     }
 
-    // A chunk's buffer may have room for more.
+    // As it counts: the bytes. A chunk's buffer may have room for more.
     fn held(&self) -> u64 {
         self.stored
     }

@@ -8,15 +8,15 @@ use crate::shim::alloc::Global;
 use crate::shim::collections::VecDeque;
 use crate::shim::mem;
 
-/// Chunks, and a buffer that is free.
+/// One buffer that is free, so that a chunk that is read gives its memory to the next.
 pub(crate) struct ChunkList {
     alloc: Global,
     chunks: VecDeque<Chunk>,
     spare: Vec<u8>,
 }
 
-/// A range of offsets from `from` on and below `to`. The chunks at places from `first` on and before `after` lie within
-/// it and hold `held` bytes. Where it joins, the chunk before them ends at `from`.
+/// A range of offsets from `from` on and below `to`. The chunks at places from `first` on and before `after` lie within it and hold `held`
+/// bytes. If it joins, the chunk before them ends at `from`, and grows instead of a new one.
 #[derive(Clone, Copy)]
 pub(crate) struct Spot {
     pub(crate) first: usize,
@@ -67,7 +67,7 @@ impl ChunkList {
         &self.chunks[place]
     }
 
-    // How many chunks begin at `start` or below it. Where all do, none but the last is looked at.
+    // All of them begin there for bytes in order, so the last is looked at first.
     fn place_past(&self, start: u64) -> usize {
         match self.chunks.back() {
             Some(last) if last.offset() > start => {
@@ -77,7 +77,6 @@ impl ChunkList {
         }
     }
 
-    // Where the chunk before a place ends, or 0.
     fn end_before(&self, place: usize) -> u64 {
         if place > 0 {
             self.chunk(place - 1).end()
@@ -86,7 +85,6 @@ impl ChunkList {
         }
     }
 
-    // Where the chunk at a place begins, or past all offsets.
     fn next_begin(&self, place: usize) -> u64 {
         match self.chunks.get(place) {
             Some(chunk) => chunk.offset(),
@@ -105,7 +103,6 @@ impl ChunkList {
         (after, held)
     }
 
-    /// Whether bytes are those of the chunks at their offsets, where the chunks have some.
     pub(crate) fn agree(&self, offset: u64, bytes: &[u8]) -> bool {
         let end = offset + bytes.len() as u64;
         let mut next = self.place_past(offset).saturating_sub(1);
@@ -129,17 +126,14 @@ impl ChunkList {
         Ok(new)
     }
 
-    /// Puts bytes behind those of the chunk before a spot.
     pub(crate) fn extend(&mut self, spot: Spot, bytes: &[u8]) -> Result<(), NoMemory> {
         self.chunks[spot.first - 1].append(bytes)
     }
 
-    /// Takes the last bytes of the chunk before a spot away.
     pub(crate) fn shorten(&mut self, spot: Spot, count: usize) {
         self.chunks[spot.first - 1].truncate(count);
     }
 
-    /// Puts a chunk of its own at a spot, before those in it.
     pub(crate) fn insert(&mut self, spot: Spot, bytes: &[u8]) -> Result<(), NoMemory> {
         let buffer = mem::replace(&mut self.spare, Vec::new(self.alloc));
         let chunk = Chunk::new(buffer, spot.from, bytes)?;
@@ -147,12 +141,10 @@ impl ChunkList {
         Ok(())
     }
 
-    /// Takes a chunk out.
     pub(crate) fn remove(&mut self, place: usize) {
         drop(self.chunks.remove(place));
     }
 
-    /// Takes out the `count` chunks behind the one at a place.
     pub(crate) fn clear_behind(&mut self, place: usize, count: usize) {
         if count > 0 {
             let first = place + 1;
@@ -160,7 +152,6 @@ impl ChunkList {
         }
     }
 
-    /// Takes as many bytes as fit out of the first chunk.
     pub(crate) fn take_front(&mut self, into: &mut [u8]) -> usize {
         let first = &mut self.chunks[0];
         let len = first.len();
@@ -174,19 +165,16 @@ impl ChunkList {
         count
     }
 
-    /// Whether the first chunk begins at an offset.
     pub(crate) fn begins_at(&self, offset: u64) -> bool {
         matches!(self.chunks.front(), Some(first) if first.offset() == offset)
     }
 
-    /// Lets all memory go.
     pub(crate) fn clear_all(&mut self) {
         self.chunks = VecDeque::new(self.alloc);
         self.spare = Vec::new(self.alloc);
     }
 }
 
-// Copies a chunk's bytes over the bytes that come from an offset on.
 fn patch(bytes: &mut [u8], from: u64, chunk: &Chunk) {
     let at = (chunk.offset() - from) as usize;
     let end = at + chunk.len();

@@ -13,7 +13,7 @@ use crate::proved::qs_world::{
 use crate::shim::alloc::{AllocError, Global};
 use crate::shim::io;
 
-/// The most bytes of a datagram that is looked at. A number of eight bytes and a payload are fewer.
+/// A longer datagram is a stranger's: a number of eight bytes and the largest payload are fewer.
 const MAX_DATAGRAM: usize = 16_392;
 
 /// Plays a script between two ends of the standard settings over a wire, and writes the report as [`udp_events`] does. The fault of a
@@ -27,7 +27,8 @@ pub fn run_udp<Wi: Wire, W: io::Write>(
     status_of(report_udp(alloc, script, wire, out))
 }
 
-/// As [`run_udp`], and it answers the report that it wrote.
+/// As [`run_udp`], and it returns the report that it wrote, so that a trace is of the very log that was printed and nothing is played
+/// twice.
 pub fn report_udp<Wi: Wire, W: io::Write>(
     alloc: Global,
     script: &[u8],
@@ -71,7 +72,6 @@ pub fn report_carried<Wi: Wire, W: io::Write>(
     answer
 }
 
-/// The events take place in a new world, and what took place is written.
 fn carry_and_show<Wi: Wire, W: io::Write>(
     alloc: Global,
     events: &[Event],
@@ -91,7 +91,6 @@ fn carry_and_show<Wi: Wire, W: io::Write>(
     }
 }
 
-/// Writes the report of a world, and the line of the wire. It answers that report.
 fn show_world<W: io::Write>(
     alloc: Global,
     world: &World,
@@ -108,7 +107,6 @@ fn show_world<W: io::Write>(
     }
 }
 
-/// Writes a report, and the line of the wire.
 fn show_report<W: io::Write>(
     alloc: Global,
     report: &Report,
@@ -122,7 +120,6 @@ fn show_report<W: io::Write>(
     }
 }
 
-/// The text of a report, and the line of the wire.
 fn carried_text(
     alloc: Global,
     report: &Report,
@@ -134,7 +131,6 @@ fn carried_text(
     Ok(text)
 }
 
-/// Appends the line of the wire.
 fn push_wire_line(text: &mut String, failures: u64, strangers: u64) -> Result<(), AllocError> {
     write!(text, "wire failures {failures} strangers {strangers}\n")
 }
@@ -152,7 +148,6 @@ fn carry_events<Wi: Wire>(
     carry_each(alloc, events, wire, world, &mut room)
 }
 
-/// The same, with room for the datagrams.
 fn carry_each<Wi: Wire>(
     alloc: Global,
     events: &[Event],
@@ -170,12 +165,11 @@ fn carry_each<Wi: Wire>(
     Ok(strangers)
 }
 
-/// One stranger's datagram more, if one came.
 fn counted(stranger: bool, count: u64) -> u64 {
     if stranger { one_more(count) } else { count }
 }
 
-/// Room for the datagram that is sent, and for the one that is received.
+/// Taken once, so that memory is refused before anything is played, and not amid a run.
 struct Room {
     sent: Vec<u8>,
     received: Vec<u8>,
@@ -189,7 +183,6 @@ impl Room {
         })
     }
 
-    /// The datagram of that packet is to be sent.
     fn put(&mut self, number: u64, payload: &[u8]) -> Result<(), AllocError> {
         self.sent.clear();
         self.sent.extend_from_slice(&number.to_be_bytes())?;
@@ -197,7 +190,6 @@ impl Room {
     }
 }
 
-/// One event takes place, or what comes of it over the wire. Answers whether a stranger's datagram came.
 fn carry_event<Wi: Wire>(
     alloc: Global,
     world: &mut World,
@@ -214,7 +206,6 @@ fn carry_event<Wi: Wire>(
     }
 }
 
-/// A packet is sent, and what is received is delivered. Answers whether that was a stranger's datagram.
 fn carry_packet<Wi: Wire>(
     world: &mut World,
     end: Side,
@@ -254,7 +245,6 @@ fn lose(end: Side, number: u64) -> Event {
     }
 }
 
-/// An event takes place. No stranger's datagram came.
 fn step(world: &mut World, event: Event) -> Result<bool, PlayFault> {
     match world.happen(event) {
         Ok(()) => Ok(false),
@@ -262,7 +252,7 @@ fn step(world: &mut World, event: Event) -> Result<bool, PlayFault> {
     }
 }
 
-/// The number that a datagram bears, where it is the packet that the end made under that number.
+/// Who sent it doesn't matter: a datagram counts by what it holds.
 fn borne(world: &World, end: Side, datagram: &[u8]) -> Option<u64> {
     let (head, text) = datagram.split_first_chunk::<8>()?;
     let number = u64::from_be_bytes(*head);

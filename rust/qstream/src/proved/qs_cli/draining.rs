@@ -10,7 +10,7 @@ use crate::proved::qs_world::{Drained, Event, PlayFault, Report, Settings, parse
 use crate::shim::alloc::{AllocError, Global};
 use crate::shim::io;
 
-/// The most events that lead the ends to rest.
+/// A bound, since a call may be refused memory for ever.
 const MOST_DRAINED: u64 = 1_000_000;
 
 /// Plays a script between two ends of these settings, and then plain rounds until both ends are at rest or 1,000,000 events more happened.

@@ -9,7 +9,7 @@ use crate::proved::qs_world::Side;
 use crate::shim::alloc::Global;
 use crate::shim::collections::VecDeque;
 
-/// A wire in memory. Datagrams wait at an end in the order in which they were sent to it.
+/// A wire in memory, whose failures a test chooses. Datagrams wait at an endpoint in the order in which they were sent to it.
 pub struct MemoryWire<'a> {
     alloc: Global,
     failing_sends: &'a [u64],
@@ -22,7 +22,6 @@ pub struct MemoryWire<'a> {
 }
 
 impl<'a> MemoryWire<'a> {
-    /// Nothing waits at either end. The sends and the receives of these numbers fail, each counted from 1.
     pub fn new(alloc: Global, failing_sends: &'a [u64], failing_recvs: &'a [u64]) -> MemoryWire<'a> {
         MemoryWire {
             alloc,
@@ -36,7 +35,6 @@ impl<'a> MemoryWire<'a> {
         }
     }
 
-    /// A stranger's datagram waits at an end, behind those that wait there. Where memory is refused nothing changed.
     pub fn inject(&mut self, at: Side, bytes: &[u8]) -> Result<(), NoMemory> {
         let datagram = Vec::from_slice(self.alloc, bytes)?;
         match at {
@@ -60,7 +58,7 @@ impl<'a> Wire for MemoryWire<'a> {
         }
     }
 
-    /// It fails also where nothing waits. What waits stays where it fails.
+    /// It fails also if nothing waits, as a socket's timeout does. What waits stays if it fails.
     fn recv(&mut self, at: Side, into: &mut [u8]) -> Result<usize, WireError> {
         self.recvs = self.recvs.saturating_add(1);
         if self.failing_recvs.contains(&self.recvs) {
@@ -81,7 +79,6 @@ impl<'a> Wire for MemoryWire<'a> {
     }
 }
 
-/// Copies what fits, and answers how many bytes that is.
 fn copy_front(from: &[u8], into: &mut [u8]) -> usize {
     let count = from.len().min(into.len());
     into[..count].copy_from_slice(&from[..count]);

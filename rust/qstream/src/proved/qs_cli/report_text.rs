@@ -16,7 +16,6 @@ pub fn play_text(alloc: Global, report: &Report) -> Result<String, AllocError> {
     Ok(text)
 }
 
-/// Appends a line for each lane.
 fn push_lanes(text: &mut String, lanes: &[LaneTotals]) -> Result<(), AllocError> {
     for lane in lanes {
         push_lane(text, lane)?;
@@ -25,7 +24,6 @@ fn push_lanes(text: &mut String, lanes: &[LaneTotals]) -> Result<(), AllocError>
     Ok(())
 }
 
-/// Appends a number, where there is one.
 fn push_number(text: &mut String, number: Option<u64>) -> Result<(), AllocError> {
     match number {
         Some(number) => write!(text, "{number}"),
@@ -33,7 +31,6 @@ fn push_number(text: &mut String, number: Option<u64>) -> Result<(), AllocError>
     }
 }
 
-/// Appends what is known of a lane.
 fn push_lane(text: &mut String, lane: &LaneTotals) -> Result<(), AllocError> {
     let (side, id) = (side_name(lane.sender), lane.id.value());
     let (written, read, received) = (lane.written, lane.read, yes_no(lane.received));
@@ -44,7 +41,6 @@ fn push_lane(text: &mut String, lane: &LaneTotals) -> Result<(), AllocError> {
     push_sizes(text, lane.declared, lane.known)
 }
 
-/// Appends the final sizes that the sender declared and the receiver knows.
 fn push_sizes(
     text: &mut String,
     declared: Option<u64>,
@@ -56,7 +52,6 @@ fn push_sizes(
     push_number(text, known)
 }
 
-/// Appends a line for each end.
 fn push_ends(text: &mut String, ends: &[EndTotals; 2]) -> Result<(), AllocError> {
     let [client, server] = ends;
     push_end(text, Side::A, client)?;
@@ -65,7 +60,6 @@ fn push_ends(text: &mut String, ends: &[EndTotals; 2]) -> Result<(), AllocError>
     text.push_str("\n")
 }
 
-/// Appends what is known of an end.
 fn push_end(text: &mut String, side: Side, end: &EndTotals) -> Result<(), AllocError> {
     let (side, spent, granted, stored) = (side_name(side), end.spent, end.granted, end.stored);
     write!(
@@ -75,7 +69,6 @@ fn push_end(text: &mut String, side: Side, end: &EndTotals) -> Result<(), AllocE
     push_own_closing(text, end.closing)
 }
 
-/// Appends why an end closed, where it did.
 fn push_own_closing(text: &mut String, closing: Option<Closing>) -> Result<(), AllocError> {
     match closing {
         Some(closing) => {

@@ -16,8 +16,7 @@ use crate::shim::io;
 /// Plays events between two ends of these settings, and writes the report: a line for each event with its answer, for each lane and for
 /// each end. It answers the exit status. An event that delivers a packet which wasn't made is named in place of it all.
 ///
-/// It is written once the text stands whole: `NoMemory` where memory was refused, and then nothing was written, and `Failed` where
-/// writing failed.
+/// It is written once the text stands whole, so that `NoMemory` means that nothing was written. `Failed` if writing failed.
 pub fn run_events<W: io::Write>(
     alloc: Global,
     settings: Settings,
@@ -39,7 +38,6 @@ pub fn report_events<W: io::Write>(
     show_played(alloc, played, out)
 }
 
-/// Writes the report of what was played, or names the event whose packet wasn't made.
 fn show_played<W: io::Write>(
     alloc: Global,
     played: Result<Report, PlayFault>,
@@ -54,7 +52,6 @@ fn show_played<W: io::Write>(
     }
 }
 
-/// Names the event whose packet wasn't made, unless memory was wanting.
 fn show_play_fault<W: io::Write>(alloc: Global, fault: PlayFault, out: &mut W) -> Status {
     match fault {
         PlayFault::NoSuchPacket { event } => show_missing(alloc, event, out),
@@ -86,7 +83,6 @@ pub fn written(report: Report, status: Status) -> Result<Report, Status> {
     }
 }
 
-/// Writes the line that names an event whose packet wasn't made.
 pub fn show_missing<W: io::Write>(alloc: Global, event: usize, out: &mut W) -> Status {
     match format!(in alloc; "fault: no such packet at event {event}\n") {
         Ok(text) => show(&text, Status::FaultShown, out),
@@ -94,7 +90,6 @@ pub fn show_missing<W: io::Write>(alloc: Global, event: usize, out: &mut W) -> S
     }
 }
 
-/// Writes a text, and answers the status that goes with it, or `Failed` where writing did.
 pub fn show<W: io::Write>(text: &String, status: Status, out: &mut W) -> Status {
     match out.write_all(text.as_bytes()) {
         Ok(()) => status,

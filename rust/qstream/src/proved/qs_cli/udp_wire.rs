@@ -7,7 +7,7 @@ use crate::shim::io;
 use crate::shim::net::{Ipv4Addr, Net, SocketAddr, UdpSocket};
 use crate::shim::time::Duration;
 
-/// Two UDP sockets, one for each end. A receive that waits longer than a second fails.
+/// Two UDP sockets, used one after the other. A receive that waits longer than a second fails, so that a lost datagram doesn't stop a run.
 pub struct UdpWire {
     a: UdpSocket,
     b: UdpSocket,
@@ -15,7 +15,8 @@ pub struct UdpWire {
 }
 
 impl UdpWire {
-    /// Binds both sockets to 127.0.0.1, at ports that are free.
+    /// Binds both sockets to 127.0.0.1, at free ports. It takes the value that lets a function open sockets, which only `main` and tests
+    /// have.
     pub fn bind<R: Net>(net: &R) -> Result<UdpWire, WireError> {
         match bind_both(net) {
             Ok((a, b)) => Ok(UdpWire {

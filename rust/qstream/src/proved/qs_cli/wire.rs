@@ -9,8 +9,9 @@ pub struct WireError;
 
 /// Carries datagrams from each of two ends to the other, and may lose them, hold them up or bring strangers'.
 ///
-/// An error is answered only where the wire failed in that call. The failures are counted, those of sends apart, too, and a count stays at
-/// its greatest value.
+/// An error is returned only if the wire failed in that call, and the wire counts its failures: so a run can't make up one that didn't
+/// happen. Those of sends are counted apart, too, so that a run can't forget to lose a packet that wasn't sent. A count stays at its
+/// greatest value.
 pub trait Wire {
     /// Sends a datagram from one end to the other.
     fn send(&mut self, from: Side, bytes: &[u8]) -> Result<(), WireError>;
@@ -22,7 +23,6 @@ pub trait Wire {
     fn failures(&self) -> u64;
 }
 
-/// How many calls of a wire failed, and how many of these were sends.
 pub(crate) struct Failures {
     calls: u64,
     sends: u64,
@@ -33,26 +33,23 @@ impl Failures {
         Failures { calls: 0, sends: 0 }
     }
 
-    /// One send more failed, which is answered so.
     pub(crate) fn note_send(&mut self) -> WireError {
         self.calls = one_more(self.calls);
         self.sends = one_more(self.sends);
         WireError
     }
 
-    /// One receive more failed, which is answered so.
     pub(crate) fn note_recv(&mut self) -> WireError {
         self.calls = one_more(self.calls);
         WireError
     }
 
-    /// How many calls failed.
     pub(crate) fn count(&self) -> u64 {
         self.calls
     }
 }
 
-/// One more than a count, which stays at its greatest value.
+/// It stays at its greatest value, so that it can't fall.
 pub(crate) fn one_more(count: u64) -> u64 {
     if count < u64::MAX { count + 1 } else { count }
 }

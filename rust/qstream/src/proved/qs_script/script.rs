@@ -78,7 +78,7 @@ impl core::fmt::Display for ScriptFault {
 
 impl core::error::Error for ScriptFault {}
 
-/// The events of a script, in order. The time is linear in the bytes.
+/// The events of a script, in order, or its first faulty line. The time is linear in the bytes.
 pub fn parse_script(alloc: Global, script: &[u8]) -> Result<Vec<Event>, ScriptFault> {
     let mut events = Vec::new(alloc);
     let mut rest = script;
@@ -94,7 +94,7 @@ pub fn parse_script(alloc: Global, script: &[u8]) -> Result<Vec<Event>, ScriptFa
     Ok(events)
 }
 
-/// The first line of a text that isn't empty, without its end, and what follows it.
+/// Without its end: a carriage return before the line feed goes, too, and only one.
 fn split_line(text: &[u8]) -> (&[u8], &[u8]) {
     debug_assert!(0 < text.len());
     match line_feed(text) {
@@ -107,12 +107,10 @@ fn split_line(text: &[u8]) -> (&[u8], &[u8]) {
     }
 }
 
-/// Where the first line feed stands.
 fn line_feed(text: &[u8]) -> Option<usize> {
     text.iter().position(|byte| *byte == b'\n')
 }
 
-/// A line without the carriage return at its end.
 fn without_return(line: &[u8]) -> &[u8] {
     if line.is_empty() {
         return line;
@@ -125,7 +123,7 @@ fn without_return(line: &[u8]) -> &[u8] {
     text
 }
 
-/// Appends the event of a line, where it is one.
+/// Memory is asked for last, so that a faulty line is named whatever memory there is.
 fn push_event(alloc: Global, events: &mut Vec<Event>, line: &[u8]) -> Result<(), Reason> {
     let Some(event) = parse_line(alloc, line)? else {
         return Ok(());

@@ -32,7 +32,7 @@ pub fn push_log(alloc: Global, text: &mut String, log: &[(Event, Answer)]) -> Re
     Ok(())
 }
 
-/// Appends an event as a script has it.
+/// The same words as a script has, so that a log can be played again.
 fn push_event(alloc: Global, text: &mut String, event: &Event) -> Result<(), AllocError> {
     let side = side_name(event.end);
     match &event.act {
@@ -53,7 +53,6 @@ fn push_event(alloc: Global, text: &mut String, event: &Event) -> Result<(), All
     }
 }
 
-/// Appends what a call answered.
 fn push_answer(alloc: Global, text: &mut String, answer: &Answer) -> Result<(), AllocError> {
     match answer {
         Answer::OpenStream(opened) => push_opened(text, *opened),
@@ -107,7 +106,6 @@ fn lose_name(lost: Result<(), LostFault>) -> &'static str {
     }
 }
 
-/// Appends what the opening of a stream answered.
 fn push_opened(text: &mut String, opened: Result<StreamId, OpenFault>) -> Result<(), AllocError> {
     match opened {
         Ok(id) => write!(text, "stream {}", id.value()),
@@ -117,7 +115,6 @@ fn push_opened(text: &mut String, opened: Result<StreamId, OpenFault>) -> Result
     }
 }
 
-/// Appends what a read answered, with the bytes that were read.
 fn push_read(
     alloc: Global,
     text: &mut String,
@@ -136,7 +133,6 @@ fn push_read(
     }
 }
 
-/// Appends what came of making a packet, with its payload.
 fn push_made(
     alloc: Global,
     text: &mut String,
@@ -153,7 +149,6 @@ fn push_made(
     }
 }
 
-/// Appends what came of claiming a packet number.
 fn push_claimed(text: &mut String, claimed: Result<u64, MakeFault>) -> Result<(), AllocError> {
     match claimed {
         Ok(number) => write!(text, "number {number}"),
@@ -161,7 +156,6 @@ fn push_claimed(text: &mut String, claimed: Result<u64, MakeFault>) -> Result<()
     }
 }
 
-/// Appends what came of a payload.
 fn push_received(text: &mut String, received: Result<Received, Closing>) -> Result<(), AllocError> {
     match received {
         Ok(Received::Done) => text.push_str("done"),

@@ -9,7 +9,7 @@ use Field::{Bytes, Code, Number, Word};
 use crate::proved::qs_wire::{AckRanges, EcnCounts, Frame};
 use crate::shim::alloc::{AllocError, Global};
 
-/// A field of a frame, with the name under which it is shown.
+/// One list for the line that is printed and for its definition.
 #[derive(Clone, Copy)]
 pub enum Field<'a> {
     Nothing,
@@ -22,7 +22,6 @@ pub enum Field<'a> {
     Ecn(&'static str, EcnCounts),
 }
 
-/// Up to four fields, the others being nothing.
 macro_rules! fields {
     ($a:expr $(,)?) => {
         [$a, Field::Nothing, Field::Nothing, Field::Nothing]
@@ -35,7 +34,7 @@ macro_rules! fields {
     };
 }
 
-/// What a frame holds, in the order in which it is shown.
+/// In the order in which they are shown.
 pub fn fields_of<'a>(frame: &Frame<'a>) -> [Field<'a>; 4] {
     match *frame {
         Frame::Padding | Frame::Ping | Frame::HandshakeDone => [Field::Nothing; 4],
@@ -116,7 +115,6 @@ pub fn fields_of<'a>(frame: &Frame<'a>) -> [Field<'a>; 4] {
     }
 }
 
-/// What an ACK holds.
 fn ack_fields<'a>(
     largest: u64,
     delay: u64,
@@ -137,7 +135,6 @@ fn ack_fields<'a>(
     ]
 }
 
-/// Appends a field, where there is one.
 fn push_field(alloc: Global, text: &mut String, field: Field) -> Result<(), AllocError> {
     match field {
         Field::Nothing => Ok(()),
@@ -170,7 +167,6 @@ pub fn push_fields(alloc: Global, text: &mut String, fields: &[Field]) -> Result
     Ok(())
 }
 
-/// Appends the ranges of an ACK, the highest first.
 fn push_ranges(text: &mut String, ranges: AckRanges) -> Result<(), AllocError> {
     let mut ranges = ranges;
     let Some((smallest, largest)) = ranges.next() else {

@@ -8,7 +8,6 @@ use crate::proved::qs_text::words::push_code;
 use crate::proved::qs_wire::{Frame, WireFault};
 use crate::shim::alloc::{AllocError, Global};
 
-/// What a frame is called.
 fn name_of(frame: &Frame) -> &'static str {
     match frame {
         Frame::Padding => "PADDING",

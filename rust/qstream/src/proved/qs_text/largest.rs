@@ -1,7 +1,7 @@
 // Made from crates/qs_text/src/largest.rt by rust/erase; not edited by hand.
 //! The packet number at which the ranges of an ACK begin.
 
-/// The largest packet number that an ACK names.
+/// A type of its own, so that its bound is known wherever ranges are shown.
 #[derive(Clone, Copy)]
 pub struct Largest {
     number: u64,

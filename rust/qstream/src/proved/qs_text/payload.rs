@@ -24,7 +24,7 @@ pub fn payload_text(alloc: Global, payload: &[u8]) -> Result<(String, bool), All
     Ok((text, fault.is_some()))
 }
 
-/// Appends a line for each frame to the text, and their canonical texts to `canonical`.
+/// Both at once, so that the payload is read once.
 fn push_frames(
     alloc: Global,
     text: &mut String,
@@ -45,7 +45,6 @@ fn push_frames(
     }
 }
 
-/// Appends the line of a frame.
 fn push_line(alloc: Global, text: &mut String, placed: &Placed) -> Result<(), AllocError> {
     let place = placed.place;
     write!(text, "{place} ")?;
@@ -53,7 +52,7 @@ fn push_line(alloc: Global, text: &mut String, placed: &Placed) -> Result<(), Al
     text.push_str("\n")
 }
 
-/// Appends the canonical text of a frame. It is put together in `room`, which grows where it has to.
+/// It is put together in `room`, which serves all frames and grows only if it has to.
 fn push_canonical(bytes: &mut Vec<u8>, room: &mut Vec<u8>, frame: &Frame) -> Result<(), AllocError> {
     loop {
         match put(frame, room) {

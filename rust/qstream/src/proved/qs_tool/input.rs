@@ -8,7 +8,7 @@ use crate::shim::alloc::Global;
 use crate::shim::fs;
 use crate::shim::io::Read;
 
-/// The most bytes of a script.
+/// More is no script, and would only fill memory.
 const MAX_SCRIPT: usize = 16_777_216;
 
 /// The bytes of the file of that name. `Failed` as [`read_whole`], and where the file can't be opened.

@@ -7,8 +7,9 @@ use crate::proved::qs_cli::Status;
 use crate::proved::qs_trace::{trace, vantage_name};
 use crate::shim::fs;
 
-/// Writes what each end saw of a log, the client to NAME.client.sqlog and the server to NAME.server.sqlog. `NoMemory` where memory was
-/// refused, and `Failed` where a file can't be written, which a line on standard error names.
+/// Writes what each endpoint saw of a log, the client to NAME.client.sqlog and the server to NAME.server.sqlog: a sequence of qlog 0.4 has
+/// one trace, and a trace one vantage point. `NoMemory` if memory was refused, and `Failed` if a file can't be written, which a line on
+/// standard error names.
 pub fn write_traces(rt: &HostRuntime, name: &str, log: &[(Event, Answer)]) -> Status {
     match write_trace(rt, name, Side::A, log) {
         Status::Success => write_trace(rt, name, Side::B, log),

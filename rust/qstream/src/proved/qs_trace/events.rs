@@ -30,7 +30,6 @@ pub fn vantage_name(side: Side) -> &'static str {
     }
 }
 
-/// The trace's own record, up to whose it is.
 fn heading() -> &'static str {
     "\u{1e}{\"qlog_version\":\"0.4\",\"qlog_format\":\"JSON-SEQ\",\"trace\":{\"common_fields\":{\"protocol_type\":[\"QUIC\"],\"time_format\":\"relative\",\"reference_time\":0,\"gotsavena:time\":\"place in the log\"},\"vantage_point\":{\"type\":"
 }
@@ -39,7 +38,6 @@ fn heading_end() -> &'static str {
     "}}}\n"
 }
 
-/// Appends what the end sees of an event.
 fn push_event(
     alloc: Global,
     text: &mut String,
@@ -55,7 +53,6 @@ fn push_event(
     }
 }
 
-/// Appends what an end's own call tells.
 fn push_own(
     alloc: Global,
     text: &mut String,
@@ -76,7 +73,7 @@ fn push_own(
     }
 }
 
-/// Appends what a call at the other side tells: a packet of the peer's that arrives.
+/// Of the peer's calls it sees the packets that arrive, and nothing else.
 fn push_peers(
     alloc: Global,
     text: &mut String,
@@ -93,7 +90,6 @@ fn push_peers(
     }
 }
 
-/// Appends what comes of a packet that arrived.
 fn push_effect(
     alloc: Global,
     text: &mut String,
@@ -115,7 +111,6 @@ fn push_effect(
     push_item(alloc, text, time, &item)
 }
 
-/// Appends the halves of a stream that this end opened.
 fn push_opened(
     alloc: Global,
     text: &mut String,
@@ -131,7 +126,6 @@ fn push_opened(
     }
 }
 
-/// Appends the halves of a stream that the peer opened.
 fn push_accepted(
     alloc: Global,
     text: &mut String,
@@ -147,7 +141,6 @@ fn push_accepted(
     }
 }
 
-/// Appends the other half of a stream that has both.
 fn push_if_bidi(
     alloc: Global,
     text: &mut String,
@@ -161,7 +154,6 @@ fn push_if_bidi(
     }
 }
 
-/// Appends what was taken from the application.
 fn push_written(
     alloc: Global,
     text: &mut String,
@@ -175,7 +167,6 @@ fn push_written(
     }
 }
 
-/// Appends that a sending half was broken off.
 fn push_reset(
     alloc: Global,
     text: &mut String,
@@ -194,7 +185,6 @@ fn push_reset(
     }
 }
 
-/// Appends what a read gave.
 fn push_read(
     alloc: Global,
     text: &mut String,
@@ -225,7 +215,6 @@ fn push_read(
     }
 }
 
-/// Appends a packet that was made.
 fn push_made(
     alloc: Global,
     text: &mut String,
@@ -243,7 +232,6 @@ fn push_made(
     }
 }
 
-/// Appends a packet that was declared lost.
 fn push_lost(
     alloc: Global,
     text: &mut String,
@@ -257,7 +245,6 @@ fn push_lost(
     }
 }
 
-/// Appends the PING that goes under a number that was claimed.
 fn push_claimed(
     alloc: Global,
     text: &mut String,

@@ -28,7 +28,6 @@ pub fn push_payload(alloc: Global, text: &mut String, payload: &[u8]) -> Result<
     }
 }
 
-/// Appends a frame.
 fn push_frame(alloc: Global, text: &mut String, frame: &Frame) -> Result<(), AllocError> {
     push_frame_name(text, frame_name(frame))?;
     push_stream_members(text, frame)?;
@@ -37,7 +36,6 @@ fn push_frame(alloc: Global, text: &mut String, frame: &Frame) -> Result<(), All
     text.push_str("}")
 }
 
-/// Appends the first member of a frame's object.
 fn push_frame_name(text: &mut String, name: &str) -> Result<(), AllocError> {
     text.push_str("{")?;
     push_quoted(text, "frame_type")?;
@@ -45,7 +43,6 @@ fn push_frame_name(text: &mut String, name: &str) -> Result<(), AllocError> {
     push_quoted(text, name)
 }
 
-/// What a frame is called.
 fn frame_name(frame: &Frame) -> &'static str {
     match frame {
         Frame::Padding => "padding",
@@ -71,7 +68,7 @@ fn frame_name(frame: &Frame) -> &'static str {
     }
 }
 
-/// Appends what a frame on packets or on a stream's halves holds; of data the count.
+/// Of data the count: viewers want no bytes, and traces stay small.
 fn push_stream_members(text: &mut String, frame: &Frame) -> Result<(), AllocError> {
     match *frame {
         Frame::Ack {
@@ -107,12 +104,11 @@ fn push_stream_members(text: &mut String, frame: &Frame) -> Result<(), AllocErro
     }
 }
 
-/// Appends the delay that an ACK bears.
+/// In microseconds nobody knows it here: it is the number in the frame, under a name of its own.
 fn push_delay(text: &mut String, delay: u64) -> Result<(), AllocError> {
     push_number(text, "gotsavena:delay_field", delay)
 }
 
-/// Appends what a frame on credit holds.
 fn push_credit_members(text: &mut String, frame: &Frame) -> Result<(), AllocError> {
     match *frame {
         Frame::MaxData { maximum } => push_number(text, "maximum", maximum),
@@ -137,7 +133,6 @@ fn push_credit_members(text: &mut String, frame: &Frame) -> Result<(), AllocErro
     }
 }
 
-/// Appends what a STREAM frame holds: of its data the count.
 fn push_data(
     text: &mut String,
     id: u64,
@@ -152,7 +147,6 @@ fn push_data(
     text.push_str(flag_name(fin))
 }
 
-/// Appends the ranges that an ACK names, as a member.
 fn push_acked(text: &mut String, ranges: AckRanges) -> Result<(), AllocError> {
     push_name(text, "acked_ranges")?;
     text.push_str("[")?;
@@ -160,7 +154,6 @@ fn push_acked(text: &mut String, ranges: AckRanges) -> Result<(), AllocError> {
     text.push_str("]")
 }
 
-/// Appends what another frame holds.
 fn push_other_members(alloc: Global, text: &mut String, frame: &Frame) -> Result<(), AllocError> {
     match *frame {
         Frame::Crypto { offset, bytes } => {
@@ -196,18 +189,15 @@ fn push_other_members(alloc: Global, text: &mut String, frame: &Frame) -> Result
     }
 }
 
-/// Appends who closes, an application or the transport, and with which code.
 fn push_close(text: &mut String, space: &str, code: u64) -> Result<(), AllocError> {
     push_word(text, "error_space", space)?;
     push_number(text, "error_code", code)
 }
 
-/// Appends why it closes.
 fn push_reason(alloc: Global, text: &mut String, reason: &[u8]) -> Result<(), AllocError> {
     push_bytes(alloc, text, "reason_bytes", reason)
 }
 
-/// Appends which type of frame was at fault, and why.
 fn push_fault(
     alloc: Global,
     text: &mut String,
@@ -218,13 +208,11 @@ fn push_fault(
     push_reason(alloc, text, reason)
 }
 
-/// Appends the number of an identifier, and up to which others retire.
 fn push_sequence(text: &mut String, sequence: u64, retire: u64) -> Result<(), AllocError> {
     push_number(text, "sequence_number", sequence)?;
     push_number(text, "retire_prior_to", retire)
 }
 
-/// Appends a connection's identifier and its token.
 fn push_ids(
     alloc: Global,
     text: &mut String,
@@ -235,7 +223,6 @@ fn push_ids(
     push_bytes(alloc, text, "stateless_reset_token", token)
 }
 
-/// Appends the counts of ECN, where there are any.
 fn push_ecn(text: &mut String, ecn: Option<EcnCounts>) -> Result<(), AllocError> {
     let Some(counts) = ecn else {
         return Ok(());
@@ -245,7 +232,6 @@ fn push_ecn(text: &mut String, ecn: Option<EcnCounts>) -> Result<(), AllocError>
     push_number(text, "ce", counts.ce)
 }
 
-/// Appends the ranges of an ACK, the highest first.
 fn push_ranges(text: &mut String, ranges: AckRanges) -> Result<(), AllocError> {
     let mut ranges = ranges;
     let Some((smallest, largest)) = ranges.next() else {

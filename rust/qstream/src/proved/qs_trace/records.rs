@@ -20,7 +20,6 @@ pub fn push_item(
     text.push_str(ending())
 }
 
-/// The name of an item's event.
 fn item_name(item: &Item) -> &'static str {
     match item {
         Item::Sent(_, _) => "transport:packet_sent",
@@ -35,7 +34,6 @@ fn item_name(item: &Item) -> &'static str {
     }
 }
 
-/// Appends the data of an item.
 fn push_data(alloc: Global, text: &mut String, item: &Item) -> Result<(), AllocError> {
     match *item {
         Item::Sent(number, payload) => {
@@ -57,7 +55,6 @@ fn push_data(alloc: Global, text: &mut String, item: &Item) -> Result<(), AllocE
     }
 }
 
-/// What a record ends with.
 fn ending() -> &'static str {
     "}}\n"
 }
@@ -90,28 +87,24 @@ fn turn_state(turn: Turn) -> &'static str {
     }
 }
 
-/// Appends the first member of an object, which is a number.
 fn push_first(text: &mut String, name: &str, number: u64) -> Result<(), AllocError> {
     push_quoted(text, name)?;
     write!(text, ":{number}")
 }
 
-/// Appends a packet number as the first member of an object.
 fn push_first_packet(text: &mut String, number: u64) -> Result<(), AllocError> {
     push_first(text, "packet_number", number)
 }
 
-/// Appends the length of a payload as the first member of an object.
 fn push_first_length(text: &mut String, len: u64) -> Result<(), AllocError> {
     push_first(text, "payload_length", len)
 }
 
-/// Appends the code with which a connection ended as the first member of an object.
 fn push_first_code(text: &mut String, code: u64) -> Result<(), AllocError> {
     push_first(text, "connection_code", code)
 }
 
-/// Appends what a record begins with: its time and its name.
+/// Time is the place in the log, since a run has no clock.
 fn push_opening(text: &mut String, time: usize, name: &str) -> Result<(), AllocError> {
     text.push_str("\u{1e}{")?;
     push_first(text, "time", time as u64)?;
@@ -120,7 +113,6 @@ fn push_opening(text: &mut String, time: usize, name: &str) -> Result<(), AllocE
     text.push_str("{")
 }
 
-/// Appends whose number a packet has.
 fn push_header(text: &mut String, number: u64) -> Result<(), AllocError> {
     push_quoted(text, "header")?;
     text.push_str(":{")?;
@@ -129,7 +121,6 @@ fn push_header(text: &mut String, number: u64) -> Result<(), AllocError> {
     text.push_str("}")
 }
 
-/// Appends how long a payload is.
 fn push_raw(text: &mut String, len: usize) -> Result<(), AllocError> {
     push_name(text, "raw")?;
     text.push_str("{")?;
@@ -137,7 +128,6 @@ fn push_raw(text: &mut String, len: usize) -> Result<(), AllocError> {
     text.push_str("}")
 }
 
-/// Appends the frames of a payload.
 fn push_frames(alloc: Global, text: &mut String, payload: &[u8]) -> Result<(), AllocError> {
     push_name(text, "frames")?;
     text.push_str("[")?;
@@ -145,14 +135,12 @@ fn push_frames(alloc: Global, text: &mut String, payload: &[u8]) -> Result<(), A
     text.push_str("]")
 }
 
-/// Appends a half of a stream and its new state.
 fn push_turn(text: &mut String, id: u64, turn: Turn) -> Result<(), AllocError> {
     push_first(text, "stream_id", id)?;
     push_word(text, "stream_side", turn_side(turn))?;
     push_word(text, "new", turn_state(turn))
 }
 
-/// Appends how many bytes of a stream moved, and from where to where.
 fn push_moved(
     text: &mut String,
     id: u64,
@@ -166,7 +154,6 @@ fn push_moved(
     push_word(text, "to", to)
 }
 
-/// Appends the code with which the connection ended, and who ended it.
 fn push_closed(text: &mut String, code: u64, owner: &str) -> Result<(), AllocError> {
     push_first_code(text, code)?;
     push_word(text, "owner", owner)

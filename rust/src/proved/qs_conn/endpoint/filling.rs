@@ -7,10 +7,10 @@ use crate::proved::qs_calls::{Fill, Filled, MAX_VARINT, MakeFault};
 use crate::proved::qs_wire::StreamId;
 
 impl Endpoint {
-    /// Fills a slice with frames of what is due and asked for, for a packet of a stack that owns its packets: never an ACK, which stays
-    /// due. Control items come first, and then bytes of streams by turns (RFC 9000, sections 2.3, 4, 12.4 and 13.3). The token that it
-    /// answers names them later, acknowledged or lost. `None` where nothing that is asked for may go, or the room is too little: with
-    /// `MIN_FILL` bytes it says that nothing may. The slice may have any length; of it changes only what is filled.
+    /// Fills a slice with frames of what is due and asked for, for a packet of a stack with packets of its own: never an ACK, which the
+    /// stack writes. Control frames come first, since the peer may wait for credit, then data of streams in turn (RFC 9000, sections 2.3,
+    /// 4, 12.4 and 13.3). The token that it returns names them later, acknowledged or lost. `None` if nothing that is asked for may go, or
+    /// the room is too small: with `MIN_FILL` bytes it never is. The slice may have any length, and only what is filled changes.
     ///
     /// Refused, and then unchanged: `Closed`; `Exhausted` if the last number was used; `NoMemory`, only if something that is asked for may
     /// go.

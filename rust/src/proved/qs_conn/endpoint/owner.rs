@@ -8,12 +8,11 @@ use crate::proved::qs_send::SendFault;
 use crate::proved::qs_wire::StreamId;
 
 impl Endpoint {
-    /// Accepts the front of the bytes for sending, as many as there is room for, and answers how many. Where writes keep within credit
-    /// ([`Tuning::within_credit`]) it takes no more than may be sent at once: by the stream's limit and the connection's, beside all
-    /// that waits to be sent (RFC 9000, section 4.1). Then no byte waits for credit, so no STREAM_DATA_BLOCKED or DATA_BLOCKED is
-    /// due: the owner sees by the answer that its write was cut short. Where all streams together are bounded
-    /// ([`Tuning::send_window`]) it takes no more than that leaves beside all that they keep until it is acknowledged (section 13.3),
-    /// and asks for no memory where nothing is left. It takes constant time beside the bytes.
+    /// Accepts the front of the bytes for sending, as many as there is room for, and returns how many. If writes keep within credit
+    /// ([`Tuning::within_credit`]), no more than may be sent at once under the stream's limit and the connection's, beside all that waits
+    /// to be sent (RFC 9000, section 4.1). Then no byte waits for credit, so no STREAM_DATA_BLOCKED or DATA_BLOCKED is due: that the write
+    /// was cut short is the sign. If all streams together are bounded ([`Tuning::send_window`]), no more than that leaves beside all that
+    /// they keep until it is acknowledged (section 13.3), and no memory is asked for if nothing is left. Constant time beside the bytes.
     ///
     /// Refused, and then unchanged: `Closed`; `NoSuchStream` or `WrongDirection` if the stream has no sending half; `WasReset`; `Finished`;
     /// and `NoMemory`.
@@ -165,9 +164,9 @@ impl Endpoint {
         Ok(())
     }
 
-    /// Stops the stream as [`stop`](Endpoint::stop) does, and tells nothing more of it: it counts as read to its end as soon as its last
-    /// byte comes, or a reset, so its owner needn't read on for the peer to be granted another stream (RFC 9000, sections 3.2, 3.5 and
-    /// 4.6). The first code stays; the application's codes lie below 2^62.
+    /// As [`stop`](Endpoint::stop), for an application that won't hear of the stream again: it counts as read to its end as soon as its
+    /// last byte or a reset arrives, so the peer is granted another stream without another read (RFC 9000, sections 3.2, 3.5 and 4.6). The
+    /// first code stays; the application's codes lie below 2^62.
     ///
     /// Refused, and then unchanged: as `stop` is.
     ///

@@ -65,7 +65,7 @@ impl Verb {
         }
     }
 
-    /// How many words follow it.
+    /// Counted before any word is read, so that a line with too many is told by that.
     fn more_words(self) -> usize {
         match self {
             Verb::Accept | Verb::Claim => 1,
@@ -94,7 +94,6 @@ fn is_comment(line: &[u8]) -> bool {
     matches!(line.first(), Some(b'#'))
 }
 
-/// The event of a line's first word and the words that follow it.
 fn parse_event(alloc: Global, first: &[u8], rest: &[u8]) -> Result<Event, Reason> {
     let verb = Verb::parse(first)?;
     if count_words(rest) != verb.more_words() {
@@ -106,7 +105,6 @@ fn parse_event(alloc: Global, first: &[u8], rest: &[u8]) -> Result<Event, Reason
     Ok(Event { end, act })
 }
 
-/// What happens, by the words that follow the end.
 fn parse_act(alloc: Global, verb: Verb, words: &[u8]) -> Result<Act, Reason> {
     let (third, rest) = next_word(words);
     let (fourth, _) = next_word(rest);

@@ -8,7 +8,7 @@ use crate::proved::qs_calls::{MAX_BYTES, MAX_VARINT, Side};
 use crate::proved::qs_wire::{Dir, StreamId};
 use crate::shim::alloc::Global;
 
-/// A number has at most so many digits.
+/// The largest of 62 bits has 19 digits. With 20 it is no number, however small its value, so no sum overflows.
 const MAX_DIGITS: usize = 19;
 
 /// The next word of a line, empty where there is none, and what follows it.
@@ -31,7 +31,6 @@ pub fn count_words(line: &[u8]) -> usize {
     }
 }
 
-/// How many spaces a line begins with.
 fn spaces(line: &[u8]) -> usize {
     first_other(line).unwrap_or(line.len())
 }
@@ -40,7 +39,6 @@ fn first_other(line: &[u8]) -> Option<usize> {
     line.iter().position(|byte| *byte != b' ')
 }
 
-/// How many bytes stand before the first space.
 fn word_len(text: &[u8]) -> usize {
     first_space(text).unwrap_or(text.len())
 }
@@ -86,7 +84,6 @@ fn are_digits(word: &[u8]) -> bool {
     word.iter().all(|byte| byte.is_ascii_digit())
 }
 
-/// The number that digits write.
 fn decimal(digits: &[u8]) -> u64 {
     debug_assert!(digits.len() <= 19);
     let mut number = 0;
@@ -125,7 +122,7 @@ pub fn parse_bytes(alloc: Global, word: &[u8]) -> Result<Vec<u8>, Reason> {
     }
 }
 
-/// Whether a word spells bytes in hex.
+/// Before memory is asked for.
 fn is_hex(word: &[u8]) -> bool {
     word.len() % 2 == 0 && are_hex(word)
 }
