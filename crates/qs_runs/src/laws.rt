@@ -112,7 +112,7 @@ pub fn final_sizes_agree()
     ensures { FinalSizesAlwaysAgree }
 {}
 
-/// No end closes, or sees its peer close, that wasn't told of a close.
+/// No end closes, or sees its peer close, unless it or its peer was told of a close.
 pub fn no_end_closes()
     ensures { NoEndCloses }
 {}
@@ -122,8 +122,8 @@ pub fn every_run_agrees()
     ensures { EveryRunAgrees }
 {}
 
-/// The packet of a number that the layer beneath claimed is a PING, and what comes under it, be it the PING or plain frames in its place,
-/// changes nothing at an open peer but which numbers it keeps, from which one on, and whether an ACK is due.
+/// The packet of a number that the layer beneath claimed is a PING, and what comes under it of an end that was told of no close, be it the
+/// PING or plain frames in its place, changes nothing at an open peer but which numbers it keeps, from which one on, and whether an ACK is due.
 pub fn claims_tell_nothing()
     ensures { ClaimsAlwaysTellNothing }
 {}
