@@ -1,24 +1,28 @@
 -- Plain frames tell nothing, wherever they stand.
-use Rattle.std.proofs.Common.{◌≡◌, ℕ, Bool, true, false, not, ◌||◌, cond, List, [], ◌∷◌, inl, inr, ◌⊎◌, Option, None, Some, Result, Ok, refl, sym, ap, ◌∙◌, subst, nat_lt}
+use Rattle.std.proofs.Common.{◌≡◌, ℕ, Bool, true, false, not, ◌||◌, cond, List, [], ◌∷◌, inl, inr, ◌⊎◌, Option, None, Some, Result, Ok, Err, refl, sym, ap, ◌∙◌, subst, nat_lt}
 use Rattle.std.specs.Prelude.{MatchBool}
 use Rattle.std.specs.FinSet as set
 use Rattle.std.proofs.lemmas.Bool.{false≢true}
+use Rattle.std.proofs.lemmas.Option.{none-some}
 use Rattle.qs_wire.specs.Layout.{PlacedValue}
 use Rattle.qs_wire.specs.Grammar.{frames_of}
 use Rattle.qs_wire.specs.Reading.{reading_of}
+use Rattle.qs_wire.specs.declared.fault.WireFault.{WireFault}
 use Rattle.qs_calls.specs.declared.closing.Received.{Received}
 use Rattle.qs_calls.specs.declared.closing.Closing.{Closing}
 use Rattle.qs_calls.specs.declared.closing.Closed.{Closed}
+use Rattle.qs_calls.specs.declared.closing.Closed.TheVariants.{ByPeer}
 use Rattle.qs_calls.specs.declared.closing.Received.TheVariants.{Done, Duplicate, BelowFloor, PeerClosed, NoMemory}
-use Rattle.qs_machine.specs.Ends.{End}
+use Rattle.qs_machine.specs.Ends.{End, closes}
 use Rattle.qs_machine.specs.Credit.{settle}
 use Rattle.qs_machine.specs.Seen.{Seen, Ack, Stream, Control, Close, Plain, seen, seen_all, asks_ack}
 use Rattle.qs_machine.specs.Verdicts.{verdict}
 use Rattle.qs_machine.specs.FrameStep.{frame_taken}
 use Rattle.qs_machine.specs.Recording.{recorded}
-use Rattle.qs_machine.specs.Receiving.{ReceiveBy, Stops, GoesOn, Takes, TakesPayload, AtEnd}
+use Rattle.qs_machine.specs.Receiving.{ReceiveStep, ReceiveBy, Stops, GoesOn, Takes, TakesPayload, AtEnd}
 use Rattle.qs_machine.specs.Plains.{is_plain, frames_in, but_plain, DifferInPlain, PlainFramesTellNothing}
 use Rattle.qs_machine.proofs.AcksAgain.{among_filter, filter_among}
+use Rattle.qs_machine.proofs.EveryCall.{by_open}
 use Rattle.qs_send.specs.Records.{Among}
 
 -- what differs in whether an ACK is due alone
@@ -38,9 +42,11 @@ elsewhere p q (Plain asks) e new NoMemory h = h
 elsewhere p q f e new r h = absurd h
 
 -- a plain frame ends nothing
-goes_by : (p : PlacedValue) (asks : Bool) (e new : End) (r : Received) → Stops p (Plain asks) e (Ok r) new → ⊥
-goes_by p asks e new NoMemory h = h.1.1
-goes_by p asks e new r h = h
+pub plain_stops : (p : PlacedValue) (asks : Bool) (e new : End) (result : Result Received Closing) → Stops p (Plain asks) e result new → ⊥
+unfolding verdict
+plain_stops p asks e new (Ok NoMemory) h = h.1.1
+plain_stops p asks e new (Ok r) h = h
+plain_stops p asks e new (Err closing) h = none-some closing.code h.0
 
 -- the payload that is left of two that differ in plain frames alone
 module _ (k : ℕ) where
@@ -63,7 +69,7 @@ module _ (k : ℕ) where
   passed : (g : Seen) (p : PlacedValue) (ps : List PlacedValue) (asks : Bool) (e new : End) (r : Received) → is_plain g ≡ true → Stops p g e (Ok r) new ⊎ (GoesOn e g × Takes k None (asks || asks_ack g) (frame_taken g e) ps (Ok r) new)
       → (b : Bool) × Takes k None b e ps (Ok r) new
   unfolding frame_taken
-  passed (Plain more) p ps asks e new r plain (inl stops) = absurd (goes_by p more e new r stops)
+  passed (Plain more) p ps asks e new r plain (inl stops) = absurd (plain_stops p more e new (Ok r) stops)
   passed (Plain more) p ps asks e new r plain (inr (goes, takes)) = (asks || more, takes)
   passed g p ps asks e new r plain h = absurd (false≢true plain)
 
@@ -166,3 +172,35 @@ module _ (k : ℕ) (text other : List ℕ) (differ : DifferInPlain text other) (
 
 pub plain_frames : PlainFramesTellNothing
 plain_frames old new k text other r differ step = received k text other differ old r new old.closed step
+
+-- A CONNECTION_CLOSE comes among plain frames: nothing else takes effect.
+
+-- the code of the close that these frames begin with
+abbrev code_in : List Seen → ℕ
+code_in (Close code ∷ fs) = code
+code_in fs = 0
+
+module _ (Q : Result Received Closing → End → Type 0) (k code : ℕ) (e : End) (fault : Option WireFault) (closed : Q (Ok (PeerClosed code)) (closes (ByPeer code) e)) where
+  close_stops : (p : PlacedValue) (c : ℕ) (result : Result Received Closing) (mid : End) → c ≡ code → Stops p (Close c) e result mid → Q result mid
+  close_stops p c (Ok (PeerClosed told)) mid is h = rw (h.0 ∙ is) (rw (h.1 ∙ ap (λ d. closes (ByPeer d) e) is) closed)
+  close_stops p c result mid is h = absurd h
+
+  close_goes : (p : PlacedValue) (f : Seen) (fs : List Seen) (left : List PlacedValue) (asks : Bool) (result : Result Received Closing) (mid : End) → but_plain (f ∷ fs) ≡ Close code ∷ [] →
+      Stops p f e result mid ⊎ (GoesOn e f × Takes k fault (asks || asks_ack f) (frame_taken f e) left result mid) → ((b : Bool) → but_plain fs ≡ Close code ∷ [] → Takes k fault b e left result mid → Q result mid) → Q result mid
+  unfolding frame_taken
+  close_goes p (Plain more) fs left asks result mid is (inl stops) rest = absurd (plain_stops p more e mid result stops)
+  close_goes p (Plain more) fs left asks result mid is (inr (goes, takes)) rest = rest (asks || more) is takes
+  close_goes p (Close c) fs left asks result mid is (inl stops) rest = close_stops p c result mid (ap code_in is) stops
+  close_goes p (Close c) fs left asks result mid is (inr (goes, takes)) rest = absurd goes
+  close_goes p f fs left asks result mid is h rest = absurd (cc is)
+
+  close_taken : (left : List PlacedValue) (asks : Bool) (result : Result Received Closing) (mid : End) → but_plain (seen_in left) ≡ Close code ∷ [] → Takes k fault asks e left result mid → Q result mid
+  close_taken [] asks result mid is h = absurd (cc is)
+  close_taken (p ∷ left) asks result mid is h = close_goes p (seen p.frame) (seen_in left) left asks result mid is h (λ b more takes. close_taken left b result mid more takes)
+
+-- so what holds of an end that stays as it is, and of one that closes, holds
+pub close_comes : (Q : Result Received Closing → End → Type 0) (k code : ℕ) (bytes : List ℕ) (e new : End) (result : Result Received Closing) → e.closed ≡ None → but_plain (frames_in bytes) ≡ Close code ∷ [] → ReceiveStep e k bytes result new →
+    Q (Ok BelowFloor) e → Q (Ok Duplicate) e → Q (Ok (PeerClosed code)) (settle (closes (ByPeer code) e)) → Q result new
+close_comes Q k code bytes e new result open_end is step low again closed =
+    by_open (Q result new) k bytes e result new (subst (λ o. ReceiveBy o k bytes e result new) open_end step) (λ r same. subst (λ x. Q x new) (sym r) (subst (Q (Ok BelowFloor)) (sym same) low)) (λ r same. subst (λ x. Q x new) (sym r) (subst (Q (Ok Duplicate)) (sym same) again))
+    (λ high mid takes same. subst (Q result) (sym same) (close_taken (λ r n. Q r (settle n)) k code e (reading_of bytes).fault closed (reading_of bytes).left false result mid is takes))

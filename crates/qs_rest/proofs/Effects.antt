@@ -35,7 +35,6 @@ use Rattle.qs_calls.specs.declared.closing.Closing.{Closing}
 use Rattle.qs_calls.specs.declared.closing.Received.{Received}
 use Rattle.qs_calls.specs.declared.closing.Received.TheVariants.{Done, PeerClosed, NoMemory}
 use Rattle.qs_calls.specs.declared.closing.Closed.{Closed}
-use Rattle.qs_calls.specs.declared.token.Taken.TheVariants.{Took, Unchanged, NotOurs}
 use Rattle.qs_machine.specs.Credit.{settle}
 use Rattle.qs_machine.specs.Recording.{recorded}
 use Rattle.qs_machine.specs.Receiving.{Takes, Stops, AtEnd}
@@ -48,8 +47,8 @@ use Rattle.qs_send.specs.Records.{Among}
 use Rattle.qs_calls.specs.declared.token.Taken.{Taken}
 use Rattle.qs_calls.specs.declared.token.TakeFault.{TakeFault}
 use Rattle.qs_calls.specs.declared.token.TakeFault.TheVariants as faults
-use Rattle.qs_machine.specs.Alone.{is_ours, TakesOne, TakesEach, TakeBy, TakeAllBy, after_one}
-use Rattle.qs_runs.proofs.Receives.{none_asked, took_effect}
+use Rattle.qs_machine.specs.Alone.{is_ours, closed_fault, TakesOne, TakesEach, TakeBy, TakeAllBy, after_one}
+use Rattle.qs_runs.proofs.Receives.{HandedIn, handed, none_asked, none_ours, took_effect}
 use Rattle.qs_machine.proofs.Pieces.{All_append, All_take, All_more}
 
 -- A control item of a packet that was processed took effect, for good.
@@ -327,24 +326,17 @@ module _ (p : Past) where
           done = λ all d. items_stay mid (settle mid) refl (omega arith) (omega arith) (omega arith) (moved_same p mid h.moved.halves h.moved.acked).sends rises fs (h.done all d);
         })
 
-    pub frames_came : (fs : List FrameValue) (result : Result Taken TakeFault) (new : End) (o : Option Closed) → (o ≡ None → (g : Seen) → Among g (seen_all fs) → is_ours g ≡ true → Tells p.theirs g) → TakeAllBy o fs e result new → Came p e (seen_all fs) result new
-    frames_came fs result new (Some closed) told (is, same) = same_came e (seen_all fs) result new halves acked same (λ all d. absurd (cc))
-    frames_came fs result new None told (mid, takes, after) = settled_came mid (seen_all fs) result new after (each_came fs e result mid ok halves acked (told refl) takes)
-
-    pub frame_came : (f : FrameValue) (result : Result Taken TakeFault) (new : End) (o : Option Closed) → (o ≡ None → is_ours (seen f) ≡ true → Tells p.theirs (seen f)) → TakeBy o f e result new → Came p e (seen f ∷ []) result new
-    frame_came f result new (Some closed) told (is, same) = same_came e (seen f ∷ []) result new halves acked same (λ all d. absurd (cc))
-    frame_came f result new None told step = by (is_ours (seen f)) refl step
+    pub frames_came : (fs : List FrameValue) (result : Result Taken TakeFault) (new : End) → (e.closed ≡ None → (g : Seen) → Among g (seen_all fs) → is_ours g ≡ true → Tells p.theirs g) → HandedIn fs e result new → Came p e (seen_all fs) result new
+    frames_came fs result new told h = by e.closed refl h
       where
-        only : is_ours (seen f) ≡ true → (r : Result Taken TakeFault) (mid : End) → TakesOne e f r mid → TakesEach (f ∷ []) e r mid
-        only ours (Ok Took) mid h = rw ours (inl (mid, Took, Ok NotOurs, h, (refl, refl), refl))
-        only ours (Ok Unchanged) mid h = rw ours (inl (mid, Unchanged, Ok NotOurs, h, (refl, refl), refl))
-        only ours (Ok NotOurs) mid h = absurd h
-        only ours (Err fault) mid h = rw ours (inr (fault, h, refl))
+        refused : (fault : TakeFault) → (result ≡ Err fault) × (new ≡ e) → Came p e (seen_all fs) result new
+        refused fault (is, same) = same_came e (seen_all fs) result new halves acked same (λ all d. absurd (cc))
 
-        by : (b : Bool) → is_ours (seen f) ≡ b → MatchBool b ((mid : End) × TakesOne e f result mid × (new ≡ settle mid)) ((result ≡ Ok NotOurs) × (new ≡ e)) → Came p e (seen f ∷ []) result new
-        by true ours (mid, one, after) = settled_came mid (seen f ∷ []) result new after (each_came (f ∷ []) e result mid ok halves acked (λ g a is. subst (Tells p.theirs) (sym (the_one g a)) (told refl ours)) (only ours result mid one))
-          where
-            the_one : (g : Seen) → Among g (seen f ∷ []) → g ≡ seen f
-            the_one g (inl is) = is
-            the_one g (inr none) = absurd none
-        by false other none = same_came e (seen f ∷ []) result new halves acked none.1 (λ all d. (others_done e (seen f) other, tt))
+        by : (o : Option Closed) → e.closed ≡ o → TakeAllBy o fs e result new ⊎ ((f : FrameValue) × (fs ≡ f ∷ []) × TakeBy o f e result new) → Came p e (seen_all fs) result new
+        by (Some closed) shut (inl step) = refused (closed_fault closed) step
+        by (Some closed) shut (inr (f, is, step)) = refused (closed_fault closed) step
+        by None open_end step =
+            elim (handed e fs result new open_end h) [
+              | inl (mid, takes, after) ↦ settled_came mid (seen_all fs) result new after (each_came fs e result mid ok halves acked (told open_end) takes)
+              | inr (foreign, same) ↦ same_came e (seen_all fs) result new halves acked same (λ all d. none_ours (ItemTaken e) (others_done e) fs foreign)
+            ]

@@ -9,7 +9,6 @@ use Rattle.qs_machine.specs.Ends.{End, recv_lane}
 use Rattle.qs_machine.specs.Due.{IsOutstanding}
 use Rattle.qs_machine.specs.Asking.{GoesBesideAck, IsNextOutstanding}
 use Rattle.qs_machine.specs.News.{IsLeast, IsReadable}
-use Rattle.qs_runs.proofs.Runs.{run_keeps}
 use Rattle.qs_rest.specs.Invariant.{ToldTrue}
 use Rattle.qs_rest.specs.Rest.{AtRest, IdleIsRest}
 use Rattle.qs_rest.proofs.Telling.{no_news}
@@ -32,5 +31,4 @@ module _ (e : End) (open_end : e.closed ≡ None) (true_of : (n : ℕ) (l : Recv
       go n l is false same = same
 
 pub idle_rests : IdleIsRest
-idle_rests a b h w run s untold quiet none unread =
-    idle _ ((run_keeps a b h w run).unclosed s untold) (every_run_keeps a b h w run s).told quiet none unread
+idle_rests a b h w run s open_end = idle _ open_end (every_run_keeps a b h w run s).told

@@ -1,5 +1,5 @@
 -- One call more: how the past of each end goes on, and which frames took effect by it.
-use Rattle.std.proofs.Common.{◌≡◌, ℕ, Bool, true, false, Some, None, List, [], ◌∷◌, ◌++◌, map, Ok, Err, refl, sym, ap, ◌∙◌, subst, inl, inr, append-nil, if◌then◌else◌}
+use Rattle.std.proofs.Common.{◌≡◌, ℕ, Bool, true, false, Some, None, List, [], ◌∷◌, ◌++◌, map, Ok, Err, refl, sym, ap, ◌∙◌, subst, ◌⊎◌, inl, inr, append-nil, if◌then◌else◌}
 use Rattle.std.specs.Prelude.{flat_map}
 use Rattle.std.proofs.lemmas.Bool.{or_left, or_right}
 use Rattle.std.proofs.lemmas.Grind.{flat_map-append}
@@ -17,8 +17,8 @@ use Rattle.qs_calls.specs.declared.token.Token.{Token}
 use Rattle.qs_calls.specs.declared.token.TokenFault.TheVariants as tokens
 use Rattle.qs_recv.specs.declared.half.Read.{Read}
 use Rattle.qs_recv.specs.declared.half.Read.TheVariants as reads
-use Rattle.qs_machine.specs.Plains.{frames_in}
-use Rattle.qs_machine.specs.Seen.{Seen, seen, seen_all}
+use Rattle.qs_machine.specs.Plains.{frames_in, but_plain}
+use Rattle.qs_machine.specs.Seen.{Seen, Close, seen, seen_all}
 use Rattle.qs_machine.specs.Alone.{is_ours}
 use Rattle.qs_machine.specs.FrameStep.{is_named}
 use Rattle.qs_machine.specs.EndStep.{Call, Answer, Write, Stop, StopAndForget, ReadUpTo, Consume, Receive, TakeFrame, TakeFrames, TokenAcked, Make, MakeAck, FillIn, Claim}
@@ -65,14 +65,15 @@ token_now xs t new is k named = list_any-append (acks_in k) xs new ∙ or_right 
 
 -- what may come to an open end
 abbrev pub Heard : Past → Call → Type 0
-Heard p (Receive k bytes) = (f : Seen) → Among f (frames_in bytes) → MayCome p.theirs f
-Heard p (TakeFrame f) = is_ours (seen f) ≡ true → Tells p.theirs (seen f)
+Heard p (Receive k bytes) = ((f : Seen) → Among f (frames_in bytes) → MayCome p.theirs f) ⊎ ((code : ℕ) × (but_plain (frames_in bytes) ≡ Close code ∷ []))
+Heard p (TakeFrame f) = (g : Seen) → Among g (seen f ∷ []) → is_ours g ≡ true → Tells p.theirs g
 Heard p (TakeFrames fs) = (g : Seen) → Among g (seen_all fs) → is_ours g ≡ true → Tells p.theirs g
 Heard p call = Unit {0}
 
 pub heard : (h : History) (v : World) (s : Side) (call : Call) → May h v s call → Heard (past s h) call
-heard h v s (Receive k bytes) may = payload_come h s k bytes may
-heard h v s (TakeFrame f) may = λ ours. made_told h s (seen f) (may ours)
+heard h v s (Receive k bytes) (inl came) = inl (payload_come h s k bytes came)
+heard h v s (Receive k bytes) (inr (told, code, is)) = inr (code, is)
+heard h v s (TakeFrame f) may = λ g a ours. made_told h s g (All_at (IsFrom h (other s)) (seen f ∷ []) g (may, tt) a ours)
 heard h v s (TakeFrames fs) may = λ g a ours. made_told h s g (All_at (IsFrom h (other s)) (seen_all fs) g may a ours)
 heard h v s call may = tt
 

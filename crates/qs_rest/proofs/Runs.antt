@@ -7,9 +7,7 @@ use Rattle.std.specs.FinSet as set
 use Rattle.std.specs.FinMap as fmap
 use Rattle.qs_wire.specs.Reading.{reading_of}
 use Rattle.qs_wire.specs.declared.stream_id.Role.{Role}
-use Rattle.qs_wire.specs.declared.stream_id.Role.TheVariants.{Client, Server}
 use Rattle.qs_recv.specs.Lane.{raise}
-use Rattle.qs_send.specs.Records.{Among}
 use Rattle.qs_send.specs.Lane.{SendLane, allow_lane}
 use Rattle.qs_send.specs.declared.piece.Item.{Item}
 use Rattle.qs_calls.specs.declared.closing.Closing.{Closing}
@@ -21,7 +19,6 @@ use Rattle.qs_calls.specs.declared.closing.Closer.TheVariants.{Us, Peer}
 use Rattle.qs_calls.specs.declared.closing.Received.{Received}
 use Rattle.qs_calls.specs.declared.closing.Received.TheVariants.{Done, Duplicate, BelowFloor, PeerClosed}
 use Rattle.qs_calls.specs.declared.event.Side.{Side}
-use Rattle.qs_calls.specs.declared.event.Side.TheVariants.{A, B}
 use Rattle.qs_calls.specs.declared.settings.Settings.{Settings}
 use Rattle.qs_calls.specs.declared.settings.Tuning.{Tuning}
 use Rattle.qs_calls.specs.declared.settings.PeerLimits.{PeerLimits}
@@ -30,7 +27,6 @@ use Rattle.qs_calls.specs.declared.token.Token.{Token}
 use Rattle.qs_calls.specs.declared.token.TokenFault.{TokenFault}
 use Rattle.qs_machine.specs.Tables.{lookup}
 use Rattle.qs_machine.specs.Ends.{End, AckedItems, first_send_limit, new_end, wide_end_made}
-use Rattle.qs_machine.specs.Seen.{Seen}
 use Rattle.qs_machine.specs.Credit.{settle}
 use Rattle.qs_machine.specs.Receiving.{told_receive, told_by, ReceiveStep, ReceiveBy}
 use Rattle.qs_machine.specs.Plains.{frames_in}
@@ -44,6 +40,7 @@ use Rattle.qs_machine.specs.Repeats.{SentWasWritten}
 use Rattle.qs_machine.proofs.EachHalf.{kept_raised}
 use Rattle.qs_machine.proofs.TablesAfter.{KeptIn}
 use Rattle.qs_machine.proofs.EveryCall.{by_open}
+use Rattle.qs_machine.proofs.Plains.{close_comes}
 use Rattle.qs_machine.proofs.SettledLimits.{calls_settle, new_ends_settled}
 use Rattle.qs_machine.proofs.CallsCounts.{settled_call}
 use Rattle.qs_machine.proofs.Counts.{no_lane, new_ends_settled as new_counts_settled}
@@ -51,14 +48,13 @@ use Rattle.qs_machine.proofs.Pieces.{All_take, all_named}
 use Rattle.qs_runs.specs.Logs.{Happening, History, Effect, Acked, other, effects, effects_of, acked_effects}
 use Rattle.qs_runs.specs.Worlds.{World, Begins, end_of, WorldStep}
 use Rattle.qs_runs.specs.Pasts.{Packets, Past, packets_in, past_of, past}
-use Rattle.qs_runs.specs.Invariant.{EndOk, StoodIn, WorldOk}
+use Rattle.qs_runs.specs.Invariant.{EndOk, StoodIn, WorldOk, role_of, settings_of}
 use Rattle.qs_runs.proofs.Acking.{WasAcked}
 use Rattle.qs_runs.proofs.Changes.{AllGrow, all_grow_refl, each_grows, raise_grows}
 use Rattle.qs_runs.proofs.Lasting.{call_grows}
-use Rattle.qs_runs.proofs.NewEnds.{first_world, made_first, ends_made}
+use Rattle.qs_runs.proofs.NewEnds.{each_begun}
 use Rattle.qs_runs.proofs.OwnMoves.{allowed_at}
 use Rattle.qs_runs.proofs.Standing.{certain_cases}
-use Rattle.qs_runs.proofs.Frames.{MayCome}
 use Rattle.qs_runs.proofs.Histories.{two_sides, past_there}
 use Rattle.qs_runs.proofs.Past.{Confirmed-more}
 use Rattle.qs_runs.proofs.PeerMoves.{with_theirs}
@@ -68,7 +64,7 @@ use Rattle.qs_rest.specs.Rest.{EveryRunKeeps}
 use Rattle.qs_rest.proofs.Halves.{Lasts, lasts_same, lasts_twice, allow_lasts}
 use Rattle.qs_rest.proofs.Moves.{AllTrue, SlotTrue, Moved, moved_same, moved_call, acks_moved}
 use Rattle.qs_rest.proofs.More.{past_goes, told_here, piece_more, token_now, HasNews, taken_more, Heard, heard}
-use Rattle.qs_rest.proofs.Effects.{items_stay, After, takes, settled, not_done, frames_came, frame_came}
+use Rattle.qs_rest.proofs.Effects.{items_stay, After, takes, settled, not_done, frames_came}
 use Rattle.qs_rest.proofs.Telling.{AllTold, all_told, told_at, told_call}
 
 -- The past goes on
@@ -103,20 +99,6 @@ slot_at p e all n l is = subst (SlotTrue p n (first_send_limit e n)) is (all n)
 
 told_theirs : (p : Past) (packets : Packets) (i : Item) → WasTold p i → WasTold (with_theirs p packets) i
 told_theirs p packets i (k, holds, ack) = (k, holds, Confirmed-more p.theirs packets p.tokens k ack)
-
-pub peer_rests : (p : Past) (packets : Packets) (e : End) → RestOk p e → RestOk (with_theirs p packets) e
-peer_rests p packets e ok =
-    record {
-      conn = ok.conn;
-      bidi = ok.bidi;
-      uni = ok.uni;
-      sends = λ n l is. half_more p (with_theirs p packets) (told_theirs p packets) n _ l (ok.sends n l is);
-      acked = acked_more p (with_theirs p packets) (told_theirs p packets) e.acked ok.acked;
-      told = ok.told;
-      taken = ok.taken;
-      limits = ok.limits;
-      counts = ok.counts;
-    }
 
 -- A call
 
@@ -160,6 +142,9 @@ rests_on p q more e taken ok =
       counts = ok.counts;
     }
 
+pub peer_rests : (p : Past) (packets : Packets) (e : End) → RestOk p e → RestOk (with_theirs p packets) e
+peer_rests p packets e = rests_on p (with_theirs p packets) (told_theirs p packets) e (λ taken. taken)
+
 -- Limits of the peer are taken in
 
 module _ (p : Past) (e : End) (limits : PeerLimits) (ok : RestOk p e) where
@@ -201,8 +186,8 @@ raise_rests p e new limits result sound sent ok step =
 
 -- A payload of the peer
 
-after_payload : (p : Past) (e new : End) (k : ℕ) (text : List ℕ) (result : Result Received Closing) → EndOk p e → RestOk p e → (e.closed ≡ None → (f : Seen) → Among f (frames_in text) → MayCome p.theirs f) → ReceiveStep e k text result new → After p (frames_in text) e result new
-after_payload p e new k text result good ok told step = by_closed e.closed refl step
+after_payload : (p : Past) (e new : End) (k : ℕ) (text : List ℕ) (result : Result Received Closing) → EndOk p e → RestOk p e → (e.closed ≡ None → Heard p (Receive k text)) → ReceiveStep e k text result new → After p (frames_in text) e result new
+after_payload p e new k text result good ok heard step = by_closed e.closed refl step
   where
     same : Moved p e e
     same = moved_same p e (slots p e ok) ok.acked
@@ -219,9 +204,14 @@ after_payload p e new k text result good ok told step = by_closed e.closed refl 
         never_done Us d = absurd (cc d)
         never_done Peer d = absurd (cc d)
     by_closed None at h =
-        by_open (After p (frames_in text) e result new) k text e result new h (stays (Ok BelowFloor) (λ d. absurd (cc d))) (stays (Ok Duplicate) (λ d. absurd (cc d))) (λ high mid taken after.
-        settled p k (frames_in text) e result mid new (each_grows raise mid.recvs raise_grows) after
-        (takes p k (frames_in text) e (reading_of text).left [] false (reading_of text).fault e result mid refl (told at) good same (all_grow_refl e.recvs) tt taken))
+        elim (heard at) [
+          | inl told ↦ by_open (After p (frames_in text) e result new) k text e result new h (stays (Ok BelowFloor) (λ d. absurd (cc d))) (stays (Ok Duplicate) (λ d. absurd (cc d))) (λ high mid taken after.
+              settled p k (frames_in text) e result mid new (each_grows raise mid.recvs raise_grows) after
+              (takes p k (frames_in text) e (reading_of text).left [] false (reading_of text).fault e result mid refl told good same (all_grow_refl e.recvs) tt taken))
+          | inr (code, is) ↦ close_comes (After p (frames_in text) e) k code text e new result at is step
+              (record { moved = same; grow = all_grow_refl e.recvs; done = λ d. absurd (cc d) }) (record { moved = same; grow = all_grow_refl e.recvs; done = λ d. absurd (cc d) })
+              (record { moved = same; grow = each_grows raise e.recvs raise_grows; done = λ d. absurd (cc d) })
+        ]
 
 -- Each call
 
@@ -272,10 +262,10 @@ module _ (xs ys : List Effect) (e new : End) (sound : IsSound e) (sent : SentWas
       let a = after_payload old e new k bytes given good ok heard is in
       moved_rests (Receive k bytes) given is a.moved a.done
   call_rests (TakeFrame f) given heard is =
-      let c = frame_came old e good (slots old e ok) ok.acked f given new e.closed heard is in
+      let c = frames_came old e good (slots old e ok) ok.acked (f ∷ []) given new heard (inr (f, refl, is)) in
       moved_rests (TakeFrame f) given is c.moved (λ told d. (c.done told d).0)
   call_rests (TakeFrames fs) given heard is =
-      let c = frames_came old e good (slots old e ok) ok.acked fs given new e.closed heard is in
+      let c = frames_came old e good (slots old e ok) ok.acked fs given new heard (inl is) in
       moved_rests (TakeFrames fs) given is c.moved c.done
   call_rests (TokenAcked t) given heard is = token_rests t given is
   call_rests (RaiseLimits limits) given heard is = goes_on (RaiseLimits limits) given tt (raise_rests old e new limits given sound sent ok is)
@@ -310,13 +300,7 @@ first_rests role s t peer p none made =
 
 first_ends : (a b : Settings) (w : World) → Begins a b w → (s : Side) → RestOk (past s []) (end_of w s)
 unfolding effects
-first_ends a b w begins s = subst (λ x. RestOk (past s []) (end_of x s)) (sym is) (two_sides (λ t. RestOk (past t []) (end_of (first_world a b begins.tuned_a begins.tuned_b begins.of_a begins.of_b) t)) A (first_rests Client a begins.tuned_a begins.of_b (past A []) refl begun.0) (first_rests Server b begins.tuned_b begins.of_a (past B []) refl begun.1) s)
-  where
-    is : w ≡ first_world a b begins.tuned_a begins.tuned_b begins.of_a begins.of_b
-    is = made_first a b begins.tuned_a begins.tuned_b begins.of_a begins.of_b w begins.begun
-
-    begun : (wide_end_made Client a begins.tuned_a begins.of_b ≡ Ok (new_end Client a begins.tuned_a begins.of_b)) × (wide_end_made Server b begins.tuned_b begins.of_a ≡ Ok (new_end Server b begins.tuned_b begins.of_a))
-    begun = ends_made a b begins.tuned_a begins.tuned_b begins.of_a begins.of_b (first_world a b begins.tuned_a begins.tuned_b begins.of_a begins.of_b) (begins.begun ∙ ap Ok (made_first a b begins.tuned_a begins.tuned_b begins.of_a begins.of_b w begins.begun))
+first_ends a b w begins = each_begun (λ s e. RestOk (past s []) e) a b w begins (λ s t told begun granted. first_rests (role_of s) (settings_of a b s) t told (past s []) refl begun)
 
 step_rests : (a b : Settings) (h : History) (v w : World) (x : Happening) → WorldOk a b h v → ((t : Side) → RestOk (past t h) (end_of v t)) → WorldStep h v x w → (t : Side) → RestOk (past t (x ∷ h)) (end_of w t)
 step_rests a b h v w x ok rests step =

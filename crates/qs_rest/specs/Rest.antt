@@ -1,6 +1,6 @@
 -- Trusted.
 -- Two ends at rest (the whole file is ours, but that each clause names its section of RFC 9000).
-use Rattle.std.specs.Prelude.{◌≡◌, ℕ, false, true, ⊤, ◌⊎◌, None, Some}
+use Rattle.std.specs.Prelude.{◌≡◌, ℕ, true, ⊤, ◌⊎◌, None, Some}
 use Rattle.qs_recv.specs.Lane.{RecvLane, read_answer}
 use Rattle.qs_recv.specs.declared.half.Read.{Read}
 use Rattle.qs_recv.specs.declared.half.Read.TheVariants as reads
@@ -12,7 +12,7 @@ use Rattle.qs_machine.specs.Ends.{End, recv_lane}
 use Rattle.qs_machine.specs.Due.{IsOutstanding, IsDueItem, StreamGoes}
 use Rattle.qs_machine.specs.Asking.{GoesBesideAck, IsNextOutstanding}
 use Rattle.qs_machine.specs.News.{IsLeast, IsReadable}
-use Rattle.qs_runs.specs.Logs.{History, was_told_closed}
+use Rattle.qs_runs.specs.Logs.{History}
 use Rattle.qs_runs.specs.Worlds.{World, end_of, Run}
 use Rattle.qs_runs.specs.Pasts.{past}
 use Rattle.qs_rest.specs.Invariant.{RestOk}
@@ -39,9 +39,9 @@ pub record AtRest (e : End) : Type 0 where
 abbrev pub EveryRunKeeps : Type 0
 EveryRunKeeps = (a b : Settings) (h : History) (w : World) → Run a b h w → (s : Side) → RestOk (past s h) (end_of w s)
 
--- In every run an end that was told of no close is at rest where its code answers so: `is_sendable` false, and `next_outstanding` and `next_readable` from 0 on None
--- (RFC 9000, sections 2.2 and 13.3).
+-- In every run an end that is open, as one is that wasn't told of a close, nor its peer, is at rest where its code answers so: `is_sendable`
+-- false, and `next_outstanding` and `next_readable` from 0 on None (RFC 9000, sections 2.2 and 13.3).
 abbrev pub IdleIsRest : Type 0
 IdleIsRest =
-    (a b : Settings) (h : History) (w : World) → Run a b h w → (s : Side) → was_told_closed s h ≡ false →
+    (a b : Settings) (h : History) (w : World) → Run a b h w → (s : Side) → (end_of w s).closed ≡ None →
     (GoesBesideAck (end_of w s) → ⊥) → IsNextOutstanding (end_of w s).outstanding 0 None → IsLeast (IsReadable (end_of w s)) 0 None → AtRest (end_of w s)

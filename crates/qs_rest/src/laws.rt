@@ -26,7 +26,7 @@ pub fn every_run_keeps()
     ensures { EveryRunKeeps }
 {}
 
-/// An end that was told of no close is at rest where its code answers so: `is_sendable` is false, and from 0 on `next_outstanding` and `next_readable` are `None`.
+/// An open end is at rest where its code answers so: `is_sendable` is false, and from 0 on `next_outstanding` and `next_readable` are `None`.
 pub fn idle_is_rest()
     ensures { IdleIsRest }
 {}

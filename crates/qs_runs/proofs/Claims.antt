@@ -1,13 +1,13 @@
 -- What comes of a packet of a claimed number.
 use Rattle.std.proofs.Common.{◌≡◌, ℕ, ◌+◌, Bool, true, false, ◌||◌, List, [], ◌∷◌, ◌++◌, ◌⊎◌, length, Some, None, Result, Ok, Err, slice_get, refl, sym, ap, ◌∙◌, subst, inl, inr}
 use Rattle.std.proofs.Math.Bool.{or_assoc}
-use Rattle.std.proofs.lemmas.Option.{none-some, same_Some}
+use Rattle.std.proofs.lemmas.Bool.{true≢false}
+use Rattle.std.proofs.lemmas.Option.{same_Some}
 use Rattle.std.proofs.lemmas.List.{length-map}
 use Rattle.qs_wire.specs.Layout.{PlacedValue}
 use Rattle.qs_wire.specs.Grammar.{frames_of}
 use Rattle.qs_wire.specs.Reading.{reading_of}
 use Rattle.qs_wire.specs.declared.stream_id.Role.{Role}
-use Rattle.qs_wire.specs.declared.stream_id.Role.TheVariants.{Client, Server}
 use Rattle.qs_wire.specs.declared.stream_id.Dir.TheVariants.{Bidi, Uni}
 use Rattle.qs_calls.specs.declared.settings.Settings.{Settings}
 use Rattle.qs_calls.specs.declared.settings.Tuning.{Tuning}
@@ -17,7 +17,6 @@ use Rattle.qs_calls.specs.declared.closing.Received.{Received}
 use Rattle.qs_calls.specs.declared.closing.Received.TheVariants.{Done, Duplicate, BelowFloor, NoMemory}
 use Rattle.qs_calls.specs.declared.making.MakeFault.{MakeFault}
 use Rattle.qs_calls.specs.declared.event.Side.{Side}
-use Rattle.qs_calls.specs.declared.event.Side.TheVariants.{A}
 use Rattle.qs_machine.specs.Tables.{each}
 use Rattle.qs_machine.specs.Ends.{End, closes, new_end, wide_end_made}
 use Rattle.qs_machine.specs.Credit.{settle}
@@ -27,23 +26,24 @@ use Rattle.qs_machine.specs.FrameStep.{frame_taken}
 use Rattle.qs_machine.specs.Recording.{recorded}
 use Rattle.qs_machine.specs.Receiving.{ReceiveStep, ReceiveBy, Takes, Stops, GoesOn, AtEnd}
 use Rattle.qs_machine.specs.Making.{ClaimStep, claim_refusal, first_lost}
-use Rattle.qs_machine.specs.EndStep.{Call, Answer as CallAnswer, EndStep}
+use Rattle.qs_machine.specs.EndStep.{Call, Answer as CallAnswer, EndStep, Receive}
 use Rattle.qs_machine.specs.Repeats.{OnlyRecords}
 use Rattle.qs_machine.proofs.Counts.{new_ends_settled as new_counts_settled}
 use Rattle.qs_machine.proofs.EveryCall.{ends_by, by_open}
 use Rattle.qs_machine.proofs.Again.{settle_twice}
+use Rattle.qs_machine.proofs.Plains.{plain_stops}
 use Rattle.qs_machine.proofs.SettledLimits.{new_ends_settled}
-use Rattle.qs_runs.specs.Logs.{History, other, made, payload, ping_text}
-use Rattle.qs_runs.specs.Worlds.{World, end_of, Begins, IsPayload, Run}
+use Rattle.qs_runs.specs.Logs.{History, other, made, payload, was_told_closed, ping_text}
+use Rattle.qs_runs.specs.Worlds.{World, end_of, May, Run}
 use Rattle.qs_machine.specs.Plains.{frames_in, but_plain}
-use Rattle.qs_runs.specs.Invariant.{WorldOk}
+use Rattle.qs_runs.specs.Invariant.{WorldOk, role_of, settings_of}
 use Rattle.qs_runs.specs.Claims.{claimed, ClaimsAlwaysTellNothing}
 use Rattle.qs_runs.proofs.Lists.{slice_get-last}
 use Rattle.qs_runs.proofs.Standing.{certain_cases}
 use Rattle.qs_runs.proofs.Wire.{ping_seen}
 use Rattle.qs_runs.proofs.Stays.{each_side}
-use Rattle.qs_runs.proofs.Histories.{two_sides, back_again, made_here}
-use Rattle.qs_runs.proofs.NewEnds.{first_world, made_first, ends_made}
+use Rattle.qs_runs.proofs.Histories.{back_again, made_here}
+use Rattle.qs_runs.proofs.NewEnds.{each_begun}
 use Rattle.qs_runs.proofs.Runs.{run_keeps}
 
 -- In every run each end stands as its last call left it.
@@ -59,14 +59,8 @@ call_settled : (old : End) (call : Call) (answer : CallAnswer call) (new : End) 
 call_settled old call answer new h step =
     ends_by (λ e. settle e ≡ e) old h settle_twice (λ k p e is. ap (first_lost k p) is) (ap (λ (e : End). record e { next = e.next + 1 }) h) (λ c. ap (closes c) h) call answer new step
 
-first_settled : (a b : Settings) (w : World) → Begins a b w → (s : Side) → settle (end_of w s) ≡ end_of w s
-first_settled a b w begins s =
-    let is = made_first a b begins.tuned_a begins.tuned_b begins.of_a begins.of_b w begins.begun in
-    let begun = ends_made a b begins.tuned_a begins.tuned_b begins.of_a begins.of_b (first_world a b begins.tuned_a begins.tuned_b begins.of_a begins.of_b) (begins.begun ∙ ap Ok is) in
-    subst (λ x. settle (end_of x s) ≡ end_of x s) (sym is) (two_sides (λ t. settle (end_of (first_world a b begins.tuned_a begins.tuned_b begins.of_a begins.of_b) t) ≡ end_of (first_world a b begins.tuned_a begins.tuned_b begins.of_a begins.of_b) t) A (begun_settled Client a begins.tuned_a begins.of_b begun.0) (begun_settled Server b begins.tuned_b begins.of_a begun.1) s)
-
 pub run_settled : (a b : Settings) (h : History) (w : World) → Run a b h w → (s : Side) → settle (end_of w s) ≡ end_of w s
-run_settled a b [] w begins s = first_settled a b w begins s
+run_settled a b [] w begins s = each_begun (λ t e. settle e ≡ e) a b w begins (λ t tuning told begun granted. begun_settled (role_of t) (settings_of a b t) tuning told begun) s
 run_settled a b (x ∷ h) w (v, before, step) s =
     each_side (λ e f. settle e ≡ e → settle f ≡ f) (λ e is. is) v w (λ t call answer made is. call_settled (end_of v t) call answer (end_of w t) is made) h x step s (run_settled a b h v before s)
 
@@ -78,9 +72,7 @@ plain_goes : (v : PlacedValue) (f : Seen) (gs : List Seen) (k : ℕ) (asks : Boo
     ((b : Bool) → but_plain gs ≡ [] → Takes k None b e left result mid → AtEnd k (b || any_asks gs) None e result mid) → AtEnd k (asks || (asks_ack f || any_asks gs)) None e result mid
 unfolding verdict frame_taken
 plain_goes v (Plain more) gs k asks e mid left result none (inr (goes, takes)) rest = subst (λ b. AtEnd k b None e result mid) (or_assoc asks more (any_asks gs)) (rest (asks || more) none takes)
-plain_goes v (Plain more) gs k asks e mid left (Ok NoMemory) none (inl stops) rest = absurd stops.1.1
-plain_goes v (Plain more) gs k asks e mid left (Err closing) none (inl stops) rest = absurd (none-some closing.code stops.0)
-plain_goes v (Plain more) gs k asks e mid left (Ok received) none (inl stops) rest = absurd stops
+plain_goes v (Plain more) gs k asks e mid left result none (inl stops) rest = absurd (plain_stops v more e mid result stops)
 plain_goes v f gs k asks e mid left result none h rest = absurd (cc none)
 
 plain_taken : (left : List PlacedValue) (k : ℕ) (asks : Bool) (e mid : End) (result : Result Received Closing) → but_plain (seen_all (frames_of left)) ≡ [] → Takes k None asks e left result mid → AtEnd k (asks || any_asks (seen_all (frames_of left))) None e result mid
@@ -134,11 +126,12 @@ pub claims_tell_nothing : ClaimsAlwaysTellNothing
 claims_tell_nothing a b h v w s number run =
     record {
       ping = λ step. claimed_ping a b h v s (run_keeps a b h v run) number (end_of w s) step.step;
-      recorded = λ bytes result ping open_end step. recorded bytes result ping open_end step.step (step.may open_end);
+      recorded = λ bytes result ping untold open_end step. recorded bytes result ping untold open_end step.step (step.may open_end);
     }
   where
-    recorded : (bytes : List ℕ) (result : Result Received Closing) → payload s number h ≡ Some ping_text → (end_of v (other s)).closed ≡ None → ReceiveStep (end_of v (other s)) number bytes result (end_of w (other s)) → IsPayload h (other (other s)) number bytes →
+    recorded : (bytes : List ℕ) (result : Result Received Closing) → payload s number h ≡ Some ping_text → was_told_closed s h ≡ false → (end_of v (other s)).closed ≡ None → ReceiveStep (end_of v (other s)) number bytes result (end_of w (other s)) → May h v (other s) (Receive number bytes) →
         OnlyRecords number (any_asks (frames_in bytes)) result (end_of v (other s)) (end_of w (other s))
-    recorded bytes result ping open_end step (text, is, differ) =
+    recorded bytes result ping untold open_end step (inr close) = absurd (true≢false (sym close.0 ∙ back_again (λ t. was_told_closed t h ≡ false) s untold))
+    recorded bytes result ping untold open_end step (inl (text, is, differ)) =
         plain_received number bytes (end_of v (other s)) (end_of w (other s)) result open_end (run_settled a b h v run (other s)) differ.reads
         (differ.same ∙ ap (λ t. but_plain (frames_in t)) (same_Some text ping_text (sym is ∙ back_again (λ t. payload t number h ≡ Some ping_text) s ping)) ∙ ping_plain) step

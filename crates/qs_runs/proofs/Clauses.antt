@@ -7,17 +7,19 @@ use Rattle.qs_recv.specs.Lane.{RecvLane}
 use Rattle.qs_send.specs.Lane.{SendLane}
 use Rattle.qs_send.specs.declared.piece.Item.TheVariants.{ResetStream}
 use Rattle.qs_calls.specs.declared.closing.Closed.{Closed}
+use Rattle.qs_calls.specs.declared.closing.Closed.TheVariants.{ByPeer}
 use Rattle.qs_calls.specs.declared.settings.Settings.{Settings}
 use Rattle.qs_calls.specs.declared.event.Side.{Side}
 use Rattle.qs_calls.specs.declared.event.Side.TheVariants.{A, B}
 use Rattle.qs_machine.specs.Tables.{lookup, index_of}
-use Rattle.qs_machine.specs.Ends.{End, first_send_limit, window, is_own, is_uni}
+use Rattle.qs_machine.specs.Ends.{End, closes, first_send_limit, window, is_own, is_uni}
 use Rattle.qs_machine.specs.Credit.{spent}
 use Rattle.qs_machine.specs.Seen.{Seen, Stream, Control}
 use Rattle.qs_machine.specs.Plains.{frames_in}
 use Rattle.qs_machine.specs.Laws.{StaysOnceClosed}
 use Rattle.qs_machine.specs.EndStep.{Call, Answer, EndStep, Receive, TakeFrame, TakeFrames}
 use Rattle.qs_machine.proofs.EveryCall.{closed_stays}
+use Rattle.qs_machine.proofs.Plains.{close_comes}
 use Rattle.qs_machine.proofs.Pieces.{All_at}
 use Rattle.qs_runs.specs.Logs.{Happening, History, other, processed, written}
 use Rattle.qs_runs.specs.Worlds.{World, end_of, May, WorldStep}
@@ -28,7 +30,7 @@ use Rattle.qs_runs.specs.Clauses.{Carries, HasArrived, sending, receiving, Piece
 use Rattle.qs_runs.specs.Laws.{ArrivedWasAlwaysTaken}
 use Rattle.qs_runs.proofs.Unharmed.{spent_le, Facing, lane_limit, own_sends, final_sent, data_granted}
 use Rattle.qs_runs.proofs.Agreement.{prefix_agrees, whole_agrees, received_agrees, size_agrees, reset_agrees, byte_written, gave_written, end_written, written_count}
-use Rattle.qs_runs.proofs.Receives.{Hands, repeats, spends_nothing, frames_spend, none_spent}
+use Rattle.qs_runs.proofs.Receives.{Hands, settle_spends, repeats, spends_nothing, frames_spend, none_spent}
 use Rattle.qs_runs.proofs.Histories.{theirs_mine, payload_seen, confirmed_taken, frames_told, payload_come}
 use Rattle.qs_runs.proofs.Runs.{ends_face, run_keeps, opposite, step_keeps}
 
@@ -112,7 +114,8 @@ module _ (a b : Settings) (h : History) (w : World) (ok : WorldOk a b h w) where
 
     -- what comes to an open end
     heard_spends : old.closed ≡ None → (call : Call) (answer : Answer call) → Hands call → May h w s call → EndStep old call answer new → AllByRecursion (IsOld old) (handed_in call) → spent new ≡ spent old
-    heard_spends open_end (Receive k bytes) answer hands may step all = spends_nothing (past s h) old new k bytes answer (ok.ends s) (payload_come h s k bytes may) open_end step all
+    heard_spends open_end (Receive k bytes) answer hands (inl made) step all = spends_nothing (past s h) old new k bytes answer (ok.ends s) (payload_come h s k bytes made) open_end step all
+    heard_spends open_end (Receive k bytes) answer hands (inr (told, code, is)) step all = close_comes (λ r n. spent n ≡ spent old) k code bytes old new answer open_end is step refl refl (settle_spends (closes (ByPeer code) old))
     heard_spends open_end (TakeFrames fs) answer hands may step all = frames_spend (past s h) old new fs answer (ok.ends s) open_end (frames_told h s (ok.texts (other s)) fs may) all (inl step)
     heard_spends open_end (TakeFrame f) answer hands may step all = frames_spend (past s h) old new (f ∷ []) answer (ok.ends s) open_end (frames_told h s (ok.texts (other s)) (f ∷ []) (may, tt)) all (inr (f, refl, step))
     heard_spends open_end call answer hands may step all = absurd hands

@@ -20,23 +20,24 @@ use Rattle.qs_send.specs.declared.parts.SendState.TheVariants.{DataRecvd, DataSe
 use Rattle.qs_send.specs.declared.piece.Item.TheVariants.{MaxData, DataBlocked, StreamsBlocked, StreamDataBlocked}
 use Rattle.qs_calls.specs.declared.closing.Closed.TheVariants.{ByPeer}
 use Rattle.qs_calls.specs.declared.closing.Received.TheVariants.{NoMemory}
+use Rattle.qs_calls.specs.declared.closing.ToldClose.{ToldClose}
 use Rattle.qs_calls.specs.declared.token.TakeFault.TheVariants as faults
 use Rattle.qs_calls.specs.declared.event.Side.{Side}
 use Rattle.qs_calls.specs.declared.event.Side.TheVariants.{A, B}
 use Rattle.qs_machine.specs.Tables.{lookup, total}
 use Rattle.qs_machine.specs.Ends.{End}
 use Rattle.qs_machine.specs.Credit.{spent}
-use Rattle.qs_machine.specs.Seen.{Seen, Stream, Control, Plain}
+use Rattle.qs_machine.specs.Seen.{Seen, Stream, Control, Close, Plain}
 use Rattle.qs_machine.specs.Plains.{frames_in, but_plain}
 use Rattle.qs_machine.specs.Owner.{GivesNone, AcceptOpen}
 use Rattle.qs_machine.specs.Examples.{standard}
 use Rattle.qs_machine.specs.SmallEnds.{server_with, abc, sent, fresh, all_came}
 use Rattle.qs_machine.specs.EndStep.{Receive, TakeFrames}
 use Rattle.qs_machine.proofs.Claims.{gave}
-use Rattle.qs_runs.specs.Logs.{History, effects, payload, taken, must_land, HasMade, HasLanded}
-use Rattle.qs_runs.specs.Worlds.{World, May}
+use Rattle.qs_runs.specs.Logs.{History, other, effects, payload, taken, was_told_closed, must_land, HasMade, HasLanded}
+use Rattle.qs_runs.specs.Worlds.{World, IsPayload, May}
 use Rattle.qs_runs.specs.Agree.{IsOld}
-use Rattle.qs_runs.specs.Exclusions.{ReadIsNoPrefix, WholeIsMissing, SizesDiffer, WorldsDiffer, NewsIsNotOld, StepsSpend, two_frames, sent_two, took, came_as, PayloadsThatCome, FramesThatCome, TokensThatAreAcked, OtherSteps, blocked, BlockedFramesLand, Differ, OtherBytesCome, LimitsAreAbove, NoneBegin, Exclusions, acknowledged, first_of_three}
+use Rattle.qs_runs.specs.Exclusions.{ReadIsNoPrefix, WholeIsMissing, SizesDiffer, WorldsDiffer, NewsIsNotOld, StepsSpend, two_frames, sent_two, took, came_as, PayloadsThatCome, closing, told_A, ClosesThatCome, FramesThatCome, TokensThatAreAcked, OtherSteps, blocked, BlockedFramesLand, Differ, OtherBytesCome, LimitsAreAbove, NoneBegin, Exclusions, acknowledged, first_of_three}
 use Rattle.qs_runs.proofs.NewEnds.{made_first}
 use Rattle.qs_runs.proofs.Wire.{ping_seen}
 
@@ -97,8 +98,8 @@ unfolding total
 worlds =
     record {
       credit = λ h agree. (let le : 3 ≤ 0 = agree.credit B in omega arith);
-      client_closed = λ h untold agree. none-some _ (sym (agree.stays_open A untold));
-      server_closed = λ h untold agree. none-some _ (sym (agree.stays_open B untold));
+      client_closed = λ h untold peer agree. none-some _ (sym (agree.stays_open A untold peer));
+      server_closed = λ h untold peer agree. none-some _ (sym (agree.stays_open B untold peer));
     }
 
 news : NewsIsNotOld
@@ -166,25 +167,55 @@ sent_payload : payload A 0 sent_two ≡ Some two_frames
 unfolding effects
 sent_payload = refl
 
+-- where the peer was told of no close its payload comes
+only_payload : (h : History) (w : World) (s : Side) (k : ℕ) (bytes : List ℕ) → was_told_closed (other s) h ≡ false → May h w s (Receive k bytes) → IsPayload h (other s) k bytes
+only_payload h w s k bytes none (inl made) = made
+only_payload h w s k bytes none (inr close) = absurd (false≢true (sym none ∙ close.0))
+
 -- what comes as packet 0 differs from it in plain frames alone
 is_two : (w : World) (bytes : List ℕ) → May sent_two w B (Receive 0 bytes) → but_plain (frames_in bytes) ≡ five ∷ six ∷ []
-is_two w bytes (text, is, d) = d.same ∙ ap (λ t. but_plain (frames_in t)) (same_Some text two_frames (sym is ∙ sent_payload)) ∙ ap but_plain reads_two
+unfolding effects
+is_two w bytes m = let (text, is, d) = only_payload sent_two w B 0 bytes refl m in d.same ∙ ap (λ t. but_plain (frames_in t)) (same_Some text two_frames (sym is ∙ sent_payload)) ∙ ap but_plain reads_two
 
 payloads : (w : World) → PayloadsThatCome w
 unfolding effects reading_from frames_at frame_at number_of_type_at body_at number_at varint_at short_len counted_at plain_at
 payloads w =
     record {
-      unmade = λ (text, is, d). none-some text is;
-      other_number = λ (text, is, d). none-some text is;
-      its_own = λ (text, is, d). none-some text is;
+      unmade = λ m. (let (text, is, d) = only_payload [] w B 0 two_frames refl m in none-some text is);
+      other_number = λ m. (let (text, is, d) = only_payload sent_two w B 1 two_frames refl m in none-some text is);
+      its_own = λ m. (let (text, is, d) = only_payload sent_two w A 0 two_frames refl m in none-some text is);
       left_out = λ m. (let n : ◌≡◌ {A = ℕ} 0 6 = ap second_of (is_two w _ m) in omega (arith, n));
       another = λ m. (let n : ◌≡◌ {A = ℕ} 7 6 = ap second_of (is_two w _ m) in omega (arith, n));
       turned = λ m. (let n : ◌≡◌ {A = ℕ} 6 5 = ap first_of (is_two w _ m) in omega (arith, n));
       closing = λ m. false≢true (sym (ap third_of (is_two w _ m)));
-      made = (two_frames, refl, record { reads = refl; reads_other = refl; same = refl });
-      front = (two_frames, refl, record { reads = refl; reads_other = refl; same = refl });
-      between = (two_frames, refl, record { reads = refl; reads_other = refl; same = refl });
-      behind = (two_frames, refl, record { reads = refl; reads_other = refl; same = refl });
+      made = inl (two_frames, refl, record { reads = refl; reads_other = refl; same = refl });
+      front = inl (two_frames, refl, record { reads = refl; reads_other = refl; same = refl });
+      between = inl (two_frames, refl, record { reads = refl; reads_other = refl; same = refl });
+      behind = inl (two_frames, refl, record { reads = refl; reads_other = refl; same = refl });
+    }
+
+-- the number of frames that aren't plain, where the first one is a close
+abbrev closes_with : List Seen → ℕ
+closes_with (Close code ∷ fs) = length fs
+closes_with fs = 2
+
+-- what comes of an end that made nothing is a close
+only_close : (w : World) (close : ToldClose) (bytes : List ℕ) → May (told_A close) w B (Receive 0 bytes) → closes_with (but_plain (frames_in bytes)) ≡ 0
+unfolding effects
+only_close w close bytes (inl (text, is, d)) = absurd (none-some text is)
+only_close w close bytes (inr (told, code, is)) = ap closes_with is
+
+closes : (w : World) (close : ToldClose) → ClosesThatCome w close
+unfolding effects reading_from frames_at frame_at number_of_type_at body_at number_at varint_at short_len counted_at plain_at
+closes w close =
+    record {
+      untold = λ m. (let (text, is, d) = only_payload [] w B 0 closing refl m in none-some text is);
+      its_own = λ m. (let (text, is, d) = only_payload (told_A close) w A 0 closing refl m in none-some text is);
+      front = λ m. (let n : ◌≡◌ {A = ℕ} 2 0 = only_close w close _ m in omega (arith, n));
+      behind = λ m. (let n : ◌≡◌ {A = ℕ} 1 0 = only_close w close _ m in omega (arith, n));
+      none = λ m. (let n : ◌≡◌ {A = ℕ} 2 0 = only_close w close _ m in omega (arith, n));
+      alone = λ number. inr (refl, 0, refl);
+      plain = λ number. inr (refl, 0, refl);
     }
 
 -- A frame that stood in the packet is one of the two
@@ -363,4 +394,4 @@ begins =
 
 pub exclusions_hold : Exclusions
 exclusions_hold =
-    record { prefix = prefix; whole = whole; final_sizes = final_sizes; worlds = worlds; news = news; spent = spends; payloads = payloads; frames = alone; tokens = tokens; blocked = blocked_land; others = others; bytes = bytes_come; limits = limits; begins = begins }
+    record { prefix = prefix; whole = whole; final_sizes = final_sizes; worlds = worlds; news = news; spent = spends; payloads = payloads; closes = closes; frames = alone; tokens = tokens; blocked = blocked_land; others = others; bytes = bytes_come; limits = limits; begins = begins }

@@ -37,7 +37,7 @@ use Rattle.qs_calls.specs.declared.closing.Closer.{Closer}
 use Rattle.qs_calls.specs.declared.closing.Closer.TheVariants.{Us, Peer}
 use Rattle.qs_machine.specs.EndStep.{Call, Answer, EndStep, Write, Stop, StopAndForget, ReadUpTo, Consume, Receive, TakeFrame, TakeFrames, TokenAcked, Make, MakeAck, FillIn, Claim, TellClosed}
 use Rattle.qs_machine.proofs.Pieces.{All_at, All_append}
-use Rattle.qs_machine.proofs.Plains.{differ_covers, differ_turned}
+use Rattle.qs_machine.proofs.Plains.{differ_covers, differ_turned, close_comes}
 use Rattle.qs_runs.specs.Logs.{Happening, History, Effect, Wrote, Gave, Ended, Stopped, Sent, Came, CameAlone, Acked, ToldClosed, other, same_side, if_ok, read_effects, sent_effects, came_effects, acked_effects, effects_of, effects, wrote_in, gave_in, stops_in, ends_first, sent_in, comes_in, took_in, acks_in, is_in, made, payload, taken, must_land, HasMade, HasLanded}
 use Rattle.qs_runs.specs.Worlds.{World, end_of, IsFrom, IsPayload, May}
 use Rattle.qs_runs.specs.Invariant.{HasNoFault, WorldOk}
@@ -461,17 +461,13 @@ token_own : (b own made : Bool) (e new : End) (t : Token) (answer : Answer (Toke
 token_own false true made e new t answer E k h told = refl
 token_own b own made e new t answer E k h told = absurd (false≢true (sym (ap (λ r. list_any (acks_in k) (effects_of (TokenAcked t) r)) h.0) ∙ told))
 
+or_false_is : (b : Bool) → (b || false) ≡ true → b ≡ true
+or_false_is true h = refl
+or_false_is false h = h
+
 told_in : (t : Token) (k : ℕ) (r : Result (Unit {0}) TokenFault) → list_any (acks_in k) (acked_effects t r) ≡ true → is_in t k ≡ true
 told_in t k (Ok done) told = or_false_is (is_in t k) told
-  where
-    or_false_is : (b : Bool) → (b || false) ≡ true → b ≡ true
-    or_false_is true h = refl
-    or_false_is false h = h
 told_in t k (Err tokens.NoMemory) told = or_false_is (is_in t k) told
-  where
-    or_false_is : (b : Bool) → (b || false) ≡ true → b ≡ true
-    or_false_is true h = refl
-    or_false_is false h = h
 told_in t k (Err fault) told = absurd (false≢true told)
 
 -- What the frames and tokens that an end heard tell
@@ -479,8 +475,18 @@ module _ (h : History) (w : World) (s : Side) (new : End) where
   abbrev e : End
   e = end_of w s
 
+  -- the premise of what took effect: a CONNECTION_CLOSE is none
+  abbrev pub Heard : Call → Type 0
+  Heard (Receive k bytes) = IsPayload h (other s) k bytes
+  Heard call = May h w s call
+
+  pub heard_some : (call : Call) (answer : Answer call) → e.closed ≡ None → (effects_of call answer ≡ [] → ⊥) → May h w s call → EndStep e call answer new → Heard call
+  heard_some (Receive k bytes) answer open_end some (inl made) step = made
+  heard_some (Receive k bytes) answer open_end some (inr (told, code, is)) step = absurd (some (close_comes (λ r n. effects_of (Receive k bytes) r ≡ []) k code bytes e new answer open_end is step refl refl refl))
+  heard_some call answer open_end some may step = may
+
   -- each frame of streams and flow control that came was made by the peer
-  pub came_made : (call : Call) (answer : Answer call) → (Hears call → May h w s call) → (f : Seen) → Among f (flat_map took_in (effects_of call answer)) → is_ours f ≡ true → HasMade h (other s) f
+  pub came_made : (call : Call) (answer : Answer call) → (Hears call → Heard call) → (f : Seen) → Among f (flat_map took_in (effects_of call answer)) → is_ours f ≡ true → HasMade h (other s) f
   came_made (Receive k bytes) (Ok Done) may f a ours =
       let (text, is, differ) = may tt in
       elim (differ_covers bytes text differ f (subst (Among f) (append-nil (frames_in bytes)) a)) [ inl there ↦ (k, text, is, there) | inr plain ↦ absurd (false≢true (sym (not_ours f plain) ∙ ours)) ]
@@ -491,41 +497,31 @@ module _ (h : History) (w : World) (s : Side) (new : End) where
   came_made (TakeFrame g) (Err fault) may f a ours = absurd a
   came_made (TakeFrames fs) (Ok told) may f a ours = All_at (IsFrom h (other s)) (seen_all fs) f (may tt) (subst (Among f) (append-nil (seen_all fs)) a) ours
   came_made (TakeFrames fs) (Err fault) may f a ours = absurd a
-  came_made (TokenAcked t) answer may f a ours = absurd (subst (Among f) (none_by answer) a)
-    where
-      none_by : (r : Result (Unit {0}) TokenFault) → flat_map took_in (acked_effects t r) ≡ []
-      none_by (Ok done) = refl
-      none_by (Err tokens.NoMemory) = refl
-      none_by (Err fault) = refl
+  came_made (TokenAcked t) (Ok done) may f a ours = absurd a
+  came_made (TokenAcked t) (Err tokens.NoMemory) may f a ours = absurd a
+  came_made (TokenAcked t) (Err fault) may f a ours = absurd a
   came_made call answer may f a ours = absurd (subst (Among f) (none_took (effects_of call answer) (deaf_effects call answer (λ no. no))) a)
 
   -- a packet that came landed
-  pub came_landed : (call : Call) (answer : Answer call) → (Hears call → May h w s call) → (k : ℕ) → list_any (comes_in k) (effects_of call answer) ≡ true →
+  pub came_landed : (call : Call) (answer : Answer call) → (Hears call → Heard call) → (k : ℕ) → list_any (comes_in k) (effects_of call answer) ≡ true →
       (text : List ℕ) × (payload (other s) k h ≡ Some text) × ((f : Seen) → Among f (frames_in text) → must_land f ≡ true → Among f (flat_map took_in (effects_of call answer)))
   came_landed (Receive j bytes) (Ok Done) may k is =
       let (text, there, covers) = payload_covers h s j bytes (may tt) in
       let this : k ≡ j = eqb-true k j (or_false_is (k == j) is) in
       (text, subst (λ i. payload (other s) i h ≡ Some text) (sym this) there, λ f a land. subst (Among f) (sym (append-nil (frames_in bytes))) (covers f a (lands_ours f land)))
-    where
-      or_false_is : (b : Bool) → (b || false) ≡ true → b ≡ true
-      or_false_is true h = refl
-      or_false_is false h = h
   came_landed (Receive j bytes) (Ok r) may k is = absurd (false≢true is)
   came_landed (Receive j bytes) (Err closing) may k is = absurd (false≢true is)
   came_landed (TakeFrame g) (Ok told) may k is = absurd (false≢true is)
   came_landed (TakeFrame g) (Err fault) may k is = absurd (false≢true is)
   came_landed (TakeFrames fs) (Ok told) may k is = absurd (false≢true is)
   came_landed (TakeFrames fs) (Err fault) may k is = absurd (false≢true is)
-  came_landed (TokenAcked t) answer may k is = absurd (false≢true (sym (none_by answer) ∙ is))
-    where
-      none_by : (r : Result (Unit {0}) TokenFault) → list_any (comes_in k) (acked_effects t r) ≡ false
-      none_by (Ok done) = refl
-      none_by (Err tokens.NoMemory) = refl
-      none_by (Err fault) = refl
+  came_landed (TokenAcked t) (Ok done) may k is = absurd (false≢true is)
+  came_landed (TokenAcked t) (Err tokens.NoMemory) may k is = absurd (false≢true is)
+  came_landed (TokenAcked t) (Err fault) may k is = absurd (false≢true is)
   came_landed call answer may k is = absurd (false≢true (sym (none_any (comes_in k) (none_comes k) (effects_of call answer) (deaf_effects call answer (λ no. no))) ∙ is))
 
   -- what a token told landed before
-  pub acked_landed : (call : Call) (answer : Answer call) → EndStep e call answer new → (Hears call → May h w s call) → (k : ℕ) → list_any (acks_in k) (effects_of call answer) ≡ true → HasLanded h s k
+  pub acked_landed : (call : Call) (answer : Answer call) → EndStep e call answer new → (Hears call → Heard call) → (k : ℕ) → list_any (acks_in k) (effects_of call answer) ≡ true → HasLanded h s k
   acked_landed (TokenAcked t) answer step may k is =
       may tt (eqb-true t.epoch e.tuning.epoch (token_own (is_some e.closed) (nat_eq t.epoch e.tuning.epoch) (nat_le t.first t.number && nat_lt t.number e.next) e new t answer _ k step is)) k (told_in t k answer is)
   acked_landed (Receive j bytes) (Ok Done) step may k is = absurd (false≢true is)

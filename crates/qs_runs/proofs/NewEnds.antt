@@ -18,11 +18,14 @@ use Rattle.qs_machine.specs.Ends.{End, first_send_limit, window, new_end, end_ma
 use Rattle.qs_machine.specs.Seen.{Seen}
 use Rattle.qs_machine.proofs.Counts.{new_ends_wide}
 use Rattle.qs_machine.proofs.Ties.{nowhere}
-use Rattle.qs_runs.specs.Worlds.{World, AreGranted, Begins, begun_with, both_made}
+use Rattle.qs_calls.specs.declared.event.Side.{Side}
+use Rattle.qs_calls.specs.declared.event.Side.TheVariants.{A, B}
+use Rattle.qs_runs.specs.Logs.{other}
+use Rattle.qs_runs.specs.Worlds.{World, AreGranted, Begins, begun_with, both_made, end_of}
 use Rattle.qs_runs.specs.Events.{world_made}
 use Rattle.std.specs.List.{AllByRecursion}
 use Rattle.qs_runs.specs.Pasts.{Packets, Past, Tells}
-use Rattle.qs_runs.specs.Invariant.{EndOk, SendSlot, RecvSlot, FrameTaken, is_open}
+use Rattle.qs_runs.specs.Invariant.{EndOk, SendSlot, RecvSlot, FrameTaken, is_open, role_of, settings_of}
 
 pub tells_nothing : (ms : Packets) (f : Seen) → ms ≡ [] → Tells ms f → ⊥
 tells_nothing ms f none (k, (fs, at, a)) = none-some fs (rw none at at)
@@ -99,6 +102,19 @@ two_made _ y w e = absurd (cc)
 
 pub ends_made : (a b : Settings) (x y : Tuning) (of_a of_b : PeerLimits) (w : World) → begun_with a b x y of_a of_b ≡ Ok w → (wide_end_made Client a x of_b ≡ Ok w.a) × (wide_end_made Server b y of_a ≡ Ok w.b)
 ends_made a b x y of_a of_b w is = two_made (wide_end_made Client a x of_b) (wide_end_made Server b y of_a) w is
+
+-- so what holds of an end that was made, told limits that its peer grants, holds of both
+pub each_begun : (P : Side → End → Type 0) (a b : Settings) (w : World) → Begins a b w →
+    ((s : Side) (t : Tuning) (told : PeerLimits) → wide_end_made (role_of s) (settings_of a b s) t told ≡ Ok (new_end (role_of s) (settings_of a b s) t told) → AreGranted told (settings_of a b (other s)) → P s (new_end (role_of s) (settings_of a b s) t told)) →
+    (s : Side) → P s (end_of w s)
+each_begun P a b w begins each s = subst (λ x. P s (end_of x s)) (sym is) (by s)
+  where
+    is : w ≡ first_world a b begins.tuned_a begins.tuned_b begins.of_a begins.of_b
+    is = made_first a b begins.tuned_a begins.tuned_b begins.of_a begins.of_b w begins.begun
+
+    by : (s : Side) → P s (end_of (first_world a b begins.tuned_a begins.tuned_b begins.of_a begins.of_b) s)
+    by A = each A begins.tuned_a begins.of_b (ends_made a b begins.tuned_a begins.tuned_b begins.of_a begins.of_b (first_world a b begins.tuned_a begins.tuned_b begins.of_a begins.of_b) (begins.begun ∙ ap Ok is)).0 begins.granted_b
+    by B = each B begins.tuned_b begins.of_a (ends_made a b begins.tuned_a begins.tuned_b begins.of_a begins.of_b (first_world a b begins.tuned_a begins.tuned_b begins.of_a begins.of_b) (begins.begun ∙ ap Ok is)).1 begins.granted_a
 
 -- an end grants its own limits
 pub all_granted : (s : Settings) → AreGranted (limits_of s) s

@@ -151,7 +151,7 @@ module _ (k : ℕ) where
 
 -- The frames of a payload, one after the other
 
-closed_ok : (p : Past) (e : End) (c : Closed) → EndOk p e → EndOk p (closes c e)
+pub closed_ok : (p : Past) (e : End) (c : Closed) → EndOk p e → EndOk p (closes c e)
 closed_ok p e c ok = record { sends = ok.sends; recvs = ok.recvs; packets = ok.packets; taken = ok.taken; credit = ok.credit; streams = ok.streams }
 
 -- Those that come are told by the peer, or plain.
@@ -226,7 +226,7 @@ took_effect e f NotOurs new h = absurd h
 took_effect e f _ new h = (h.0, h.1)
 
 -- one by one they are several of one; what isn't an end's own changes nothing
-handed : (e : End) (fs : List FrameValue) (result : Result Taken TakeFault) (new : End) → e.closed ≡ None → HandedIn fs e result new →
+pub handed : (e : End) (fs : List FrameValue) (result : Result Taken TakeFault) (new : End) → e.closed ≡ None → HandedIn fs e result new →
     ((mid : End) × TakesEach fs e result mid × (new ≡ settle mid)) ⊎ (AllByRecursion (λ f. is_ours (seen f) ≡ false) fs × (new ≡ e))
 handed e fs result new open_end (inl several) = inl (subst (λ o. TakeAllBy o fs e result new) open_end several)
 handed e fs result new open_end (inr (f, is, one)) = by (is_ours (seen f)) refl (subst (λ o. TakeBy o f e result new) open_end one)
@@ -260,6 +260,10 @@ others_taken : (t : Tables RecvLane) (g : Seen) → is_ours g ≡ false → Fram
 others_taken t (Stream n offset bytes fin) other = absurd (false≢true (sym other))
 others_taken t (Control i) other = absurd (false≢true (sym other))
 others_taken t g other = tt
+
+pub none_ours : (P : Seen → Type 0) → ((g : Seen) → is_ours g ≡ false → P g) → (fs : List FrameValue) → AllByRecursion (λ f. is_ours (seen f) ≡ false) fs → AllByRecursion P (seen_all fs)
+none_ours P others [] foreign = tt
+none_ours P others (f ∷ fs) foreign = (others (seen f) foreign.0, none_ours P others fs foreign.1)
 
 -- What frames leave that came.
 record FramesCame (p : Past) (old e new : End) (fs : List Seen) (result : Result Taken TakeFault) : Type 0 where
@@ -314,10 +318,6 @@ module _ (p : Past) (old : End) (fine : (mid : End) → EndOk p mid → IsThere 
   came_alone fs (Ok told) new ok taken = record { sends = ok.sends; recvs = ok.recvs; packets = ok.packets; credit = ok.credit; streams = ok.streams; taken = All_append (FrameTaken new.recvs) p.taken (seen_all fs) ok.taken (taken refl) }
   came_alone fs (Err fault) new ok taken = ok
 
-  none_ours : (t : Tables RecvLane) (fs : List FrameValue) → AllByRecursion (λ f. is_ours (seen f) ≡ false) fs → AllByRecursion (FrameTaken t) (seen_all fs)
-  none_ours t [] foreign = tt
-  none_ours t (f ∷ fs) foreign = (others_taken t (seen f) foreign.0, none_ours t fs foreign.1)
-
   -- as the call ends the limits move
   pub handed_came : (fs : List FrameValue) (e : End) (result : Result Taken TakeFault) (new : End) → e.closed ≡ None → EndOk p e → IsThere old e → WereTold p fs → HandedIn fs e result new →
       EndOk (with_effects (effects_of (TakeFrames fs) result) p) new × (fixed new ≡ fixed old)
@@ -331,7 +331,7 @@ module _ (p : Past) (old : End) (fine : (mid : End) → EndOk p mid → IsThere 
               ap fixed after ∙ came.there.0,
             )
             )
-        | inr (foreign, same) ↦ (came_alone fs result new (ended_by p e new same ok) (λ d. none_ours new.recvs fs foreign), ap fixed same ∙ there.0)
+        | inr (foreign, same) ↦ (came_alone fs result new (ended_by p e new same ok) (λ d. none_ours (FrameTaken new.recvs) (others_taken new.recvs) fs foreign), ap fixed same ∙ there.0)
       ]
 
 -- Tokens
@@ -504,7 +504,7 @@ old_stays a b grow (Stream n offset bytes fin) (all, known) = (
 old_stays a b grow (Control (ResetStream n code size)) (l, is, known) = (let (m, there, g) = grow n l is in (m, there, known_stays l m g known))
 old_stays a b grow f old = tt
 
-settle_spends : (e : End) → spent (settle e) ≡ spent e
+pub settle_spends : (e : End) → spent (settle e) ≡ spent e
 settle_spends e = total_each highest raise e.recvs (λ l. refl)
 
 -- The frames of a payload, one after the other

@@ -1,15 +1,14 @@
 -- Every run keeps the invariant of both ends.
-use Rattle.std.proofs.Common.{◌≡◌, ◌≤◌, ℕ, true, List, [], ◌∷◌, inl, inr, Option, None, Some, is_some, Result, Ok, false, not, arith, sym, subst, refl, ap, ◌∙◌, slice_get}
+use Rattle.std.proofs.Common.{◌≡◌, ◌≤◌, ℕ, Bool, true, List, [], ◌∷◌, inl, inr, Option, None, Some, is_some, Result, Ok, false, not, arith, sym, subst, refl, ap, ◌∙◌, slice_get}
 use Rattle.std.specs.Prelude.{flat_map}
 use Rattle.std.specs.List.{AllByRecursion, list_any}
 use Rattle.std.proofs.lemmas.Bool.{false≢true, true≢false}
 use Rattle.std.proofs.lemmas.Option.{none-some}
 use Rattle.qs_wire.specs.Layout.{FrameValue}
 use Rattle.qs_wire.specs.declared.stream_id.Dir.{Dir}
-use Rattle.qs_wire.specs.declared.stream_id.Role.{Role}
-use Rattle.qs_wire.specs.declared.stream_id.Role.TheVariants.{Client, Server}
 use Rattle.qs_send.specs.Records.{Among}
 use Rattle.qs_calls.specs.declared.closing.Closed.{Closed}
+use Rattle.qs_calls.specs.declared.closing.Closed.TheVariants.{ByPeer}
 use Rattle.qs_calls.specs.declared.closing.Closing.{Closing}
 use Rattle.qs_calls.specs.declared.closing.Received.{Received}
 use Rattle.qs_calls.specs.declared.closing.ToldClose.{ToldClose}
@@ -37,23 +36,26 @@ use Rattle.qs_machine.proofs.Counts.{new_ends_sound}
 use Rattle.qs_machine.proofs.SentCalls.{new_keeps, keeps_call}
 use Rattle.qs_machine.proofs.CallsCounts.{sound_end, counts_call}
 use Rattle.qs_machine.proofs.EveryCall.{closed_stays}
+use Rattle.qs_machine.proofs.Plains.{close_comes}
 use Rattle.qs_machine.proofs.Pieces.{All_append}
 use Rattle.qs_runs.specs.Logs.{Happening, History, Effect, ToldClosed, other, effects, effects_of, sent_in, took_in, comes_in, acks_in, closes_in, processed, taken, was_acked, was_told_closed, made, HasMade, HasLanded}
-use Rattle.qs_runs.specs.Worlds.{World, AreGranted, Begins, IsPayload, IsFrom, May, end_of, WorldStep, Run}
+use Rattle.qs_runs.specs.Worlds.{World, AreGranted, Begins, IsPayload, IsClose, IsFrom, May, end_of, WorldStep, Run}
+use Rattle.qs_runs.specs.Agree.{StaysOpen}
 use Rattle.qs_runs.specs.Events.{Log, happened, EventRun}
 use Rattle.qs_runs.specs.Pasts.{packets_in, past}
 use Rattle.qs_runs.specs.Invariant.{EndOk, CountsTrue, CountsOk, WorldOk, role_of, settings_of, stands_as, standing}
 use Rattle.qs_runs.proofs.Past.{effects_made}
 use Rattle.qs_runs.proofs.Lists.{Among_either, Among_right}
 use Rattle.qs_runs.proofs.Unharmed.{Facing, ProcessedWasMade}
-use Rattle.qs_runs.proofs.Receives.{HandedIn, receives, handed_came, token_acked_moves}
+use Rattle.qs_runs.proofs.Changes.{settle_ok}
+use Rattle.qs_runs.proofs.Receives.{HandedIn, closed_ok, receives, handed_came, token_acked_moves}
 use Rattle.qs_runs.proofs.OwnMoves.{Hears, heard_or, heard_same}
 use Rattle.qs_runs.proofs.Standing.{fixed, call_stands, certain_cases}
 use Rattle.qs_runs.proofs.PeerMoves.{peer_moves}
 use Rattle.qs_runs.proofs.Facing.{facing, opposite_roles, receive_stands, fine_now}
-use Rattle.qs_runs.proofs.Histories.{two_sides, did, effects_there, past_here, past_there, made_here, made_there, taken_here, theirs_mine, payload_seen, AreFaultless, none_sent, frames_told, payload_come, still_has_made, still_landed, any_here, none_here, still_made, back_again, closed_hears, came_made, came_landed, acked_landed}
+use Rattle.qs_runs.proofs.Histories.{two_sides, did, effects_there, past_here, past_there, made_here, made_there, taken_here, theirs_mine, payload_seen, AreFaultless, none_sent, frames_told, payload_come, still_has_made, still_landed, any_here, none_here, still_made, back_again, closed_hears, Heard, heard_some, came_made, came_landed, acked_landed}
 use Rattle.qs_runs.proofs.Packing.{Leaves, none_leaves, nothing_leaves, own_leaves}
-use Rattle.qs_runs.proofs.NewEnds.{first_world, made_first, ends_made, begins_true, tells_nothing, new_ok}
+use Rattle.qs_runs.proofs.NewEnds.{each_begun, begins_true, tells_nothing, new_ok}
 use Rattle.qs_runs.proofs.Granting.{counts_told, known_within}
 
 pub roles_face : (s : Side) (n : ℕ) → is_own_by (role_of s) n ≡ not (is_own_by (role_of (other s)) n)
@@ -120,7 +122,7 @@ pub record Lands (h : History) (w : World) : Type 0 where
   pub taken : (s : Side) (f : Seen) → Among f (taken s h) → is_ours f ≡ true → HasMade h (other s) f
   pub landed : (s : Side) (k : ℕ) → processed (other s) k h ≡ true → HasLanded h s k
   pub confirmed : (s : Side) (k : ℕ) → was_acked s k h ≡ true → HasLanded h s k
-  pub unclosed : (s : Side) → was_told_closed s h ≡ false → (end_of w s).closed ≡ None
+  pub unclosed : (s : Side) → StaysOpen h w s
 
 of_sides : (a b : Settings) (h : History) (w : World) → ((s : Side) → SideOk a b s h (end_of w s)) → Lands h w → WorldOk a b h w
 of_sides a b h w sides lands =
@@ -139,47 +141,32 @@ of_sides a b h w sides lands =
     }
 
 -- the two ends begin in agreement
-first_side : (role : Role) (a b : Settings) (s : Side) (own : Settings) (t : Tuning) (told : PeerLimits) → wide_end_made role own t told ≡ Ok (new_end role own t told) → standing (new_end role own t told) ≡ stands_as a b s told → AreGranted told (settings_of a b (other s)) → SideOk a b s [] (new_end role own t told)
+first_side : (a b : Settings) (s : Side) (t : Tuning) (told : PeerLimits) → wide_end_made (role_of s) (settings_of a b s) t told ≡ Ok (new_end (role_of s) (settings_of a b s) t told) → AreGranted told (settings_of a b (other s)) → SideOk a b s [] (new_end (role_of s) (settings_of a b s) t told)
 unfolding effects
-first_side role a b s own t told begun stand peer =
+first_side a b s t told begun peer =
     record {
-      ok = new_ok role own t told (past s []) refl (λ n. refl) (λ n. refl) (λ n. refl) (λ n. refl) (λ k. refl) refl;
+      ok = new_ok (role_of s) (settings_of a b s) t told (past s []) refl (λ n. refl) (λ n. refl) (λ n. refl) (λ n. refl) (λ k. refl) refl;
       counts = record { first_granted = first; told = λ d count t. absurd (tells_nothing (past s []).mine _ refl t) };
-      sound = new_ends_sound role own t told (new_end role own t told) begun;
-      sent = new_keeps role own t told (new_end role own t told) begun;
-      stand = stand;
+      sound = new_ends_sound (role_of s) (settings_of a b s) t told (new_end (role_of s) (settings_of a b s) t told) begun;
+      sent = new_keeps (role_of s) (settings_of a b s) t told (new_end (role_of s) (settings_of a b s) t told) begun;
+      stand = refl;
       peer = peer;
       texts = tt;
     }
   where
-    first : (d : Dir) → first_grant own d ≤ granted_streams (new_end role own t told) d
+    first : (d : Dir) → first_grant (settings_of a b s) d ≤ granted_streams (new_end (role_of s) (settings_of a b s) t told) d
     first _ = omega arith
 
-none_lands : (a b : Settings) (x y : Tuning) (of_a of_b : PeerLimits) → Lands [] (first_world a b x y of_a of_b)
+pub start : (a b : Settings) (w : World) → Begins a b w → WorldOk a b [] w
 unfolding effects
-none_lands a b x y of_a of_b =
-    record {
+start a b w begins =
+    of_sides a b [] w (each_begun (λ s e. SideOk a b s [] e) a b w begins (first_side a b))
+    (record {
       taken = λ s f a. absurd a;
       landed = λ s k is. absurd (false≢true is);
       confirmed = λ s k is. absurd (false≢true is);
-      unclosed = λ s is. open_first s;
-    }
-  where
-    open_first : (s : Side) → (end_of (first_world a b x y of_a of_b) s).closed ≡ None
-    open_first A = refl
-    open_first B = refl
-
-pub start : (a b : Settings) (w : World) → Begins a b w → WorldOk a b [] w
-start a b w begins =
-    let is = made_first a b begins.tuned_a begins.tuned_b begins.of_a begins.of_b w begins.begun in
-    moved (WorldOk a b []) _ _ is (of_sides a b [] (first_world a b begins.tuned_a begins.tuned_b begins.of_a begins.of_b) sides (none_lands a b begins.tuned_a begins.tuned_b begins.of_a begins.of_b))
-  where
-    begun : (wide_end_made Client a begins.tuned_a begins.of_b ≡ Ok (new_end Client a begins.tuned_a begins.of_b)) × (wide_end_made Server b begins.tuned_b begins.of_a ≡ Ok (new_end Server b begins.tuned_b begins.of_a))
-    begun = ends_made a b begins.tuned_a begins.tuned_b begins.of_a begins.of_b (first_world a b begins.tuned_a begins.tuned_b begins.of_a begins.of_b) (begins.begun ∙ ap Ok (made_first a b begins.tuned_a begins.tuned_b begins.of_a begins.of_b w begins.begun))
-
-    sides : (s : Side) → SideOk a b s [] (end_of (first_world a b begins.tuned_a begins.tuned_b begins.of_a begins.of_b) s)
-    sides A = first_side Client a b A a begins.tuned_a begins.of_b begun.0 refl begins.granted_b
-    sides B = first_side Server a b B b begins.tuned_b begins.of_a begun.1 refl begins.granted_a
+      unclosed = λ s is peer. each_begun (λ t e. e.closed ≡ None) a b w begins (λ t tuning told begun granted. refl) s;
+    })
 
 -- limits that are granted both
 both_granted : (p q : PeerLimits) (s : Settings) → AreGranted p s → AreGranted q s → AreGranted (greater_limits p q) s
@@ -193,37 +180,37 @@ both_granted p q s x y =
       streams_uni = omega (arith, x.streams_uni, y.streams_uni);
     }
 
--- What a call of a side leaves of what stands; only a close that is told closes an end.
-pub record Stays (granted : PeerLimits → Type 0) (e new : End) (xs : List Effect) : Type 0 where
+-- What a call of a side leaves of what stands; only a close that is told closes an end, there or at its peer.
+pub record Stays (granted : PeerLimits → Type 0) (told : Bool) (e new : End) (xs : List Effect) : Type 0 where
   pub role : new.role ≡ e.role
   pub settings : new.settings ≡ e.settings
   pub peer : granted new.peer
-  pub closed : list_any closes_in xs ≡ false → new.closed ≡ e.closed
+  pub closed : list_any closes_in xs ≡ false → told ≡ false → new.closed ≡ e.closed
 
-module _ (granted : PeerLimits → Type 0) (e : End) (peer : granted e.peer) where
-  all_stays : (new : End) (xs : List Effect) → fixed new ≡ fixed e → Stays granted e new xs
-  all_stays new xs stays = record { role = ap (λ y. y.0.role) stays; settings = ap (λ y. y.0.settings) stays; peer = subst granted (sym (ap (λ y. y.0.peer) stays)) peer; closed = λ none. ap (λ y. y.1) stays }
+module _ (granted : PeerLimits → Type 0) (told : Bool) (e : End) (peer : granted e.peer) where
+  all_stays : (new : End) (xs : List Effect) → fixed new ≡ fixed e → Stays granted told e new xs
+  all_stays new xs stays = record { role = ap (λ y. y.0.role) stays; settings = ap (λ y. y.0.settings) stays; peer = subst granted (sym (ap (λ y. y.0.peer) stays)) peer; closed = λ none untold. ap (λ y. y.1) stays }
 
   -- limits are taken in by an open end
   open_raise : (o : Option Closed) (r : Option RaiseFault) → first_refusal (refuse_if (is_some o) raising.Closed) r ≡ None → o ≡ None
   open_raise None r allowed = refl
   open_raise (Some closed) r allowed = absurd (none-some _ (sym allowed))
 
-  told_stays : (close : ToldClose) (o : Option Closed) → Stays granted e (told_by o close e) (ToldClosed ∷ [])
+  told_stays : (close : ToldClose) (o : Option Closed) → Stays granted told e (told_by o close e) (ToldClosed ∷ [])
   told_stays close o = by o
     where
-      by : (o : Option Closed) → Stays granted e (told_by o close e) (ToldClosed ∷ [])
+      by : (o : Option Closed) → Stays granted told e (told_by o close e) (ToldClosed ∷ [])
       by (Some closed) = all_stays e (ToldClosed ∷ []) refl
-      by None = record { role = refl; settings = refl; peer = peer; closed = λ none. absurd (true≢false none) }
+      by None = record { role = refl; settings = refl; peer = peer; closed = λ none untold. absurd (true≢false none) }
 
   -- a call in which an end hears nothing of its peer
-  own_stays : (new : End) (call : Call) (answer : Answer call) → (Hears call → ⊥) → ((q : PeerLimits) → call ≡ RaiseLimits q → e.closed ≡ None → granted (greater_limits e.peer q)) → EndStep e call answer new → Stays granted e new (effects_of call answer)
+  own_stays : (new : End) (call : Call) (answer : Answer call) → (Hears call → ⊥) → ((q : PeerLimits) → call ≡ RaiseLimits q → e.closed ≡ None → granted (greater_limits e.peer q)) → EndStep e call answer new → Stays granted told e new (effects_of call answer)
   own_stays new (RaiseLimits q) answer deaf may step =
       elim (certain_cases (raise_refusal e q) e answer new _ step) [
         | inl (fault, is, same) ↦ all_stays new [] (ap fixed same)
-        | inr (allowed, (is, same)) ↦ subst (λ f. Stays granted e f []) (sym same) (record { role = refl; settings = refl; peer = may q refl (open_raise e.closed _ allowed); closed = λ none. refl })
+        | inr (allowed, (is, same)) ↦ subst (λ f. Stays granted told e f []) (sym same) (record { role = refl; settings = refl; peer = may q refl (open_raise e.closed _ allowed); closed = λ none untold. refl })
       ]
-  own_stays new (TellClosed close) answer deaf may step = subst (λ f. Stays granted e f (ToldClosed ∷ [])) (sym step) (told_stays close e.closed)
+  own_stays new (TellClosed close) answer deaf may step = subst (λ f. Stays granted told e f (ToldClosed ∷ [])) (sym step) (told_stays close e.closed)
   own_stays new (Receive k bytes) answer deaf may step = absurd (deaf tt)
   own_stays new (TakeFrame f) answer deaf may step = absurd (deaf tt)
   own_stays new (TakeFrames fs) answer deaf may step = absurd (deaf tt)
@@ -246,64 +233,71 @@ module _ (a b : Settings) (h : History) (v w : World) (s : Side) (ok : WorldOk a
   new = end_of w s
 
   -- what a call of this side leaves
-  abbrev LeavesAll : List Effect → Type 0
-  LeavesAll xs = Leaves (past s h) old new xs × Stays (λ p. AreGranted p (settings_of a b (other s))) old new xs
+  abbrev LeavesAll : End → List Effect → Type 0
+  LeavesAll now xs = Leaves (past s h) old now xs × Stays (λ p. AreGranted p (settings_of a b (other s))) (was_told_closed (other s) h) old now xs
 
   -- what comes to an open end of what its peer made
   module _ (open_end : old.closed ≡ None) where
-    payload_leaves : (k : ℕ) (bytes : List ℕ) (result : Result Received Closing) → IsPayload h (other s) k bytes → ReceiveStep old k bytes result new → LeavesAll (effects_of (Receive k bytes) result)
+    payload_leaves : (k : ℕ) (bytes : List ℕ) (result : Result Received Closing) → IsPayload h (other s) k bytes → ReceiveStep old k bytes result new → LeavesAll new (effects_of (Receive k bytes) result)
     payload_leaves k bytes result is step =
         let come = payload_come h s k bytes is in
         let (text, at, differ) = is in (
           none_leaves _ old new _ (none_sent (Receive k bytes) result (λ no. no)) (receives (past s h) old new k bytes result here.ok come step),
-          all_stays _ old here.peer new _
+          all_stays _ _ old here.peer new _
               (receive_stands (past s h) (past (other s) h) old (end_of v (other s)) there.ok refl (theirs_mine s h) (faces_back a b h v ok s) (granted_back a b h v ok s) (known_back a b h v ok s).0 (known_back a b h v ok s).1 (processed_made a b h v ok (other s))
               new k bytes result here.ok open_end differ.reads come step),
         )
 
-    frames_leave : (fs : List FrameValue) (result : Result Taken TakeFault) → AllByRecursion (IsFrom h (other s)) (seen_all fs) → HandedIn fs old result new → LeavesAll (effects_of (TakeFrames fs) result)
+    close_leaves : (k : ℕ) (bytes : List ℕ) (result : Result Received Closing) → IsClose h (other s) bytes → ReceiveStep old k bytes result new → LeavesAll new (effects_of (Receive k bytes) result)
+    close_leaves k bytes result (told, code, is) step =
+        let same : LeavesAll old [] = (none_leaves (past s h) old old [] refl here.ok, all_stays _ _ old here.peer old [] refl) in
+        close_comes (λ r n. LeavesAll n (effects_of (Receive k bytes) r)) k code bytes old new result open_end is step same same
+        (none_leaves (past s h) old _ [] refl (settle_ok (past s h) _ (closed_ok (past s h) old (ByPeer code) here.ok)), record { role = refl; settings = refl; peer = here.peer; closed = λ none untold. absurd (true≢false (sym told ∙ untold)) })
+
+    frames_leave : (fs : List FrameValue) (result : Result Taken TakeFault) → AllByRecursion (IsFrom h (other s)) (seen_all fs) → HandedIn fs old result new → LeavesAll new (effects_of (TakeFrames fs) result)
     frames_leave fs result from handed =
         let (came, stands) =
         handed_came (past s h) old
         (fine_now (past s h) (past (other s) h) old (end_of v (other s)) there.ok refl (theirs_mine s h) (faces_back a b h v ok s) (granted_back a b h v ok s) (known_back a b h v ok s).0 (known_back a b h v ok s).1 (processed_made a b h v ok (other s)))
         fs old result new open_end here.ok (refl, refl, refl) (frames_told h s there.texts fs from) handed in
-        (none_leaves _ old new _ (none_sent (TakeFrames fs) result (λ no. no)) came, all_stays _ old here.peer new _ stands)
+        (none_leaves _ old new _ (none_sent (TakeFrames fs) result (λ no. no)) came, all_stays _ _ old here.peer new _ stands)
 
   -- a call that hears something, at an open end
-  heard_leaves : old.closed ≡ None → (call : Call) (answer : Answer call) → Hears call → May h v s call → EndStep old call answer new → LeavesAll (effects_of call answer)
-  heard_leaves open_end (Receive k bytes) answer hears may step = payload_leaves open_end k bytes answer may step
+  heard_leaves : old.closed ≡ None → (call : Call) (answer : Answer call) → Hears call → May h v s call → EndStep old call answer new → LeavesAll new (effects_of call answer)
+  heard_leaves open_end (Receive k bytes) answer hears (inl made) step = payload_leaves open_end k bytes answer made step
+  heard_leaves open_end (Receive k bytes) answer hears (inr close) step = close_leaves open_end k bytes answer close step
   heard_leaves open_end (TakeFrames fs) answer hears may step = frames_leave open_end fs answer may (inl step)
   heard_leaves open_end (TakeFrame f) answer hears may step = frames_leave open_end (f ∷ []) answer (may, tt) (inr (f, refl, step))
   heard_leaves open_end (TokenAcked t) answer hears may step = (
     none_leaves _ old new _ (none_sent (TokenAcked t) answer (λ no. no)) (token_acked_moves (past s h) old new t answer here.ok step),
-    all_stays _ old here.peer new _ (call_stands old (TokenAcked t) (λ no. no) answer new step),
+    all_stays _ _ old here.peer new _ (call_stands old (TokenAcked t) (λ no. no) answer new step),
   )
   heard_leaves open_end call answer hears may step = absurd hears
 
-  closed_leaves : (xs : List Effect) → xs ≡ [] → new ≡ old → LeavesAll xs
-  closed_leaves xs none same = (nothing_leaves (past s h) old new here.ok xs none same, all_stays _ old here.peer new xs (ap fixed same))
+  closed_leaves : (xs : List Effect) → xs ≡ [] → new ≡ old → LeavesAll new xs
+  closed_leaves xs none same = (nothing_leaves (past s h) old new here.ok xs none same, all_stays _ _ old here.peer new xs (ap fixed same))
 
-  own_leaves_all : (call : Call) (answer : Answer call) → (Hears call → ⊥) → (old.closed ≡ None → May h v s call) → EndStep old call answer new → LeavesAll (effects_of call answer)
+  own_leaves_all : (call : Call) (answer : Answer call) → (Hears call → ⊥) → (old.closed ≡ None → May h v s call) → EndStep old call answer new → LeavesAll new (effects_of call answer)
   own_leaves_all call answer deaf may step = (
     own_leaves (past s h) old new here.ok call answer deaf step,
-    own_stays _ old here.peer new call answer deaf (λ q is open_end. both_granted old.peer q _ here.peer (subst (AreGranted q) (ap (λ y. y.settings) there.stand) (subst (May h v s) is (may open_end)))) step,
+    own_stays _ _ old here.peer new call answer deaf (λ q is open_end. both_granted old.peer q _ here.peer (subst (AreGranted q) (ap (λ y. y.settings) there.stand) (subst (May h v s) is (may open_end)))) step,
   )
 
   -- each call
-  leaves_all : (call : Call) (answer : Answer call) → (old.closed ≡ None → May h v s call) → EndStep old call answer new → LeavesAll (effects_of call answer)
+  leaves_all : (call : Call) (answer : Answer call) → (old.closed ≡ None → May h v s call) → EndStep old call answer new → LeavesAll new (effects_of call answer)
   leaves_all call answer may step =
       elim (heard_or call) [
         | inl heard ↦ by_closed heard old.closed refl
         | inr deaf ↦ own_leaves_all call answer deaf may step
       ]
     where
-      by_closed : Hears call → (o : Option Closed) → old.closed ≡ o → LeavesAll (effects_of call answer)
+      by_closed : Hears call → (o : Option Closed) → old.closed ≡ o → LeavesAll new (effects_of call answer)
       by_closed heard None open_end = heard_leaves open_end call answer heard (may open_end) step
       by_closed heard (Some closed) shut = closed_leaves _ (closed_hears old new call answer (ap is_some shut) heard step) (heard_same old new call heard (closed_stays old call answer new (ap is_some shut) step))
 
 -- One step keeps what holds of each side.
 module _ (a b : Settings) (h : History) (v w : World) (x : Happening) (ok : WorldOk a b h v) (step : WorldStep h v x w) where
-  after : LeavesAll a b h v w x.end ok (did x h)
+  after : LeavesAll a b h v w x.end ok (end_of w x.end) (did x h)
   after = leaves_all a b h v w x.end ok x.call x.answer step.may step.step
 
   here_side : SideOk a b x.end (x ∷ h) (end_of w x.end)
@@ -337,11 +331,11 @@ module _ (a b : Settings) (h : History) (v w : World) (x : Happening) (ok : Worl
       })
 
   -- where something was heard the end was open
-  may_hear : (did x h ≡ [] → ⊥) → Hears x.call → May h v x.end x.call
+  may_hear : (did x h ≡ [] → ⊥) → Hears x.call → Heard h v x.end (end_of w x.end) x.call
   may_hear some heard = by (end_of v x.end).closed refl
     where
-      by : (o : Option Closed) → (end_of v x.end).closed ≡ o → May h v x.end x.call
-      by None open_end = step.may open_end
+      by : (o : Option Closed) → (end_of v x.end).closed ≡ o → Heard h v x.end (end_of w x.end) x.call
+      by None open_end = heard_some h v x.end (end_of w x.end) x.call x.answer open_end some (step.may open_end) step.step
       by (Some closed) shut = absurd (some (closed_hears (end_of v x.end) (end_of w x.end) x.call x.answer (ap is_some shut) heard step.step))
 
   taken_here_made : (f : Seen) → Among f (taken x.end (x ∷ h)) → is_ours f ≡ true → HasMade (x ∷ h) (other x.end) f
@@ -378,6 +372,9 @@ module _ (a b : Settings) (h : History) (v w : World) (x : Happening) (ok : Worl
   landed_now A k is = landed_by B k is
   landed_now B k is = landed_by A k is
 
+  untold_there : was_told_closed (other x.end) (x ∷ h) ≡ false → was_told_closed (other x.end) h ≡ false
+  untold_there is = sym (ap (list_any closes_in) (effects_there x h)) ∙ is
+
   lands : Lands (x ∷ h) w
   lands =
       record {
@@ -390,9 +387,9 @@ module _ (a b : Settings) (h : History) (v w : World) (x : Happening) (ok : Worl
               | inr now ↦ acked_landed h v x.end (end_of w x.end) x.call x.answer step.step (may_hear (λ none. false≢true (sym (ap (list_any (acks_in k)) none) ∙ now))) k now
             ]))
             (λ k is. still_landed x h (other x.end) k (ok.confirmed (other x.end) k (subst (λ xs. list_any (acks_in k) xs ≡ true) (effects_there x h) is)));
-        unclosed = two_sides (λ s. was_told_closed s (x ∷ h) ≡ false → (end_of w s).closed ≡ None) x.end
-            (λ is. (let (was, now) = none_here closes_in x h is in after.1.closed now ∙ ok.unclosed x.end was))
-            (λ is. ap (λ (e : End). e.closed) step.still ∙ ok.unclosed (other x.end) (sym (ap (list_any closes_in) (effects_there x h)) ∙ is));
+        unclosed = two_sides (λ s. StaysOpen (x ∷ h) w s) x.end
+            (λ is peer. (let (was, now) = none_here closes_in x h is in after.1.closed now (untold_there peer) ∙ ok.unclosed x.end was (untold_there peer)))
+            (λ is peer. ap (λ (e : End). e.closed) step.still ∙ ok.unclosed (other x.end) (untold_there is) (back_again (λ t. was_told_closed t (x ∷ h) ≡ false → was_told_closed t h ≡ false) x.end (λ now. (none_here closes_in x h now).0) peer));
       }
 
 -- and so the invariant

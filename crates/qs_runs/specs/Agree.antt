@@ -45,9 +45,9 @@ pub record FinalSizesAgree (w : World) (s : Side) (n : ℕ) : Type 0 where
 abbrev pub CreditAgrees : World → Side → Type 0
 CreditAgrees w s = spent (end_of w s) ≤ all_sent (end_of w (other s))
 
--- an end has neither closed nor seen its peer close, unless it was told of a close (RFC 9000, section 10.2)
+-- an end has neither closed nor seen its peer close, unless it or its peer was told of a close (RFC 9000, section 10.2)
 abbrev pub StaysOpen : History → World → Side → Type 0
-StaysOpen h w s = was_told_closed s h ≡ false → (end_of w s).closed ≡ None
+StaysOpen h w s = was_told_closed s h ≡ false → was_told_closed (other s) h ≡ false → (end_of w s).closed ≡ None
 
 -- what agrees in a world with this history (RFC 9000, sections 2.2, 3, 4 and 10.2)
 pub record Agree (h : History) (w : World) : Type 0 where

@@ -78,10 +78,10 @@ pub record SizesDiffer : Type 0 where
 pub record WorldsDiffer : Type 0 where
   -- where more is spent than was sent (section 4.1)
   pub credit : (h : History) → Agree h (both (client_with wrote_half) (server_with all_came)) → ⊥
-  -- where the client closed, and wasn't told to
-  pub client_closed : (h : History) → was_told_closed A h ≡ false → Agree h (both (record (client_of standard) { closed = Some (ByPeer 0) }) (server standard)) → ⊥
+  -- where the client closed, and neither end was told to
+  pub client_closed : (h : History) → was_told_closed A h ≡ false → was_told_closed B h ≡ false → Agree h (both (record (client_of standard) { closed = Some (ByPeer 0) }) (server standard)) → ⊥
   -- or the server
-  pub server_closed : (h : History) → was_told_closed B h ≡ false → Agree h (both (client_of standard) (record (server standard) { closed = Some (ByPeer 0) })) → ⊥
+  pub server_closed : (h : History) → was_told_closed B h ≡ false → was_told_closed A h ≡ false → Agree h (both (client_of standard) (record (server standard) { closed = Some (ByPeer 0) })) → ⊥
 
 -- It is news (sections 2.2 and 4.5)
 pub record NewsIsNotOld : Type 0 where
@@ -148,6 +148,29 @@ pub record PayloadsThatCome (w : World) : Type 0 where
   pub front : May sent_two w B (Receive 0 (1 ∷ two_frames))
   pub between : May sent_two w B (Receive 0 (0x10 ∷ 5 ∷ 1 ∷ 0x10 ∷ 6 ∷ []))
   pub behind : May sent_two w B (Receive 0 (two_frames ++ 1 ∷ []))
+
+-- a CONNECTION_CLOSE (RFC 9000, section 19.19)
+abbrev pub closing : List ℕ
+closing = 0x1d ∷ 0 ∷ 0 ∷ []
+
+-- A was told of a close
+abbrev pub told_A : ToldClose → History
+told_A close = at A (TellClosed close) tt ∷ []
+
+-- A payload comes with a close (`Receive`)
+pub record ClosesThatCome (w : World) (close : ToldClose) : Type 0 where
+  -- of an end that was told of none
+  pub untold : May [] w B (Receive 0 closing) → ⊥
+  -- nor be it that the end that it comes to was
+  pub its_own : May (told_A close) w A (Receive 0 closing) → ⊥
+  -- with a frame of flow control in front, or behind
+  pub front : May (told_A close) w B (Receive 0 (0x10 ∷ 5 ∷ closing)) → ⊥
+  pub behind : May (told_A close) w B (Receive 0 (closing ++ 0x10 ∷ 5 ∷ [])) → ⊥
+  -- without the close
+  pub none : May (told_A close) w B (Receive 0 (1 ∷ [])) → ⊥
+  -- though it may come alone, and with a PING in front and behind, under any number
+  pub alone : (number : ℕ) → May (told_A close) w B (Receive number closing)
+  pub plain : (number : ℕ) → May (told_A close) w B (Receive number (1 ∷ closing ++ 1 ∷ []))
 
 -- Frames come alone (`TakeFrame`, `TakeFrames`)
 pub record FramesThatCome (w : World) : Type 0 where
@@ -269,6 +292,7 @@ pub record Exclusions : Type 0 where
   pub news : NewsIsNotOld
   pub spent : (text : List ℕ) → StepsSpend text
   pub payloads : (w : World) → PayloadsThatCome w
+  pub closes : (w : World) (close : ToldClose) → ClosesThatCome w close
   pub frames : (w : World) → FramesThatCome w
   pub tokens : (w : World) (epoch : w.a.tuning.epoch ≡ 0) → TokensThatAreAcked w epoch
   pub blocked : BlockedFramesLand

@@ -30,8 +30,9 @@ use Rattle.qs_calls.specs.declared.settings.PeerLimits.{PeerLimits}
 use Rattle.qs_wire.specs.declared.stream_id.Role.TheVariants.{Client, Server}
 use Rattle.qs_calls.specs.declared.event.Side.{Side}
 use Rattle.qs_calls.specs.declared.event.Side.TheVariants.{A, B}
-use Rattle.qs_runs.specs.Logs.{History, other, made, processed, taken, was_acked, was_told_closed, HasMade, HasLanded}
+use Rattle.qs_runs.specs.Logs.{History, other, made, processed, taken, was_acked, HasMade, HasLanded}
 use Rattle.qs_runs.specs.Worlds.{World, end_of, AreGranted}
+use Rattle.qs_runs.specs.Agree.{StaysOpen}
 use Rattle.qs_runs.specs.Pasts.{Packets, Past, past, Holds, Tells, TellsOffset, TellsByte, TellsEnd, TellsReset, WasConfirmed, PieceOf, IsNamed}
 
 -- Sending
@@ -234,8 +235,8 @@ HasNoFault text = ((reading_of text).fault ≡ None) × AllByRecursion Fits (fra
 
 -- The invariant of a world: that of each end, about what it lived through; each end is sound, and what it sent was written; the limits
 -- that it was told are granted; each payload that was made has no fault; each frame of streams and flow control that was taken was made
--- by the other, and each packet that was processed landed, as did each that it was told of by a token; and an end closes only where it is
--- told to.
+-- by the other, and each packet that was processed landed, as did each that it was told of by a token; and an end closes only where it or
+-- its peer is told to.
 pub record WorldOk (a b : Settings) (h : History) (w : World) : Type 0 where
   pub ends : (s : Side) → EndOk (past s h) (end_of w s)
   pub counts : (s : Side) → CountsOk (past s h) (end_of w s)
@@ -247,4 +248,4 @@ pub record WorldOk (a b : Settings) (h : History) (w : World) : Type 0 where
   pub taken : (s : Side) (f : Seen) → Among f (taken s h) → is_ours f ≡ true → HasMade h (other s) f
   pub landed : (s : Side) (k : ℕ) → processed (other s) k h ≡ true → HasLanded h s k
   pub confirmed : (s : Side) (k : ℕ) → was_acked s k h ≡ true → HasLanded h s k
-  pub unclosed : (s : Side) → was_told_closed s h ≡ false → (end_of w s).closed ≡ None
+  pub unclosed : (s : Side) → StaysOpen h w s

@@ -95,6 +95,6 @@ ReceivedIsWhole = InEachWorld (λ h w. (s : Side) (n : ℕ) → WholeAgrees h w 
 abbrev pub FinalSizesAlwaysAgree : Type 0
 FinalSizesAlwaysAgree = InEachWorld (λ h w. (s : Side) (n : ℕ) → FinalSizesAgree w s n)
 
--- no end closes that wasn't told to
+-- no end closes unless it or its peer was told to
 abbrev pub NoEndCloses : Type 0
 NoEndCloses = InEachWorld (λ h w. (s : Side) → StaysOpen h w s)

@@ -1,7 +1,7 @@
 -- Trusted.
 -- Two ends, each of which was told limits that the other grants, and what may happen to them. The whole file is ours, but that an
 -- end is the client, the other the server, and each knows limits of the other (RFC 9000, sections 2.1, 7.4.1 and 18.2).
-use Rattle.std.specs.Prelude.{◌≡◌, ℕ, ◌≤◌, List, [], ◌∷◌, None, Some, Result, Ok, Err, true, ⊤}
+use Rattle.std.specs.Prelude.{◌≡◌, ℕ, ◌≤◌, List, [], ◌∷◌, ◌⊎◌, None, Some, Result, Ok, Err, true, ⊤}
 use Rattle.std.specs.List.{AllByRecursion}
 use Rattle.qs_wire.specs.declared.stream_id.Role.TheVariants.{Client, Server}
 use Rattle.qs_calls.specs.declared.settings.Settings.{Settings}
@@ -11,11 +11,11 @@ use Rattle.qs_calls.specs.declared.settings.SetupFault.{SetupFault}
 use Rattle.qs_calls.specs.declared.event.Side.{Side}
 use Rattle.qs_calls.specs.declared.event.Side.TheVariants.{A, B}
 use Rattle.qs_machine.specs.Ends.{End, wide_end_made}
-use Rattle.qs_machine.specs.Seen.{Seen, seen, seen_all}
+use Rattle.qs_machine.specs.Seen.{Seen, Close, seen, seen_all}
 use Rattle.qs_machine.specs.Alone.{is_ours}
-use Rattle.qs_machine.specs.Plains.{DifferInPlain}
+use Rattle.qs_machine.specs.Plains.{frames_in, but_plain, DifferInPlain}
 use Rattle.qs_machine.specs.EndStep.{Call, EndStep, Open, Accept, AcceptOf, Write, Finish, Reset, Stop, StopAndForget, ReadUpTo, Consume, Receive, TakeFrame, TakeFrames, TokenAcked, TokenLost, Make, MakeAck, FillIn, Lose, Claim, RaiseLimits, Set, TellClosed, ClosingPayload, Stored, Granted, Spent, GrantedStreams, Report}
-use Rattle.qs_runs.specs.Logs.{Happening, History, other, payload, HasMade, HasLanded, is_in}
+use Rattle.qs_runs.specs.Logs.{Happening, History, other, payload, was_told_closed, HasMade, HasLanded, is_in}
 
 pub record World : Type 0 where
   pub a : End
@@ -50,14 +50,18 @@ pub record AreGranted (p : PeerLimits) (s : Settings) : Type 0 where
 abbrev pub IsPayload : History → Side → (number : ℕ) → List ℕ → Type 0
 IsPayload h s k bytes = (text : List ℕ) × (payload s k h ≡ Some text) × DifferInPlain bytes text
 
+-- the bytes are a CONNECTION_CLOSE, but for plain frames, of an end that was told of a close (RFC 9000, section 10.2)
+abbrev pub IsClose : History → Side → List ℕ → Type 0
+IsClose h s bytes = (was_told_closed s h ≡ true) × (code : ℕ) × (but_plain (frames_in bytes) ≡ Close code ∷ [])
+
 -- a frame of streams or of flow control stood in a payload of one end; one of another kind is the layer beneath's own affair (RFC 9000,
 -- section 12.4)
 abbrev pub IsFrom : History → Side → Seen → Type 0
 IsFrom h s f = is_ours f ≡ true → HasMade h s f
 
--- What the layer beneath keeps, by the call of side s. What comes to an end is a payload of its peer's under its number; or frames, of which
--- those of streams and flow control stood in its peer's payloads, as they were put in: any of them, in any order, again, of one packet or of
--- several. A token of the end's epoch is acknowledged only once each of its packets landed at the peer. Limits are taken in that the peer
+-- What the layer beneath keeps, by the call of side s. What comes to an end is a payload of its peer's under its number, or the close of a peer
+-- that was told of one; or frames, of which those of streams and flow control stood in its peer's payloads, as they were put in: any of them,
+-- in any order, again, of one packet or of several. A token of the end's epoch is acknowledged only once each of its packets landed at the peer. Limits are taken in that the peer
 -- grants. All else may happen.
 abbrev pub May : History → World → Side → Call → Type 0
 May h w s (Open d) = ⊤
@@ -70,7 +74,7 @@ May h w s (Stop n code) = ⊤
 May h w s (StopAndForget n code) = ⊤
 May h w s (ReadUpTo n size) = ⊤
 May h w s (Consume n most) = ⊤
-May h w s (Receive k bytes) = IsPayload h (other s) k bytes
+May h w s (Receive k bytes) = IsPayload h (other s) k bytes ⊎ IsClose h (other s) bytes
 May h w s (TakeFrame f) = IsFrom h (other s) (seen f)
 May h w s (TakeFrames fs) = AllByRecursion (IsFrom h (other s)) (seen_all fs)
 May h w s (TokenAcked t) = t.epoch ≡ (end_of w s).tuning.epoch → (k : ℕ) → is_in t k ≡ true → HasLanded h s k

@@ -122,8 +122,8 @@ pub fn every_run_agrees()
     ensures { EveryRunAgrees }
 {}
 
-/// The packet of a number that the layer beneath claimed is a PING. What comes under it, be it the PING or plain frames in its place,
-/// changes nothing at an open peer but which numbers it keeps, from which one on, and whether an ACK is due.
+/// The packet of a number that the layer beneath claimed is a PING. What comes under it of an end that was told of no close, be it the PING
+/// or plain frames in its place, changes nothing at an open peer but which numbers it keeps, from which one on, and whether an ACK is due.
 pub fn claims_tell_nothing()
     ensures { ClaimsAlwaysTellNothing }
 {}

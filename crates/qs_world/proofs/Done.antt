@@ -1,10 +1,11 @@
 -- Where both ends are at rest, all is done.
 use Rattle.qs_calls.specs.declared.event.Side.{Side}
 use Rattle.qs_calls.specs.declared.event.Side.TheVariants.{A, B}
+use Rattle.qs_runs.specs.Logs.{other}
 use Rattle.qs_runs.specs.Events.{happened}
 use Rattle.qs_world.proofs.Untold.{never_told}
 use Rattle.qs_runs.specs.Worlds.{World, Run, end_of}
-use Rattle.qs_runs.proofs.Runs.{event_runs}
+use Rattle.qs_runs.proofs.Runs.{run_keeps, event_runs}
 use Rattle.qs_rest.specs.Rest.{AtRest}
 use Rattle.qs_rest.proofs.Idle.{idle_rests}
 use Rattle.qs_rest.proofs.FirstLimits.{event_runs_tell}
@@ -27,7 +28,7 @@ all_done p agreed idle s =
     let events = is_run a b p.log p.ends agreed in
     let run : Run a b h p.ends = event_runs a b p.log p.ends events in
     let rest : (t : Side) → AtRest (end_of p.ends t) =
-    λ t. (let i = each_idle p.ends idle t in idle_rests a b h p.ends run t (never_told t p.log) i.0 i.1 i.2) in
+    λ t. (let i = each_idle p.ends idle t in idle_rests a b h p.ends run t ((run_keeps a b h p.ends run).unclosed t (never_told t p.log) (never_told (other t) p.log)) i.0 i.1 i.2) in
     let told = event_runs_tell a b p.log p.ends events s in
     record {
       limits = each_limit_known a b h p.ends run rest s told;

@@ -1,5 +1,5 @@
 -- What happens at one side happens in the world of both.
-use Rattle.std.proofs.Common.{◌≡◌, ℕ, zero, suc, false, List, [], ◌∷◌, None, Some, Result, slice_get, refl, ap, subst}
+use Rattle.std.proofs.Common.{◌≡◌, ℕ, zero, suc, false, List, [], ◌∷◌, None, Some, Result, inl, slice_get, refl, ap, subst}
 use Rattle.std.specs.List.{AllByRecursion}
 use Rattle.std.proofs.lemmas.Option.{none-some, same_Some}
 use Rattle.qs_calls.specs.declared.closing.Closing.{Closing}
@@ -51,8 +51,8 @@ made_fine (t ∷ texts) (suc k) text all is = made_fine texts k text all.1 is
 -- a payload comes to the other side
 came : (h : History) (s : Side) (k : ℕ) (text : List ℕ) (own peer after : End) (result : Result Received Closing) → payload s k h ≡ Some text → DifferInPlain text text → ReceiveStep peer k text result after →
     WorldStep h (world_by s own peer) (record { end = other s; call = Receive k text; answer = result }) (world_by s own after)
-came h A k text own peer after result is fine step = record { step = step; still = refl; may = λ unclosed. (text, is, fine) }
-came h B k text own peer after result is fine step = record { step = step; still = refl; may = λ unclosed. (text, is, fine) }
+came h A k text own peer after result is fine step = record { step = step; still = refl; may = λ unclosed. inl (text, is, fine) }
+came h B k text own peer after result is fine step = record { step = step; still = refl; may = λ unclosed. inl (text, is, fine) }
 
 pub delivered : (log : Log) (s : Side) (k : ℕ) (own peer after : End) (result : Result Received Closing) → HasAgreed (record { log = log; ends = world_by s own peer }) →
     ((text : List ℕ) × (payload s k (happened log) ≡ Some text) × ReceiveStep peer k text result after) → EventStep log (world_by s own peer) (record { end = s; act = acts.Deliver k }) (answers.Deliver result) (world_by s own after)
