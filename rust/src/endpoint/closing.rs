@@ -1,5 +1,3 @@
-//! Closing.
-
 use super::Endpoint;
 use crate::answers::{Closing, ToldClose};
 
