@@ -63,7 +63,7 @@ pub struct Loader {
     session: Option<Session>,
     wanted: VecDeque<Wanted>,
     running: HashMap<StreamId, Loaded>,
-    /// The streams of requests that are given up once something of them went, until the peer knows.
+    /// Given up once something of them went, so that the server has begun. They are kept until the peer knows.
     given_up: BTreeSet<StreamId>,
     pub loaded: Vec<Loaded>,
     stays: bool,

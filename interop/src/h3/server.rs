@@ -40,7 +40,7 @@ pub struct FileServer {
     requests: HashMap<StreamId, Request>,
     answered: BTreeMap<StreamId, Entry>,
     patience: Patience,
-    /// Requests that were refused and whose bodies come: how much more is read of them, and until when.
+    /// How much more is read of them, and until when: Chromium looks at no answer whose request is stopped meanwhile.
     refused: BTreeMap<StreamId, (u64, Instant)>,
     in_all: u64,
     /// Once it may open no more than so many, it is told to take a new connection; `None` once it was told.
