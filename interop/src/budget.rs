@@ -10,7 +10,7 @@ pub const OF_CONNECTION: u64 = 1 << 20;
 
 pub const OF_ALL: u64 = 256 << 20;
 
-/// // Beside the bytes themselves: a piece of its file, and what is known of its stream. Counted, since many small answers are mostly that.
+/// Beside the bytes themselves: a piece of its file, and what is known of its stream. Counted, since many small answers are mostly that.
 const OF_ANSWER: u64 = 24 << 10;
 
 #[derive(Clone, Debug)]

@@ -2,7 +2,7 @@
 
 use std::time::{Duration, Instant};
 
-/// // What a loss leaves of the window: more than Reno, since the curve finds back (RFC 9438, section 4.6).
+/// What a loss leaves of the window: more than Reno, since the curve finds back (RFC 9438, section 4.6).
 const BETA: f64 = 0.7;
 
 /// How fast the curve rises, in datagrams per cubic second (section 5.1).

@@ -30,7 +30,7 @@ const OPCODE: u16 = 0x7800;
 const CODE: u16 = 0x000f;
 const RECURSION_DESIRED: u16 = 0x0100;
 
-/// // A longer one is refused, so that a name can't grow by pointers without end (RFC 1035, section 2.3.4).
+/// A longer one is refused, so that a name can't grow by pointers without end (RFC 1035, section 2.3.4).
 const MOST_NAME: usize = 255;
 
 /// In small letters, as names are compared without regard to them.

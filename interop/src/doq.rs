@@ -18,7 +18,7 @@ pub const INTERNAL_ERROR: u64 = 1;
 pub const PROTOCOL_ERROR: u64 = 2;
 pub const REQUEST_CANCELLED: u64 = 3;
 
-/// // Longer than any message, so a stream with more is at fault.
+/// Longer than any message, so a stream with more is at fault.
 const MOST_BYTES: usize = 2 + 65_535;
 
 pub struct NameServer {

@@ -9,7 +9,7 @@ use std::os::unix::ffi::{OsStrExt, OsStringExt};
 use std::path::{Path, PathBuf};
 use std::time::SystemTime;
 
-/// // As servers of pages have it.
+/// As servers of pages have it.
 const INDEX: &str = "index.html";
 
 #[derive(Clone, Debug)]

@@ -3,7 +3,7 @@
 use crate::fault::{CONNECTION_ID_LIMIT_ERROR, FRAME_ENCODING_ERROR, Fault, PROTOCOL_VIOLATION};
 use crate::packet::ConnectionId;
 
-/// // A few, so that one is at hand when the connection moves, and a peer can't make this side keep many.
+/// A few, so that one is at hand when the connection moves, and a peer can't make this side keep many.
 pub const ACTIVE_IDS: u64 = 4;
 
 const NEW_CONNECTION_ID: u64 = 0x18;

@@ -20,7 +20,7 @@ use std::sync::mpsc::channel;
 use std::thread;
 use std::time::{Duration, Instant};
 
-/// // The stream layer's own bound.
+/// The stream layer's own bound.
 const MOST_STREAMS: u64 = 1 << 21;
 
 static TELLS_MORE: AtomicBool = AtomicBool::new(false);

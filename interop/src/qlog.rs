@@ -33,7 +33,6 @@ pub struct Trace {
 pub struct Packet<'a> {
     pub level: Level,
     pub number: u64,
-    /// How long it is, with its header and the tag of its protection.
     pub len: usize,
     pub payload: &'a [u8],
 }
@@ -122,7 +121,6 @@ impl Trace {
         self.note_streams(packet.payload, true);
     }
 
-    /// The transport parameters of this end, `local`, or of the peer, `remote`.
     pub fn parameters(&mut self, owner: &str, told: &Parameters, now: Instant) {
         let mut data = format!(r#""owner":"{owner}""#);
         for (name, id) in [
@@ -219,7 +217,6 @@ impl Trace {
         }
     }
 
-    /// What the application wrote and read since it was told last.
     pub fn moves(&mut self, end: &Endpoint, now: Instant) {
         for (stream, told) in self.moved.clone() {
             if told.is_gone {

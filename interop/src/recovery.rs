@@ -12,7 +12,7 @@ use std::time::{Duration, Instant};
 
 const PACKET_THRESHOLD: u64 = 3;
 const GRANULARITY: Duration = Duration::from_millis(1);
-/// // Only then much goes, and a larger datagram is worth a lost probe.
+/// Only then much goes, and a larger datagram is worth a lost probe.
 const BUSY: usize = 3;
 const FIRST_ROUND_TRIP: Duration = Duration::from_millis(333);
 

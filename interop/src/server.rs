@@ -19,12 +19,12 @@ use std::sync::Arc;
 use std::thread;
 use std::time::{Duration, Instant};
 
-/// // A batch, so that one busy socket or connection doesn't keep the others waiting.
+/// A batch, so that one busy socket or connection doesn't keep the others waiting.
 pub const BATCH: usize = 64;
 
 const LEAST_FIRST_ID: usize = 8;
 
-/// // Something has to be said to the system; nothing happens then.
+/// Something has to be said to the system; nothing happens then.
 const LONG: Duration = Duration::from_secs(3600);
 
 /// How much later than asked for a socket's wait ends at the most: the kernel counts it in ticks. The rest of a wait is slept in small
@@ -32,7 +32,7 @@ const LONG: Duration = Duration::from_secs(3600);
 const COARSE: Duration = Duration::from_millis(9);
 const FINE: Duration = Duration::from_micros(100);
 
-/// // A server that is asked to stop ends soon, whatever its clients do.
+/// A server that is asked to stop ends soon, whatever its clients do.
 const GRACE: Duration = Duration::from_millis(300);
 
 pub struct Server<A> {

@@ -70,7 +70,7 @@ pub fn abandon(end: &mut Endpoint, stream: StreamId, code: u64) -> Result<(), Us
     }
 }
 
-/// // Small, so that many answers keep little.
+/// Small, so that many answers keep little.
 const PIECE: u64 = 1 << 14;
 
 /// The bytes of an answer or a request, read in pieces as the stream takes them.

@@ -275,7 +275,7 @@ impl Connection {
     }
 }
 
-/// // Known from the first packet's identifier alone, so that a server needs no state to read it (RFC 9001, section 5.2).
+/// Known from the first packet's identifier alone, so that a server needs no state to read it (RFC 9001, section 5.2).
 fn first_spaces(role: Role, destination: ConnectionId) -> [Space; 3] {
     let mut spaces: [Space; 3] = Default::default();
     let (id, is_client) = (destination.as_slice(), role == Role::Client);

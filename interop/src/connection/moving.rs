@@ -62,7 +62,6 @@ impl Connection {
             .collect()
     }
 
-    /// The peer goes on at another address, from which so many bytes came, with another host or only another port.
     pub fn follow(&mut self, bytes: usize, is_other_host: bool) -> Result<(), Fault> {
         // Until it answers, little goes there (sections 8.1 and 9.3.1).
         self.known.is_validated = false;
@@ -124,7 +123,6 @@ impl Connection {
         Ok(())
     }
 
-    /// The peer uses an identifier no more: it gets another one.
     pub(super) fn take_retired(&mut self) -> Result<(), Fault> {
         self.give_id()
     }

@@ -10,10 +10,10 @@ use crate::recovery::{Control, Sent};
 use gotsavena::{Endpoint, Frame, MIN_ROOM, Made, MakeFault, Role, frames, last_stream, put_ack};
 use std::time::Instant;
 
-/// // Below it a packet would be nearly all header and tag.
+/// Below it a packet would be nearly all header and tag.
 const LEAST_ROOM: usize = 64;
 
-/// // Left free, so that an ACK never keeps the handshake's bytes out.
+/// Left free, so that an ACK never keeps the handshake's bytes out.
 const ACK_LEN: usize = 300;
 
 /// A packet is noted as sent only when its datagram is whole.

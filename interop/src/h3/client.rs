@@ -17,7 +17,6 @@ pub struct Url {
 }
 
 impl Url {
-    /// `None` for what isn't `https://HOST:PORT/PATH`.
     pub fn read(text: &str) -> Option<Url> {
         let rest = text.strip_prefix("https://")?;
         let (authority, path) = rest.split_once('/').unwrap_or((rest, ""));
@@ -74,13 +73,10 @@ pub struct Loader {
 
 #[derive(Clone, Debug)]
 pub struct Manners {
-    /// After so many bytes of a body no more is wanted.
     pub stop_after: usize,
-    /// Before each file so many requests are begun, with a body, that are broken off in the middle.
     pub resets: usize,
     /// So many requests for the first file are sent of which no answer is read. Without another file the client stays then.
     pub unread: usize,
-    /// The path of the file that is wanted most.
     pub urgent: Option<String>,
 }
 

@@ -34,10 +34,10 @@ const TURN: usize = 1 << 16;
 /// How much may wait to be sent: more than goes at once.
 const MOST_UNSENT: u64 = 1 << 17;
 
-/// // As many as a call of the library gives at once.
+/// As many as a call of the library gives at once.
 const PARTS: usize = 16;
 
-/// // A bound on what a peer can make this side keep (RFC 9114, section 4.2.2).
+/// A bound on what a peer can make this side keep (RFC 9114, section 4.2.2).
 const MOST_FIELDS: usize = 1 << 16;
 
 /// What a field takes beside its name and value (RFC 9114, section 4.2.2).
