@@ -10,7 +10,7 @@ pub const OF_CONNECTION: u64 = 1 << 20;
 
 pub const OF_ALL: u64 = 256 << 20;
 
-/// What an answer takes beside the bytes of it that are kept: a piece of its file, and what is known of its stream.
+/// Beside the bytes themselves: a piece of its file, and what is known of its stream. Counted, since many small answers are mostly that.
 const OF_ANSWER: u64 = 24 << 10;
 
 #[derive(Clone, Debug)]
@@ -18,7 +18,7 @@ pub struct Budget {
     left: Arc<AtomicU64>,
 }
 
-/// What a connection has of it. It comes back with the connection.
+/// It comes back when the connection is dropped, so that none is lost by an early return.
 #[derive(Debug)]
 pub struct Share {
     budget: Budget,
@@ -51,7 +51,7 @@ impl Budget {
 }
 
 impl Share {
-    /// It is to be so large. Answers whether it is: where too little is left, it stays as it was.
+    /// Returns whether it is: if too little is left, it stays as it was, and the connection goes on with less.
     pub fn set(&mut self, wanted: u64) -> bool {
         let taken = self.taken;
         let change = |left: u64| (left + taken).checked_sub(wanted);

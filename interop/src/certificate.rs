@@ -75,7 +75,7 @@ impl Identity {
         Ok(Identity { certificates, key })
     }
 
-    /// That which is kept in a folder: it is made where it isn't there.
+    /// That of a folder, made if it isn't there: a browser that was told to trust it needs no second word.
     pub fn kept(folder: &Path) -> Result<Identity, Refusal> {
         let [certificate, key] = ["cert.pem", "key.pem"].map(|name| folder.join(name));
         if !certificate.exists() {
@@ -121,7 +121,7 @@ fn items(path: &Path) -> Result<Vec<Item>, Refusal> {
     rustls_pemfile::read_all(&mut file).map_err(wrong)
 }
 
-// Only the owner may read it.
+// The key is in it.
 fn write_pem(path: &Path, what: &str, der: &[u8]) -> io::Result<()> {
     let mut options = OpenOptions::new();
     let mut file = options

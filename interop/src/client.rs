@@ -11,10 +11,10 @@ use std::net::{SocketAddr, UdpSocket};
 use std::thread;
 use std::time::{Duration, Instant};
 
-/// How long a server may be silent where its name has another address.
+/// How long a server may be silent if its name has another address: long enough for a slow path, and short enough to try the next.
 const PATIENCE: Duration = Duration::from_secs(3);
 
-/// How long a client waits for streams alone.
+/// How long a client waits if streams are all that it waits for: the server's grant may be lost with its close.
 const STREAM_PATIENCE: Duration = Duration::from_secs(1);
 
 pub fn connect(server: SocketAddr) -> io::Result<UdpSocket> {
@@ -27,7 +27,8 @@ pub fn connect(server: SocketAddr) -> io::Result<UdpSocket> {
     Ok(socket)
 }
 
-/// Goes to the first of a server's addresses that answers, with a connection that is made for each, and on until it ends.
+/// Goes to the first of a server's addresses that answers, and on until the connection ends. A connection is made for each, since a
+/// handshake can't move to another server.
 pub fn visit<A: Application>(
     addresses: &[SocketAddr],
     make: impl Fn() -> Result<Connection, Refusal>,
@@ -66,10 +67,9 @@ impl Application for Nothing {
 /// How many connections are opened at once: more datagrams than so many begin with don't fit into a socket's buffer.
 const AT_ONCE: usize = 50;
 
-/// How long the server has to take in the closes of so many.
+/// The server has so long to process the closes of so many, before the next ones fill its buffer.
 const PAUSE: Duration = Duration::from_millis(50);
 
-/// Opens so many connections, and closes them once all stand.
 pub fn connect_often(
     server: SocketAddr,
     make: impl Fn() -> Result<Connection, Refusal>,
@@ -116,13 +116,12 @@ fn go_on(socket: &UdpSocket, connection: &mut Connection) -> io::Result<()> {
     Ok(())
 }
 
-/// What a client does over as many connections as the server asks for.
 pub trait Errand: Application {
     fn is_over(&self) -> bool;
 
     fn done(&self) -> usize;
 
-    /// Goes on with a new connection: what wasn't answered is asked for again.
+    /// Goes on with a new connection: what wasn't answered is asked for again, because the server refused only what it hadn't begun.
     fn begin_anew(&mut self);
 }
 
@@ -212,7 +211,7 @@ fn run_until<A: Application>(
         is_refused |= receive_batch(socket, until, |datagram, _from| {
             connection.receive(datagram, Instant::now());
         })?;
-        // Of a server that answered before, silence tells.
+        // A server that answered before has a port: then only its silence tells that it is gone.
         if is_refused && !connection.has_peer() {
             return Ok(Outcome::Refused);
         }

@@ -2,7 +2,7 @@
 
 use std::time::{Duration, Instant};
 
-/// What a loss leaves of the window (RFC 9438, section 4.6).
+/// What a loss leaves of the window: more than Reno, since the curve finds back (RFC 9438, section 4.6).
 const BETA: f64 = 0.7;
 
 /// How fast the curve rises, in datagrams per cubic second (section 5.1).
@@ -78,7 +78,7 @@ impl Cubic {
         self.may_exceed || self.in_flight + self.datagram <= whole
     }
 
-    /// Datagrams have another length: what may be in flight stays as many bytes.
+    /// What may be in flight stays as many bytes: the path hasn't changed, only its packets.
     pub fn resize(&mut self, datagram: usize) {
         let scale = self.datagram as f64 / datagram as f64;
         self.datagram = datagram;
@@ -146,7 +146,7 @@ impl Cubic {
         self.window += (target - self.window) / self.window * count;
     }
 
-    /// Packets are lost, of which the last was sent at a time (RFC 9438, sections 4.6 and 4.7).
+    /// Once for all losses of a round trip: what was sent before the reduction reduces nothing more (RFC 9438, sections 4.6 and 4.7).
     pub fn lost(&mut self, last_sent_at: Instant, now: Instant) {
         if self.is_recovering(last_sent_at) {
             return;
@@ -163,7 +163,7 @@ impl Cubic {
         self.stage = None;
     }
 
-    /// All packets of a long time are lost (RFC 9002, section 7.6; RFC 9438, section 4.8).
+    /// All packets of a long time are lost, so nothing is known of the path any more (RFC 9002, section 7.6; RFC 9438, section 4.8).
     pub fn collapse(&mut self) {
         self.window = LEAST;
         self.plateau = 0.0;

@@ -5,7 +5,7 @@ use gotsavena::{Frame, put};
 use std::collections::BTreeMap;
 use std::ops::Range;
 
-/// How far bytes may run ahead of those that are missing (RFC 9000, section 7.5: 4,096 at the least).
+/// A bound on what a peer can make this side keep (RFC 9000, section 7.5: 4,096 at the least).
 const MOST_AHEAD: u64 = 1 << 16;
 
 /// What a CRYPTO frame takes beside its bytes, at the most here.
@@ -57,17 +57,16 @@ impl CryptoOut {
         Some(range)
     }
 
-    /// Bytes of a packet that is lost are due again.
     pub fn lose(&mut self, range: Range<usize>) {
         self.lost.push(range);
     }
 
-    /// Bytes that are in flight are due again, and no others: a probe goes.
+    /// Only what is in flight: a probe sends nothing that was acknowledged.
     pub fn probe(&mut self, in_flight: Vec<Range<usize>>) {
         self.lost = in_flight;
     }
 
-    /// All that was sent is due again: the peer asked for a new beginning.
+    /// After a Retry or another version the server knows nothing of what was sent.
     pub fn again(&mut self) {
         self.lost.clear();
         self.sent = 0;

@@ -30,10 +30,10 @@ const OPCODE: u16 = 0x7800;
 const CODE: u16 = 0x000f;
 const RECURSION_DESIRED: u16 = 0x0100;
 
-/// The longest name (RFC 1035, section 2.3.4).
+/// A longer one is refused, so that a name can't grow by pointers without end (RFC 1035, section 2.3.4).
 const MOST_NAME: usize = 255;
 
-/// A name as it stands in a message, in small letters: labels behind their lengths, and a zero.
+/// In small letters, as names are compared without regard to them.
 #[derive(Clone, PartialEq, Eq, Hash, PartialOrd, Ord)]
 pub struct Name(Vec<u8>);
 
@@ -234,7 +234,7 @@ fn skip_name(rest: &mut Reader<'_>) -> Option<()> {
     }
 }
 
-/// The answer to a query. `None` for what is no query at all.
+/// `None` for what is no query at all: to that nothing can be answered.
 pub fn answer(zone: &Zone, query: &[u8]) -> Option<Vec<u8>> {
     let mut rest = Reader::new(query);
     let head = read_head(&mut rest)?;

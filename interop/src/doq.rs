@@ -18,7 +18,7 @@ pub const INTERNAL_ERROR: u64 = 1;
 pub const PROTOCOL_ERROR: u64 = 2;
 pub const REQUEST_CANCELLED: u64 = 3;
 
-/// A message and its length of two bytes.
+/// Longer than any message, so a stream with more is at fault.
 const MOST_BYTES: usize = 2 + 65_535;
 
 pub struct NameServer {
@@ -135,7 +135,6 @@ fn is_known(end: &Endpoint, stream: StreamId) -> bool {
     send.is_none_or(|send| matches!(send.state, SendState::DataRecvd | SendState::ResetRecvd))
 }
 
-/// A client that asks for the records of names, of one type.
 pub struct Asker {
     kind: u16,
     wanted: VecDeque<Name>,

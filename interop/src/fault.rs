@@ -1,5 +1,3 @@
-//! Why a connection ends.
-
 use std::fmt;
 
 #[derive(Clone, Debug, PartialEq, Eq)]

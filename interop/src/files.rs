@@ -9,7 +9,7 @@ use std::os::unix::ffi::{OsStrExt, OsStringExt};
 use std::path::{Path, PathBuf};
 use std::time::SystemTime;
 
-/// The file of a folder that stands for the folder.
+/// As servers of pages have it.
 const INDEX: &str = "index.html";
 
 #[derive(Clone, Debug)]
@@ -89,7 +89,7 @@ impl Folder {
         open(&self.within(&self.root.join(path.trim_start_matches('/')))?)
     }
 
-    // Links are followed, as far as they stay in the folder.
+    // Links are followed only while they stay in the folder: what is given out is the folder's.
     fn within(&self, path: &Path) -> io::Result<PathBuf> {
         let path = path.canonicalize()?;
         match path.starts_with(&self.root) {
@@ -125,7 +125,7 @@ fn open(path: &Path) -> io::Result<Found> {
     })
 }
 
-/// Whether the system has too little for now to open a file that may be there.
+/// Then the client may ask again, where "there is none" would be final.
 pub fn is_exhausted(error: &io::Error) -> bool {
     matches!(
         error.raw_os_error(),

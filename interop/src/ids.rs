@@ -3,7 +3,7 @@
 use crate::fault::{CONNECTION_ID_LIMIT_ERROR, FRAME_ENCODING_ERROR, Fault, PROTOCOL_VIOLATION};
 use crate::packet::ConnectionId;
 
-/// How many identifiers of the peer are kept: the `active_connection_id_limit` here.
+/// A few, so that one is at hand when the connection moves, and a peer can't make this side keep many.
 pub const ACTIVE_IDS: u64 = 4;
 
 const NEW_CONNECTION_ID: u64 = 0x18;
@@ -38,7 +38,7 @@ impl PeerIds {
         self.kept.first().map(|kept| kept.id).unwrap_or_default()
     }
 
-    /// The next identifier is used, where there is one. Answers which number is retired for it.
+    /// A new one for a new path, so that an observer can't tell that it is the same connection. Returns which number is retired for it.
     pub fn advance(&mut self) -> Option<u64> {
         if self.kept.len() < 2 {
             return None;
@@ -58,7 +58,7 @@ impl PeerIds {
         }
     }
 
-    /// Whether the bytes are a token with which the peer resets the connection (section 10.3.1).
+    /// Bytes that can't be opened may be one: the peer lost its keys (section 10.3.1).
     pub fn is_reset_token(&self, bytes: &[u8]) -> bool {
         let mut tokens = self.kept.iter().filter_map(|kept| kept.token.as_ref());
         tokens.any(|token| token == bytes)

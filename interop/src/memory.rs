@@ -1,5 +1,3 @@
-//! Memory that was freed, and that the allocator keeps.
-
 /// Gives it back to the system, as far as it lies in whole pages. glibc's allocator does so by itself only at the end of what it has, so
 /// that what many connections took would stay.
 pub fn give_back() {

@@ -2,10 +2,10 @@
 
 use std::time::{Duration, Instant};
 
-/// How much faster packets go than a window in each round trip.
+/// Faster than a window in each round trip, so that pacing itself holds nothing back (RFC 9002, section 7.7).
 const AHEAD: f64 = 1.25;
 
-/// How many datagrams go at once at the most, where the round trip is long.
+/// Two at once spare every second wait, and queue little.
 const BURST: usize = 2;
 
 /// What is due in so short a time goes at once: a program can hardly wait for less.
@@ -40,7 +40,6 @@ impl Pacer {
         self.credit = (self.credit + gain).min(most.max(self.credit));
         let lacks = self.datagram as f64 - self.credit;
         let wait = Duration::from_secs_f64((lacks / rate).max(1e-6));
-        // (a byte is within what the clock tells)
         self.held = (lacks > 1.0).then_some(now + wait);
         self.held.is_none()
     }

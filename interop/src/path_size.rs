@@ -1,12 +1,12 @@
 //! How large a datagram may be on the path: a search by probes, where much goes (RFC 9000, section 14.3; RFC 8899).
 
-/// The least datagram that every path carries (RFC 9000, section 14).
+/// Every path carries so much (RFC 9000, section 14), so a connection begins with it.
 pub const DATAGRAM: usize = 1200;
 
 /// What is tried: what Ethernet carries beside the headers of IPv6 and UDP, and what a tunnel leaves of that.
 const SIZES: [usize; 2] = [1452, 1350];
 
-/// How often each is tried (RFC 8899, section 5.1.2).
+/// A probe may be lost by chance, so each is tried so often (RFC 8899, section 5.1.2).
 const TRIES: usize = 3;
 
 #[derive(Clone, Debug)]
@@ -45,7 +45,7 @@ impl PathSize {
         self.probe == Some(number)
     }
 
-    /// The probe came: datagrams are as large from now on.
+    /// Datagrams are as large from now on: a probe that came shows that the path carries it.
     pub fn came(&mut self) {
         self.size = SIZES[self.tried / TRIES];
         self.stop();
@@ -56,7 +56,7 @@ impl PathSize {
         self.tried += 1;
     }
 
-    /// Large datagrams come no more: a path of small ones (RFC 8899, section 4.3).
+    /// Large datagrams come no more: the path is another one now (RFC 8899, section 4.3).
     pub fn narrow(&mut self) {
         self.size = DATAGRAM;
         self.stop();

@@ -8,7 +8,7 @@ use std::collections::{BTreeMap, BTreeSet};
 pub struct Priority {
     /// 0 to 7, 0 being the most urgent (RFC 9218, section 4.1).
     pub urgency: u8,
-    /// Whether a part is of use already (section 4.2).
+    /// Whether a part is of use already, so that it may go by turns (section 4.2).
     pub is_incremental: bool,
 }
 

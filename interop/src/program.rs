@@ -20,7 +20,7 @@ use std::sync::mpsc::channel;
 use std::thread;
 use std::time::{Duration, Instant};
 
-/// How many streams the stream layer allows in a connection's life.
+/// The stream layer's own bound.
 const MOST_STREAMS: u64 = 1 << 21;
 
 static TELLS_MORE: AtomicBool = AtomicBool::new(false);
@@ -266,7 +266,7 @@ pub fn serving(config: Config) -> Config {
     Config { tuning, ..config }
 }
 
-/// Runs each task on a thread of its own, until all are done, or one fails: whichever panics does.
+/// A panic of one ends the program, so that no server goes on with half its threads.
 pub fn run_all<T>(tasks: impl Iterator<Item = T>) -> Result<(), Refusal>
 where
     T: FnOnce() -> Result<(), Refusal> + Send + 'static,
@@ -284,7 +284,7 @@ where
     results.iter().collect()
 }
 
-/// Lets the program open as many files as the system lets it.
+/// A server has a file for each answer, and a system lets a program have few by default.
 pub fn raise_file_limit() {
     if let Err(error) = rlimit::increase_nofile_limit(u64::MAX) {
         tell(&format!("the limit of open files stays: {error}"));

@@ -37,7 +37,7 @@ impl Opened {
     }
 }
 
-/// Takes header protection off: the first byte, the number, and where the payload begins.
+/// The number's length stands under the mask, so the mask goes first.
 fn unmask(
     key: &HeaderProtectionKey,
     bytes: &mut [u8],
@@ -66,7 +66,8 @@ fn decrypt(key: &PacketKey, bytes: &mut [u8], at: usize, end: usize, number: u64
     Some(at + plain.len())
 }
 
-/// Opens a packet of Initial or Handshake in place. `expected` is one more than the largest number that came.
+/// In place, so that nothing is copied. `expected` is one more than the largest number that came: a packet has only the lowest bytes of its
+/// own.
 pub fn open(
     keys: &DirectionalKeys,
     bytes: &mut [u8],

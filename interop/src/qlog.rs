@@ -17,7 +17,7 @@ use std::time::{Duration, Instant, SystemTime, UNIX_EPOCH};
 
 static FOLDER: OnceLock<PathBuf> = OnceLock::new();
 
-/// Each connection that begins from now on writes a file into this folder: that of its first identifier, and of its end.
+/// A file for each connection that begins from now on, by its first identifier and its role, so that two programs may share a folder.
 pub fn write_into(folder: &str) {
     // Asked for twice, the first one stands.
     _ = FOLDER.set(PathBuf::from(folder));
@@ -33,7 +33,6 @@ pub struct Trace {
 pub struct Packet<'a> {
     pub level: Level,
     pub number: u64,
-    /// How long it is, with its header and the tag of its protection.
     pub len: usize,
     pub payload: &'a [u8],
 }
@@ -70,7 +69,7 @@ pub enum Dropped {
 }
 
 impl Trace {
-    /// The trace of a connection that begins, where traces are asked for.
+    /// Nothing without a folder: the usual run pays one look.
     pub fn begin(role: Role, first_id: ConnectionId, now: Instant) -> Option<Trace> {
         let end = match role {
             Role::Client => "client",
@@ -122,7 +121,6 @@ impl Trace {
         self.note_streams(packet.payload, true);
     }
 
-    /// The transport parameters of this end, `local`, or of the peer, `remote`.
     pub fn parameters(&mut self, owner: &str, told: &Parameters, now: Instant) {
         let mut data = format!(r#""owner":"{owner}""#);
         for (name, id) in [
@@ -196,7 +194,7 @@ impl Trace {
         self.event(now, "connectivity:connection_closed", &data);
     }
 
-    // What moves on the streams of a packet is told from now on.
+    // Streams are looked at only from their first frame on, since a connection may have many.
     fn note_streams(&mut self, payload: &[u8], is_received: bool) {
         for placed in frames(payload).flatten() {
             match placed.frame {
@@ -219,7 +217,6 @@ impl Trace {
         }
     }
 
-    /// What the application wrote and read since it was told last.
     pub fn moves(&mut self, end: &Endpoint, now: Instant) {
         for (stream, told) in self.moved.clone() {
             if told.is_gone {
@@ -318,7 +315,7 @@ fn header(level: Level, number: u64) -> String {
     format!(r#""header":{{"packet_number":{number},"packet_type":"{kind}"}}"#)
 }
 
-// The frames of a payload. PADDING is told once, whatever its length.
+// PADDING is written once, whatever its length, or a padded packet would fill a page.
 fn put_frames(out: &mut String, payload: &[u8]) {
     let mut was_padding = false;
     let mut is_first = true;

@@ -12,11 +12,11 @@ use std::time::{Duration, Instant};
 
 const PACKET_THRESHOLD: u64 = 3;
 const GRANULARITY: Duration = Duration::from_millis(1);
-/// The path is probed where so many datagrams are in flight.
+/// Only then much goes, and a larger datagram is worth a lost probe.
 const BUSY: usize = 3;
 const FIRST_ROUND_TRIP: Duration = Duration::from_millis(333);
 
-/// A frame of the transport's own in a 1-RTT packet, which goes again where its packet is lost.
+/// What of the transport's own goes again if its packet is lost.
 #[derive(Clone, Debug, PartialEq, Eq)]
 pub enum Control {
     HandshakeDone,
@@ -58,11 +58,9 @@ struct Space {
     largest_acked: Option<u64>,
     last_asked: Option<Instant>,
     lost_at: Option<Instant>,
-    /// Numbers above the lowest one in flight that were acknowledged.
     acked: BTreeSet<u64>,
 }
 
-/// What the timers depend on beside the packets.
 #[derive(Clone, Copy, Debug)]
 pub struct Standing {
     pub has_handshake_keys: bool,
@@ -135,7 +133,7 @@ impl Recovery {
         }
     }
 
-    /// The time after which a probe goes (section 6.2.1), without back-off.
+    /// Without back-off: a first probe goes soon, and later ones wait longer (section 6.2.1).
     pub fn probe_timeout(&self, level: Level) -> Duration {
         let delay = match level {
             Level::Data => self.max_ack_delay,
@@ -255,7 +253,7 @@ impl Recovery {
         self.smoothed = (7 * self.smoothed + adjusted) / 8;
     }
 
-    // Packets are lost by later ones that were acknowledged, or by time (section 6.1).
+    // By later packets that were acknowledged, since reordering is short; or by time (section 6.1).
     fn detect(&mut self, level: Level, now: Instant) -> Vec<(u64, Sent)> {
         let delay = (self.latest.max(self.smoothed) * 9 / 8).max(GRANULARITY);
         let space = &mut self.spaces[level as usize];
@@ -347,7 +345,7 @@ impl Recovery {
         self.probes = 0;
     }
 
-    /// The packets of a level are no more to be thought of, as a client begins anew.
+    /// A client begins anew: what it sent the server has forgotten.
     pub fn forget_all(&mut self) {
         Level::ALL.into_iter().for_each(|level| self.discard(level));
     }

@@ -19,12 +19,12 @@ use std::sync::Arc;
 use std::thread;
 use std::time::{Duration, Instant};
 
-/// How many datagrams of a socket are taken in at once, and of a connection sent at once.
+/// A batch, so that one busy socket or connection doesn't keep the others waiting.
 pub const BATCH: usize = 64;
 
 const LEAST_FIRST_ID: usize = 8;
 
-/// How long a socket waits where no timer runs.
+/// Something has to be said to the system; nothing happens then.
 const LONG: Duration = Duration::from_secs(3600);
 
 /// How much later than asked for a socket's wait ends at the most: the kernel counts it in ticks. The rest of a wait is slept in small
@@ -32,7 +32,7 @@ const LONG: Duration = Duration::from_secs(3600);
 const COARSE: Duration = Duration::from_millis(9);
 const FINE: Duration = Duration::from_micros(100);
 
-/// How long what is under way may go on where the server stops; and then, how long closes are sent again.
+/// A server that is asked to stop ends soon, whatever its clients do.
 const GRACE: Duration = Duration::from_millis(300);
 
 pub struct Server<A> {
@@ -108,7 +108,7 @@ pub fn receive_batch(
     Ok(is_refused)
 }
 
-/// Lets an application go on, and sends what there is. Answers whether there is more.
+/// Returns whether there is more: then it has another turn behind the others.
 pub fn turn<A: Application>(
     connection: &mut Connection,
     application: &mut A,
@@ -177,7 +177,7 @@ impl<A> Table<A> {
         self.peak = self.peak.max(self.places.len());
     }
 
-    // Once one half of the connections is gone, their memory goes back to the system.
+    // Once one half of the connections is gone, their memory goes back to the system: the allocator would keep it.
     fn remove(&mut self, key: u64) {
         self.places.remove(&key);
         if 2 * self.places.len() <= self.peak {
@@ -302,7 +302,7 @@ impl<A: Application> Server<A> {
         self.begin(&packet, datagram, from)
     }
 
-    // An Initial that authenticates begins a connection; of others no state is kept.
+    // Only an Initial that authenticates begins a connection: of others no state is kept, so that anybody's datagrams fill no memory.
     fn begin(&mut self, packet: &Packet, datagram: &mut [u8], from: SocketAddr) -> Option<u64> {
         let is_initial = packet.kind == Kind::Protected(Level::Initial);
         if self.phase != Phase::Serves {

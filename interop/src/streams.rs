@@ -7,7 +7,7 @@ use std::io;
 
 /// What runs over the streams of a connection.
 pub trait Application {
-    /// The code with which a connection is closed without a fault.
+    /// The code of a close without a fault, which protocols number apart.
     const NO_ERROR: u64;
 
     /// Reads and writes as far as it goes. It is called after datagrams came, and once as the handshake is done.
@@ -31,7 +31,7 @@ pub trait Application {
         Ok(true)
     }
 
-    /// The connection ended so. Its end, if it had one, tells how streams stood then.
+    /// After it the endpoint is gone, so this is the last look at how streams stood.
     fn ended(&mut self, _end: Option<&Endpoint>, _outcome: &Outcome) {}
 }
 
@@ -62,7 +62,7 @@ pub fn read_more(
     }
 }
 
-/// Breaks a sending half off. One that is over already, or was broken off as the peer asked, stays as it is.
+/// One that is over already, or was reset as the peer asked, stays as it is: both are what was wanted.
 pub fn abandon(end: &mut Endpoint, stream: StreamId, code: u64) -> Result<(), UseFault> {
     match end.reset(stream, code) {
         Ok(()) | Err(UseFault::Finished | UseFault::WasReset) => Ok(()),
@@ -70,7 +70,7 @@ pub fn abandon(end: &mut Endpoint, stream: StreamId, code: u64) -> Result<(), Us
     }
 }
 
-/// How many bytes of a body are read at once.
+/// Small, so that many answers keep little.
 const PIECE: u64 = 1 << 14;
 
 /// The bytes of an answer or a request, read in pieces as the stream takes them.

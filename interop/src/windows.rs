@@ -11,14 +11,12 @@ use std::time::{Duration, Instant};
 pub struct Windows {
     role: Role,
     first: PeerLimits,
-    /// How far that of a stream may grow; the connection's may be twice as wide.
     most: u64,
     conn: Window,
     streams: BTreeMap<StreamId, Window>,
     came: Vec<StreamId>,
 }
 
-/// A window; and how many bytes were read by the time from which on as many more are waited for.
 struct Window {
     size: u64,
     read: u64,
@@ -104,7 +102,6 @@ impl Windows {
     }
 }
 
-/// How many bytes of a stream were read, where more may come that will be.
 fn read_of(end: &Endpoint, stream: StreamId) -> Option<u64> {
     let half = end.report(stream)?.recv?;
     let is_open = half.final_size.is_none() && half.stop_code.is_none();

@@ -46,7 +46,7 @@ impl fmt::Display for ZoneFault {
 
 impl std::error::Error for ZoneFault {}
 
-/// How many aliases are followed.
+/// A chain of aliases may be a ring.
 const MOST_ALIASES: usize = 8;
 
 impl Zone {

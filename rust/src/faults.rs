@@ -1,5 +1,3 @@
-//! Why a call was refused.
-
 use crate::answers::Closing;
 use crate::proved::qs_calls as calls;
 use core::error::Error;

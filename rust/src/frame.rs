@@ -220,7 +220,7 @@ impl Clone for Frames<'_> {
 /// assert_eq!(second.frame, Frame::Stream { stream, offset: 0, fin: true, bytes: b"abc" });
 /// assert!(found.next().is_none());
 ///
-/// // A frame type that has a shorter spelling closes a connection.
+/// A frame type that has a shorter spelling closes a connection.
 /// let fault = frames(&[0x40, 0x01]).next().unwrap().unwrap_err();
 /// assert_eq!(fault.code, 0x0a);
 /// # Ok::<(), gotsavena::WireFault>(())
@@ -351,7 +351,7 @@ pub fn put(frame: &Frame<'_>, out: &mut [u8]) -> Result<usize, PutFault> {
 /// let mut out = [0; 16];
 /// assert_eq!(put_ack(&[8..10, 4..5], &mut out), Ok((2, 7)));
 /// assert_eq!(out[..7], [0x02, 0x09, 0x00, 0x01, 0x01, 0x02, 0x00]);
-/// // Ranges that touch are one.
+/// Ranges that touch are one.
 /// assert_eq!(put_ack(&[8..10, 4..8], &mut out), Err(PutFault::Invalid));
 /// ```
 ///

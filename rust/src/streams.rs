@@ -1,5 +1,3 @@
-//! The halves of one stream.
-
 use crate::answers::{Consumed, Read, RecvReport, SendReport};
 use crate::endpoint::Endpoint;
 use crate::faults::UseFault;

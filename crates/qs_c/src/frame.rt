@@ -1,4 +1,3 @@
-//! A frame as C gets it.
 ghost use Rattle.std.specs.Prelude.{◌≡◌};
 ghost use Rattle.qs_wire.specs.Layout.{view};
 ghost use Rattle.qs_c.specs.Frames.{of_kind, dir_number, with_counts, numbers_told, fault_of};

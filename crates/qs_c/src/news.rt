@@ -1,4 +1,3 @@
-//! An event as C gets it.
 ghost use Rattle.std.specs.Prelude.{◌≡◌};
 ghost use Rattle.qs_c.specs.Events.{memory_status, dir_number, news_of, news_told};
 ghost use Rattle.qs_c.specs.Statuses.{status_of};

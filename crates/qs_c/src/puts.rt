@@ -1,4 +1,3 @@
-//! A frame is written.
 ghost use Rattle.std.specs.Prelude.{◌≡◌, ◌+◌, ◌^◌, ◌<◌, ◌≤◌, ◌&&◌, true, false, length, nat_lt, IfSome, IfNone};
 ghost use Rattle.qs_wire.specs.Varint.{numbers_of};
 ghost use Rattle.qs_wire.specs.Layout.{view, taken};

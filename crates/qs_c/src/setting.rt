@@ -1,4 +1,3 @@
-//! What an application changes while the connection lasts.
 ghost use Rattle.std.specs.Prelude.{◌≡◌, true, Result};
 ghost use Rattle.qs_calls.specs.declared.settings.SetFault.{SetFault};
 ghost use Rattle.qs_machine.specs.Setting.{ConnWindow, Grant, SendBuffer, StreamWindow, SetStep};

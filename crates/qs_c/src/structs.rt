@@ -1,4 +1,3 @@
-//! The structs that C passes.
 ghost use Rattle.std.specs.Prelude.{◌≡◌, Some, None, if◌then◌else◌};
 ghost use Rattle.qs_c.specs.Structs.{made_of, filled_of, numbers_of, token_in, closing_of, settings_in, is_share, share_of, may_be_share, share_if, is_tuning, window_if, tuning_in, limits_in, told_of};
 

@@ -1,4 +1,3 @@
-//! What one packet carried.
 ghost use Rattle.std.specs.Prelude.{◌≡◌, ◌↔◌, IsTrue, [], ◌∷◌, length, drop, Some};
 ghost use Rattle.qs_send.specs.Records.{Among, first_piece};
 

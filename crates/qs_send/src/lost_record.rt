@@ -1,4 +1,3 @@
-//! What one packet carried that was declared lost.
 ghost use Rattle.std.specs.Prelude.{◌≡◌, ◌+◌, ◌<◌, ◌≤◌, ◌∷◌, ◌++◌, [], length, drop, Some, true, false, OnOk, OnErr, vec_len, vec_capacity};
 ghost use Rattle.qs_send.specs.Records.{first_piece};
 

@@ -13,7 +13,7 @@ use std::alloc::Global;
 use std::collections::VecDeque;
 use std::marker::Model;
 
-/// // An ACK may come late for any of them, and a bound keeps a peer that acknowledges nothing from holding memory.
+/// An ACK may come late for any of them, and a bound keeps a peer that acknowledges nothing from holding memory.
 const MOST: usize = 256;
 
 /// The pieces of each packet that was declared lost, by packet number: a late ACK may still name it (RFC 9000, section 13.2.1).

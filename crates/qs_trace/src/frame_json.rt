@@ -1,5 +1,3 @@
-//! Frames as JSON.
-
 ghost use Rattle.std.specs.Prelude.{◌≡◌, ◌++◌, ◌^◌, ◌<◌, OnOk};
 ghost use Rattle.std.specs.String.{string_bytes};
 ghost use Rattle.qs_wire.specs.Grammar.{Fits};

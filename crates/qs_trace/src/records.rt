@@ -1,5 +1,3 @@
-//! The records of a trace.
-
 ghost use Rattle.std.specs.Prelude.{◌≡◌, ◌++◌, OnOk, length};
 ghost use Rattle.std.specs.String.{string_bytes};
 ghost use Rattle.qs_trace.specs.Records.{item_of, item_name, item_data, item_text, turn_side, turn_state, why_word, first_number, first_packet, first_length, first_code, opening, ending, header, raw_member, frames_member, turn_members, moved_members, closed_members};

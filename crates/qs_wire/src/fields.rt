@@ -1,5 +1,3 @@
-//! Reading the fields of a frame.
-
 ghost use Rattle.std.specs.Prelude.{◌≡◌, ℕ, ◌*◌, ◌+◌, ◌-◌, ◌^◌, ◌<◌, ◌≤◌, List, length, nat_lt, MatchResult, IfOk, Ok, Err};
 ghost use Rattle.qs_wire.specs.Varint.{numbers_of};
 ghost use Rattle.qs_wire.specs.Layout.{number_if, counted_if, ecn_if, taken};

@@ -1,5 +1,3 @@
-//! The frames.
-
 use crate::stream_id::{Dir, StreamId};
 
 /// A frame (RFC 9000, section 19). Its bytes are lent by the payload, so reading copies nothing.

@@ -1,5 +1,3 @@
-//! The types of frames.
-
 ghost use Rattle.std.specs.Prelude.{◌≡◌, ◌<◌};
 ghost use Rattle.qs_wire.specs.Layout.{type_of, number_of_type};
 

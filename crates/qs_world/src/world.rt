@@ -1,4 +1,3 @@
-//! Two endpoints, and what happened to them.
 ghost use Rattle.std.specs.Prelude.{◌≡◌, [], length, reverse, true, vec_capacity, Some, None, IfSome, IfNone, IfOk, IfErr};
 ghost use Rattle.qs_calls.specs.Events.{fits};
 ghost use Rattle.qs_runs.specs.Logs.{made, payload};

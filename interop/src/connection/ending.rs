@@ -10,14 +10,14 @@ use std::time::{Duration, Instant};
 
 pub(super) enum State {
     Open,
-    /// This end closed: each so many datagrams that come are answered by the same CONNECTION_CLOSE.
+    /// Each so many datagrams that come are answered by the same CONNECTION_CLOSE, so that a peer that lost it hears again.
     Closing {
         until: Instant,
         is_due: bool,
         unanswered: u32,
         answer_after: u32,
     },
-    /// The peer closed: nothing is sent.
+    /// The peer closed, and knows it: nothing is sent.
     Draining {
         until: Instant,
     },
@@ -65,7 +65,7 @@ impl Connection {
         self.tell_metrics(now);
     }
 
-    // Both ends' times count, where they name one (section 10.1).
+    // Both endpoints' times count, if they name one: the shorter is the one that ends it (section 10.1).
     fn idle_until(&self) -> Option<Instant> {
         let times = [self.config.idle, self.peer.idle].into_iter();
         let idle = times.filter(|time| !time.is_zero()).min()?;
@@ -87,7 +87,7 @@ impl Connection {
         }
     }
 
-    // What the oldest packet carried goes again (RFC 9002, section 6.2.4). It stays in flight: its ACK may come late.
+    // What the oldest packet carried goes again (RFC 9002, section 6.2.4). It stays in flight, since its ACK may come late.
     fn probe_data(&mut self) {
         let asking = self
             .recovery
@@ -146,7 +146,7 @@ impl Connection {
         };
     }
 
-    // Ever fewer of the peer's datagrams are answered (section 10.2.1).
+    // Ever fewer of the peer's datagrams are answered, so that two closed endpoints don't answer each other for ever (section 10.2.1).
     pub(super) fn answer_closing(&mut self) {
         if let State::Closing {
             is_due,
@@ -171,7 +171,8 @@ impl Connection {
         }
     }
 
-    /// The CONNECTION_CLOSE for a level. What the application says isn't told before the handshake is done (section 10.2.3).
+    /// The CONNECTION_CLOSE for a level. What the application says isn't sent before the handshake is done, since an observer could read it
+    /// (section 10.2.3).
     pub(super) fn put_close(&self, level: Level, out: &mut Vec<u8>) {
         let end = self.end.as_ref().filter(|end| end.closing().is_some());
         if let (Level::Data, Some(end)) = (level, end) {

@@ -1,4 +1,4 @@
-//! The frames that the transport takes for itself. Of a 1-RTT payload the stream layer has taken its own before.
+//! The frames that the transport takes for itself. The stream layer has taken its own of a 1-RTT payload before.
 
 use super::Connection;
 use crate::fault::{FRAME_ENCODING_ERROR, Fault, Outcome, PROTOCOL_VIOLATION};
@@ -7,7 +7,7 @@ use crate::recovery::{Control, News, Sent};
 use gotsavena::{AckRanges, Frame, Role, WireFault, frames};
 use std::time::{Duration, Instant};
 
-/// How many of the transport's own frames may wait at most.
+/// A bound, since each is an answer that a peer asked for.
 const MOST_CONTROLS: usize = 256;
 
 fn wire_fault(fault: WireFault) -> Fault {
@@ -92,7 +92,7 @@ impl Connection {
         }
     }
 
-    /// Packets are lost: what they carried goes again (RFC 9000, section 13.3).
+    /// What they carried goes again, by its kind (RFC 9000, section 13.3).
     pub(super) fn lose(&mut self, level: Level, lost: Vec<(u64, Sent)>) {
         for (number, sent) in lost {
             for range in sent.crypto {
@@ -151,13 +151,13 @@ impl Connection {
                 self.peer_closed(false, code, reason, now)
             }
             Frame::ApplicationClose { code, reason } => self.peer_closed(true, code, reason, now),
-            // What else is the stream layer's own, and a token.
+            // The rest is the stream layer's own, or a token, which this client doesn't keep.
             _ => {}
         }
         Ok(())
     }
 
-    // What the stream layer leaves to the transport to refuse.
+    // What the stream layer leaves to the transport to refuse, since it needs roles and connection IDs.
     fn refusal(&self, frame: &Frame<'_>) -> Option<(u64, &'static str)> {
         match frame {
             Frame::HandshakeDone | Frame::NewToken { .. } if self.role == Role::Server => {

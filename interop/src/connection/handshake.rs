@@ -31,7 +31,7 @@ impl Connection {
         Ok(())
     }
 
-    /// Takes what TLS has to say: bytes belong to the level before the keys that come with them.
+    /// Takes what TLS has to say. Bytes belong to the level before the keys that come with them, so they are sent under those.
     pub(super) fn pull_handshake(&mut self) -> Result<(), Fault> {
         loop {
             let mut bytes = Vec::new();
@@ -55,7 +55,6 @@ impl Connection {
         }
     }
 
-    // The endpoint is made once the peer's parameters are known.
     fn look_at_parameters(&mut self) -> Result<(), Fault> {
         if self.end.is_some() || self.data_keys.is_none() {
             return Ok(());
@@ -86,7 +85,7 @@ impl Connection {
         Ok(())
     }
 
-    // The identifiers of the first packets are those that the parameters tell (RFC 9000, section 7.3).
+    // Otherwise somebody on the path changed the first packets (RFC 9000, section 7.3).
     fn check_ids(&self, peer: &Parameters) -> Result<(), Fault> {
         let wrong = |code| {
             Err(Fault::new(
@@ -112,7 +111,7 @@ impl Connection {
         Ok(())
     }
 
-    /// Both ends have finished the handshake: its keys go (RFC 9001, section 4.9.2).
+    /// Nothing of the handshake can come any more, so its keys go (RFC 9001, section 4.9.2).
     pub(super) fn confirm(&mut self) {
         self.known.is_confirmed = true;
         self.discard(Level::Initial);

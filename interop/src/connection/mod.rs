@@ -40,7 +40,7 @@ pub use crate::path_size::DATAGRAM;
 /// How late an ACK is at the most (RFC 9000, section 13.2.1). One is due with each packet: it waits for the loop's turn alone.
 const MAX_ACK_DELAY: Duration = Duration::from_millis(5);
 
-/// How many 1-RTT packets are kept that come before the handshake is done.
+/// A bound on 1-RTT packets kept before the handshake is done, as nobody has proved an address yet.
 const MOST_EARLY: usize = 32;
 
 #[derive(Clone, Copy, Debug)]
@@ -56,7 +56,7 @@ pub struct Config {
 pub struct ClientSetup {
     pub tls: Arc<ClientConfig>,
     pub name: String,
-    /// The version that is tried first: one that the server doesn't speak makes it negotiate.
+    /// One that the server doesn't speak makes it negotiate, which a test wants.
     pub version: u32,
 }
 
@@ -68,7 +68,7 @@ struct Space {
     is_ack_due: bool,
     out: CryptoOut,
     incoming: CryptoIn,
-    /// How many packets are to be sent whatever the window says.
+    /// Probes go whatever the window says: without them nothing would end a silence.
     probes: u32,
 }
 
@@ -76,7 +76,7 @@ struct Space {
 struct Known {
     has_opened: bool,
     has_peer_id: bool,
-    /// Whether its address is its own (RFC 9000, section 8.1).
+    /// Until then little is sent there, lest it be somebody else's (RFC 9000, section 8.1).
     is_validated: bool,
     /// Whether it acknowledged a packet of the Handshake space.
     is_handshake_acked: bool,
@@ -94,7 +94,7 @@ pub struct Connection {
     data_keys: Option<DataKeys>,
     end: Option<Endpoint>,
     windows: Windows,
-    /// The stream behind the one that sent last: from it on the next packet takes bytes, so that streams send by turns.
+    /// The stream behind the one that sent last, for round-robin: from it on the next packet takes data.
     turn: StreamId,
     priorities: Priorities,
     /// One more than the largest number of a 1-RTT packet that came.
@@ -119,7 +119,7 @@ pub struct Connection {
     trace: Option<Trace>,
 }
 
-// The stream behind one, and the least where there is none.
+// Around to the lowest, so that no stream waits for ever.
 fn stream_behind(last: Option<StreamId>) -> StreamId {
     last.and_then(|last| StreamId::new(last.value() + 1))
         .unwrap_or(StreamId::new(0).expect("it is below 2^62"))
@@ -275,7 +275,7 @@ impl Connection {
     }
 }
 
-/// The keys of the first packets are known from their identifier (RFC 9001, section 5.2).
+/// Known from the first packet's identifier alone, so that a server needs no state to read it (RFC 9001, section 5.2).
 fn first_spaces(role: Role, destination: ConnectionId) -> [Space; 3] {
     let mut spaces: [Space; 3] = Default::default();
     let (id, is_client) = (destination.as_slice(), role == Role::Client);

@@ -11,16 +11,16 @@ use gotsavena::{Frame, Role, frames};
 use ring::rand::{SecureRandom, SystemRandom};
 use std::time::Instant;
 
-/// How many identifiers a client has at once, if it takes so many, and how many it gets in all.
+/// A few at once, so that a client needn't use one at two addresses; and a bound in all, so that it can't ask for ever.
 const AT_ONCE: u64 = 3;
 const IN_ALL: usize = 32;
 
-/// What a datagram takes that asks an address alone, at most.
+/// Small, as the datagram that came may have been: no more is sent to an unproved address than came from there.
 const SMALL: usize = 64;
 
 #[derive(Default)]
 pub(super) struct Moving {
-    /// The largest number of a packet that did more than to look at an address.
+    /// Only a newer packet moves the connection: an old one may have been delayed at the old address.
     pub newest: Option<u64>,
     given: Vec<ConnectionId>,
     known: usize,
@@ -35,7 +35,7 @@ fn random<const N: usize>() -> Result<[u8; N], Fault> {
     }
 }
 
-/// Whether a payload only looks whether an address is there (section 9.1).
+/// Such a payload doesn't move the connection (section 9.1).
 pub(super) fn is_probing(payload: &[u8]) -> bool {
     frames(payload).flatten().all(|placed| {
         matches!(
@@ -62,7 +62,6 @@ impl Connection {
             .collect()
     }
 
-    /// The peer goes on at another address, from which so many bytes came, with another host or only another port.
     pub fn follow(&mut self, bytes: usize, is_other_host: bool) -> Result<(), Fault> {
         // Until it answers, little goes there (sections 8.1 and 9.3.1).
         self.known.is_validated = false;
@@ -124,12 +123,11 @@ impl Connection {
         Ok(())
     }
 
-    /// The peer uses an identifier no more: it gets another one.
     pub(super) fn take_retired(&mut self) -> Result<(), Fault> {
         self.give_id()
     }
 
-    /// Whether an identifier of this number was given out, and isn't the only one.
+    /// The only one can't be retired: the peer would have none to use.
     pub(super) fn may_retire(&self, sequence: u64) -> bool {
         let given = self.moving.given.len() as u64;
         self.role == Role::Server && given > 0 && sequence <= given

@@ -13,7 +13,7 @@ use std::time::Instant;
 
 const TOKEN_LEN: usize = 16;
 
-/// How many runs of offsets the stream layer may keep. One takes at most 32 bytes, and of streams that were stopped no window bounds them.
+/// One run takes at most 32 bytes, and on streams that were stopped no window bounds them; so a peer with more is closed.
 const MOST_RUNS: u64 = 1 << 14;
 
 impl Connection {
@@ -183,7 +183,7 @@ impl Connection {
         Ok(())
     }
 
-    // What came too soon is taken in once the handshake is done.
+    // Packets may overtake the handshake, and would be lost otherwise.
     fn take_early(&mut self, now: Instant) -> Result<(), Fault> {
         if !self.session.is_done() || self.end.is_none() {
             return Ok(());
@@ -196,7 +196,7 @@ impl Connection {
         Ok(())
     }
 
-    // A server asks for another version (RFC 9000, section 6.2).
+    // A server that doesn't speak this version (RFC 9000, section 6.2).
     fn negotiate(&mut self, packet: &Packet, bytes: &[u8], now: Instant) -> Result<bool, Fault> {
         let (Some(setup), false) = (&self.client, self.known.has_peer_id) else {
             return Ok(false);
@@ -243,7 +243,7 @@ impl Connection {
     }
 }
 
-// What shows that a Retry answers the first Initial (RFC 9001, section 5.8).
+// Shows that a Retry answers the first Initial, which only the server saw (RFC 9001, section 5.8).
 fn retry_tag(destination: &[u8], body: &[u8]) -> Option<[u8; TOKEN_LEN]> {
     const KEY: [u8; 16] = [
         0xbe, 0x0c, 0x69, 0x0b, 0x9f, 0x66, 0x57, 0x5a, 0x1d, 0x76, 0x6b, 0x54, 0xe3, 0x68, 0xc8,

@@ -10,13 +10,13 @@ use crate::recovery::{Control, Sent};
 use gotsavena::{Endpoint, Frame, MIN_ROOM, Made, MakeFault, Role, frames, last_stream, put_ack};
 use std::time::Instant;
 
-/// Below so much room no packet is begun.
+/// Below it a packet would be nearly all header and tag.
 const LEAST_ROOM: usize = 64;
 
-/// What an ACK of the handshake takes at most.
+/// Left free, so that an ACK never keeps the handshake's bytes out.
 const ACK_LEN: usize = 300;
 
-/// A packet in the making, and what is to be known of it once it was sent.
+/// A packet is noted as sent only when its datagram is whole.
 pub(super) struct Planned {
     pub draft: Draft,
     pub sent: Sent,
@@ -131,7 +131,7 @@ impl Connection {
         }
     }
 
-    /// How many bytes of frames a packet of the level has room for behind what is in the datagram.
+    /// What is in the datagram already counts, as it may hold packets of several levels.
     fn room(&self, header: &Header<'_>, out: &[u8]) -> usize {
         let size = self.recovery.path.size();
         size.saturating_sub(out.len() + header.len() + TAG_LEN)
@@ -197,7 +197,7 @@ impl Connection {
         self.acknowledge(draft, room, out, now)
     }
 
-    // A datagram of a size that the path may not carry, alone: a PING, and PADDING.
+    // Alone: if it is too large for the path only the probe is lost.
     fn probe_path(
         &mut self,
         mut draft: Draft,
@@ -302,7 +302,7 @@ impl Connection {
         }
     }
 
-    /// The next number of the application's space, for a packet without the stream layer's frames.
+    /// The stream layer gives all numbers of the space, so that none is used twice.
     pub(super) fn claim(&mut self) -> Result<u64, Fault> {
         let claimed = self.end.as_mut().map(|end| end.claim_number());
         claimed
@@ -389,7 +389,7 @@ fn frame_of(control: &Control) -> Frame<'_> {
     }
 }
 
-// Writes an ACK of as many ranges as there is room for.
+// As many as fit, the highest first: older ones were in earlier ACKs.
 fn put_ranges(ranges: &[std::ops::Range<u64>], out: &mut Vec<u8>, room: usize) {
     let at = out.len();
     out.resize(at + room.min(ACK_LEN), 0);

@@ -17,7 +17,6 @@ pub struct Url {
 }
 
 impl Url {
-    /// `None` for what isn't `https://HOST:PORT/PATH`.
     pub fn read(text: &str) -> Option<Url> {
         let rest = text.strip_prefix("https://")?;
         let (authority, path) = rest.split_once('/').unwrap_or((rest, ""));
@@ -63,7 +62,7 @@ pub struct Loader {
     session: Option<Session>,
     wanted: VecDeque<Wanted>,
     running: HashMap<StreamId, Loaded>,
-    /// The streams of requests that are given up once something of them went, until the peer knows.
+    /// Given up once something of them went, so that the server has begun. They are kept until the peer knows.
     given_up: BTreeSet<StreamId>,
     pub loaded: Vec<Loaded>,
     stays: bool,
@@ -74,13 +73,10 @@ pub struct Loader {
 
 #[derive(Clone, Debug)]
 pub struct Manners {
-    /// After so many bytes of a body no more is wanted.
     pub stop_after: usize,
-    /// Before each file so many requests are begun, with a body, that are broken off in the middle.
     pub resets: usize,
     /// So many requests for the first file are sent of which no answer is read. Without another file the client stays then.
     pub unread: usize,
-    /// The path of the file that is wanted most.
     pub urgent: Option<String>,
 }
 

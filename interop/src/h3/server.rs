@@ -40,10 +40,9 @@ pub struct FileServer {
     requests: HashMap<StreamId, Request>,
     answered: BTreeMap<StreamId, Entry>,
     patience: Patience,
-    /// Requests that were refused and whose bodies come: how much more is read of them, and until when.
+    /// How much more is read of them, and until when: Chromium looks at no answer whose request is stopped meanwhile.
     refused: BTreeMap<StreamId, (u64, Instant)>,
     in_all: u64,
-    /// Once it may open no more than so many, it is told to take a new connection; `None` once it was told.
     away_at: Option<u64>,
     is_stopping: bool,
     malformed: BTreeSet<StreamId>,
@@ -67,7 +66,6 @@ impl FileServer {
         }
     }
 
-    /// With another patience for bodies that aren't wanted.
     pub fn with_patience(mut self, patience: Patience) -> FileServer {
         self.patience = patience;
         self
@@ -164,7 +162,6 @@ impl FileServer {
         }
     }
 
-    // One that was answered before, or isn't known, isn't answered.
     fn respond(
         &mut self,
         session: &mut Session,

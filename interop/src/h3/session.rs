@@ -34,10 +34,10 @@ const TURN: usize = 1 << 16;
 /// How much may wait to be sent: more than goes at once.
 const MOST_UNSENT: u64 = 1 << 17;
 
-/// How many parts of a stream are written at once.
+/// As many as a call of the library gives at once.
 const PARTS: usize = 16;
 
-/// How much the fields of a request or response may take (RFC 9114, section 4.2.2).
+/// A bound on what a peer can make this side keep (RFC 9114, section 4.2.2).
 const MOST_FIELDS: usize = 1 << 16;
 
 /// What a field takes beside its name and value (RFC 9114, section 4.2.2).
@@ -66,9 +66,7 @@ pub struct Session {
     reading: BTreeSet<StreamId>,
     read: BTreeSet<StreamId>,
     written: BTreeSet<StreamId>,
-    /// Streams that the library knows no more, and whose ends weren't read.
     closed: BTreeSet<StreamId>,
-    /// Streams of which no more was wanted, and that are answered nevertheless.
     refused: BTreeSet<StreamId>,
     own: Vec<StreamId>,
     blocked: Vec<i64>,
@@ -490,7 +488,7 @@ impl Session {
         !self.reading.iter().any(|stream| stream.dir() == Dir::Bidi)
     }
 
-    /// Leaves a stream unread: what comes on it takes up its window.
+    /// Its window then bounds what the peer can send, which a test wants.
     pub fn leave_unread(&mut self, stream: StreamId) {
         self.reading.remove(&stream);
     }

@@ -1,5 +1,3 @@
-//! Events.
-
 use super::Endpoint;
 use crate::event::Event;
 use crate::faults::EventFault;

@@ -1,4 +1,3 @@
-//! Which streams are over.
 ghost use Rattle.std.specs.Prelude.{◌≡◌, ◌≤◌, ◌<◌, ◌^◌, ◌/◌, ℕ, true, false, length, IfSome};
 ghost use Rattle.qs_machine.specs.Tables.{type_of};
 ghost use Rattle.qs_machine.specs.Heard.{is_told};

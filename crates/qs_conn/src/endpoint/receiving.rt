@@ -1,4 +1,3 @@
-//! Processing a payload.
 ghost use Rattle.std.specs.Prelude.{◌≡◌, ◌<◌, ◌^◌};
 ghost use Rattle.std.specs.List.{FoldsTo};
 ghost use Rattle.qs_wire.specs.Layout.{view};

@@ -7,7 +7,7 @@ ghost use Rattle.qs_machine.specs.Recording.{has_too_many, least_in, lowest_end,
 use super::Endpoint;
 use qs_ranges::{NoMemory, RangeSet};
 
-/// // A bound on what a peer can make this endpoint keep. All of them take at most 515 bytes in an ACK.
+/// A bound on what a peer can make this endpoint keep. All of them take at most 515 bytes in an ACK.
 const MAX_RUNS: usize = 32;
 
 impl Endpoint {

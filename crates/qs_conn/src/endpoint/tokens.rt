@@ -1,4 +1,3 @@
-//! Packets named by tokens.
 ghost use Rattle.std.specs.Prelude.{◌≡◌, ◌+◌, ◌-◌, ◌^◌, ◌<◌, true, None, OnOk, OnErr};
 ghost use Rattle.qs_machine.specs.Alone.{TokenAckedStep, TokenLostStep, LosesEach, LosesOne, token_of, gave, token_refusal, only};
 ghost use Rattle.qs_machine.specs.FrameStep.{frame_taken};

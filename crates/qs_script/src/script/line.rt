@@ -1,5 +1,3 @@
-//! A line of a script.
-
 ghost use Rattle.std.specs.Prelude.{◌≡◌, [], ◌∷◌, IfOk, IfSome, true, length, take, suc, option_map};
 ghost use Rattle.qs_calls.specs.Events.{act_fits, fits};
 ghost use Rattle.qs_script.specs.Scripts.{all_verbs, verb_among, name_of, kinds_of, values_of, words_of, said, verb_in, values_in, event_of, line_says, is_comment, Reads};

@@ -1,5 +1,3 @@
-//! The words of a line.
-
 ghost use Rattle.std.specs.Prelude.{◌≡◌, ◌+◌, ◌≤◌, [], ◌==◌, not, length, IfOk, drop, get_or, true, is_ok};
 ghost use Rattle.std.specs.List.{list_all, position, position_or_len};
 ghost use Rattle.hex.specs.Hex.{decode_of, is_hex_digit};

@@ -1,5 +1,4 @@
 // Made from crates/qs_send/src/carried.rt by rust/erase; not edited by hand.
-//! What one packet carried.
 use crate::shim::Vec;
 
 use crate::proved::qs_send::piece::Piece;

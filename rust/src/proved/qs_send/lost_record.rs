@@ -1,5 +1,4 @@
 // Made from crates/qs_send/src/lost_record.rt by rust/erase; not edited by hand.
-//! What one packet carried that was declared lost.
 use crate::shim::Vec;
 
 use crate::proved::qs_send::piece::Piece;

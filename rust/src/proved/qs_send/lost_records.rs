@@ -7,7 +7,7 @@ use crate::proved::qs_ranges::NoMemory;
 use crate::shim::alloc::Global;
 use crate::shim::collections::VecDeque;
 
-/// // An ACK may come late for any of them, and a bound keeps a peer that acknowledges nothing from holding memory.
+/// An ACK may come late for any of them, and a bound keeps a peer that acknowledges nothing from holding memory.
 const MOST: usize = 256;
 
 /// The pieces of each packet that was declared lost, by packet number: a late ACK may still name it (RFC 9000, section 13.2.1).

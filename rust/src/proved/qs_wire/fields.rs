@@ -1,6 +1,4 @@
 // Made from crates/qs_wire/src/fields.rt by rust/erase; not edited by hand.
-//! Reading the fields of a frame.
-
 use crate::proved::qs_wire::fault::FaultKind;
 use crate::proved::qs_wire::frame::EcnCounts;
 use crate::proved::qs_wire::varint::number_at;

@@ -1,6 +1,4 @@
 // Made from crates/qs_wire/src/frame.rt by rust/erase; not edited by hand.
-//! The frames.
-
 use crate::proved::qs_wire::stream_id::{Dir, StreamId};
 
 /// A frame (RFC 9000, section 19). Its bytes are lent by the payload, so reading copies nothing.

@@ -1,6 +1,4 @@
 // Made from crates/qs_wire/src/frame_type.rt by rust/erase; not edited by hand.
-//! The types of frames.
-
 use crate::proved::qs_wire::stream_id::Dir;
 
 /// What the number of a type says: of STREAM three bits, of the others the frame alone. One name for each, so that reader and writer share

@@ -1,6 +1,4 @@
 // Made from crates/qs_wire/src/stream_id.rt by rust/erase; not edited by hand.
-//! The numbers of streams.
-
 /// Which of the two endpoints of a connection.
 #[derive(Clone, Copy, Debug, PartialEq, Eq)]
 pub enum Role {

@@ -1,6 +1,4 @@
 // Made from crates/qs_wire/src/varint.rt by rust/erase; not edited by hand.
-//! Numbers of variable length.
-
 use crate::proved::qs_wire::fault::FaultKind;
 use crate::shim::byteorder::{BigEndian, ByteOrder};
 

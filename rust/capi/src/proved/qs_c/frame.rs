@@ -1,6 +1,4 @@
 // Made from crates/qs_c/src/frame.rt by rust/erase; not edited by hand.
-//! A frame as C gets it.
-
 use crate::proved::qs_wire::{Dir, EcnCounts, Frame, WireFault};
 
 /// One struct for all kinds, since C has no enum with fields: what a frame of its kind doesn't have is 0. Its bytes and its token are given

@@ -1,6 +1,4 @@
 // Made from crates/qs_c/src/news.rt by rust/erase; not edited by hand.
-//! An event as C gets it.
-
 use crate::proved::qs_c::answers::{NO_MEMORY, NONE, OK};
 use crate::proved::qs_calls::News;
 use crate::proved::qs_ranges::NoMemory;

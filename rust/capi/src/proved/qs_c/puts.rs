@@ -1,6 +1,4 @@
 // Made from crates/qs_c/src/puts.rt by rust/erase; not edited by hand.
-//! A frame is written.
-
 use crate::proved::qs_c::answers::{FULL, INVALID, OK};
 use crate::proved::qs_c::frame::GvFrame;
 use crate::proved::qs_c::reads::numbers_in;

@@ -1,6 +1,4 @@
 // Made from crates/qs_c/src/setting.rt by rust/erase; not edited by hand.
-//! What an application changes while the connection lasts.
-
 use crate::proved::qs_c::answers::{INVALID, of_set};
 use crate::proved::qs_c::calls::dir_of;
 use crate::proved::qs_c::handle::Handle;

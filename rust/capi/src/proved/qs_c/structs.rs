@@ -1,6 +1,4 @@
 // Made from crates/qs_c/src/structs.rt by rust/erase; not edited by hand.
-//! The structs that C passes.
-
 use crate::proved::qs_calls::{CloseKind, Closer, Filled, Token, ToldClose};
 use crate::proved::qs_conn::{Closing, Made, PeerLimits, Settings, Share, Tuning};
 

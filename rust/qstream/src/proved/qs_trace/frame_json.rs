@@ -1,6 +1,4 @@
 // Made from crates/qs_trace/src/frame_json.rt by rust/erase; not edited by hand.
-//! Frames as JSON.
-
 use crate::shim::String;
 
 use crate::proved::qs_trace::words::{

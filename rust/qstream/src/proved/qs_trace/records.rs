@@ -1,6 +1,4 @@
 // Made from crates/qs_trace/src/records.rt by rust/erase; not edited by hand.
-//! The records of a trace.
-
 use crate::shim::String;
 
 use crate::proved::qs_trace::frame_json::push_payload;

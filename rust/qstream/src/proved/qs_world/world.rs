@@ -1,5 +1,4 @@
 // Made from crates/qs_world/src/world.rt by rust/erase; not edited by hand.
-//! Two endpoints, and what happened to them.
 use crate::shim::Vec;
 
 use crate::proved::qs_world::copies::copy_into;

@@ -1,6 +1,4 @@
 // Made from crates/qs_conn/src/endpoint/ended_news.rt by rust/erase; not edited by hand.
-//! Which streams are over.
-
 use super::{Endpoint, is_uni, role_bit};
 use crate::proved::qs_conn::marks::Marks;
 use crate::proved::qs_conn::places::{index_from, lesser};

@@ -1,6 +1,4 @@
 // Made from crates/qs_conn/src/endpoint/making.rt by rust/erase; not edited by hand.
-//! Packets are made.
-
 use super::Endpoint;
 use crate::proved::qs_conn::filling::Wish;
 use crate::proved::qs_calls::{Fill, Made, MakeFault, NO_CAP};

@@ -1,6 +1,4 @@
 // Made from crates/qs_conn/src/endpoint/raising.rt by rust/erase; not edited by hand.
-//! Limits of the peer that rise after the endpoint was made.
-
 use super::Endpoint;
 use crate::proved::qs_conn::setup::limits_fault;
 use crate::proved::qs_calls::{PeerLimits, RaiseFault};

@@ -1,6 +1,4 @@
 // Made from crates/qs_conn/src/endpoint/receiving.rt by rust/erase; not edited by hand.
-//! Processing a payload.
-
 use super::Endpoint;
 use crate::proved::qs_conn::newly_told::{Silent, Told};
 use crate::proved::qs_conn::seen::{SeenFrame, asks_ack, seen};

@@ -4,7 +4,7 @@
 use super::Endpoint;
 use crate::proved::qs_ranges::{NoMemory, RangeSet};
 
-/// // A bound on what a peer can make this endpoint keep. All of them take at most 515 bytes in an ACK.
+/// A bound on what a peer can make this endpoint keep. All of them take at most 515 bytes in an ACK.
 const MAX_RUNS: usize = 32;
 
 impl Endpoint {

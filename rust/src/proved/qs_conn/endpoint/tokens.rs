@@ -1,6 +1,4 @@
 // Made from crates/qs_conn/src/endpoint/tokens.rt by rust/erase; not edited by hand.
-//! Packets named by tokens.
-
 use super::Endpoint;
 use crate::proved::qs_calls::{LostFault, Token, TokenFault};
 use crate::proved::qs_ranges::NoMemory;

@@ -1,6 +1,4 @@
 // Made from crates/qs_script/src/script/line.rt by rust/erase; not edited by hand.
-//! A line of a script.
-
 use crate::proved::qs_script::script::Reason;
 use crate::proved::qs_script::script::words::{
     count_words, next_word, parse_bytes, parse_dir, parse_number, parse_side, parse_size,

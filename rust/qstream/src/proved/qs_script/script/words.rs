@@ -1,6 +1,4 @@
 // Made from crates/qs_script/src/script/words.rt by rust/erase; not edited by hand.
-//! The words of a line.
-
 use crate::shim::{Vec, vec};
 
 use crate::proved::qs_script::script::Reason;
