@@ -10,13 +10,13 @@ use core::ops::Range;
 
 mod between;
 
-/// A frame, with the fields of RFC 9000, section 19. Its bytes are lent by the payload, so reading copies nothing.
+/// A frame, in the order and with the fields of RFC 9000, sections 19.1 to 19.20. Two types of one layout are one frame: MAX_STREAMS of
+/// either direction, say. Its bytes are lent by the payload, so reading copies nothing.
 #[derive(Clone, Copy, Debug, PartialEq, Eq)]
 #[allow(missing_docs)]
 pub enum Frame<'a> {
     /// Section 19.1. Each byte is a frame of its own, so a padded payload has many.
     Padding,
-    /// Section 19.2.
     Ping,
     /// Section 19.3, of both types: that with ECN counts and that without.
     Ack {
@@ -29,19 +29,23 @@ pub enum Frame<'a> {
         ranges: &'a [u8],
         ecn: Option<EcnCounts>,
     },
-    /// Section 19.4.
     ResetStream {
         stream: StreamId,
         code: u64,
         /// How many bytes the stream has for flow control, sent or not.
         final_size: u64,
     },
-    /// Section 19.5.
-    StopSending { stream: StreamId, code: u64 },
-    /// Section 19.6.
-    Crypto { offset: u64, bytes: &'a [u8] },
-    /// Section 19.7.
-    NewToken { bytes: &'a [u8] },
+    StopSending {
+        stream: StreamId,
+        code: u64,
+    },
+    Crypto {
+        offset: u64,
+        bytes: &'a [u8],
+    },
+    NewToken {
+        bytes: &'a [u8],
+    },
     /// Section 19.8, of all eight types.
     Stream {
         stream: StreamId,
@@ -50,41 +54,34 @@ pub enum Frame<'a> {
         fin: bool,
         bytes: &'a [u8],
     },
-    /// Section 19.9.
     MaxData {
         /// How many bytes the receiver of this frame may send on all streams together.
         maximum: u64,
     },
-    /// Section 19.10.
     MaxStreamData {
         stream: StreamId,
         /// How many bytes the receiver of this frame may send on it.
         maximum: u64,
     },
-    /// Section 19.11, of both types: one for each direction.
     MaxStreams {
         dir: Dir,
         /// How many of them the receiver of this frame may open, at most 2^60.
         count: u64,
     },
-    /// Section 19.12.
     DataBlocked {
         /// The limit that blocks the sender.
         limit: u64,
     },
-    /// Section 19.13.
     StreamDataBlocked {
         stream: StreamId,
         /// The limit that blocks the sender.
         limit: u64,
     },
-    /// Section 19.14, of both types: one for each direction.
     StreamsBlocked {
         dir: Dir,
         /// The count that blocks the sender, at most 2^60.
         count: u64,
     },
-    /// Section 19.15.
     NewConnectionId {
         sequence: u64,
         /// Connection IDs of lower numbers are to be retired.
@@ -94,12 +91,17 @@ pub enum Frame<'a> {
         /// 16 bytes.
         reset_token: &'a [u8],
     },
-    /// Section 19.16.
-    RetireConnectionId { sequence: u64 },
+    RetireConnectionId {
+        sequence: u64,
+    },
     /// Section 19.17, with 8 bytes.
-    PathChallenge { bytes: &'a [u8] },
+    PathChallenge {
+        bytes: &'a [u8],
+    },
     /// Section 19.18, with 8 bytes.
-    PathResponse { bytes: &'a [u8] },
+    PathResponse {
+        bytes: &'a [u8],
+    },
     /// Section 19.19, type 0x1c: the transport closes.
     ConnectionClose {
         code: u64,
@@ -108,8 +110,10 @@ pub enum Frame<'a> {
         reason: &'a [u8],
     },
     /// Section 19.19, type 0x1d: the application closes. Its codes are numbered apart.
-    ApplicationClose { code: u64, reason: &'a [u8] },
-    /// Section 19.20.
+    ApplicationClose {
+        code: u64,
+        reason: &'a [u8],
+    },
     HandshakeDone,
 }
 
@@ -220,7 +224,7 @@ impl Clone for Frames<'_> {
 /// assert_eq!(second.frame, Frame::Stream { stream, offset: 0, fin: true, bytes: b"abc" });
 /// assert!(found.next().is_none());
 ///
-/// A frame type that has a shorter spelling closes a connection.
+/// // A frame type that has a shorter spelling closes a connection.
 /// let fault = frames(&[0x40, 0x01]).next().unwrap().unwrap_err();
 /// assert_eq!(fault.code, 0x0a);
 /// # Ok::<(), gotsavena::WireFault>(())
@@ -351,7 +355,7 @@ pub fn put(frame: &Frame<'_>, out: &mut [u8]) -> Result<usize, PutFault> {
 /// let mut out = [0; 16];
 /// assert_eq!(put_ack(&[8..10, 4..5], &mut out), Ok((2, 7)));
 /// assert_eq!(out[..7], [0x02, 0x09, 0x00, 0x01, 0x01, 0x02, 0x00]);
-/// Ranges that touch are one.
+/// // Ranges that touch are one.
 /// assert_eq!(put_ack(&[8..10, 4..8], &mut out), Err(PutFault::Invalid));
 /// ```
 ///

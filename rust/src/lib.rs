@@ -74,7 +74,7 @@
 //! - no more is stored than was granted beyond what was consumed, whatever the peer sends, and that is at most a window;
 //! - each refusal leaves what is stated, refused memory too: every allocation may fail, and returns `NoMemory`;
 //! - of two such endpoints, whatever the network loses, repeats and reorders, what is read is a prefix of what was written, a stream
-//!   counted as received was taken in whole, and neither closes.
+//!   counted as received was taken in whole, and neither closes unless a close was noted there or at its peer.
 //!
 //! The modules here are that text, token by token, with the contracts removed by a tool. No proof covers them. Whoever compiles them
 //! trusts, beside what the proof rests on:

@@ -54,7 +54,7 @@ impl Tuning {
     /// ```
     /// use gotsavena::{Dir, Endpoint, Role, Settings, Share, Tuning};
     ///
-    /// The count goes from 100 to 125, once 25 streams ended, then to 150.
+    /// // The count goes from 100 to 125, once 25 streams ended, then to 150.
     /// let settings = Settings::default().streams(100, 10_000);
     /// let tuning = Tuning::default().count_step(Some(Share::Quarter));
     /// let end = Endpoint::new_wide(Role::Server, settings, tuning, settings.limits()).unwrap();

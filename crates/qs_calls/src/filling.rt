@@ -14,13 +14,9 @@ pub const MIN_FILL: usize = 25;
 /// streams, lower streams first.
 #[derive(Clone, Copy, Debug, PartialEq, Eq, Drop)]
 pub struct Fill {
-    /// Control frames: limits, resets, STOP_SENDING and blocked frames (RFC 9000, section 13.3).
     pub items: bool,
-    /// Data and FINs of streams.
     pub streams: bool,
-    /// From this stream on, and then those below it.
     pub first: StreamId,
-    /// Of that stream alone.
     pub alone: bool,
     /// So many bytes of streams at most; `NO_CAP` stands for as many as fit. A chunk is cut if it would pass that, and then no stream has
     /// another turn. With 0 no byte goes in, and a FIN only if all bytes of its stream went and no stream before it has any.
@@ -44,7 +40,6 @@ impl Fill {
         }
     }
 
-    /// Control frames alone.
     pub fn control() -> Fill
         ensures { result ≡ record { items = true; streams = false; first = 0; alone = false; most_bytes = 2 ^ 64 - 1 } }
     {
@@ -57,7 +52,6 @@ impl Fill {
         }
     }
 
-    /// Data and FINs of streams alone, from stream 0 on.
     pub fn data() -> Fill
         ensures { result ≡ record { items = false; streams = true; first = 0; alone = false; most_bytes = 2 ^ 64 - 1 } }
     {
@@ -70,7 +64,6 @@ impl Fill {
         }
     }
 
-    /// The same, with streams from this one on, and then those below it.
     pub fn from(self, stream: StreamId) -> Fill
         ensures { result ≡ record self { first = stream; alone = false } }
     {
@@ -83,7 +76,6 @@ impl Fill {
         }
     }
 
-    /// The same, with this stream alone.
     pub fn only(self, stream: StreamId) -> Fill
         ensures { result ≡ record self { first = stream; alone = true } }
     {
@@ -96,7 +88,6 @@ impl Fill {
         }
     }
 
-    /// The same, with so many bytes of streams at most.
     pub fn at_most(self, bytes: usize) -> Fill
         ensures { result ≡ record self { most_bytes = bytes } }
     {

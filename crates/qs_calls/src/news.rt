@@ -15,16 +15,12 @@ pub enum News {
     Stopped(StreamId, u64),
     /// Everything written was acknowledged, and the FIN: Data Recvd (section 3.1).
     Finished(StreamId),
-    /// The reset was acknowledged: Reset Recvd (section 3.1).
     ResetAcked(StreamId),
     /// Each half that the stream has here is over.
     Ended(StreamId),
     /// A stream of that direction may be opened, after one couldn't for the peer's count (section 4.6).
     Available(Dir),
-    /// The peer said that the connection's limit blocks it (sections 4.1 and 19.12).
     DataBlocked,
-    /// The peer said that the stream's limit blocks it (sections 4.1 and 19.13).
     StreamDataBlocked(StreamId),
-    /// The peer said that the count of that direction blocks it (sections 4.6 and 19.14).
     StreamsBlocked(Dir),
 }

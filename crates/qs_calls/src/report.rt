@@ -13,13 +13,10 @@ pub struct LaneReport {
 #[derive(Clone, Copy, Debug, PartialEq, Eq, Drop)]
 pub struct SendReport {
     pub state: SendState,
-    /// How many bytes were accepted.
     pub written: u64,
-    /// The final size, once it is declared.
     pub final_size: Option<u64>,
     /// The code of its reset, if there was one: the application's, or that of the peer's STOP_SENDING (section 3.5).
     pub reset_code: Option<u64>,
-    /// The limit on offsets that the peer granted.
     pub limit: u64,
 }
 
@@ -27,15 +24,11 @@ pub struct SendReport {
 #[derive(Clone, Copy, Debug, PartialEq, Eq, Drop)]
 pub struct RecvReport {
     pub state: RecvState,
-    /// How many bytes were read.
     pub read_count: u64,
     /// The final size if known, else one more than the largest received offset, or 0: what flow control counts.
     pub highest: u64,
-    /// The limit on offsets that was granted.
     pub limit: u64,
-    /// The final size, once it is known.
     pub final_size: Option<u64>,
-    /// The code of the peer's RESET_STREAM, if one took effect.
     pub reset_code: Option<u64>,
     /// The code with which the application stopped it first (section 3.5).
     pub stop_code: Option<u64>,

@@ -11,27 +11,18 @@ use qs_recv::Assembly;
 use std::alloc::Global;
 use std::marker::Model;
 
-/// What is done to an assembly.
 #[derive(Debug, PartialEq, Eq, Drop)]
 pub enum Step {
-    /// Bytes come at an offset.
     Put { offset: u64, bytes: Vec<u8> },
-    /// The bytes that are next are read, at most so many.
     Take { size: usize },
-    /// The stored bytes are thrown away, and those that come from then on.
     Discard,
 }
 
-/// What a step shows.
 #[derive(Debug, PartialEq, Eq, Drop)]
 pub enum Shown {
-    /// Bytes were handed on.
     Stored,
-    /// Bytes ended past the window, and nothing was done.
     Skipped,
-    /// These bytes were read.
     Taken(Vec<u8>),
-    /// The stored bytes were thrown away.
     Discarded,
 }
 
@@ -86,7 +77,6 @@ impl<A: Assembly> Model for Player<A> {
 }
 
 impl<A: Assembly> Player<A> {
-    // An assembly to which nothing came.
     fn new(alloc: Global, window: u64) -> Self
         requires some { 1 ≤ window }
         requires small { window ≤ MAX_WINDOW }
@@ -124,7 +114,6 @@ impl<A: Assembly> Player<A> {
         }
     }
 
-    // Whether so many bytes at an offset end past the window.
     fn is_past(&self, offset: u64, len: u64) -> bool
         requires { offset + len ≤ MAX_VARINT }
         ensures { result ≡ is_past self.now offset len }

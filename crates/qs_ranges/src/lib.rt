@@ -176,7 +176,6 @@ impl RangeSet {
         copy_runs(&self.blocks, into)
     }
 
-    /// Whether `n` is a member.
     pub fn has(&self, n: u64) -> bool
         ensures { result ≡ set.contains self.now n }
     {
@@ -201,7 +200,6 @@ impl RangeSet {
         matches!(self.run_above(lo), Some((start, end)) if start <= lo && hi <= end)
     }
 
-    /// The least member.
     pub fn first(&self) -> Option<u64>
         ensures found { IfSome result (IsLeastFrom self.now 0) }
         ensures empty { IfNone result (self.now ≡ set.empty) }

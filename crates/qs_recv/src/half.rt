@@ -27,7 +27,6 @@ pub enum RecvFault {
     FinalSize,
     /// The stream's limit is exceeded: FLOW_CONTROL_ERROR (section 4.1).
     StreamCredit,
-    /// Memory was refused.
     NoMemory,
     /// Another byte stands at an offset that is still stored: PROTOCOL_VIOLATION (section 2.2).
     ChangedByte,
@@ -86,7 +85,6 @@ pub enum Peek<'a> {
     Wait,
 }
 
-/// The states of the receiving part of a stream (section 3.2).
 #[derive(Debug, Clone, Copy, PartialEq, Eq, Drop)]
 pub enum RecvState {
     Recv,
@@ -286,7 +284,6 @@ impl<A: Assembly> RecvHalf<A> {
         }
     }
 
-    /// Whether a RESET_STREAM frame that names this final size may be taken.
     pub fn check_reset(&self, size: u64) -> Result<Highest, RecvFault>
         requires { size ≤ MAX_VARINT }
         ensures { result ≡ check_reset self.now size }
@@ -405,7 +402,6 @@ impl<A: Assembly> RecvHalf<A> {
         }
     }
 
-    /// What it adds to the sums over all halves.
     pub fn sizes(&self) -> Sizes
         ensures spent { result.spent ≡ highest self.now }
         ensures taken { result.taken ≡ taken self.now }
@@ -455,7 +451,6 @@ impl<A: Assembly> RecvHalf<A> {
         }
     }
 
-    /// The limit on the highest offset that was granted (section 4.1).
     pub fn limit(&self) -> u64
         ensures value { result ≡ self.now.limit }
         ensures small { result ≤ MAX_VARINT }
@@ -530,7 +525,6 @@ impl<A: Assembly> RecvHalf<A> {
         }
     }
 
-    /// How many bytes were read.
     pub fn read_count(&self) -> u64
         ensures { result ≡ self.now.arrived.read_count }
     {
@@ -541,7 +535,6 @@ impl<A: Assembly> RecvHalf<A> {
         }
     }
 
-    /// The code of the first stop, if there was one: at most 2^62 - 1.
     pub fn stop_code(&self) -> Option<u64>
         ensures value { result ≡ self.now.stop_code }
         ensures small { CodeFits result }
@@ -553,7 +546,6 @@ impl<A: Assembly> RecvHalf<A> {
         }
     }
 
-    /// The code of the reset that took effect, if one did.
     pub fn reset_code(&self) -> Option<u64>
         ensures { result ≡ self.now.reset_code }
     {

@@ -240,14 +240,12 @@ impl SendHalf {
         self.widest = self.widest.max(size);
     }
 
-    /// Notes that a STREAM_DATA_BLOCKED was sent.
     pub fn note_blocked(&mut self)
         ensures { self.new ≡ after_blocked self.old }
     {
         self.blocked_sent = true;
     }
 
-    /// Notes that the RESET_STREAM is acknowledged.
     pub fn reset_acked(&mut self)
         requires { state self.old.lane ≡ SendState.ResetSent }
         ensures { self.new ≡ after_reset_acked self.old }
@@ -255,7 +253,6 @@ impl SendHalf {
         self.reset_acked = true;
     }
 
-    /// Notes that the chunk was sent: it is in flight.
     pub fn sent(&mut self, chunk: Chunk)
         requires { IsDueChunk self.old chunk }
         ensures { self.new ≡ after_sent self.old chunk }
@@ -304,7 +301,6 @@ impl SendHalf {
         Ok(())
     }
 
-    /// The state (RFC 9000, section 3.1).
     pub fn state(&self) -> SendState
         ensures { result ≡ state self.now.lane }
     {
@@ -351,7 +347,6 @@ impl SendHalf {
         self.offsets.kept_len()
     }
 
-    /// How many bytes were written.
     #[inline(always)]
     pub fn written(&self) -> u64
         ensures exact { result ≡ self.now.lane.written }

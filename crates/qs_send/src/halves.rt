@@ -44,7 +44,6 @@ impl Model for SendHalves {
 }
 
 impl SendHalves {
-    /// None yet, of a type of streams.
     pub fn new(alloc: Global, stream_type: u64) -> Self
         requires { stream_type < 4 }
         ensures { result ≡ [] }
@@ -56,7 +55,6 @@ impl SendHalves {
         }
     }
 
-    /// How many there are.
     #[inline(always)]
     pub fn len(&self) -> usize
         ensures value { result ≡ length self.now }
@@ -65,7 +63,6 @@ impl SendHalves {
         self.slots.len()
     }
 
-    /// The half at an index, to be read.
     #[inline(always)]
     pub fn at(&self, index: usize) -> SendView<'_>
         requires { index < length self.now }
@@ -122,7 +119,6 @@ impl SendHalves {
         }
     }
 
-    /// Puts a half behind the others.
     pub fn push(&mut self, half: SendHalf) -> Result<(), NoMemory>
         requires { length self.old < 2 ^ 60 }
         ensures ok { OnOk result (self.new ≡ self.old ++ half ∷ []) }
@@ -166,7 +162,6 @@ impl SendHalves {
         put_over(&mut self.slots, &mut self.full, index, over);
     }
 
-    /// Raises the peer's limit of a half.
     pub fn allow(&mut self, index: usize, limit: u64)
         requires there { index < length self.old }
         requires limit { limit ≤ MAX_VARINT }
@@ -181,7 +176,6 @@ impl SendHalves {
         slot.rest = now.max(limit) * 2 + slot.rest % 2;
     }
 
-    /// Sets how many bytes a half keeps at most.
     pub fn set_buffer(&mut self, index: usize, size: u32)
         requires { index < length self.old }
         ensures { self.new ≡ slice_set self.old index (after_buffer (half_at self.old index) size) }
@@ -195,7 +189,6 @@ impl SendHalves {
         slot.widest = slot.widest.max(size);
     }
 
-    /// Notes that a STREAM_DATA_BLOCKED was sent.
     pub fn note_blocked(&mut self, index: usize)
         requires { index < length self.old }
         ensures { self.new ≡ slice_set self.old index (after_blocked (half_at self.old index)) }

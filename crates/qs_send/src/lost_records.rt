@@ -43,7 +43,6 @@ impl Model for LostRecords {
 }
 
 impl LostRecords {
-    /// No records. It takes no memory.
     pub fn new(alloc: Global) -> Self
         ensures pieces { result.pieces ≡ fmap.empty }
         ensures order { result.order ≡ [] }
@@ -86,7 +85,6 @@ impl LostRecords {
         drop_oldest(&mut self.order, &mut self.list);
     }
 
-    /// The first piece of a packet, `None` where the number isn't held.
     pub fn first(&self, number: u64) -> Option<Piece>
         ensures { result ≡ first_piece (fmap.get self.now.pieces number) }
     {
@@ -107,7 +105,6 @@ impl LostRecords {
         }
     }
 
-    /// Whether the packet has a piece here.
     pub fn is_held(&self, number: u64) -> bool
         ensures { result ≡ fmap.contains_key self.now.pieces number }
     {
@@ -131,7 +128,6 @@ impl LostRecords {
         self.list.below(number, near)
     }
 
-    /// How many packets are held.
     pub fn len(&self) -> usize
         ensures { result ≡ length self.now.order }
     {

@@ -49,7 +49,6 @@ impl Model for Records {
 }
 
 impl Records {
-    /// No records. It takes no memory.
     pub fn new(alloc: Global) -> Self
         ensures pieces { result.pieces ≡ fmap.empty }
         ensures slots { result.slots ≡ 0 }
@@ -117,7 +116,6 @@ impl Records {
         self.push_slot(Carried::one(piece));
     }
 
-    /// The first piece of a packet, `None` if the number isn't held.
     pub fn first(&self, number: u64) -> Option<Piece>
         ensures { result ≡ first_piece (fmap.get self.now.pieces number) }
     {
@@ -153,14 +151,12 @@ impl Records {
         }
     }
 
-    /// Whether some packet has the piece.
     pub fn holds(&self, piece: Piece) -> bool
         ensures { IsTrue result ↔ IsCarried self.now.pieces piece }
     {
         some_has(&self.slots, piece)
     }
 
-    /// Whether the packet has a piece here.
     pub fn is_held(&self, number: u64) -> bool
         ensures { result ≡ fmap.contains_key self.now.pieces number }
     {
@@ -170,7 +166,6 @@ impl Records {
         }
     }
 
-    /// The greatest number that is held.
     pub fn greatest(&self) -> Option<u64>
         ensures found { IfSome result (IsGreatest self.now.pieces) }
         ensures none { IfNone result ((k : ℕ) → fmap.contains_key self.now.pieces k ≡ false) }

@@ -90,7 +90,6 @@ impl<'a> SendView<'a> {
         let _half = &self.half;
     }
 
-    /// The half, if it isn't over.
     #[inline(always)]
     pub fn not_over(&self) -> Option<&'a SendHalf>
         ensures full { IfSome result (λ half. half.now ≡ self.now) }
@@ -102,7 +101,6 @@ impl<'a> SendView<'a> {
         }
     }
 
-    /// The code of the first STOP_SENDING that came (RFC 9000, section 3.5).
     #[inline(always)]
     pub fn stop_code(&self) -> Option<u64>
         ensures { result ≡ self.now.lane.stopped }
@@ -113,7 +111,6 @@ impl<'a> SendView<'a> {
         }
     }
 
-    /// Whether a STOP_SENDING would change the half (RFC 9000, section 3.5).
     #[inline(always)]
     pub fn stop_changes(&self) -> bool
         ensures { result ≡ stop_changes self.now.lane }
@@ -124,7 +121,6 @@ impl<'a> SendView<'a> {
         }
     }
 
-    /// Whether one that the application answers would change it.
     #[inline(always)]
     pub fn told_changes(&self) -> bool
         ensures { result ≡ told_changes self.now.lane }
@@ -135,7 +131,6 @@ impl<'a> SendView<'a> {
         }
     }
 
-    /// The state (RFC 9000, section 3.1).
     #[inline(always)]
     pub fn state(&self) -> SendState
         ensures { result ≡ state self.now.lane }
@@ -146,7 +141,6 @@ impl<'a> SendView<'a> {
         }
     }
 
-    /// The final size that was declared, by a reset or by the end that was sent (RFC 9000, section 4.5).
     #[inline(always)]
     pub fn final_size(&self) -> Option<u64>
         ensures value { result ≡ declared_size self.now.lane }
@@ -158,7 +152,6 @@ impl<'a> SendView<'a> {
         }
     }
 
-    /// The application's code of the reset: at most 2^62 - 1.
     #[inline(always)]
     pub fn reset_code(&self) -> Option<u64>
         ensures value { result ≡ option_map (λ (r : Reset). r.code) self.now.lane.was_reset }
@@ -170,7 +163,6 @@ impl<'a> SendView<'a> {
         }
     }
 
-    /// How many bytes were written.
     #[inline(always)]
     pub fn written(&self) -> u64
         ensures exact { result ≡ self.now.lane.written }
@@ -182,7 +174,6 @@ impl<'a> SendView<'a> {
         }
     }
 
-    /// The number after the largest offset that was sent; 0 where none was.
     #[inline(always)]
     pub fn sent_end(&self) -> u64
         ensures exact { result ≡ self.now.lane.sent_end }
@@ -194,7 +185,6 @@ impl<'a> SendView<'a> {
         }
     }
 
-    /// The lowest offset that isn't acknowledged (RFC 9000, section 13.3).
     #[inline(always)]
     pub fn unacked_from(&self) -> u64
         ensures { result ≡ unacked_from self.now.lane }
@@ -205,7 +195,6 @@ impl<'a> SendView<'a> {
         }
     }
 
-    /// The offsets below it may be sent.
     #[inline(always)]
     pub fn limit(&self) -> u64
         ensures exact { result ≡ self.now.lane.limit }
@@ -217,7 +206,6 @@ impl<'a> SendView<'a> {
         }
     }
 
-    /// How many bytes the buffer can take: none while more are kept than it is set to.
     #[inline(always)]
     pub fn room(&self) -> usize
         ensures { result ≡ free_room self.now.lane }
@@ -228,7 +216,6 @@ impl<'a> SendView<'a> {
         }
     }
 
-    /// How many bytes of memory the buffer takes, as of `SendHalf::held`.
     #[inline(always)]
     pub fn held(&self) -> u64
         ensures kept { length self.now.lane.kept ≤ result }
@@ -243,7 +230,6 @@ impl<'a> SendView<'a> {
         }
     }
 
-    /// Why a write and a finish are refused, `None` where they aren't (RFC 9000, sections 2.4 and 3.1).
     #[inline(always)]
     pub fn refusal(&self) -> Option<SendFault>
         ensures { result ≡ refusal self.now.lane }
@@ -254,7 +240,6 @@ impl<'a> SendView<'a> {
         }
     }
 
-    /// The longest chunk that may go, as of `SendHalf::next_chunk`.
     #[inline(always)]
     pub fn next_chunk(&self, room: usize, fresh: u64) -> Option<Chunk>
         ensures found { IfSome result (IsNextChunk self.now room fresh) }
@@ -267,7 +252,6 @@ impl<'a> SendView<'a> {
         }
     }
 
-    /// Whether the room alone holds a chunk back, as of `SendHalf::is_held_by_room`.
     #[inline(always)]
     pub fn is_held_by_room(&self, room: usize, fresh: u64) -> bool
         ensures { IsTrue result ↔ IsHeldByRoom self.now room fresh }
@@ -278,7 +262,6 @@ impl<'a> SendView<'a> {
         }
     }
 
-    /// Whether bytes that were never sent may go by the half's own limit.
     #[inline(always)]
     pub fn has_unsent(&self) -> bool
         ensures { result ≡ has_unsent self.now.lane }

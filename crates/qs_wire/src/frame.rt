@@ -1,11 +1,11 @@
 use crate::stream_id::{Dir, StreamId};
 
-/// A frame (RFC 9000, section 19). Its bytes are lent by the payload, so reading copies nothing.
+/// A frame, in the order of RFC 9000, sections 19.1 to 19.20. Two types of one layout are one frame. Its bytes are lent by the payload, so
+/// reading copies nothing.
 #[derive(Clone, Copy, Debug, PartialEq, Eq)]
 pub enum Frame<'a> {
     /// Section 19.1. Each byte is a frame of its own.
     Padding,
-    /// Section 19.2.
     Ping,
     /// Section 19.3, of both types: that with ECN counts and that without.
     Ack {
@@ -16,18 +16,15 @@ pub enum Frame<'a> {
         ranges: &'a [u8],
         ecn: Option<EcnCounts>,
     },
-    /// Section 19.4.
     ResetStream {
         stream: StreamId,
         code: u64,
         final_size: u64,
     },
-    /// Section 19.5.
     StopSending {
         stream: StreamId,
         code: u64,
     },
-    /// Section 19.6.
     Crypto {
         offset: u64,
         bytes: &'a [u8],
@@ -36,37 +33,30 @@ pub enum Frame<'a> {
     NewToken {
         bytes: &'a [u8],
     },
-    /// Section 19.8.
     Stream {
         stream: StreamId,
         offset: u64,
         fin: bool,
         bytes: &'a [u8],
     },
-    /// Section 19.9.
     MaxData {
         maximum: u64,
     },
-    /// Section 19.10.
     MaxStreamData {
         stream: StreamId,
         maximum: u64,
     },
-    /// Section 19.11, of both types: one for each direction.
     MaxStreams {
         dir: Dir,
         count: u64,
     },
-    /// Section 19.12.
     DataBlocked {
         limit: u64,
     },
-    /// Section 19.13.
     StreamDataBlocked {
         stream: StreamId,
         limit: u64,
     },
-    /// Section 19.14, of both types: one for each direction.
     StreamsBlocked {
         dir: Dir,
         count: u64,
@@ -80,7 +70,6 @@ pub enum Frame<'a> {
         /// 16 bytes.
         reset_token: &'a [u8],
     },
-    /// Section 19.16.
     RetireConnectionId {
         sequence: u64,
     },

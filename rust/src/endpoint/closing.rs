@@ -12,7 +12,7 @@ impl Endpoint {
     /// # let mut server = Endpoint::new(Role::Server, settings, settings.limits())?;
     /// # let mut payload = [0; 1200];
     /// assert_eq!(server.closing(), None);
-    /// No frame has the type 0x1f: FRAME_ENCODING_ERROR (section 12.4).
+    /// // No frame has the type 0x1f: FRAME_ENCODING_ERROR (section 12.4).
     /// server.receive(0, &[0x1f]).unwrap_err();
     /// assert_eq!(server.closing().map(|closing| closing.code), Some(0x07));
     /// # Ok::<(), Box<dyn std::error::Error>>(())
@@ -32,7 +32,7 @@ impl Endpoint {
     /// # let mut client = Endpoint::new(Role::Client, settings, settings.limits())?;
     /// # let mut server = Endpoint::new(Role::Server, settings, settings.limits())?;
     /// # let mut payload = [0; 1200];
-    /// No frame has the type 0x1f: FRAME_ENCODING_ERROR (section 12.4).
+    /// // No frame has the type 0x1f: FRAME_ENCODING_ERROR (section 12.4).
     /// server.receive(0, &[0x1f]).unwrap_err();
     /// let len = server.close_payload(&mut payload).expect("it closed");
     /// assert_eq!(client.receive(0, &payload[..len])?, Received::PeerClosed(0x07));
@@ -50,7 +50,7 @@ impl Endpoint {
     /// # let mut client = Endpoint::new(Role::Client, settings, settings.limits())?;
     /// # let mut server = Endpoint::new(Role::Server, settings, settings.limits())?;
     /// # let mut payload = [0; 1200];
-    /// No frame has the type 0x1f: FRAME_ENCODING_ERROR (section 12.4).
+    /// // No frame has the type 0x1f: FRAME_ENCODING_ERROR (section 12.4).
     /// server.receive(0, &[0x1f]).unwrap_err();
     /// let len = server.close_payload(&mut payload).expect("it closed");
     /// client.receive(0, &payload[..len])?;
@@ -75,7 +75,7 @@ impl Endpoint {
     ///
     /// let own = Settings::small();
     /// let mut end = Endpoint::new(Role::Client, own, own.limits())?;
-    /// H3_NO_ERROR, not a TLS alert.
+    /// // H3_NO_ERROR, not a TLS alert.
     /// let close = ToldClose { by: Closer::Peer, kind: CloseKind::Application, code: 0x100 };
     /// end.tell_closed(close);
     /// assert_eq!((end.told_close(), end.peer_closed()), (Some(close), None));

@@ -418,7 +418,7 @@ impl Endpoint {
     /// assert_eq!(end.kept_sum(), 5);
     /// let mut payload = [0; 1200];
     /// end.make_packet(&mut payload).expect("open").expect("due");
-    /// What was sent is kept still, until it is acknowledged.
+    /// // What was sent is kept still, until it is acknowledged.
     /// assert_eq!((end.unsent_sum(), end.kept_sum()), (0, 5));
     /// end.reset(one, 7).expect("open");
     /// assert_eq!(end.kept_sum(), 2);

@@ -168,7 +168,7 @@ impl Endpoint {
     /// assert_eq!((filled.last_stream, filled.more), (Some(high), false));
     /// let placed = frames(&room[..filled.len]).next().expect("one frame")?;
     /// assert!(matches!(placed.frame, Frame::Stream { stream, bytes: b"high", .. } if stream == high));
-    /// The bytes of `low` are due still.
+    /// // The bytes of `low` are due still.
     /// let filled = client.fill(&mut room, &Fill::all().from(high))?.expect("bytes are due");
     /// assert_eq!(filled.last_stream, Some(low));
     /// assert!(client.fill(&mut room, &Fill::all())?.is_none());

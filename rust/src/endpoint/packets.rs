@@ -166,7 +166,7 @@ impl Endpoint {
     ///
     /// let mut payload = [0; 1200];
     /// let made = client.make_packet_from(high, 0, &mut payload)?.expect("bytes are due");
-    /// The bytes of `high` stand before those of `low`.
+    /// // The bytes of `high` stand before those of `low`.
     /// assert_eq!(last_stream(&payload[..made.len]), Some(low));
     /// # Ok::<(), Box<dyn std::error::Error>>(())
     /// ```
@@ -289,7 +289,7 @@ impl Endpoint {
     /// # let mut client = Endpoint::new(Role::Client, settings, settings.limits())?;
     /// # let mut server = Endpoint::new(Role::Server, settings, settings.limits())?;
     /// # let mut payload = [0; 1200];
-    /// A PING of the transport.
+    /// // A PING of the transport.
     /// let number = client.claim_number()?;
     /// assert_eq!(server.receive(number, &[0x01])?, Received::Done);
     /// # Ok::<(), Box<dyn std::error::Error>>(())

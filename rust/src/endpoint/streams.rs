@@ -100,7 +100,7 @@ impl Endpoint {
     /// # use gotsavena::{Dir, Endpoint, Role, Settings};
     /// # let settings = Settings::default().send_buffer(8);
     /// # let mut client = Endpoint::new(Role::Client, settings, settings.limits())?;
-    /// Its buffer has room for 8 bytes.
+    /// // Its buffer has room for 8 bytes.
     /// let stream = client.open(Dir::Uni)?;
     /// assert_eq!(client.write(stream, b"hello")?, 5);
     /// assert_eq!(client.write(stream, b", world")?, 3);
@@ -388,7 +388,7 @@ impl Endpoint {
     /// client.write(stream, b"a request")?;
     /// carry(&mut client, &mut server)?;
     /// server.stop_and_forget(stream, 7)?;
-    /// The client is asked to stop, and resets its stream; nobody reads that.
+    /// // The client is asked to stop, and resets its stream; nobody reads that.
     /// carry(&mut server, &mut client)?;
     /// carry(&mut client, &mut server)?;
     /// assert_eq!(server.next_ended(stream), Some(stream));
@@ -610,7 +610,7 @@ impl Endpoint {
     /// # use gotsavena::{Dir, Endpoint, Role, Settings};
     /// # let settings = Settings::default();
     /// # let mut payload = [0; 1200];
-    /// The peer allows 4 bytes of each stream.
+    /// // The peer allows 4 bytes of each stream.
     /// let limits = settings.stream_windows(4).limits();
     /// let mut client = Endpoint::new(Role::Client, settings, limits)?;
     /// let stream = client.open(Dir::Uni)?;

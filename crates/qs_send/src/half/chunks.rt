@@ -73,7 +73,6 @@ impl SendHalf {
         self.reset_code().is_none() && self.sent_end() < self.written().min(self.limit())
     }
 
-    /// Whether the end is due.
     #[inline(always)]
     pub fn end_due(&self) -> bool
         ensures { result ≡ self.now.due.fin }
@@ -92,7 +91,6 @@ impl SendHalf {
             .part((chunk.offset - first) as usize, chunk.len)
     }
 
-    /// Copies the bytes of a chunk that is still in the buffer.
     pub fn copy(&self, chunk: Chunk, into: &mut [u8])
         requires kept { HasBytes self.now.lane chunk }
         requires fits { length into.old ≡ chunk.len }
@@ -114,7 +112,6 @@ impl SendHalf {
         self.head_len(chunk.offset) + varint_len(chunk.len as u64) + chunk.len
     }
 
-    /// Whether the chunk was sent at some time.
     pub fn has_sent(&self, chunk: Chunk) -> bool
         ensures { IsTrue result ↔ WasSent self.now.lane chunk }
     {

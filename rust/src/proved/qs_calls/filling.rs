@@ -13,13 +13,9 @@ pub const MIN_FILL: usize = 25;
 /// streams, lower streams first.
 #[derive(Clone, Copy, Debug, PartialEq, Eq)]
 pub struct Fill {
-    /// Control frames: limits, resets, STOP_SENDING and blocked frames (RFC 9000, section 13.3).
     pub items: bool,
-    /// Data and FINs of streams.
     pub streams: bool,
-    /// From this stream on, and then those below it.
     pub first: StreamId,
-    /// Of that stream alone.
     pub alone: bool,
     /// So many bytes of streams at most; `NO_CAP` stands for as many as fit. A chunk is cut if it would pass that, and then no stream has
     /// another turn. With 0 no byte goes in, and a FIN only if all bytes of its stream went and no stream before it has any.
@@ -42,7 +38,6 @@ impl Fill {
         }
     }
 
-    /// Control frames alone.
     #[inline]
     pub fn control() -> Fill {
         Fill {
@@ -54,7 +49,6 @@ impl Fill {
         }
     }
 
-    /// Data and FINs of streams alone, from stream 0 on.
     #[inline]
     pub fn data() -> Fill {
         Fill {
@@ -66,7 +60,6 @@ impl Fill {
         }
     }
 
-    /// The same, with streams from this one on, and then those below it.
     #[inline]
     pub fn from(self, stream: StreamId) -> Fill {
         Fill {
@@ -78,7 +71,6 @@ impl Fill {
         }
     }
 
-    /// The same, with this stream alone.
     #[inline]
     pub fn only(self, stream: StreamId) -> Fill {
         Fill {
@@ -90,7 +82,6 @@ impl Fill {
         }
     }
 
-    /// The same, with so many bytes of streams at most.
     #[inline]
     pub fn at_most(self, bytes: usize) -> Fill {
         Fill {

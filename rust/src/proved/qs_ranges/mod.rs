@@ -118,7 +118,6 @@ impl RangeSet {
         copy_runs(&self.blocks, into)
     }
 
-    /// Whether `n` is a member.
     #[inline]
     pub fn has(&self, n: u64) -> bool {
         if !self.blocks.is_empty() {
@@ -141,7 +140,6 @@ impl RangeSet {
         matches!(self.run_above(lo), Some((start, end)) if start <= lo && hi <= end)
     }
 
-    /// The least member.
     #[inline]
     pub fn first(&self) -> Option<u64> {
         let (start, _) = self.run_from(0)?;

@@ -18,7 +18,6 @@ pub enum RecvFault {
     FinalSize,
     /// The stream's limit is exceeded: FLOW_CONTROL_ERROR (section 4.1).
     StreamCredit,
-    /// Memory was refused.
     NoMemory,
     /// Another byte stands at an offset that is still stored: PROTOCOL_VIOLATION (section 2.2).
     ChangedByte,
@@ -77,7 +76,6 @@ pub enum Peek<'a> {
     Wait,
 }
 
-/// The states of the receiving part of a stream (section 3.2).
 #[derive(Debug, Clone, Copy, PartialEq, Eq)]
 pub enum RecvState {
     Recv,
@@ -230,7 +228,6 @@ impl<A: Assembly> RecvHalf<A> {
         }
     }
 
-    /// Whether a RESET_STREAM frame that names this final size may be taken.
     #[inline]
     pub fn check_reset(&self, size: u64) -> Result<Highest, RecvFault> {
         debug_assert!(size <= 0x3fff_ffff_ffff_ffff);
@@ -328,7 +325,6 @@ impl<A: Assembly> RecvHalf<A> {
         }
     }
 
-    /// What it adds to the sums over all halves.
     #[inline]
     pub fn sizes(&self) -> Sizes {
         match &self.parts {
@@ -359,7 +355,6 @@ impl<A: Assembly> RecvHalf<A> {
         }
     }
 
-    /// The limit on the highest offset that was granted (section 4.1).
     #[inline]
     pub fn limit(&self) -> u64 {
         match &self.parts {
@@ -421,7 +416,6 @@ impl<A: Assembly> RecvHalf<A> {
         }
     }
 
-    /// How many bytes were read.
     #[inline]
     pub fn read_count(&self) -> u64 {
         match &self.parts {
@@ -431,7 +425,6 @@ impl<A: Assembly> RecvHalf<A> {
         }
     }
 
-    /// The code of the first stop, if there was one: at most 2^62 - 1.
     #[inline]
     pub fn stop_code(&self) -> Option<u64> {
         match &self.parts {
@@ -441,7 +434,6 @@ impl<A: Assembly> RecvHalf<A> {
         }
     }
 
-    /// The code of the reset that took effect, if one did.
     #[inline]
     pub fn reset_code(&self) -> Option<u64> {
         match &self.parts {

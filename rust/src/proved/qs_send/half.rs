@@ -182,19 +182,16 @@ impl SendHalf {
         self.widest = self.widest.max(size);
     }
 
-    /// Notes that a STREAM_DATA_BLOCKED was sent.
     #[inline]
     pub fn note_blocked(&mut self) {
         self.blocked_sent = true;
     }
 
-    /// Notes that the RESET_STREAM is acknowledged.
     #[inline]
     pub fn reset_acked(&mut self) {
         self.reset_acked = true;
     }
 
-    /// Notes that the chunk was sent: it is in flight.
     #[inline]
     pub fn sent(&mut self, chunk: Chunk) {
         self.offsets.sent(chunk.offset + chunk.len as u64);
@@ -226,7 +223,6 @@ impl SendHalf {
         Ok(())
     }
 
-    /// The state (RFC 9000, section 3.1).
     #[inline]
     pub fn state(&self) -> SendState {
         if self.reset_acked {
@@ -266,7 +262,6 @@ impl SendHalf {
         self.offsets.kept_len()
     }
 
-    /// How many bytes were written.
     #[inline(always)]
     pub fn written(&self) -> u64 {
         self.offsets.written()

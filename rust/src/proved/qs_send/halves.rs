@@ -19,7 +19,6 @@ pub struct SendHalves {
 }
 
 impl SendHalves {
-    /// None yet, of a type of streams.
     #[inline]
     pub fn new(alloc: Global, stream_type: u64) -> Self {
         debug_assert!(stream_type < 4);
@@ -30,13 +29,11 @@ impl SendHalves {
         }
     }
 
-    /// How many there are.
     #[inline(always)]
     pub fn len(&self) -> usize {
         self.slots.len()
     }
 
-    /// The half at an index, to be read.
     #[inline(always)]
     pub fn at(&self, index: usize) -> SendView<'_> {
         let slot = self.slots[index];
@@ -79,7 +76,6 @@ impl SendHalves {
         }
     }
 
-    /// Puts a half behind the others.
     #[inline]
     pub fn push(&mut self, half: SendHalf) -> Result<(), NoMemory> {
         let slot = SendSlot::full(self.full.len());
@@ -117,7 +113,6 @@ impl SendHalves {
         put_over(&mut self.slots, &mut self.full, index, over);
     }
 
-    /// Raises the peer's limit of a half.
     #[inline]
     pub fn allow(&mut self, index: usize, limit: u64) {
         debug_assert!(limit <= 0x3fff_ffff_ffff_ffff);
@@ -130,7 +125,6 @@ impl SendHalves {
         slot.rest = now.max(limit) * 2 + slot.rest % 2;
     }
 
-    /// Sets how many bytes a half keeps at most.
     #[inline]
     pub fn set_buffer(&mut self, index: usize, size: u32) {
         let slot = &mut self.slots[index];
@@ -142,7 +136,6 @@ impl SendHalves {
         slot.widest = slot.widest.max(size);
     }
 
-    /// Notes that a STREAM_DATA_BLOCKED was sent.
     #[inline]
     pub fn note_blocked(&mut self, index: usize) {
         let slot = &mut self.slots[index];

@@ -20,7 +20,6 @@ pub struct LostRecords {
 }
 
 impl LostRecords {
-    /// No records. It takes no memory.
     #[inline]
     pub fn new(alloc: Global) -> Self {
         LostRecords {
@@ -49,7 +48,6 @@ impl LostRecords {
         drop_oldest(&mut self.order, &mut self.list);
     }
 
-    /// The first piece of a packet, `None` where the number isn't held.
     #[inline]
     pub fn first(&self, number: u64) -> Option<Piece> {
         self.list.first(number)
@@ -66,7 +64,6 @@ impl LostRecords {
         }
     }
 
-    /// Whether the packet has a piece here.
     #[inline]
     pub fn is_held(&self, number: u64) -> bool {
         self.list.is_held(number)
@@ -85,7 +82,6 @@ impl LostRecords {
         self.list.below(number, near)
     }
 
-    /// How many packets are held.
     #[inline]
     pub fn len(&self) -> usize {
         self.order.len()

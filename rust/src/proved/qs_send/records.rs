@@ -24,7 +24,6 @@ pub struct Records {
 }
 
 impl Records {
-    /// No records. It takes no memory.
     #[inline]
     pub fn new(alloc: Global) -> Self {
         Records {
@@ -74,7 +73,6 @@ impl Records {
         self.push_slot(Carried::one(piece));
     }
 
-    /// The first piece of a packet, `None` if the number isn't held.
     #[inline]
     pub fn first(&self, number: u64) -> Option<Piece> {
         match self.slot_of(number) {
@@ -101,13 +99,11 @@ impl Records {
         }
     }
 
-    /// Whether some packet has the piece.
     #[inline]
     pub fn holds(&self, piece: Piece) -> bool {
         some_has(&self.slots, piece)
     }
 
-    /// Whether the packet has a piece here.
     #[inline]
     pub fn is_held(&self, number: u64) -> bool {
         match self.slot_of(number) {
@@ -116,7 +112,6 @@ impl Records {
         }
     }
 
-    /// The greatest number that is held.
     #[inline]
     pub fn greatest(&self) -> Option<u64> {
         self.last_of(self.slots.len())

@@ -49,7 +49,6 @@ impl<'a> SendView<'a> {
         }
     }
 
-    /// The half, if it isn't over.
     #[inline(always)]
     pub fn not_over(&self) -> Option<&'a SendHalf> {
         match self.half {
@@ -58,7 +57,6 @@ impl<'a> SendView<'a> {
         }
     }
 
-    /// The code of the first STOP_SENDING that came (RFC 9000, section 3.5).
     #[inline(always)]
     pub fn stop_code(&self) -> Option<u64> {
         match self.half {
@@ -67,7 +65,6 @@ impl<'a> SendView<'a> {
         }
     }
 
-    /// Whether a STOP_SENDING would change the half (RFC 9000, section 3.5).
     #[inline(always)]
     pub fn stop_changes(&self) -> bool {
         match self.half {
@@ -76,7 +73,6 @@ impl<'a> SendView<'a> {
         }
     }
 
-    /// Whether one that the application answers would change it.
     #[inline(always)]
     pub fn told_changes(&self) -> bool {
         match self.half {
@@ -85,7 +81,6 @@ impl<'a> SendView<'a> {
         }
     }
 
-    /// The state (RFC 9000, section 3.1).
     #[inline(always)]
     pub fn state(&self) -> SendState {
         match self.half {
@@ -94,7 +89,6 @@ impl<'a> SendView<'a> {
         }
     }
 
-    /// The final size that was declared, by a reset or by the end that was sent (RFC 9000, section 4.5).
     #[inline(always)]
     pub fn final_size(&self) -> Option<u64> {
         match self.half {
@@ -103,7 +97,6 @@ impl<'a> SendView<'a> {
         }
     }
 
-    /// The application's code of the reset: at most 2^62 - 1.
     #[inline(always)]
     pub fn reset_code(&self) -> Option<u64> {
         match self.half {
@@ -112,7 +105,6 @@ impl<'a> SendView<'a> {
         }
     }
 
-    /// How many bytes were written.
     #[inline(always)]
     pub fn written(&self) -> u64 {
         match self.half {
@@ -121,7 +113,6 @@ impl<'a> SendView<'a> {
         }
     }
 
-    /// The number after the largest offset that was sent; 0 where none was.
     #[inline(always)]
     pub fn sent_end(&self) -> u64 {
         match self.half {
@@ -130,7 +121,6 @@ impl<'a> SendView<'a> {
         }
     }
 
-    /// The lowest offset that isn't acknowledged (RFC 9000, section 13.3).
     #[inline(always)]
     pub fn unacked_from(&self) -> u64 {
         match self.half {
@@ -139,7 +129,6 @@ impl<'a> SendView<'a> {
         }
     }
 
-    /// The offsets below it may be sent.
     #[inline(always)]
     pub fn limit(&self) -> u64 {
         match self.half {
@@ -148,7 +137,6 @@ impl<'a> SendView<'a> {
         }
     }
 
-    /// How many bytes the buffer can take: none while more are kept than it is set to.
     #[inline(always)]
     pub fn room(&self) -> usize {
         match self.half {
@@ -157,7 +145,6 @@ impl<'a> SendView<'a> {
         }
     }
 
-    /// How many bytes of memory the buffer takes, as of `SendHalf::held`.
     #[inline(always)]
     pub fn held(&self) -> u64 {
         match self.half {
@@ -166,7 +153,6 @@ impl<'a> SendView<'a> {
         }
     }
 
-    /// Why a write and a finish are refused, `None` where they aren't (RFC 9000, sections 2.4 and 3.1).
     #[inline(always)]
     pub fn refusal(&self) -> Option<SendFault> {
         match self.half {
@@ -175,7 +161,6 @@ impl<'a> SendView<'a> {
         }
     }
 
-    /// The longest chunk that may go, as of `SendHalf::next_chunk`.
     #[inline(always)]
     pub fn next_chunk(&self, room: usize, fresh: u64) -> Option<Chunk> {
         match self.half {
@@ -184,7 +169,6 @@ impl<'a> SendView<'a> {
         }
     }
 
-    /// Whether the room alone holds a chunk back, as of `SendHalf::is_held_by_room`.
     #[inline(always)]
     pub fn is_held_by_room(&self, room: usize, fresh: u64) -> bool {
         match self.half {
@@ -193,7 +177,6 @@ impl<'a> SendView<'a> {
         }
     }
 
-    /// Whether bytes that were never sent may go by the half's own limit.
     #[inline(always)]
     pub fn has_unsent(&self) -> bool {
         match self.half {

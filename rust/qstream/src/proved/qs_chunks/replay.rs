@@ -6,27 +6,18 @@ use crate::proved::qs_ranges::NoMemory;
 use crate::proved::qs_recv::Assembly;
 use crate::shim::alloc::Global;
 
-/// What is done to an assembly.
 #[derive(Debug, PartialEq, Eq)]
 pub enum Step {
-    /// Bytes come at an offset.
     Put { offset: u64, bytes: Vec<u8> },
-    /// The bytes that are next are read, at most so many.
     Take { size: usize },
-    /// The stored bytes are thrown away, and those that come from then on.
     Discard,
 }
 
-/// What a step shows.
 #[derive(Debug, PartialEq, Eq)]
 pub enum Shown {
-    /// Bytes were handed on.
     Stored,
-    /// Bytes ended past the window, and nothing was done.
     Skipped,
-    /// These bytes were read.
     Taken(Vec<u8>),
-    /// The stored bytes were thrown away.
     Discarded,
 }
 
@@ -62,7 +53,6 @@ struct Player<A: Assembly> {
 }
 
 impl<A: Assembly> Player<A> {
-    // An assembly to which nothing came.
     fn new(alloc: Global, window: u64) -> Self {
         debug_assert!(1 <= window);
         debug_assert!(window <= 1 << 30);
@@ -93,7 +83,6 @@ impl<A: Assembly> Player<A> {
         }
     }
 
-    // Whether so many bytes at an offset end past the window.
     fn is_past(&self, offset: u64, len: u64) -> bool {
         !self.discarding && offset + len > self.read_count + self.window
     }

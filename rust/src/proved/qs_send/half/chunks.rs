@@ -58,7 +58,6 @@ impl SendHalf {
         self.reset_code().is_none() && self.sent_end() < self.written().min(self.limit())
     }
 
-    /// Whether the end is due.
     #[inline(always)]
     pub fn end_due(&self) -> bool {
         self.fin_noted && !self.fin_acked
@@ -72,7 +71,6 @@ impl SendHalf {
             .part((chunk.offset - first) as usize, chunk.len)
     }
 
-    /// Copies the bytes of a chunk that is still in the buffer.
     #[inline]
     pub fn copy(&self, chunk: Chunk, into: &mut [u8]) {
         let (front, back) = self.bytes(chunk);
@@ -88,7 +86,6 @@ impl SendHalf {
         self.head_len(chunk.offset) + varint_len(chunk.len as u64) + chunk.len
     }
 
-    /// Whether the chunk was sent at some time.
     #[inline]
     pub fn has_sent(&self, chunk: Chunk) -> bool {
         let sent_end = self.offsets.sent_end();
