@@ -1,4 +1,4 @@
--- Receiving lanes that are raised one by one, and marked; and those that were opened and are taken back.
+-- Receiving lanes that are raised one by one, and marked.
 use Rattle.std.proofs.Common.{◌≡◌, ℕ, zero, suc, ◌+◌, ◌*◌, ◌/◌, ◌%◌, ◌<◌, ◌≤◌, nat_lt, Bool, true, false, cond, List, [], ◌∷◌, length, map, get_or, None, Some, slice_get, refl, sym, ap, ◌∙◌, subst, arith, inl, inr}
 use Rattle.std.proofs.Math.ListN.{set, length-set}
 use Rattle.std.proofs.lemmas.Bool.{cases_eq}
@@ -11,14 +11,8 @@ use Rattle.qs_conn.proofs.Settling.{settled_raise, raised_twice, none_raised, ge
 use Rattle.qs_conn.proofs.Untolds.{is_marked_now, unmarked_before}
 use Rattle.std.proofs.lemmas.Option.{none-some, same_Some, slice_get_cases, get_or_from_slice_get, slice_get_within}
 use Rattle.qs_recv.specs.Lane.{RecvLane, raise, raise_answer, raised_limit}
-use Rattle.qs_machine.specs.declared.tally.Tally.{Tally}
 use Rattle.qs_conn.specs.declared.touches.Touches.{Touches}
-use Rattle.qs_conn.specs.Layers.{AreCounted}
 use Rattle.qs_conn.specs.Touches.{is_touched, IsTaken, IsSettled, AreSettled}
-
--- what was opened is taken back
-pub lanes_undone : (xs now : List RecvLane) (t now_t : Tally) (touched now_touched : Touches) → now ≡ xs → now_t ≡ t → now_touched ≡ touched → AreCounted xs t touched → AreCounted now now_t now_touched
-lanes_undone xs now t now_t touched now_touched a b c h = rw (a, b, c) h
 
 -- Raised lanes are marked
 
@@ -115,17 +109,6 @@ none_marked kind xs t marks settled none i l at free = settled_raise l (settled 
 
 pub all_marked : (kind : ℕ) (xs now : List RecvLane) (t : Touches) (marks : Tables Bool) → AreRaisedSoFar kind xs now t marks → ((i : ℕ) → is_touched t i ≡ false) → AreRaisedMarked kind xs marks
 all_marked kind xs now t marks far none i l at free = settled_raise l (far.settled i l (far.same i l at free) (none i))
-
--- no lane has a limit to be raised once all were
-pub still_settled : (xs : List RecvLane) (t : Touches) → AreSettled t (map raise xs)
-still_settled [] t i l at free = absurd (none-some l at)
-still_settled (x ∷ xs) t zero l at free = subst IsSettled (same_Some (raise x) l at) (raised_twice x)
-still_settled (x ∷ xs) t (suc i) l at free = rest xs i at
-  where
-    rest : (ys : List RecvLane) (j : ℕ) → slice_get (map raise ys) j ≡ Some l → IsSettled l
-    rest [] j there = absurd (none-some l there)
-    rest (y ∷ ys) zero there = subst IsSettled (same_Some (raise y) l there) (raised_twice y)
-    rest (y ∷ ys) (suc j) there = rest ys j there
 
 -- the lanes of all four types
 pub raised_tables : (ls : List (List RecvLane)) (a b c d e f g : List RecvLane) (t u v w : Tables Bool) → length ls ≡ 4 → AreRaisedMarked 0 (get_or ls 0 d) t → AreRaisedMarked 1 (get_or (set ls 0 a) 1 e) u → AreRaisedMarked 2 (get_or (set (set ls 0 a) 1 b) 2 f) v

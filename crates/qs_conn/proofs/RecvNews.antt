@@ -110,10 +110,6 @@ noted_again xs old new i y looked h t = looked t ∙ ap (λ ms. slice_set ms i (
 pub noted_fewer : (n : ℕ) (xs : List RecvLane) (old new : RecvMarks) → ((t : RecvTask) → marks_of new t ≡ take n (marks_of old t)) → AreNoted xs old → AreNoted (take n xs) new
 noted_fewer n xs old new is h t = is t ∙ ap (take n) (h t) ∙ take-map (has t) n xs
 
--- what was opened is taken back
-pub noted_undone : (xs now : List RecvLane) (old new : RecvMarks) → now ≡ xs → ((t : RecvTask) → marks_of new t ≡ marks_of old t) → AreNoted xs old → AreNoted now new
-noted_undone xs now old new is at h t = at t ∙ h t ∙ ap (map (has t)) (sym is)
-
 -- a lane begins without an answer
 pub begins_without : (t : RecvTask) (window : ℕ) (share : Share) → HasNone t (new_lane window share)
 begins_without tasks.Readable window share = ap tells_something (not_chosen _ _ Wait (set.contains-empty nat_cmp 0))
@@ -145,5 +141,5 @@ raised_marks : (t : RecvTask) (xs : List RecvLane) → map (has t) (map raise xs
 raised_marks t [] = refl
 raised_marks t (x ∷ xs) = rw (has_raised t x, raised_marks t xs) refl
 
-pub noted_raised : (xs now : List RecvLane) (marks : RecvMarks) → now ≡ map raise xs → AreNoted xs marks → AreNoted now marks
-noted_raised xs now marks is h t = h t ∙ sym (raised_marks t xs) ∙ ap (map (has t)) (sym is)
+pub noted_raised : (xs : List RecvLane) (marks : RecvMarks) → AreNoted xs marks → AreNoted (map raise xs) marks
+noted_raised xs marks h t = h t ∙ sym (raised_marks t xs)

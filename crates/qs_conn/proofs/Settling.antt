@@ -1,21 +1,22 @@
 -- A lane whose limit is the next one already.
-use Rattle.std.proofs.Common.{◌≡◌, ◌≢◌, ℕ, zero, suc, ◌+◌, ◌<◌, ◌≤◌, ◌⊎◌, inl, inr, Bool, true, false, ◌&&◌, ◌||◌, List, [], ◌∷◌, ◌++◌, length, map, take, replicate, Option, Some, None, is_some, refl, ap, sym, ◌∙◌, arith, subst, min, nat_le, nat_lt, cond, eqb, get_or}
+use Rattle.std.proofs.Common.{◌≡◌, ◌≢◌, ℕ, zero, suc, ◌+◌, ◌<◌, ◌≤◌, ◌⊎◌, inl, inr, Bool, true, false, ◌&&◌, ◌||◌, List, [], ◌∷◌, ◌++◌, length, map, take, replicate, Option, Some, None, is_some, refl, ap, sym, ◌∙◌, arith, subst, max, min, nat_le, nat_lt, cond, eqb, get_or}
 use Rattle.std.proofs.lemmas.Option.{none-some, same_Some, slice_get_read, slice_get_within}
 use Rattle.std.proofs.lemmas.Bool.Decides.{nat_tests}
-use Rattle.std.proofs.lemmas.Bool.{both_ways, cases_eq}
+use Rattle.std.proofs.lemmas.Bool.{both_ways, cases_eq, true≢false}
 use Rattle.std.proofs.Math.ListN.{set, length-set}
 use Rattle.std.proofs.Math.Seq.{take-append_seam}
 use Rattle.std.specs.List.{slice_get}
 use Rattle.qs_ranges.specs.Numbers.{MAX_VARINT}
-use Rattle.qs_recv.specs.Assembled.{forget}
-use Rattle.qs_recv.specs.Lane.{MAX_WINDOW, RecvLane, new_lane, step, raise, take_stream, take_reset, is_whole}
+use Rattle.qs_recv.specs.Lane.{MAX_WINDOW, RecvLane, new_lane, step, raise, taken, take_stream, next_limit, limit_with, set_window}
 use Rattle.qs_recv.specs.Lawful.{IsLawful}
 use Rattle.qs_recv.specs.declared.credit.Share.{Share}
+use Rattle.qs_recv.specs.declared.credit.Share.TheVariants.{Half, Quarter, Eighth, Sixteenth}
 use Rattle.qs_conn.specs.declared.touches.Touches.{Touches}
 use Rattle.qs_machine.proofs.Again.{next_twice}
 use Rattle.qs_conn.specs.Marks.{is_marked}
 use Rattle.qs_conn.specs.declared.touches.Touched.{Touched}
 use Rattle.qs_conn.specs.declared.touches.Touched.TheVariants.{Several}
+use Rattle.qs_conn.specs.RecvEdits.{IsCalm}
 use Rattle.qs_conn.specs.Touches.{is_among, is_touched, IsSettled, AreSettled}
 
 -- One lane
@@ -51,12 +52,36 @@ stream_settled l offset bytes fin h no_stop was = by_case l.reset_code l.stop_co
     by_case (Some c) s None false no_stop sized was = absurd (both_ways false refl (sized refl))
     by_case None (Some c) f false no_stop sized was = absurd (both_ways true no_stop refl)
 
-pub reset_settled : (l : RecvLane) (code size : ℕ) → IsSettled l → IsSettled (take_reset l code size)
-reset_settled l code size was = by_case (is_some l.reset_code || is_whole l)
+-- by how much a limit moves falls by no more than the window
+steps_near : (w w' : ℕ) (share : Share) → w' ≤ w → step share w + w' ≤ step share w' + w
+steps_near w w' Half le = omega (arith, le)
+steps_near w w' Quarter le = omega (arith, le)
+steps_near w w' Eighth le = omega (arith, le)
+steps_near w w' Sixteenth le = omega (arith, le)
+
+next_under : (l t w w' : ℕ) (share : Share) → next_limit l t w share ≡ l → next_limit (limit_with w l t w') t w' share ≡ limit_with w l t w'
+next_under l t w w' share was = go (nat_lt w w') refl
   where
-    by_case : (b : Bool) → IsSettled (cond b l (record l { arrived = forget l.arrived; final_size = Some size; reset_code = Some code }))
-    by_case true = was
-    by_case false = refl
+    some : 1 ≤ step share w'
+    some = omega arith
+
+    some_before : 1 ≤ step share w
+    some_before = omega arith
+
+    stands : (b : Bool) → moves l t w share ≡ b → cond b (most t w) l ≡ l → w' ≤ w → moves l t w' share ≡ false
+    stands true is same le = absurd (true≢false (sym is ∙ grind (arith, nat_tests, same, some_before)))
+    stands false is same le = grind (arith, nat_tests, is, some, le, steps_near w w' share le)
+
+    go : (b : Bool) → nat_lt w w' ≡ b → (let l' = cond b (max l (most t w')) l in next_limit l' t w' share ≡ l')
+    go true lt = let stays : moves (max l (most t w')) t w' share ≡ false = grind (arith, nat_tests, some) in ap (λ c. cond c (most t w') (max l (most t w'))) stays
+    go false ge = let stays : moves l t w' share ≡ false = stands (moves l t w share) refl was (grind (arith, nat_tests, ge)) in ap (λ c. cond c (most t w') l) stays
+
+pub calm_window : (l : RecvLane) (w : ℕ) → IsCalm l (set_window l w)
+calm_window l w = record { settled = λ took was. by_final l.final_size was }
+  where
+    by_final : (f : Option ℕ) → IsSettled (record l { final_size = f }) → IsSettled (set_window (record l { final_size = f }) w)
+    by_final (Some n) is = refl
+    by_final None is = next_under l.limit _ l.window w l.share is
 
 -- All lanes
 
@@ -87,22 +112,18 @@ get_same [] i y l at = absurd (none-some l at)
 get_same (x ∷ xs) zero y l at = (same_Some y l at, omega arith)
 get_same (x ∷ xs) (suc i) y l at = let (is, lt) = get_same xs i y l at in (is, omega (arith, lt))
 
--- a lane becomes another, which is settled if the first was
-pub are_kept : (t : Touches) (xs : List RecvLane) (i : ℕ) (x y : RecvLane) → x ≡ get_or xs i x → (IsSettled x → IsSettled y) → AreSettled t xs → AreSettled t (set xs i y)
-are_kept t xs i x y at keep each j l there free =
+-- a lane becomes another, and is touched where what was taken of it moved
+pub are_moved : (t new : Touches) (xs : List RecvLane) (i : ℕ) (x y : RecvLane) → i < length xs → x ≡ get_or xs i x → length t.marks ≡ length xs → IsCalm x y
+    → ((j : ℕ) → j < length t.marks → is_touched new j ≡ false → (is_touched t j ≡ false) × (j ≡ i → taken y ≡ taken x)) → AreSettled t xs → AreSettled new (set xs i y)
+are_moved t new xs i x y there at room calm touched each j l found free =
+    let in_xs : j < length xs = omega (arith, slice_get_within (set xs i y) j l found, length-set xs i y) in
+    let (was, still) = touched j (omega (arith, room, in_xs)) free in
     elim (cases_eq j i) [
       | inl e ↦
-          (let (is, lt) = get_same xs i y l (ap (slice_get (set xs i y)) (sym e) ∙ there) in
-          subst IsSettled is (keep (each i x (slice_get_read xs (length xs) i x refl lt at) (subst (λ k. is_touched t k ≡ false) e free))))
-      | inr ne ↦ each j l (sym (get_other xs i j y ne) ∙ there) free
+          (let (is, lt) = get_same xs i y l (ap (slice_get (set xs i y)) (sym e) ∙ found) in
+          subst IsSettled is (calm.settled (still e) (each i x (slice_get_read xs (length xs) i x refl lt at) (subst (λ k. is_touched t k ≡ false) e was))))
+      | inr ne ↦ each j l (sym (get_other xs i j y ne) ∙ found) was
     ]
-
--- any lane is put in the place of one that is noted
-pub are_touched : (t new : Touches) (xs : List RecvLane) (i : ℕ) (y : RecvLane) → length t.marks ≡ length xs → ((j : ℕ) → j < length t.marks → is_touched new j ≡ false → (is_touched t j ≡ false) × (j ≡ i → ⊥)) → AreSettled t xs → AreSettled new (set xs i y)
-are_touched t new xs i y room touched each j l there free =
-    let in_xs : j < length xs = omega (arith, slice_get_within (set xs i y) j l there, length-set xs i y) in
-    let (was, ne) = touched j (omega (arith, room, in_xs)) free in
-    each j l (sym (get_other xs i j y ne) ∙ there) was
 
 -- lanes are opened
 
@@ -158,3 +179,14 @@ pub touched_back : (t now : Touches) (n k : ℕ) → now.lanes ≡ t.lanes → n
 touched_back t now n k lanes marks len =
     ap (λ f. record now { lanes = f }) lanes
     ∙ ap (λ ms. record t { marks = ms }) (marks ∙ ap (λ m. take m (t.marks ++ replicate k false)) len ∙ take-append_seam t.marks (replicate k false))
+
+-- no lane has a limit to be raised once all were
+pub still_settled : (xs : List RecvLane) (t : Touches) → AreSettled t (map raise xs)
+still_settled [] t i l at free = absurd (none-some l at)
+still_settled (x ∷ xs) t zero l at free = subst IsSettled (same_Some (raise x) l at) (raised_twice x)
+still_settled (x ∷ xs) t (suc i) l at free = rest xs i at
+  where
+    rest : (ys : List RecvLane) (j : ℕ) → slice_get (map raise ys) j ≡ Some l → IsSettled l
+    rest [] j there = absurd (none-some l there)
+    rest (y ∷ ys) zero there = subst IsSettled (same_Some (raise y) l there) (raised_twice y)
+    rest (y ∷ ys) (suc j) there = rest ys j there

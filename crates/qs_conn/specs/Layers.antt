@@ -2,9 +2,6 @@
 -- What the private layers of an endpoint keep beside their values.
 use Rattle.std.specs.Prelude.{◌≡◌, ℕ, ◌≤◌, ◌<◌, ◌^◌, Bool, if◌then◌else◌, List, length, Option, None, Some, is_some, is_none, ⊤}
 use Rattle.qs_recv.specs.Lane.{RecvLane, is_whole}
-use Rattle.qs_machine.specs.declared.tally.Tally.{Tally}
-use Rattle.qs_conn.specs.declared.touches.Touches.{Touches}
-use Rattle.qs_conn.specs.Touches.{AreSettled}
 use Rattle.qs_calls.specs.declared.uses.UseFault.{UseFault}
 use Rattle.qs_calls.specs.declared.uses.UseFault.TheVariants as uses
 use Rattle.qs_calls.specs.declared.closing.Closed.{Closed}
@@ -17,21 +14,12 @@ use Rattle.qs_conn.specs.declared.endpoint.receiving.Progress.TheVariants as pro
 use Rattle.qs_machine.specs.Seen.{seen, asks_ack}
 use Rattle.qs_machine.specs.FrameStep.{frame_taken}
 use Rattle.qs_machine.specs.Receiving.{Stops, GoesOn}
-use Rattle.qs_machine.specs.Sums.{tally_on, EachLawful}
 pub use Rattle.qs_machine.specs.Heard.{limit_to_tell}
 
 -- the code of a stop, while more may come (RFC 9000, section 3.5)
 abbrev pub stop_to_tell : Option RecvLane → Option ℕ
 stop_to_tell None = None
 stop_to_tell (Some lane) = if is_some lane.reset_code then None else (if is_whole lane then None else lane.stop_code)
-
--- the sums are right, and only touched lanes may have a limit to be raised
-pub record AreCounted (lanes : List RecvLane) (tally : Tally) (touched : Touches) : Type 0 where
-  pub counted : tally_on lanes ≡ tally
-  pub lawful : EachLawful lanes
-  pub settled : AreSettled touched lanes
-  pub room : length touched.marks ≡ length lanes
-  pub few : length lanes ≤ 2 ^ 60
 
 -- why a stream can't be sent on: the end is closed, or there is no such half
 abbrev pub no_sender : End → ℕ → Option UseFault

@@ -8,6 +8,7 @@ pub mod Runs
 pub mod Marks
 pub mod Tasks
 pub mod RecvTasks
+pub mod RecvEdits
 pub mod Words
 pub mod Sending
 pub mod Untold

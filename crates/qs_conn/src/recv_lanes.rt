@@ -1,15 +1,15 @@
 //! The receiving halves of the streams of one type.
-ghost use Rattle.std.specs.Prelude.{◌≡◌, ◌+◌, ◌-◌, ◌≤◌, ◌<◌, ◌^◌, ◌++◌, ◌∷◌, [], length, drop, map, min, take, slice_get, slice_index_or, ℕ, false, None, Some, IfSome, IfNone, OnOk, OnErr, IsOk};
+ghost use Rattle.std.specs.Prelude.{◌≡◌, ◌+◌, ◌-◌, ◌≤◌, ◌<◌, ◌^◌, ◌++◌, ◌∷◌, [], length, map, min, take, slice_get, slice_index_or, ℕ, false, None, Some, IfSome, IfNone, OnOk, OnErr};
 ghost use Rattle.std.specs.List.{sum_by};
 ghost use Rattle.qs_ranges.specs.Numbers.{MAX_VARINT};
-ghost use Rattle.qs_recv.specs.Lane.{MAX_WINDOW, RecvLane, new_lane, check_stream, check_reset, check_bytes, highest, highest_after, take_stream, take_reset, read_answer, bytes_read, after_read, raise, stop, stop_and_forget, set_window};
+ghost use Rattle.qs_recv.specs.Lane.{MAX_WINDOW, RecvLane, new_lane, check_reset, raise};
 ghost use Rattle.qs_recv.specs.Lawful.{IsLawful};
 ghost use Rattle.qs_machine.specs.Tables.{widened};
-ghost use Rattle.qs_machine.specs.Memory.{HasNews};
 ghost use Rattle.qs_machine.specs.Verdicts.{or_new};
-ghost use Rattle.qs_machine.specs.Sums.{changed, tally_of, tally_on, stored_on, moved, IsPart, IsPaid, EachLawful};
+ghost use Rattle.qs_machine.specs.Sums.{changed, tally_of, tally_on, stored_on, IsPaid, EachLawful};
 ghost use Rattle.qs_conn.specs.Held.{least_held, most_held};
 ghost use Rattle.qs_conn.specs.Touches.{AreSettled};
+ghost use Rattle.qs_conn.specs.RecvEdits.{OnceInto, OnceTakesInto, LeavesCalm, IsEdited, wrapped, with_parts};
 ghost use Rattle.qs_machine.specs.News.{IsLeast};
 ghost use Rattle.qs_conn.specs.Marks.{AreMarked, IsAt, IsUntoldAt};
 ghost use Rattle.qs_conn.specs.declared.recv_marks.RecvTask.TheVariants as tasks;
@@ -24,7 +24,7 @@ use crate::touches::Touches;
 use crate::untold::Untold;
 use qs_machine::Tally;
 use qs_ranges::NoMemory;
-use qs_recv::{Highest, Read, RecvFault, RecvHalf, RingAssembly, Share};
+use qs_recv::{Highest, RecvFault, RecvHalf, RingAssembly, Share};
 use qs_wire::StreamId;
 use std::alloc::Global;
 use std::marker::Model;
@@ -36,6 +36,7 @@ pub(crate) type Half = RecvHalf<RingAssembly>;
 pub(crate) struct RecvLanes {
     alloc: Global,
     halves: Vec<Half>,
+    // Modulo 2^64: whoever asks for the sums knows that they fit.
     tally: Tally,
     // A lane that wasn't touched has no limit that is to be raised.
     touched: Touches,
@@ -49,8 +50,7 @@ impl Model for RecvLanes {
     ghost use Rattle.std.specs.Coded.{coded_list};
     ghost use Rattle.qs_recv.specs.Lane.{RecvLane};
     ghost use Rattle.qs_recv.specs.Codes.{lane_code};
-    ghost use Rattle.qs_conn.specs.Layers.{AreCounted};
-    ghost use Rattle.qs_conn.specs.RecvTasks.{AreNoted};
+    ghost use Rattle.qs_conn.specs.RecvEdits.{AreKept};
 
     ghost Value = { List RecvLane };
 
@@ -58,7 +58,7 @@ impl Model for RecvLanes {
 
     ghost view = { λ l. l.halves.items };
 
-    ghost invariant = { λ l. AreCounted l.halves.items l.tally l.touched × AreNoted l.halves.items l.news };
+    ghost invariant = { λ l. AreKept l.halves.items l.tally l.touched l.news };
 }
 
 impl RecvLanes {
@@ -96,11 +96,10 @@ impl RecvLanes {
         self.halves.get(index)
     }
 
-    /// The sums over all lanes.
+    /// The sums over all lanes, modulo 2^64.
     #[inline(always)]
     pub(crate) fn tally(&self) -> Tally
-        ensures value { result ≡ tally_on self.now }
-        ensures paid { IsPaid result }
+        ensures value { result ≡ wrapped (tally_on self.now) }
         ensures lawful { EachLawful self.now }
     {
         self.tally
@@ -108,11 +107,10 @@ impl RecvLanes {
 
     /// What the rings of all lanes take, in bytes, by a walk over them.
     pub(crate) fn held(&self) -> u64
-        ensures stored { sum_by stored_on self.now ≤ result }
+        ensures stored { min (sum_by stored_on self.now) (2 ^ 64 - 1) ≤ result }
         ensures least { min (sum_by least_held self.now) (2 ^ 64 - 1) ≤ result }
         ensures most { result ≤ sum_by most_held self.now }
     {
-        let _stored = self.tally.stored;
         held_of(&self.halves)
     }
 
@@ -186,55 +184,28 @@ impl RecvLanes {
         self.news.close_to(count);
     }
 
-    /// Takes a frame that passed both checks, at an open lane; or changes nothing.
-    pub(crate) fn take_stream(
+    /// Changes an open lane: the one way in. The sums, the marks and what is to be looked at again follow. Memory that the change fills is
+    /// handed through.
+    #[inline]
+    pub(crate) fn edit<R, F: FnOnce(&mut Half, &mut [u8]) -> R>(
         &mut self,
         index: usize,
-        offset: u64,
-        bytes: &[u8],
-        fin: bool,
-    ) -> Result<(), NoMemory>
+        into: &mut [u8],
+        f: F,
+    ) -> R
         requires there { index < length self.old }
-        requires in_range { offset + length bytes.now ≤ MAX_VARINT }
-        requires passed { IsOk (check_stream (slice_index_or self.old index (new_lane 0 Share.Half)) offset (length bytes.now) fin) }
-        requires unchanged { IsOk (check_bytes (slice_index_or self.old index (new_lane 0 Share.Half)) offset bytes.now) }
-        requires room { sum_by highest self.old + MAX_VARINT < 2 ^ 64 }
-        ensures ok { OnOk result (self.new ≡ changed self.old index (λ l. take_stream l offset bytes.now fin) (slice_get self.old index)) }
-        ensures grown { let lane = slice_index_or self.old index (new_lane 0 Share.Half) in
-            OnOk result (sum_by highest self.new + highest lane ≡ sum_by highest self.old + highest_after lane offset (length bytes.now) fin) }
-        ensures err { OnErr result (self.new ≡ self.old) }
-        ensures news { OnErr result (HasNews (slice_index_or self.old index (new_lane 0 Share.Half)) offset (length bytes.now)) }
+        requires callable { OnceTakesInto F.FnOnce f (slice_index_or self.old index (new_lane 0 Share.Half)) into.old }
+        requires calm { LeavesCalm F.FnOnce f (slice_index_or self.old index (new_lane 0 Share.Half)) into.old }
+        ensures { IsEdited (OnceInto F.FnOnce f into.old into.new) self.old index result self.new }
     {
         let half = &mut self.halves[index];
         let was = measure(half);
-        let stopped = half.stop_code().is_some();
-        if let Err(_refused) = half.take_stream(offset, bytes, fin) {
-            return Err(NoMemory);
-        }
+        let answer = f(half, into);
         let is = measure(half);
         self.news.look(index, half);
         self.tally = moved(self.tally, was, is);
-        if stopped {
-            self.touched.touch(index);
-        }
-        Ok(())
-    }
-
-    /// Takes a reset that passed the check, at an open lane.
-    pub(crate) fn take_reset(&mut self, index: usize, code: u64, size: u64)
-        requires there { index < length self.old }
-        requires in_range { size ≤ MAX_VARINT }
-        requires passed { IsOk (check_reset (slice_index_or self.old index (new_lane 0 Share.Half)) size) }
-        requires room { sum_by highest self.old + MAX_VARINT < 2 ^ 64 }
-        ensures after { self.new ≡ changed self.old index (λ l. take_reset l code size) (slice_get self.old index) }
-        ensures grown { sum_by highest self.new + highest (slice_index_or self.old index (new_lane 0 Share.Half)) ≡ sum_by highest self.old + size }
-    {
-        let half = &mut self.halves[index];
-        let was = measure(half);
-        half.take_reset(code, size);
-        let is = measure(half);
-        self.news.look(index, half);
-        self.tally = moved(self.tally, was, is);
+        self.touched.look(index, was.taken, is.taken);
+        answer
     }
 
     /// Whether a reader of an open lane may be told something. It looks at marks alone.
@@ -243,95 +214,6 @@ impl RecvLanes {
         ensures { result ≡ false → (t : RecvTask) → HasNone t (slice_index_or self.now index (new_lane 0 Share.Half)) }
     {
         self.news.may_tell(index)
-    }
-
-    /// Reads at an open lane.
-    pub(crate) fn read(&mut self, index: usize, into: &mut [u8]) -> Read
-        requires there { index < length self.old }
-        requires room { sum_by highest self.old + MAX_VARINT < 2 ^ 64 }
-        ensures answer { result ≡ read_answer (slice_index_or self.old index (new_lane 0 Share.Half)) (length into.old) }
-        ensures bytes { let bytes = bytes_read (slice_index_or self.old index (new_lane 0 Share.Half)) (length into.old) in into.new ≡ bytes ++ drop (length bytes) into.old }
-        ensures after { self.new ≡ changed self.old index (λ l. after_read l (length into.old)) (slice_get self.old index) }
-        ensures same { sum_by highest self.new ≡ sum_by highest self.old }
-    {
-        let half = &mut self.halves[index];
-        let was = measure(half);
-        let answer = half.read(into);
-        let is = measure(half);
-        self.news.look(index, half);
-        self.tally = moved(self.tally, was, is);
-        self.touched.touch(index);
-        answer
-    }
-
-    /// Takes the bytes that are next at an open lane, as a read of so many does, and copies none.
-    pub(crate) fn skip(&mut self, index: usize, most: usize) -> Read
-        requires there { index < length self.old }
-        requires room { sum_by highest self.old + MAX_VARINT < 2 ^ 64 }
-        ensures answer { result ≡ read_answer (slice_index_or self.old index (new_lane 0 Share.Half)) most }
-        ensures after { self.new ≡ changed self.old index (λ l. after_read l most) (slice_get self.old index) }
-        ensures same { sum_by highest self.new ≡ sum_by highest self.old }
-    {
-        let half = &mut self.halves[index];
-        let was = measure(half);
-        let answer = half.skip(most);
-        let is = measure(half);
-        self.news.look(index, half);
-        self.tally = moved(self.tally, was, is);
-        self.touched.touch(index);
-        answer
-    }
-
-    /// Stops an open lane.
-    pub(crate) fn stop(&mut self, index: usize, code: u64)
-        requires there { index < length self.old }
-        requires room { sum_by highest self.old + MAX_VARINT < 2 ^ 64 }
-        requires fits { code ≤ MAX_VARINT }
-        ensures after { self.new ≡ changed self.old index (λ l. stop l code) (slice_get self.old index) }
-        ensures same { sum_by highest self.new ≡ sum_by highest self.old }
-    {
-        let half = &mut self.halves[index];
-        let was = measure(half);
-        half.stop(code);
-        let is = measure(half);
-        self.news.look(index, half);
-        self.tally = moved(self.tally, was, is);
-        self.touched.touch(index);
-    }
-
-    /// Stops an open lane, and tells nothing more of it.
-    pub(crate) fn stop_and_forget(&mut self, index: usize, code: u64)
-        requires there { index < length self.old }
-        requires room { sum_by highest self.old + MAX_VARINT < 2 ^ 64 }
-        requires fits { code ≤ MAX_VARINT }
-        ensures after { self.new ≡ changed self.old index (λ l. stop_and_forget l code) (slice_get self.old index) }
-        ensures same { sum_by highest self.new ≡ sum_by highest self.old }
-    {
-        let half = &mut self.halves[index];
-        let was = measure(half);
-        half.stop_and_forget(code);
-        let is = measure(half);
-        self.news.look(index, half);
-        self.tally = moved(self.tally, was, is);
-        self.touched.touch(index);
-    }
-
-    /// Sets the window of an open lane.
-    pub(crate) fn set_window(&mut self, index: usize, window: u64)
-        requires there { index < length self.old }
-        requires room { sum_by highest self.old + MAX_VARINT < 2 ^ 64 }
-        requires some { 1 ≤ window }
-        requires small { window ≤ MAX_WINDOW }
-        ensures after { self.new ≡ changed self.old index (λ l. set_window l window) (slice_get self.old index) }
-        ensures same { sum_by highest self.new ≡ sum_by highest self.old }
-    {
-        let half = &mut self.halves[index];
-        let was = measure(half);
-        half.set_window(window);
-        let is = measure(half);
-        self.news.look(index, half);
-        self.tally = moved(self.tally, was, is);
-        self.touched.touch(index);
     }
 
     /// Each limit becomes the next one, and a stream whose limit rises is marked: the new one is untold, and none that is outstanding is
@@ -445,20 +327,18 @@ fn held_of(halves: &[Half]) -> u64
     held
 }
 
-// The sums once a lane's part became another.
+// The sums once a lane's part became another, modulo 2^64.
 fn moved(total: Tally, was: Tally, is: Tally) -> Tally
-    requires part { IsPart was total }
-    requires room { total.spent + MAX_VARINT < 2 ^ 64 }
-    requires small { is.spent ≤ MAX_VARINT }
-    requires paid { IsPaid total }
-    requires paid_is { IsPaid is }
-    ensures { result ≡ moved total was is }
+    ensures { result ≡ with_parts total was is }
 {
     Tally {
-        spent: total.spent - was.spent + is.spent,
-        taken: total.taken - was.taken + is.taken,
-        stored: total.stored - was.stored + is.stored,
-        noted: total.noted - was.noted + is.noted,
+        spent: total.spent.wrapping_sub(was.spent).wrapping_add(is.spent),
+        taken: total.taken.wrapping_sub(was.taken).wrapping_add(is.taken),
+        stored: total
+            .stored
+            .wrapping_sub(was.stored)
+            .wrapping_add(is.stored),
+        noted: total.noted.wrapping_sub(was.noted).wrapping_add(is.noted),
     }
 }
 

@@ -1,7 +1,7 @@
 //! The receiving halves of an end.
-ghost use Rattle.std.specs.Prelude.{◌≡◌, ◌+◌, ◌≤◌, ◌<◌, ◌^◌, ◌++◌, ℕ, length, drop, take, is_some, option_map, true, false, Some, None, OnOk, OnErr, IsOk, IfSome, IfNone, min, ◌-◌};
+ghost use Rattle.std.specs.Prelude.{◌≡◌, ◌+◌, ◌≤◌, ◌<◌, ◌^◌, ◌%◌, ◌++◌, ℕ, length, drop, take, is_some, option_map, true, false, Some, None, OnOk, OnErr, IsOk, IfSome, IfNone, min, ◌-◌};
 ghost use Rattle.qs_ranges.specs.Numbers.{MAX_VARINT};
-ghost use Rattle.qs_recv.specs.Lane.{RecvLane, new_lane, check_stream, check_reset, check_bytes, highest, taken, noted, take_stream, take_reset, read_answer, bytes_read, after_read, raise, stop, stop_and_forget, MAX_WINDOW, set_window};
+ghost use Rattle.qs_recv.specs.Lane.{RecvLane, new_lane, check_stream, check_reset, check_bytes, highest, taken, take_stream, take_reset, read_answer, bytes_read, after_read, raise, stop, stop_and_forget, MAX_WINDOW, set_window};
 ghost use Rattle.qs_machine.specs.Tables.{no_streams, table, with_table, lookup, updated, open_to, each, total, type_of};
 ghost use Rattle.qs_machine.specs.Memory.{HasNews};
 ghost use Rattle.qs_machine.specs.Changes.{half_changes, reset_changes};
@@ -9,7 +9,7 @@ ghost use Rattle.qs_recv.specs.Changes.{stream_changes};
 ghost use Rattle.qs_recv.specs.Peek.{IsPeek};
 ghost use Rattle.qs_machine.specs.Reports.{recv_report};
 ghost use Rattle.qs_machine.specs.Verdicts.{or_new};
-ghost use Rattle.qs_machine.specs.Sums.{stored_on, tally_on, IsPaid};
+ghost use Rattle.qs_machine.specs.Sums.{stored_on, tally_on};
 ghost use Rattle.qs_conn.specs.Ended.{recv_over};
 ghost use Rattle.qs_conn.specs.Held.{least_held, most_held};
 ghost use Rattle.qs_conn.specs.Layers.{limit_to_tell, stop_to_tell};
@@ -18,6 +18,7 @@ ghost use Rattle.qs_conn.specs.Marks.{IsHeldOf, AreEndsMarked, IsUntold, IsUntol
 ghost use Rattle.qs_conn.specs.declared.recv_marks.RecvTask.TheVariants as tasks;
 ghost use Rattle.qs_conn.specs.Untold.{HasMore};
 ghost use Rattle.qs_conn.specs.Carried.{StayExact};
+ghost use Rattle.qs_conn.specs.RecvEdits.{OnceInto, OnceTakesInto, LeavesCalm, IsEditedIn, IsTallyOf, added};
 ghost use Rattle.qs_conn.specs.RecvTasks.{HasOne, HasNone, has_news};
 
 use crate::marks::Marks;
@@ -176,6 +177,23 @@ impl RecvTables {
         lanes.open_to(window, share, index_of(stream) + 1)
     }
 
+    /// Changes the receiving half of an open stream: the one way in. Memory that the change fills is handed through.
+    #[inline]
+    fn edit<R, F: FnOnce(&mut Half, &mut [u8]) -> R>(
+        &mut self,
+        stream: Place,
+        into: &mut [u8],
+        f: F,
+    ) -> R
+        requires open { is_some (lookup self.old stream) ≡ true }
+        requires callable { OnceTakesInto F.FnOnce f (or_new (lookup self.old stream) 0 Share.Half) into.old }
+        requires calm { LeavesCalm F.FnOnce f (or_new (lookup self.old stream) 0 Share.Half) into.old }
+        ensures { IsEditedIn (OnceInto F.FnOnce f into.old into.new) self.old stream result self.new }
+    {
+        let lanes = &mut self.types[stream.stream_type];
+        lanes.edit(stream.index, into, f)
+    }
+
     /// Takes a frame that passed both checks, at an open stream; or changes nothing.
     pub(crate) fn take_stream(
         &mut self,
@@ -188,13 +206,16 @@ impl RecvTables {
         requires in_range { offset + length bytes.now ≤ MAX_VARINT }
         requires passed { IsOk (check_stream (or_new (lookup self.old stream) 0 Share.Half) offset (length bytes.now) fin) }
         requires unchanged { IsOk (check_bytes (or_new (lookup self.old stream) 0 Share.Half) offset bytes.now) }
-        requires room { total highest self.old < 2 ^ 62 }
         ensures ok { OnOk result (self.new ≡ updated self.old stream (λ l. take_stream l offset bytes.now fin) (lookup self.old stream)) }
         ensures err { OnErr result (self.new ≡ self.old) }
         ensures news { OnErr result (HasNews (or_new (lookup self.old stream) 0 Share.Half) offset (length bytes.now)) }
     {
-        let lanes = &mut self.types[stream.stream_type];
-        lanes.take_stream(stream.index, offset, bytes, fin)
+        match self.edit(stream, &mut [], |half, _into| {
+            half.take_stream(offset, bytes, fin)
+        }) {
+            Ok(()) => Ok(()),
+            Err(_refused) => Err(NoMemory),
+        }
     }
 
     /// Takes a reset that passed the check, at an open stream.
@@ -202,11 +223,11 @@ impl RecvTables {
         requires open { is_some (lookup self.old stream) ≡ true }
         requires in_range { size ≤ MAX_VARINT }
         requires passed { IsOk (check_reset (or_new (lookup self.old stream) 0 Share.Half) size) }
-        requires room { total highest self.old < 2 ^ 62 }
         ensures { self.new ≡ updated self.old stream (λ l. take_reset l code size) (lookup self.old stream) }
     {
-        let lanes = &mut self.types[type_of(stream)];
-        lanes.take_reset(index_of(stream), code, size);
+        self.edit(Place::of(stream), &mut [], |half, _into| {
+            half.take_reset(code, size)
+        })
     }
 
     /// Whether a reader of an open stream may be told something. It looks at marks alone.
@@ -231,24 +252,20 @@ impl RecvTables {
     /// Reads at an open stream.
     pub(crate) fn read(&mut self, stream: StreamId, into: &mut [u8]) -> Read
         requires open { is_some (lookup self.old stream) ≡ true }
-        requires room { total highest self.old < 2 ^ 62 }
         ensures answer { result ≡ read_answer (or_new (lookup self.old stream) 0 Share.Half) (length into.old) }
         ensures bytes { let bytes = bytes_read (or_new (lookup self.old stream) 0 Share.Half) (length into.old) in into.new ≡ bytes ++ drop (length bytes) into.old }
         ensures after { self.new ≡ updated self.old stream (λ l. after_read l (length into.old)) (lookup self.old stream) }
     {
-        let lanes = &mut self.types[type_of(stream)];
-        lanes.read(index_of(stream), into)
+        self.edit(Place::of(stream), into, |half, into| half.read(into))
     }
 
     /// Takes the bytes that are next at an open stream, as a read of so many does, and copies none.
     pub(crate) fn skip(&mut self, stream: StreamId, most: usize) -> Read
         requires open { is_some (lookup self.old stream) ≡ true }
-        requires room { total highest self.old < 2 ^ 62 }
         ensures answer { result ≡ read_answer (or_new (lookup self.old stream) 0 Share.Half) most }
         ensures after { self.new ≡ updated self.old stream (λ l. after_read l most) (lookup self.old stream) }
     {
-        let lanes = &mut self.types[type_of(stream)];
-        lanes.skip(index_of(stream), most)
+        self.edit(Place::of(stream), &mut [], |half, _into| half.skip(most))
     }
 
     /// Tells what a read at an open stream would, and changes nothing.
@@ -263,35 +280,34 @@ impl RecvTables {
     /// Stops an open stream.
     pub(crate) fn stop(&mut self, stream: StreamId, code: u64)
         requires open { is_some (lookup self.old stream) ≡ true }
-        requires room { total highest self.old < 2 ^ 62 }
         requires fits { code ≤ MAX_VARINT }
         ensures { self.new ≡ updated self.old stream (λ l. stop l code) (lookup self.old stream) }
     {
-        let lanes = &mut self.types[type_of(stream)];
-        lanes.stop(index_of(stream), code);
+        self.edit(Place::of(stream), &mut [], |half, _into| half.stop(code))
     }
 
     /// Stops an open stream, and tells nothing more of it.
     pub(crate) fn stop_and_forget(&mut self, stream: StreamId, code: u64)
         requires open { is_some (lookup self.old stream) ≡ true }
-        requires room { total highest self.old < 2 ^ 62 }
         requires fits { code ≤ MAX_VARINT }
         ensures { self.new ≡ updated self.old stream (λ l. stop_and_forget l code) (lookup self.old stream) }
     {
-        let lanes = &mut self.types[type_of(stream)];
-        lanes.stop_and_forget(index_of(stream), code);
+        self.edit(Place::of(stream), &mut [], |half, _into| {
+            half.stop_and_forget(code)
+        })
     }
 
     /// Sets the window of an open stream.
+    #[tactic(auto, using(crate::proofs::Settling::calm_window))]
     pub(crate) fn set_window(&mut self, stream: StreamId, window: u64)
         requires open { is_some (lookup self.old stream) ≡ true }
-        requires room { total highest self.old < 2 ^ 62 }
         requires some { 1 ≤ window }
         requires small { window ≤ MAX_WINDOW }
         ensures { self.new ≡ updated self.old stream (λ l. set_window l window) (lookup self.old stream) }
     {
-        let lanes = &mut self.types[type_of(stream)];
-        lanes.set_window(index_of(stream), window);
+        self.edit(Place::of(stream), &mut [], |half, _into| {
+            half.set_window(window)
+        })
     }
 
     /// Whether a stream's receiving half is in Data Read or Reset Read (RFC 9000, section 3.2).
@@ -440,11 +456,7 @@ impl RecvTables {
     /// The sums over all streams.
     pub(crate) fn tally(&self) -> Tally
         requires { total highest self.now < 2 ^ 62 }
-        ensures spent { result.spent ≡ total highest self.now }
-        ensures taken { result.taken ≡ total taken self.now }
-        ensures stored { result.stored ≡ total stored_on self.now }
-        ensures noted { result.noted ≡ total noted self.now }
-        ensures paid { IsPaid result }
+        ensures { IsTallyOf self.now result }
     {
         sum(
             self.types[0].tally(),
@@ -482,19 +494,20 @@ impl RecvTables {
     }
 }
 
+// The sum of four, modulo 2^64.
 fn sum(a: Tally, b: Tally, c: Tally, d: Tally) -> Tally
-    requires paid { IsPaid a × IsPaid b × IsPaid c × IsPaid d }
-    requires small { a.spent + b.spent + c.spent + d.spent < 2 ^ 62 }
-    ensures spent { result.spent ≡ a.spent + b.spent + c.spent + d.spent }
-    ensures taken { result.taken ≡ a.taken + b.taken + c.taken + d.taken }
-    ensures stored { result.stored ≡ a.stored + b.stored + c.stored + d.stored }
-    ensures noted { result.noted ≡ a.noted + b.noted + c.noted + d.noted }
-    ensures paid { IsPaid result }
+    ensures { result ≡ added a b c d }
 {
     Tally {
-        spent: a.spent + b.spent + c.spent + d.spent,
-        taken: a.taken + b.taken + c.taken + d.taken,
-        stored: a.stored + b.stored + c.stored + d.stored,
-        noted: a.noted + b.noted + c.noted + d.noted,
+        spent: wrapping_sum(a.spent, b.spent, c.spent, d.spent),
+        taken: wrapping_sum(a.taken, b.taken, c.taken, d.taken),
+        stored: wrapping_sum(a.stored, b.stored, c.stored, d.stored),
+        noted: wrapping_sum(a.noted, b.noted, c.noted, d.noted),
     }
+}
+
+fn wrapping_sum(a: u64, b: u64, c: u64, d: u64) -> u64
+    ensures { result ≡ (a + b + c + d) % 2 ^ 64 }
+{
+    a.wrapping_add(b).wrapping_add(c).wrapping_add(d)
 }

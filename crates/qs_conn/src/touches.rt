@@ -59,9 +59,21 @@ impl Touches {
         matches!(self.lanes, Touched::Nothing)
     }
 
-    /// A lane is touched.
+    /// Looks again at a lane of which so much was taken: it is touched where that is another number now.
     #[inline]
-    pub(crate) fn touch(&mut self, index: usize)
+    pub(crate) fn look(&mut self, index: usize, was: u64, is: u64)
+        requires { index < length self.old.marks }
+        ensures len { length self.new.marks ≡ length self.old.marks }
+        ensures touched { (i : ℕ) → i < length self.old.marks → is_touched self.new i ≡ false → (is_touched self.old i ≡ false) × (i ≡ index → was ≡ is) }
+    {
+        if was != is {
+            self.touch(index);
+        }
+    }
+
+    // A lane is touched.
+    #[inline]
+    fn touch(&mut self, index: usize)
         requires { index < length self.old.marks }
         ensures len { length self.new.marks ≡ length self.old.marks }
         ensures touched { (i : ℕ) → i < length self.old.marks → is_touched self.new i ≡ false → (is_touched self.old i ≡ false) × (i ≡ index → ⊥) }

@@ -9,7 +9,7 @@ use crate::proved::qs_conn::touches::Touches;
 use crate::proved::qs_conn::untold::Untold;
 use crate::proved::qs_machine::Tally;
 use crate::proved::qs_ranges::NoMemory;
-use crate::proved::qs_recv::{Highest, Read, RecvFault, RecvHalf, RingAssembly, Share};
+use crate::proved::qs_recv::{Highest, RecvFault, RecvHalf, RingAssembly, Share};
 use crate::proved::qs_wire::StreamId;
 use crate::shim::alloc::Global;
 
@@ -19,6 +19,7 @@ pub(crate) type Half = RecvHalf<RingAssembly>;
 pub(crate) struct RecvLanes {
     alloc: Global,
     halves: Vec<Half>,
+    // Modulo 2^64: whoever asks for the sums knows that they fit.
     tally: Tally,
     // A lane that wasn't touched has no limit that is to be raised.
     touched: Touches,
@@ -55,7 +56,7 @@ impl RecvLanes {
         self.halves.get(index)
     }
 
-    /// The sums over all lanes.
+    /// The sums over all lanes, modulo 2^64.
     #[inline(always)]
     pub(crate) fn tally(&self) -> Tally {
         self.tally
@@ -64,7 +65,6 @@ impl RecvLanes {
     /// What the rings of all lanes take, in bytes, by a walk over them.
     #[inline]
     pub(crate) fn held(&self) -> u64 {
-        let _stored = self.tally.stored;
         held_of(&self.halves)
     }
 
@@ -132,112 +132,29 @@ impl RecvLanes {
         self.news.close_to(count);
     }
 
-    /// Takes a frame that passed both checks, at an open lane; or changes nothing.
+    /// Changes an open lane: the one way in. The sums, the marks and what is to be looked at again follow. Memory that the change fills is
+    /// handed through.
     #[inline]
-    pub(crate) fn take_stream(
+    pub(crate) fn edit<R, F: FnOnce(&mut Half, &mut [u8]) -> R>(
         &mut self,
         index: usize,
-        offset: u64,
-        bytes: &[u8],
-        fin: bool,
-    ) -> Result<(), NoMemory> {
+        into: &mut [u8],
+        f: F,
+    ) -> R {
         let half = &mut self.halves[index];
         let was = measure(half);
-        let stopped = half.stop_code().is_some();
-        if let Err(_refused) = half.take_stream(offset, bytes, fin) {
-            return Err(NoMemory);
-        }
+        let answer = f(half, into);
         let is = measure(half);
         self.news.look(index, half);
         self.tally = moved(self.tally, was, is);
-        if stopped {
-            self.touched.touch(index);
-        }
-        Ok(())
-    }
-
-    /// Takes a reset that passed the check, at an open lane.
-    #[inline]
-    pub(crate) fn take_reset(&mut self, index: usize, code: u64, size: u64) {
-        debug_assert!(size <= 0x3fff_ffff_ffff_ffff);
-        let half = &mut self.halves[index];
-        let was = measure(half);
-        half.take_reset(code, size);
-        let is = measure(half);
-        self.news.look(index, half);
-        self.tally = moved(self.tally, was, is);
+        self.touched.look(index, was.taken, is.taken);
+        answer
     }
 
     /// Whether a reader of an open lane may be told something. It looks at marks alone.
     #[inline]
     pub(crate) fn may_tell(&self, index: usize) -> bool {
         self.news.may_tell(index)
-    }
-
-    /// Reads at an open lane.
-    #[inline]
-    pub(crate) fn read(&mut self, index: usize, into: &mut [u8]) -> Read {
-        let half = &mut self.halves[index];
-        let was = measure(half);
-        let answer = half.read(into);
-        let is = measure(half);
-        self.news.look(index, half);
-        self.tally = moved(self.tally, was, is);
-        self.touched.touch(index);
-        answer
-    }
-
-    /// Takes the bytes that are next at an open lane, as a read of so many does, and copies none.
-    #[inline]
-    pub(crate) fn skip(&mut self, index: usize, most: usize) -> Read {
-        let half = &mut self.halves[index];
-        let was = measure(half);
-        let answer = half.skip(most);
-        let is = measure(half);
-        self.news.look(index, half);
-        self.tally = moved(self.tally, was, is);
-        self.touched.touch(index);
-        answer
-    }
-
-    /// Stops an open lane.
-    #[inline]
-    pub(crate) fn stop(&mut self, index: usize, code: u64) {
-        debug_assert!(code <= 0x3fff_ffff_ffff_ffff);
-        let half = &mut self.halves[index];
-        let was = measure(half);
-        half.stop(code);
-        let is = measure(half);
-        self.news.look(index, half);
-        self.tally = moved(self.tally, was, is);
-        self.touched.touch(index);
-    }
-
-    /// Stops an open lane, and tells nothing more of it.
-    #[inline]
-    pub(crate) fn stop_and_forget(&mut self, index: usize, code: u64) {
-        debug_assert!(code <= 0x3fff_ffff_ffff_ffff);
-        let half = &mut self.halves[index];
-        let was = measure(half);
-        half.stop_and_forget(code);
-        let is = measure(half);
-        self.news.look(index, half);
-        self.tally = moved(self.tally, was, is);
-        self.touched.touch(index);
-    }
-
-    /// Sets the window of an open lane.
-    #[inline]
-    pub(crate) fn set_window(&mut self, index: usize, window: u64) {
-        debug_assert!(1 <= window);
-        debug_assert!(window <= 1 << 30);
-        let half = &mut self.halves[index];
-        let was = measure(half);
-        half.set_window(window);
-        let is = measure(half);
-        self.news.look(index, half);
-        self.tally = moved(self.tally, was, is);
-        self.touched.touch(index);
     }
 
     /// Each limit becomes the next one, and a stream whose limit rises is marked: the new one is untold, and none that is outstanding is
@@ -324,13 +241,16 @@ fn held_of(halves: &[Half]) -> u64 {
     held
 }
 
-// The sums once a lane's part became another.
+// The sums once a lane's part became another, modulo 2^64.
 fn moved(total: Tally, was: Tally, is: Tally) -> Tally {
     Tally {
-        spent: total.spent - was.spent + is.spent,
-        taken: total.taken - was.taken + is.taken,
-        stored: total.stored - was.stored + is.stored,
-        noted: total.noted - was.noted + is.noted,
+        spent: total.spent.wrapping_sub(was.spent).wrapping_add(is.spent),
+        taken: total.taken.wrapping_sub(was.taken).wrapping_add(is.taken),
+        stored: total
+            .stored
+            .wrapping_sub(was.stored)
+            .wrapping_add(is.stored),
+        noted: total.noted.wrapping_sub(was.noted).wrapping_add(is.noted),
     }
 }
 

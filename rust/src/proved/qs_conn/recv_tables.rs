@@ -122,6 +122,18 @@ impl RecvTables {
         lanes.open_to(window, share, index_of(stream) + 1)
     }
 
+    /// Changes the receiving half of an open stream: the one way in. Memory that the change fills is handed through.
+    #[inline]
+    fn edit<R, F: FnOnce(&mut Half, &mut [u8]) -> R>(
+        &mut self,
+        stream: Place,
+        into: &mut [u8],
+        f: F,
+    ) -> R {
+        let lanes = &mut self.types[stream.stream_type];
+        lanes.edit(stream.index, into, f)
+    }
+
     /// Takes a frame that passed both checks, at an open stream; or changes nothing.
     #[inline]
     pub(crate) fn take_stream(
@@ -131,16 +143,21 @@ impl RecvTables {
         bytes: &[u8],
         fin: bool,
     ) -> Result<(), NoMemory> {
-        let lanes = &mut self.types[stream.stream_type];
-        lanes.take_stream(stream.index, offset, bytes, fin)
+        match self.edit(stream, &mut [], |half, _into| {
+            half.take_stream(offset, bytes, fin)
+        }) {
+            Ok(()) => Ok(()),
+            Err(_refused) => Err(NoMemory),
+        }
     }
 
     /// Takes a reset that passed the check, at an open stream.
     #[inline]
     pub(crate) fn take_reset(&mut self, stream: StreamId, code: u64, size: u64) {
         debug_assert!(size <= 0x3fff_ffff_ffff_ffff);
-        let lanes = &mut self.types[type_of(stream)];
-        lanes.take_reset(index_of(stream), code, size);
+        self.edit(Place::of(stream), &mut [], |half, _into| {
+            half.take_reset(code, size)
+        })
     }
 
     /// Whether a reader of an open stream may be told something. It looks at marks alone.
@@ -162,15 +179,13 @@ impl RecvTables {
     /// Reads at an open stream.
     #[inline]
     pub(crate) fn read(&mut self, stream: StreamId, into: &mut [u8]) -> Read {
-        let lanes = &mut self.types[type_of(stream)];
-        lanes.read(index_of(stream), into)
+        self.edit(Place::of(stream), into, |half, into| half.read(into))
     }
 
     /// Takes the bytes that are next at an open stream, as a read of so many does, and copies none.
     #[inline]
     pub(crate) fn skip(&mut self, stream: StreamId, most: usize) -> Read {
-        let lanes = &mut self.types[type_of(stream)];
-        lanes.skip(index_of(stream), most)
+        self.edit(Place::of(stream), &mut [], |half, _into| half.skip(most))
     }
 
     /// Tells what a read at an open stream would, and changes nothing.
@@ -184,16 +199,16 @@ impl RecvTables {
     #[inline]
     pub(crate) fn stop(&mut self, stream: StreamId, code: u64) {
         debug_assert!(code <= 0x3fff_ffff_ffff_ffff);
-        let lanes = &mut self.types[type_of(stream)];
-        lanes.stop(index_of(stream), code);
+        self.edit(Place::of(stream), &mut [], |half, _into| half.stop(code))
     }
 
     /// Stops an open stream, and tells nothing more of it.
     #[inline]
     pub(crate) fn stop_and_forget(&mut self, stream: StreamId, code: u64) {
         debug_assert!(code <= 0x3fff_ffff_ffff_ffff);
-        let lanes = &mut self.types[type_of(stream)];
-        lanes.stop_and_forget(index_of(stream), code);
+        self.edit(Place::of(stream), &mut [], |half, _into| {
+            half.stop_and_forget(code)
+        })
     }
 
     /// Sets the window of an open stream.
@@ -201,8 +216,9 @@ impl RecvTables {
     pub(crate) fn set_window(&mut self, stream: StreamId, window: u64) {
         debug_assert!(1 <= window);
         debug_assert!(window <= 1 << 30);
-        let lanes = &mut self.types[type_of(stream)];
-        lanes.set_window(index_of(stream), window);
+        self.edit(Place::of(stream), &mut [], |half, _into| {
+            half.set_window(window)
+        })
     }
 
     /// Whether a stream's receiving half is in Data Read or Reset Read (RFC 9000, section 3.2).
@@ -350,11 +366,16 @@ impl RecvTables {
     }
 }
 
+// The sum of four, modulo 2^64.
 fn sum(a: Tally, b: Tally, c: Tally, d: Tally) -> Tally {
     Tally {
-        spent: a.spent + b.spent + c.spent + d.spent,
-        taken: a.taken + b.taken + c.taken + d.taken,
-        stored: a.stored + b.stored + c.stored + d.stored,
-        noted: a.noted + b.noted + c.noted + d.noted,
+        spent: wrapping_sum(a.spent, b.spent, c.spent, d.spent),
+        taken: wrapping_sum(a.taken, b.taken, c.taken, d.taken),
+        stored: wrapping_sum(a.stored, b.stored, c.stored, d.stored),
+        noted: wrapping_sum(a.noted, b.noted, c.noted, d.noted),
     }
+}
+
+fn wrapping_sum(a: u64, b: u64, c: u64, d: u64) -> u64 {
+    a.wrapping_add(b).wrapping_add(c).wrapping_add(d)
 }

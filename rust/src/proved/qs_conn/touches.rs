@@ -48,9 +48,17 @@ impl Touches {
         matches!(self.lanes, Touched::Nothing)
     }
 
-    /// A lane is touched.
+    /// Looks again at a lane of which so much was taken: it is touched where that is another number now.
     #[inline]
-    pub(crate) fn touch(&mut self, index: usize) {
+    pub(crate) fn look(&mut self, index: usize, was: u64, is: u64) {
+        if was != is {
+            self.touch(index);
+        }
+    }
+
+    // A lane is touched.
+    #[inline]
+    fn touch(&mut self, index: usize) {
         match self.lanes {
             Touched::Nothing => self.lanes = Touched::Lane(index),
             Touched::Lane(before) if before == index => {}

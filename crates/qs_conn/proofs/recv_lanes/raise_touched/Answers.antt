@@ -1,5 +1,6 @@
 use Rattle.std.proofs.Common.{◌∙◌, refl, ◌<◌, length, arith}
-use Rattle.qs_conn.proofs.LaneMarks.{none_yet, one_more, past_more, all_raised, all_marked, still_settled}
+use Rattle.qs_conn.proofs.LaneMarks.{none_yet, one_more, past_more, all_raised, all_marked}
+use Rattle.qs_conn.proofs.Settling.{still_settled}
 use Rattle.qs_conn.proofs.LimitMarks.{stays_of, stays_twice}
 use Rattle.qs_conn.proofs.Untolds.{has_same, has_twice}
 use Rattle.qs_conn.proofs.recv_lanes.raise_touched.Goals as goal

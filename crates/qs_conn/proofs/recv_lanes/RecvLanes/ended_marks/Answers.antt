@@ -6,9 +6,9 @@ use Rattle.qs_conn.proofs.RecvNews.{noted_marked}
 use Rattle.qs_conn.proofs.recv_lanes.RecvLanes.ended_marks.Goals as goal
 
 pub returns-clause-none : goal.returns-clause-none
-returns-clause-none c = rw (← c.self.view_is, c.ended.ensures) (noted_marked c.self.inside.halves.items c.self.inside.news c.self.invariant.1 tasks.Ended)
+returns-clause-none c = rw (← c.self.view_is, c.ended.ensures) (noted_marked c.self.inside.halves.items c.self.inside.news c.self.invariant.noted tasks.Ended)
 
 pub returns-clause-few : goal.returns-clause-few
 returns-clause-few c =
-    let len = marked_len (HasNone tasks.Ended) c.self.inside.halves.items c.self.inside.news.ended (noted_marked c.self.inside.halves.items c.self.inside.news c.self.invariant.1 tasks.Ended) in
-    rw c.ended.ensures (omega (arith, len, c.self.invariant.0.few))
+    let len = marked_len (HasNone tasks.Ended) c.self.inside.halves.items c.self.inside.news.ended (noted_marked c.self.inside.halves.items c.self.inside.news c.self.invariant.noted tasks.Ended) in
+    rw c.ended.ensures (omega (arith, len, c.self.invariant.few))
