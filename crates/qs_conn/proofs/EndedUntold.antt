@@ -14,9 +14,8 @@ use Rattle.qs_conn.specs.Ended.{recv_over, send_over}
 use Rattle.qs_conn.specs.RecvTasks.{HasOne}
 use Rattle.qs_conn.specs.declared.recv_marks.RecvTask.TheVariants as tasks
 use Rattle.qs_conn.specs.Sending.{HasSent}
-use Rattle.qs_conn.proofs.Boths.{both_is, both_len}
-use Rattle.qs_conn.proofs.Summed.{marked_below}
-use Rattle.qs_conn.proofs.UntoldMarks.{untold_is, untold_len}
+use Rattle.qs_conn.proofs.Words.{marked_below}
+use Rattle.qs_conn.proofs.Boths.{both_is, both_len, untold_is, untold_len}
 use Rattle.qs_conn.proofs.UntoldSearch.{both_self, told_of}
 
 recv_there : (t : Tables RecvLane) (n : ℕ) (o : Option RecvLane) → lookup t n ≡ o → recv_over o ≡ true → IsHeld (HasOne tasks.Ended) t n

@@ -23,7 +23,7 @@ use Rattle.qs_conn.specs.declared.recv_marks.RecvTask.TheVariants as tasks
 use Rattle.qs_conn.specs.declared.recv_marks.RecvMarks.{RecvMarks}
 use Rattle.qs_conn.proofs.Marked.{mark_past, unmarked_at}
 use Rattle.qs_conn.proofs.Least.{least_by}
-use Rattle.qs_conn.proofs.Summed.{marked_below}
+use Rattle.qs_conn.proofs.Words.{marked_below}
 use Rattle.qs_conn.proofs.UntoldSearch.{left_at, one_told}
 use Rattle.qs_machine.specs.News.{IsLeast}
 use Rattle.std.proofs.lemmas.Option.{slice_get-get_or}

@@ -13,12 +13,11 @@ use Rattle.qs_conn.specs.Marks.{is_marked, both, untold, AreMarked, IsNextMark}
 use Rattle.qs_conn.specs.Tasks.{IsQuiet, HasTask, sought_of, IsSoughtAt, IsSought, IsSoughtOf}
 use Rattle.qs_conn.specs.Untold.{IsClear as HasNoMarks}
 use Rattle.qs_conn.specs.declared.send_marks.Search.{Search}
-use Rattle.qs_conn.proofs.Boths.{both_is}
 use Rattle.qs_conn.proofs.Least.{IsClear, clear_marked, none_marked, clear_over, least_here, row_none, row_some}
 use Rattle.qs_conn.proofs.Marked.{marked_len, unmarked_at, clear_next}
 use Rattle.qs_conn.proofs.Sought.{quiet_has_none, lanes_with}
-use Rattle.qs_conn.proofs.Summed.{marked_below}
-use Rattle.qs_conn.proofs.UntoldMarks.{untold_is}
+use Rattle.qs_conn.proofs.Words.{marked_below}
+use Rattle.qs_conn.proofs.Boths.{both_is, untold_is}
 use Rattle.qs_conn.proofs.UntoldSearch.{next_self, told_of}
 
 -- Marks that are sought

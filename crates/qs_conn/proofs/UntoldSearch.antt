@@ -9,7 +9,7 @@ use Rattle.qs_machine.specs.Tables.{Tables, type_of, table, lookup}
 use Rattle.qs_machine.proofs.TableEdits.{lookup_is}
 use Rattle.qs_conn.specs.Marks.{is_marked, both, untold, IsNextMark, IsUntold, IsUntoldOf, IsUntoldAt}
 use Rattle.qs_conn.proofs.Least.{IsClear, least_by, row_none, row_some}
-use Rattle.qs_conn.proofs.UntoldMarks.{untold_is}
+use Rattle.qs_conn.proofs.Boths.{untold_is}
 
 -- One row as both
 

@@ -7,9 +7,9 @@ use Rattle.std.proofs.lemmas.List.FromFn.{length-map-range_with_len, get_or-map-
 use Rattle.std.proofs.lemmas.Nat.{one_shl}
 use Rattle.std.proofs.lemmas.Nat.Bits.{bit_at-zero, bit_at_and, bit_at_ones, bit_at_ones_above, bit_at-lt}
 use Rattle.std.proofs.lemmas.Option.{none-some, same_Some}
-use Rattle.qs_ranges.specs.Bits.{HasBit, IsBefore, IsLowestBit}
-use Rattle.qs_conn.specs.Marks.{is_marked, IsNextMark, IsNextInWord}
-use Rattle.qs_conn.specs.Words.{flag, flags, AreFlags, IsCutAt}
+use Rattle.qs_ranges.specs.Bits.{HasBit}
+use Rattle.qs_conn.specs.Marks.{is_marked, HasNoMark, HasAllMarks}
+use Rattle.qs_conn.specs.Words.{flag, flags, AreFlags, IsCutAt, IsWordOf}
 
 pub bits_cut : (word bit : ℕ) → bit < 64 → IsCutAt word bit (bit_and word (1 * 2 ^ bit % 2 ^ 64 - 1))
 bits_cut word bit small =
@@ -115,14 +115,6 @@ module _ (ws : List ℕ) (count to last after : ℕ) (are : AreFlags ws count) (
       (omega (arith, less, flags_len ws count, length-take to (flags ws count)))
       (λ i lt. get_or-take to (flags ws count) i false lt ∙ marked_is ws count i are ∙ sym (flag_kept i lt))
 
--- a bit is read
-pub flag_read :
-    (ws : List ℕ) (count index word : ℕ) (answer : Bool) → AreFlags ws count → index < count → word ≡ get_or ws (index / 64) word → answer ≡ (bit_at word (index % 64) == 1)
-    → answer ≡ is_marked (flags ws count) index
-flag_read ws count index word answer are there read is =
-    let word_is : word ≡ get_or ws (index / 64) 0 = get_or_read ws (index / 64) word (omega (arith, there, are.room)) read 0 in
-    is ∙ ap (λ w. bit_at w (index % 64) == 1) word_is ∙ sym (marked_is ws count index are)
-
 -- a bit is set or cleared
 module _ (ws : List ℕ) (count index before after : ℕ) (is_set : Bool) (are : AreFlags ws count) (there : index < count) (read : before ≡ get_or ws (index / 64) before) (bit : HasBit before (index % 64) is_set after) where
   word_in : index / 64 < length ws
@@ -164,91 +156,41 @@ module _ (ws : List ℕ) (count index before after : ℕ) (is_set : Bool) (are :
         unset = λ i past. flag_other i (λ same. omega (arith, same, past, there)) ∙ are.unset i past;
       }
 
--- A search
+-- a word is read
+module _ (ws : List ℕ) (count place : ℕ) (are : AreFlags ws count) where
+  pub word_there : (word : ℕ) → place < length ws → word ≡ get_or ws place word → IsWordOf (flags ws count) place word
+  word_there word there read = record {
+    bits = λ i lt.
+        let is : word ≡ get_or ws place 0 = get_or_read ws place word there read 0 in
+        let at : (place * 64 + i) / 64 ≡ place = omega (arith, lt) in
+        let left : (place * 64 + i) % 64 ≡ i = omega (arith, lt) in
+        rw (marked_is ws count (place * 64 + i) are, at, left, ← is) refl;
+  }
 
--- no index from one on, below a bit of a word, is marked
-abbrev pub IsClearTo : List ℕ → ℕ → ℕ → ℕ → Type 0
-IsClearTo ws from place bit = (bit < 64) × (from ≤ place * 64 + bit) × ((i : ℕ) → from ≤ i → i < place * 64 + bit → flag ws i ≡ false)
+  pub word_past : length ws ≤ place → IsWordOf (flags ws count) place 0
+  word_past past = record { bits = λ i lt. rw (marked_is ws count (place * 64 + i) are, flag_past ws (place * 64 + i) (omega (arith, past)), bit_at-zero i) refl }
 
-module _ (ws : List ℕ) (count from place bit : ℕ) (are : AreFlags ws count) (passed : IsClearTo ws from place bit) where
-  pub no_word_left : length ws ≤ place → IsNextMark (flags ws count) from None
-  no_word_left past =
-      record {
-        found = λ n is. absurd (none-some n is);
-        unmarked = λ i le before.
-            marked_is ws count i are
-            ∙ elim (cases_lt i (place * 64 + bit)) [
-              | inl lt ↦ passed.2 i le lt
-              | inr ge ↦ flag_past ws i (omega (arith, ge, past))
-            ];
-      }
+-- a bit of a word
+pub mark_in : (marks : List Bool) (index word : ℕ) → IsWordOf marks (index / 64) word → (bit_at word (index % 64) == 1) ≡ is_marked marks index
+mark_in marks index word of = let here : index / 64 * 64 + index % 64 ≡ index = omega arith in of.bits (index % 64) (omega arith) ∙ ap (is_marked marks) here
 
-  -- within the word that is looked at, before its lowest bit that is set
-  before_lowest : (word : ℕ) (answer : Option ℕ) → word ≡ get_or ws place 0 → IsLowestBit word bit answer → (i : ℕ) → from ≤ i → i < place * 64 + 64 → (place * 64 ≤ i → IsBefore (i % 64) answer) → flag ws i ≡ false
-  before_lowest word answer is lowest i le lt before =
-      elim (cases_lt i (place * 64 + bit)) [
-        | inl below ↦ passed.2 i le below
-        | inr ge ↦
-            let at : i / 64 ≡ place = omega (arith, ge, lt) in
-            let zero_at : bit_at (get_or ws (i / 64) 0) (i % 64) ≡ 0 = rw (at, ← is) (lowest.clear (i % 64) (omega (arith, ge, lt)) (omega arith) (before (omega (arith, ge)))) in
-            rw zero_at refl
-      ]
+-- a word without a bit, and one of which each is set
+pub none_in : (marks : List Bool) (place word : ℕ) → IsWordOf marks place word → word ≡ 0 → HasNoMark marks place
+none_in marks place word of none i at =
+    let here : place * 64 + i % 64 ≡ i = omega (arith, at) in
+    let unset : bit_at word (i % 64) ≡ 0 = rw none (bit_at-zero (i % 64)) in
+    ap (is_marked marks) (sym here) ∙ sym (of.bits (i % 64) (omega arith)) ∙ ap (λ b. b == 1) unset
 
-  module _ (word : ℕ) (there : place < length ws) (read : word ≡ get_or ws place word) where
-    word_at : word ≡ get_or ws place 0
-    word_at = get_or_read ws place word there read 0
+pub all_in : (marks : List Bool) (place word : ℕ) → IsWordOf marks place word → word ≡ 2 ^ 64 - 1 → HasAllMarks marks place
+all_in marks place word of full i at =
+    let here : place * 64 + i % 64 ≡ i = omega (arith, at) in
+    let is_set : bit_at word (i % 64) ≡ 1 = rw full (bit_at_ones 64 (i % 64) (omega arith)) in
+    ap (is_marked marks) (sym here) ∙ sym (of.bits (i % 64) (omega arith)) ∙ ap (λ b. b == 1) is_set
 
-    pub word_passed : IsLowestBit word bit None → IsClearTo ws from (place + 1) 0
-    word_passed lowest = (omega arith, omega (arith, passed.0, passed.1), λ i le lt. before_lowest word None word_at lowest i le (omega (arith, lt)) (λ from_here. tt))
-
-    module _ (marked : ℕ) (lowest : IsLowestBit word bit (Some marked)) where
-      flag_found : flag ws (place * 64 + marked) ≡ true
-      flag_found =
-          let found = lowest.found marked refl in
-          let at : (place * 64 + marked) / 64 ≡ place = omega (arith, found.1) in
-          let left : (place * 64 + marked) % 64 ≡ marked = omega (arith, found.1) in
-          rw (at, left, ← word_at, found.2) refl
-
-      pub mark_below : place * 64 + marked < count
-      mark_below =
-          elim (cases_lt (place * 64 + marked) count) [
-            | inl lt ↦ lt
-            | inr ge ↦ absurd (both_ways (flag ws (place * 64 + marked)) (are.unset (place * 64 + marked) ge) flag_found)
-          ]
-
-      pub mark_found : IsNextMark (flags ws count) from (Some (place * 64 + marked))
-      mark_found =
-          let found = lowest.found marked refl in
-          record {
-            found = λ n is.
-                subst (λ m. (from ≤ m) × (is_marked (flags ws count) m ≡ true)) (same_Some (place * 64 + marked) n is)
-                (omega (arith, passed.1, found.0), marked_is ws count (place * 64 + marked) are ∙ flag_found);
-            unmarked = λ i le before. marked_is ws count i are ∙ before_lowest word (Some marked) word_at lowest i le (omega (arith, before, found.1)) (λ from_here. omega (arith, before, from_here));
-          }
-
--- A search within a word
-
-pub clear_here : (ws : List ℕ) (from : ℕ) → IsClearTo ws from (from / 64) (from % 64)
-clear_here ws from = (omega arith, omega arith, λ i le lt. absurd (omega (arith, le, lt)))
-
-module _ (ws : List ℕ) (count from : ℕ) (are : AreFlags ws count) where
-  pub none_in_word : IsClearTo ws from (from / 64 + 1) 0 → IsNextInWord (flags ws count) from None
-  none_in_word clear =
-      record {
-        found = λ n is. absurd (none-some n is);
-        unmarked = λ i le at before. marked_is ws count i are ∙ clear.2 i le (omega (arith, at));
-      }
-
-  pub no_word_there : length ws ≤ from / 64 → IsNextInWord (flags ws count) from None
-  no_word_there past =
-      record {
-        found = λ n is. absurd (none-some n is);
-        unmarked = λ i le at before. marked_is ws count i are ∙ flag_past ws i (omega (arith, at, past));
-      }
-
-  pub found_in_word : (marked : ℕ) → marked < 64 → IsNextMark (flags ws count) from (Some (from / 64 * 64 + marked)) → IsNextInWord (flags ws count) from (Some (from / 64 * 64 + marked))
-  found_in_word marked lt next =
-      record {
-        found = λ n is. let at = next.found n is in (at.0, omega (arith, same_Some (from / 64 * 64 + marked) n is, lt), at.1);
-        unmarked = λ i le at before. next.unmarked i le before;
-      }
+-- what is marked is there
+pub marked_below : (marks : List Bool) (i : ℕ) → is_marked marks i ≡ true → i < length marks
+marked_below marks i is =
+    elim (cases_lt i (length marks)) [
+      | inl lt ↦ lt
+      | inr ge ↦ absurd (both_ways (is_marked marks i) (get_or_past marks i false ge) is)
+    ]

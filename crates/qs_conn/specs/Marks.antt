@@ -57,11 +57,6 @@ pub record IsNextMark (marks : List Bool) (from : ℕ) (answer : Option ℕ) : T
   pub found : (n : ℕ) → answer ≡ Some n → (from ≤ n) × (is_marked marks n ≡ true)
   pub unmarked : (i : ℕ) → from ≤ i → IsBefore i answer → is_marked marks i ≡ false
 
--- the least marked index from one on, among those of its word of 64
-pub record IsNextInWord (marks : List Bool) (from : ℕ) (answer : Option ℕ) : Type 0 where
-  pub found : (n : ℕ) → answer ≡ Some n → (from ≤ n) × (n / 64 ≡ from / 64) × (is_marked marks n ≡ true)
-  pub unmarked : (i : ℕ) → from ≤ i → i / 64 ≡ from / 64 → IsBefore i answer → is_marked marks i ≡ false
-
 -- there is a part at an index, and it has the property
 abbrev pub IsAt : {X : Type 0} → (X → Type 0) → List X → ℕ → Type 0
 IsAt {X} P xs i = (x : X) × (slice_get xs i ≡ Some x) × P x
@@ -90,10 +85,6 @@ AreEndsMarked {X} P t kind marks = (n : ℕ) → type_of n ≡ kind → is_marke
 abbrev pub HasNoMark : List Bool → ℕ → Type 0
 HasNoMark marks word = (i : ℕ) → i / 64 ≡ word → is_marked marks i ≡ false
 
--- no index below one is marked
-abbrev pub IsClearBelow : List Bool → ℕ → Type 0
-IsClearBelow marks least = (i : ℕ) → i < least → is_marked marks i ≡ false
-
 -- each index below one is marked
 abbrev pub AreMarkedBelow : List Bool → ℕ → Type 0
 AreMarkedBelow marks first = (i : ℕ) → i < first → is_marked marks i ≡ true
@@ -111,7 +102,6 @@ count_marked (false ∷ marks) = count_marked marks
 -- There is a flag for each word of marks, and a word without one has no mark.
 pub record AreSummed (marks words : List Bool) : Type 0 where
   pub room : length marks ≤ 64 * length words
-  pub fits : 64 * length words < 2 ^ 64 + 64
   pub none : (word : ℕ) → is_marked words word ≡ false → HasNoMark marks word
 
 -- There is a flag for each word of marks, and of a word with one each index is marked.

@@ -14,8 +14,8 @@ abbrev pub flags : List ℕ → ℕ → List Bool
 flags words count = map (flag words) (range_with_len 0 count)
 
 -- a word has the marks of its 64 indexes
-abbrev pub IsWordOf : List Bool → ℕ → ℕ → Type 0
-IsWordOf marks place word = (i : ℕ) → i < 64 → (bit_at word i == 1) ≡ is_marked marks (place * 64 + i)
+pub record IsWordOf (marks : List Bool) (place word : ℕ) : Type 0 where
+  pub bits : (i : ℕ) → i < 64 → (bit_at word i == 1) ≡ is_marked marks (place * 64 + i)
 
 -- There is a word for each flag and at most one word more, and no flag from the count on is set.
 pub record AreFlags (words : List ℕ) (count : ℕ) : Type 0 where

@@ -1,10 +1,10 @@
 //! Flags of indexes, as bits of words.
-ghost use Rattle.std.specs.Prelude.{◌≡◌, ◌++◌, ◌-◌, ◌<◌, ◌==◌, ◌^◌, [], true, false, length, take, slice_set, replicate, OnOk, OnErr};
+ghost use Rattle.std.specs.Prelude.{◌≡◌, ◌++◌, ◌*◌, ◌-◌, ◌<◌, ◌≤◌, ◌==◌, ◌^◌, [], List, Bool, false, length, take, slice_set, replicate, OnOk, OnErr};
 ghost use Rattle.std.specs.Int.{bit_at};
-ghost use Rattle.qs_conn.specs.Marks.{IsNextMark, IsNextInWord, HasAllMarks, is_marked, both, untold};
+ghost use Rattle.qs_conn.specs.Marks.{is_marked, both, untold};
 ghost use Rattle.qs_conn.specs.Words.{IsCutAt, IsWordOf};
 
-use qs_ranges::{NoMemory, lowest_bit, with_bit};
+use qs_ranges::{NoMemory, with_bit};
 use std::alloc::Global;
 use std::marker::Model;
 
@@ -51,6 +51,14 @@ impl Bits {
         self.count
     }
 
+    /// How many words they take.
+    pub(crate) fn words(&self) -> usize
+        ensures room { length self.now ≤ 64 * result }
+        ensures few { result ≤ 2 ^ 58 }
+    {
+        self.words.len()
+    }
+
     /// Makes room for all indexes below a count: the new ones aren't marked.
     pub(crate) fn open_to(&mut self, count: usize) -> Result<(), NoMemory>
         ensures ok { OnOk result (self.new ≡ self.old ++ replicate (count - length self.old) false) }
@@ -89,11 +97,10 @@ impl Bits {
 
     /// Whether an index is marked.
     pub(crate) fn has(&self, index: usize) -> bool
-        requires { index < length self.now }
         ensures { result ≡ is_marked self.now index }
     {
-        let place = index / FLAGS_PER_WORD;
-        has_bit(self.words[place], index % FLAGS_PER_WORD)
+        let word = self.word(index / FLAGS_PER_WORD);
+        has_bit(word, index % FLAGS_PER_WORD)
     }
 
     /// Marks an index, or takes its mark away.
@@ -104,123 +111,57 @@ impl Bits {
         let place = index / FLAGS_PER_WORD;
         self.words[place] = with_bit(self.words[place], index % FLAGS_PER_WORD, is_marked);
     }
-
-    /// The least marked index from an index on, in the word of that index.
-    pub(crate) fn next_in_word(&self, from: usize) -> Option<usize>
-        ensures { IsNextInWord self.now from result }
-    {
-        let place = from / FLAGS_PER_WORD;
-        if place >= self.words.len() {
-            return None;
-        }
-        match lowest_bit(self.words[place], from % FLAGS_PER_WORD) {
-            Some(marked) => Some(place * FLAGS_PER_WORD + marked),
-            None => None,
-        }
-    }
-
-    /// The least marked index from an index on.
-    pub(crate) fn next(&self, from: usize) -> Option<usize>
-        ensures { IsNextMark self.now from result }
-    {
-        let mut bit = from % FLAGS_PER_WORD;
-        for place in from / FLAGS_PER_WORD..self.words.len() {
-            if let Some(marked) = lowest_bit(self.words[place], bit) {
-                return Some(place * FLAGS_PER_WORD + marked);
-            }
-            bit = 0;
-        }
-        None
-    }
 }
 
-impl Bits {
-    /// The least index from one on that is marked here and there, in the word of that index.
-    pub(crate) fn next_both_in_word(&self, others: &Bits, from: usize) -> Option<usize>
-        ensures { IsNextInWord (both self.now others.now) from result }
-    {
-        let place = from / FLAGS_PER_WORD;
-        if place >= self.words.len().min(others.words.len()) {
-            return None;
-        }
-        let word = self.words[place] & others.words[place];
-        match lowest_bit(word, from % FLAGS_PER_WORD) {
-            Some(marked) => Some(place * FLAGS_PER_WORD + marked),
-            None => None,
-        }
-    }
+/// Flags that are read a word at a time.
+pub(crate) trait Row {
+    ghost flags: { Self → List Bool };
 
-    /// The least index from one on that is marked here and there.
-    pub(crate) fn next_both(&self, others: &Bits, from: usize) -> Option<usize>
-        ensures { IsNextMark (both self.now others.now) from result }
-    {
-        let mut bit = from % FLAGS_PER_WORD;
-        for place in from / FLAGS_PER_WORD..self.words.len().min(others.words.len()) {
-            let word = self.words[place] & others.words[place];
-            if let Some(marked) = lowest_bit(word, bit) {
-                return Some(place * FLAGS_PER_WORD + marked);
-            }
-            bit = 0;
-        }
-        None
-    }
-}
-
-impl Bits {
-    /// Whether each index of a word is marked.
-    pub(crate) fn is_full(&self, place: usize) -> bool
-        ensures { result ≡ true → HasAllMarks self.now place }
-    {
-        self.word(place) == u64::MAX
-    }
-
-    /// The least index from one on that is marked here and there and wasn't told, in the word of that index.
-    pub(crate) fn next_untold_in_word(
-        &self,
-        others: &Bits,
-        told: &Bits,
-        from: usize,
-    ) -> Option<usize>
-        ensures { IsNextInWord (untold (both self.now others.now) told.now) from result }
-    {
-        let place = from / FLAGS_PER_WORD;
-        let word = self.untold_word(others, told, place);
-        match lowest_bit(word, from % FLAGS_PER_WORD) {
-            Some(marked) => Some(place * FLAGS_PER_WORD + marked),
-            None => None,
-        }
-    }
-
-    /// The least index from one on that is marked here and there and wasn't told.
-    pub(crate) fn next_untold(&self, others: &Bits, told: &Bits, from: usize) -> Option<usize>
-        ensures { IsNextMark (untold (both self.now others.now) told.now) from result }
-    {
-        let mut bit = from % FLAGS_PER_WORD;
-        for place in from / FLAGS_PER_WORD..self.words.len().min(others.words.len()) {
-            let word = self.untold_word(others, told, place);
-            if let Some(marked) = lowest_bit(word, bit) {
-                return Some(place * FLAGS_PER_WORD + marked);
-            }
-            bit = 0;
-        }
-        None
-    }
-
-    // The marks here and there of a word that weren't told.
-    fn untold_word(&self, others: &Bits, told: &Bits, place: usize) -> u64
-        ensures { IsWordOf (untold (both self.now others.now) told.now) place result }
-    {
-        self.word(place) & others.word(place) & !told.word(place)
-    }
-
-    // The marks of a word: past the last one there is none.
+    /// The flags of 64 indexes: past the last one none is set.
     fn word(&self, place: usize) -> u64
-        ensures { IsWordOf self.now place result }
-    {
+        ensures { IsWordOf (flags self.now) place result };
+}
+
+impl Row for Bits {
+    ghost flags = { λ m. m };
+
+    fn word(&self, place: usize) -> u64 {
         if place >= self.words.len() {
             return 0;
         }
         self.words[place]
+    }
+}
+
+/// The flags that two rows share.
+#[derive(Drop)]
+pub(crate) struct Both<'a> {
+    pub(crate) marks: &'a Bits,
+    pub(crate) others: &'a Bits,
+}
+
+impl Row for Both<'_> {
+    ghost flags = { λ r. both r.marks.now r.others.now };
+
+    #[tactic(auto, using(crate::proofs::Boths::word_both))]
+    fn word(&self, place: usize) -> u64 {
+        self.marks.word(place) & self.others.word(place)
+    }
+}
+
+/// The same, without those of a third one.
+#[derive(Drop)]
+pub(crate) struct Left<'a> {
+    pub(crate) shared: Both<'a>,
+    pub(crate) told: &'a Bits,
+}
+
+impl Row for Left<'_> {
+    ghost flags = { λ r. untold (both r.shared.marks.now r.shared.others.now) r.told.now };
+
+    #[tactic(auto, using(crate::proofs::Boths::word_both, crate::proofs::Boths::word_untold))]
+    fn word(&self, place: usize) -> u64 {
+        self.shared.word(place) & !self.told.word(place)
     }
 }
 

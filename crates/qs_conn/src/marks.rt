@@ -1,11 +1,11 @@
 //! Which streams of one type may have something to send or to tell.
-ghost use Rattle.std.specs.Prelude.{◌≡◌, ◌++◌, ◌+◌, ◌*◌, ◌-◌, ◌<◌, ◌≤◌, ◌^◌, ◌⊎◌, [], true, false, length, take, slice_set, replicate, OnOk, OnErr};
-ghost use Rattle.qs_conn.specs.Marks.{is_marked, IsNextMark, HasNoMark, HasAllMarks, least_of, both, untold};
+ghost use Rattle.std.specs.Prelude.{◌≡◌, ◌++◌, ◌+◌, ◌*◌, ◌-◌, ◌<◌, ◌≤◌, ◌^◌, ◌⊎◌, ℕ, [], true, false, Some, length, take, slice_set, replicate, OnOk, OnErr};
+ghost use Rattle.qs_conn.specs.Marks.{is_marked, IsNextMark, AreSummed, least_of, both, untold};
 ghost use Rattle.qs_conn.specs.Untold.{IsClear};
 
-use crate::bits::{Bits, FLAGS_PER_WORD};
+use crate::bits::{Bits, Both, FLAGS_PER_WORD, Left, Row};
 use crate::told_marks::ToldMarks;
-use qs_ranges::NoMemory;
+use qs_ranges::{NoMemory, lowest_bit};
 use std::alloc::Global;
 use std::marker::Model;
 
@@ -16,16 +16,14 @@ pub(crate) struct Marks {
     marks: Bits,
     // A word without a flag has no mark.
     words: Bits,
-    // No more indexes than these have a mark: without any a search needs one look.
-    most: usize,
-    // No index below it has a mark: a search passes what is over at once, however many streams that are.
-    least: usize,
+    // The least one with a mark.
+    first: Option<usize>,
 }
 
 impl Model for Marks {
-    ghost use Rattle.std.specs.Prelude.{◌≤◌, List, Bool};
+    ghost use Rattle.std.specs.Prelude.{List, Bool};
     ghost use Rattle.std.specs.Coded.{coded_list, coded_bool};
-    ghost use Rattle.qs_conn.specs.Marks.{AreSummed, IsClearBelow, count_marked};
+    ghost use Rattle.qs_conn.specs.Marks.{AreSummed, IsNextMark};
 
     ghost Value = { List Bool };
 
@@ -33,7 +31,7 @@ impl Model for Marks {
 
     ghost view = { λ m. m.marks };
 
-    ghost invariant = { λ m. AreSummed m.marks m.words × (count_marked m.marks ≤ m.most) × IsClearBelow m.marks m.least };
+    ghost invariant = { λ m. AreSummed m.marks m.words × IsNextMark m.marks 0 m.first };
 }
 
 impl Marks {
@@ -44,17 +42,16 @@ impl Marks {
         Marks {
             marks: Bits::new(alloc),
             words: Bits::new(alloc),
-            most: 0,
-            least: 0,
+            first: None,
         }
     }
 
-    /// Whether some index may have a mark.
+    /// Whether some index has a mark.
     #[inline(always)]
     pub(crate) fn may_have(&self) -> bool
         ensures { result ≡ false → IsClear self.now }
     {
-        self.most > 0
+        self.first.is_some()
     }
 
     /// Whether an index is marked.
@@ -72,13 +69,6 @@ impl Marks {
         self.marks.len()
     }
 
-    /// Whether each index of a word is marked.
-    pub(crate) fn is_full(&self, place: usize) -> bool
-        ensures { result ≡ true → HasAllMarks self.now place }
-    {
-        self.marks.is_full(place)
-    }
-
     /// The bits of the marks.
     pub(crate) fn bits(&self) -> &Bits
         ensures { result.now ≡ self.now }
@@ -91,9 +81,6 @@ impl Marks {
         ensures ok { OnOk result (self.new ≡ self.old ++ replicate (count - length self.old) false) }
         ensures err { OnErr result (self.new ≡ self.old) }
     {
-        if count <= self.marks.len() {
-            return Ok(());
-        }
         // More words than there are marks for sum up the same marks.
         self.words.open_to(count.div_ceil(FLAGS_PER_WORD))?;
         self.marks.open_to(count)
@@ -118,6 +105,7 @@ impl Marks {
         ensures { self.new ≡ take count self.old }
     {
         self.marks.close_to(count);
+        self.first = least_from(0, &self.marks, &self.words);
     }
 
     /// Marks an index, or takes its mark away.
@@ -136,18 +124,16 @@ impl Marks {
     // The same, where that changes it. It stands apart, so that where it doesn't a caller pays for the look at the mark alone.
     #[inline(never)]
     fn turn(&mut self, index: usize, mark: bool)
-        requires there { index < length self.old }
-        requires turns { mark ≡ false → is_marked self.old index ≡ true }
+        requires { index < length self.old }
         ensures { self.new ≡ slice_set self.old index mark }
     {
         self.marks.set(index, mark);
-        self.least = least_after(self.least, index, mark);
         let word = index / FLAGS_PER_WORD;
-        self.words.set(word, has_mark(&self.marks, word, mark));
-        if !mark {
-            self.most -= 1;
-        } else if self.most < self.marks.len() {
-            self.most += 1;
+        self.words.set(word, self.marks.word(word) != 0);
+        if mark {
+            self.first = least_index(self.first, index);
+        } else if self.first == Some(index) {
+            self.first = least_from(index, &self.marks, &self.words);
         }
     }
 
@@ -155,106 +141,107 @@ impl Marks {
     pub(crate) fn next(&self, from: usize) -> Option<usize>
         ensures { IsNextMark self.now from result }
     {
-        if self.most == 0 {
-            return None;
+        match self.first {
+            Some(first) if first < from => least_from(from, &self.marks, &self.words),
+            first => first,
         }
-        self.search(from.max(self.least))
     }
 
-    // The same, by a look at each index from that one on.
-    fn search(&self, from: usize) -> Option<usize>
-        ensures { IsNextMark self.now from result }
-    {
-        if let Some(index) = self.marks.next_in_word(from) {
-            return Some(index);
-        }
-        let mut next = from / FLAGS_PER_WORD + 1;
-        while let Some(word) = self.words.next(next) {
-            if let Some(index) = self.marks.next_in_word(word * FLAGS_PER_WORD) {
-                return Some(index);
-            }
-            next = word + 1;
-        }
-        None
-    }
-}
-
-impl Marks {
     /// The least index from one on that is marked here and there.
     pub(crate) fn next_both(&self, others: &Marks, from: usize) -> Option<usize>
         ensures { IsNextMark (both self.now others.now) from result }
     {
-        if let Some(index) = self.marks.next_both_in_word(&others.marks, from) {
-            return Some(index);
-        }
-        let mut next = from / FLAGS_PER_WORD + 1;
-        while let Some(word) = self.words.next_both(&others.words, next) {
-            let first = word * FLAGS_PER_WORD;
-            if let Some(index) = self.marks.next_both_in_word(&others.marks, first) {
-                return Some(index);
-            }
-            next = word + 1;
-        }
-        None
+        let summary = Both {
+            marks: &self.words,
+            others: &others.words,
+        };
+        let row = Both {
+            marks: &self.marks,
+            others: &others.marks,
+        };
+        search(from, self.marks.words(), &summary, &row)
     }
-}
 
-impl Marks {
     /// The least index from one on that is marked here and there and wasn't told. Where only these marks count, they are both.
     pub(crate) fn next_untold(&self, others: &Marks, told: &ToldMarks, from: usize) -> Option<usize>
         ensures { IsNextMark (untold (both self.now others.now) told.now) from result }
     {
-        if self.most == 0 {
-            return None;
-        }
-        let below = self.least.max(told.first());
-        self.search_untold(others, told, from.max(below))
-    }
-
-    // The same, by a look at each index from that one on.
-    fn search_untold(&self, others: &Marks, told: &ToldMarks, from: usize) -> Option<usize>
-        ensures { IsNextMark (untold (both self.now others.now) told.now) from result }
-    {
-        let marks = told.bits();
-        if let Some(index) = self.marks.next_untold_in_word(&others.marks, marks, from) {
-            return Some(index);
-        }
-        let full = told.full();
-        let mut next = from / FLAGS_PER_WORD + 1;
-        while let Some(word) = self.words.next_untold(&others.words, full, next) {
-            let first = word * FLAGS_PER_WORD;
-            if let Some(index) = self.marks.next_untold_in_word(&others.marks, marks, first) {
-                return Some(index);
-            }
-            next = word + 1;
-        }
-        None
+        let first = self.first?;
+        let words = Both {
+            marks: &self.words,
+            others: &others.words,
+        };
+        let marks = Both {
+            marks: &self.marks,
+            others: &others.marks,
+        };
+        let summary = Left {
+            shared: words,
+            told: told.full(),
+        };
+        let row = Left {
+            shared: marks,
+            told: told.bits(),
+        };
+        let from = from.max(first).max(told.first());
+        search(from, self.marks.words(), &summary, &row)
     }
 }
 
-// Below which index there is no mark, once one index is marked or its mark is taken away.
-fn least_after(least: usize, index: usize, is_marked: bool) -> usize
-    ensures marked { is_marked ≡ true → (result ≤ least) × (result ≤ index) }
-    ensures cleared { is_marked ≡ false → (result ≤ least) ⊎ ((least ≡ index) × (result ≤ index + 1)) }
+// The lesser of an index and another one, where there is one.
+fn least_index(first: Option<usize>, index: usize) -> Option<usize>
+    ensures { result ≡ least_of first (Some index) }
 {
-    if is_marked {
-        least.min(index)
-    } else if least == index {
-        index.saturating_add(1)
-    } else {
-        least
+    match first {
+        Some(first) => Some(first.min(index)),
+        None => Some(index),
     }
 }
 
-// Whether a word of marks may have one: it has where one was set.
-fn has_mark(marks: &Bits, word: usize, was_set: bool) -> bool
-    requires { word * 64 < 2 ^ 64 }
-    ensures { result ≡ false → HasNoMark marks.now word }
+// The least marked index from an index on. It stands apart, so that where no search is wanted a caller doesn't pay for its room.
+#[inline(never)]
+fn least_from(from: usize, marks: &Bits, words: &Bits) -> Option<usize>
+    requires { AreSummed marks.now words.now }
+    ensures { IsNextMark marks.now from result }
 {
-    if was_set {
-        return true;
+    search(from, marks.words(), words, marks)
+}
+
+/// The least flag of a row from an index on, within a count of words. In a word without a flag in the summary there is none.
+#[inline(always)]
+fn search<S: Row, R: Row>(from: usize, words: usize, summary: &S, row: &R) -> Option<usize>
+    requires few { words ≤ 2 ^ 58 }
+    requires within { length (R.flags row.now) ≤ 64 * words }
+    requires summed { AreSummed (R.flags row.now) (S.flags summary.now) }
+    ensures { IsNextMark (R.flags row.now) from result }
+{
+    let mut place = from / FLAGS_PER_WORD;
+    let mut bit = from % FLAGS_PER_WORD;
+    while place < words {
+        if let Some(flag) = lowest_bit(row.word(place), bit) {
+            return Some(place * FLAGS_PER_WORD + flag);
+        }
+        place = next_word(place + 1, words, summary);
+        bit = 0;
     }
-    marks.next_in_word(word * FLAGS_PER_WORD).is_some()
+    None
+}
+
+// The least word from one on that has a flag in the summary, or one past the last.
+#[inline(always)]
+fn next_word<S: Row>(from: usize, words: usize, summary: &S) -> usize
+    requires { words ≤ 2 ^ 58 }
+    ensures from { from ≤ result }
+    ensures passed { (word : ℕ) → from ≤ word → word < result → is_marked (S.flags summary.now) word ≡ false }
+{
+    let mut bit = from % FLAGS_PER_WORD;
+    for place in from / FLAGS_PER_WORD..words.div_ceil(FLAGS_PER_WORD) {
+        if let Some(flag) = lowest_bit(summary.word(place), bit) {
+            return place * FLAGS_PER_WORD + flag;
+        }
+        bit = 0;
+    }
+    from.max(words)
 }
 
 /// The lesser of two numbers, where there are some.

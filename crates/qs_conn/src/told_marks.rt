@@ -3,7 +3,7 @@ ghost use Rattle.std.specs.Prelude.{◌≡◌, ◌++◌, ◌+◌, ◌-◌, ◌*�
 ghost use Rattle.qs_conn.specs.Marks.{is_marked, IsMarkedBeside, IsUnmarkedBeside, AreFull, AreMarkedBelow};
 ghost use Rattle.qs_conn.specs.Untold.{IsClear};
 
-use crate::bits::{Bits, FLAGS_PER_WORD};
+use crate::bits::{Bits, FLAGS_PER_WORD, Row};
 use crate::marks::Marks;
 use qs_ranges::NoMemory;
 use std::alloc::Global;
@@ -16,7 +16,7 @@ pub(crate) struct ToldMarks {
     marks: Marks,
     // Each index of a word with a flag is marked.
     full: Bits,
-    // Each index below it is marked: a search passes what was told long ago at once.
+    // Each word below it has a flag: a search passes what was told long ago at once.
     first: usize,
 }
 
@@ -31,7 +31,7 @@ impl Model for ToldMarks {
 
     ghost view = { λ t. t.marks };
 
-    ghost invariant = { λ t. AreFull t.marks t.full × AreMarkedBelow t.marks t.first };
+    ghost invariant = { λ t. AreFull t.marks t.full × AreMarkedBelow t.full t.first };
 }
 
 impl ToldMarks {
@@ -57,10 +57,7 @@ impl ToldMarks {
     pub(crate) fn has(&self, index: usize) -> bool
         ensures { result ≡ is_marked self.now index }
     {
-        if index >= self.marks.len() {
-            return false;
-        }
-        self.marks.has(index)
+        self.bits().has(index)
     }
 
     /// Makes room for all indexes below a count: the new ones weren't told. It takes memory where one is new.
@@ -88,9 +85,13 @@ impl ToldMarks {
         }
         self.marks.set(index, is_marked);
         let word = index / FLAGS_PER_WORD;
-        let is_full = self.marks.is_full(word);
+        let is_full = self.marks.bits().word(word) == u64::MAX;
         self.full.set(word, is_full);
-        self.first = first_after(self.first, index, is_full);
+        if !is_full {
+            self.first = self.first.min(word);
+        } else if self.first == word {
+            self.first = word + 1;
+        }
     }
 
     /// Whether some index may have been told.
@@ -143,26 +144,10 @@ impl ToldMarks {
         &self.full
     }
 
-    /// Each index below it was told.
+    /// An index below which each was told.
     pub(crate) fn first(&self) -> usize
         ensures { AreMarkedBelow self.now result }
     {
-        self.first
-    }
-}
-
-// Below which index all were told, once an index was told or may be told again. Words become full in their order, mostly.
-fn first_after(first: usize, index: usize, is_full: bool) -> usize
-    ensures full { is_full ≡ true → (result ≤ first) ⊎ ((first / 64 ≡ index / 64) × (result ≤ index / 64 * 64 + 64)) }
-    ensures other { is_full ≡ false → (result ≤ first) × (result ≤ index) }
-{
-    if !is_full {
-        return first.min(index);
-    }
-    let word = index / FLAGS_PER_WORD;
-    if first / FLAGS_PER_WORD == word {
-        (word * FLAGS_PER_WORD).saturating_add(FLAGS_PER_WORD)
-    } else {
-        first
+        self.first.saturating_mul(FLAGS_PER_WORD)
     }
 }

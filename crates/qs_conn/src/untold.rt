@@ -64,10 +64,7 @@ impl UntoldLanes {
     fn has(&self, index: usize) -> bool
         ensures { result ≡ is_marked self.now index }
     {
-        if index >= self.marks.len() {
-            return false;
-        }
-        self.marks.has(index)
+        self.marks.bits().has(index)
     }
 
     #[inline(always)]

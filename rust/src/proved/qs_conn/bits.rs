@@ -2,7 +2,7 @@
 //! Flags of indexes, as bits of words.
 use crate::shim::Vec;
 
-use crate::proved::qs_ranges::{NoMemory, lowest_bit, with_bit};
+use crate::proved::qs_ranges::{NoMemory, with_bit};
 use crate::shim::alloc::Global;
 
 /// How many flags a word has.
@@ -28,6 +28,12 @@ impl Bits {
     #[inline]
     pub(crate) fn len(&self) -> usize {
         self.count
+    }
+
+    /// How many words they take.
+    #[inline]
+    pub(crate) fn words(&self) -> usize {
+        self.words.len()
     }
 
     /// Makes room for all indexes below a count: the new ones aren't marked.
@@ -66,8 +72,8 @@ impl Bits {
     /// Whether an index is marked.
     #[inline]
     pub(crate) fn has(&self, index: usize) -> bool {
-        let place = index / FLAGS_PER_WORD;
-        has_bit(self.words[place], index % FLAGS_PER_WORD)
+        let word = self.word(index / FLAGS_PER_WORD);
+        has_bit(word, index % FLAGS_PER_WORD)
     }
 
     /// Marks an index, or takes its mark away.
@@ -76,112 +82,44 @@ impl Bits {
         let place = index / FLAGS_PER_WORD;
         self.words[place] = with_bit(self.words[place], index % FLAGS_PER_WORD, is_marked);
     }
-
-    /// The least marked index from an index on, in the word of that index.
-    #[inline]
-    pub(crate) fn next_in_word(&self, from: usize) -> Option<usize> {
-        let place = from / FLAGS_PER_WORD;
-        if place >= self.words.len() {
-            return None;
-        }
-        match lowest_bit(self.words[place], from % FLAGS_PER_WORD) {
-            Some(marked) => Some(place * FLAGS_PER_WORD + marked),
-            None => None,
-        }
-    }
-
-    /// The least marked index from an index on.
-    #[inline]
-    pub(crate) fn next(&self, from: usize) -> Option<usize> {
-        let mut bit = from % FLAGS_PER_WORD;
-        for place in from / FLAGS_PER_WORD..self.words.len() {
-            if let Some(marked) = lowest_bit(self.words[place], bit) {
-                return Some(place * FLAGS_PER_WORD + marked);
-            }
-            bit = 0;
-        }
-        None
-    }
 }
 
-impl Bits {
-    /// The least index from one on that is marked here and there, in the word of that index.
-    #[inline]
-    pub(crate) fn next_both_in_word(&self, others: &Bits, from: usize) -> Option<usize> {
-        let place = from / FLAGS_PER_WORD;
-        if place >= self.words.len().min(others.words.len()) {
-            return None;
-        }
-        let word = self.words[place] & others.words[place];
-        match lowest_bit(word, from % FLAGS_PER_WORD) {
-            Some(marked) => Some(place * FLAGS_PER_WORD + marked),
-            None => None,
-        }
-    }
-
-    /// The least index from one on that is marked here and there.
-    #[inline]
-    pub(crate) fn next_both(&self, others: &Bits, from: usize) -> Option<usize> {
-        let mut bit = from % FLAGS_PER_WORD;
-        for place in from / FLAGS_PER_WORD..self.words.len().min(others.words.len()) {
-            let word = self.words[place] & others.words[place];
-            if let Some(marked) = lowest_bit(word, bit) {
-                return Some(place * FLAGS_PER_WORD + marked);
-            }
-            bit = 0;
-        }
-        None
-    }
+/// Flags that are read a word at a time.
+pub(crate) trait Row {
+    /// The flags of 64 indexes: past the last one none is set.
+    fn word(&self, place: usize) -> u64;
 }
 
-impl Bits {
-    /// Whether each index of a word is marked.
-    #[inline]
-    pub(crate) fn is_full(&self, place: usize) -> bool {
-        self.word(place) == u64::MAX
-    }
-
-    /// The least index from one on that is marked here and there and wasn't told, in the word of that index.
-    #[inline]
-    pub(crate) fn next_untold_in_word(
-        &self,
-        others: &Bits,
-        told: &Bits,
-        from: usize,
-    ) -> Option<usize> {
-        let place = from / FLAGS_PER_WORD;
-        let word = self.untold_word(others, told, place);
-        match lowest_bit(word, from % FLAGS_PER_WORD) {
-            Some(marked) => Some(place * FLAGS_PER_WORD + marked),
-            None => None,
-        }
-    }
-
-    /// The least index from one on that is marked here and there and wasn't told.
-    #[inline]
-    pub(crate) fn next_untold(&self, others: &Bits, told: &Bits, from: usize) -> Option<usize> {
-        let mut bit = from % FLAGS_PER_WORD;
-        for place in from / FLAGS_PER_WORD..self.words.len().min(others.words.len()) {
-            let word = self.untold_word(others, told, place);
-            if let Some(marked) = lowest_bit(word, bit) {
-                return Some(place * FLAGS_PER_WORD + marked);
-            }
-            bit = 0;
-        }
-        None
-    }
-
-    // The marks here and there of a word that weren't told.
-    fn untold_word(&self, others: &Bits, told: &Bits, place: usize) -> u64 {
-        self.word(place) & others.word(place) & !told.word(place)
-    }
-
-    // The marks of a word: past the last one there is none.
+impl Row for Bits {
     fn word(&self, place: usize) -> u64 {
         if place >= self.words.len() {
             return 0;
         }
         self.words[place]
+    }
+}
+
+/// The flags that two rows share.
+pub(crate) struct Both<'a> {
+    pub(crate) marks: &'a Bits,
+    pub(crate) others: &'a Bits,
+}
+
+impl Row for Both<'_> {
+    fn word(&self, place: usize) -> u64 {
+        self.marks.word(place) & self.others.word(place)
+    }
+}
+
+/// The same, without those of a third one.
+pub(crate) struct Left<'a> {
+    pub(crate) shared: Both<'a>,
+    pub(crate) told: &'a Bits,
+}
+
+impl Row for Left<'_> {
+    fn word(&self, place: usize) -> u64 {
+        self.shared.word(place) & !self.told.word(place)
     }
 }
 

@@ -1,9 +1,9 @@
 // Made from crates/qs_conn/src/marks.rt by rust/erase; not edited by hand.
 //! Which streams of one type may have something to send or to tell.
 
-use crate::proved::qs_conn::bits::{Bits, FLAGS_PER_WORD};
+use crate::proved::qs_conn::bits::{Bits, Both, FLAGS_PER_WORD, Left, Row};
 use crate::proved::qs_conn::told_marks::ToldMarks;
-use crate::proved::qs_ranges::NoMemory;
+use crate::proved::qs_ranges::{NoMemory, lowest_bit};
 use crate::shim::alloc::Global;
 
 /// A mark for each index of the streams of one type, and a flag for each word of marks that has one: so a search looks at one word of
@@ -12,10 +12,8 @@ pub(crate) struct Marks {
     marks: Bits,
     // A word without a flag has no mark.
     words: Bits,
-    // No more indexes than these have a mark: without any a search needs one look.
-    most: usize,
-    // No index below it has a mark: a search passes what is over at once, however many streams that are.
-    least: usize,
+    // The least one with a mark.
+    first: Option<usize>,
 }
 
 impl Marks {
@@ -25,15 +23,14 @@ impl Marks {
         Marks {
             marks: Bits::new(alloc),
             words: Bits::new(alloc),
-            most: 0,
-            least: 0,
+            first: None,
         }
     }
 
-    /// Whether some index may have a mark.
+    /// Whether some index has a mark.
     #[inline(always)]
     pub(crate) fn may_have(&self) -> bool {
-        self.most > 0
+        self.first.is_some()
     }
 
     /// Whether an index is marked.
@@ -48,12 +45,6 @@ impl Marks {
         self.marks.len()
     }
 
-    /// Whether each index of a word is marked.
-    #[inline]
-    pub(crate) fn is_full(&self, place: usize) -> bool {
-        self.marks.is_full(place)
-    }
-
     /// The bits of the marks.
     #[inline]
     pub(crate) fn bits(&self) -> &Bits {
@@ -63,9 +54,6 @@ impl Marks {
     /// Makes room for all indexes below a count: the new ones aren't marked.
     #[inline]
     pub(crate) fn open_to(&mut self, count: usize) -> Result<(), NoMemory> {
-        if count <= self.marks.len() {
-            return Ok(());
-        }
         // More words than there are marks for sum up the same marks.
         self.words.open_to(count.div_ceil(FLAGS_PER_WORD))?;
         self.marks.open_to(count)
@@ -87,6 +75,7 @@ impl Marks {
     #[inline]
     pub(crate) fn close_to(&mut self, count: usize) {
         self.marks.close_to(count);
+        self.first = least_from(0, &self.marks, &self.words);
     }
 
     /// Marks an index, or takes its mark away.
@@ -103,107 +92,105 @@ impl Marks {
     #[inline(never)]
     fn turn(&mut self, index: usize, mark: bool) {
         self.marks.set(index, mark);
-        self.least = least_after(self.least, index, mark);
         let word = index / FLAGS_PER_WORD;
-        self.words.set(word, has_mark(&self.marks, word, mark));
-        if !mark {
-            self.most -= 1;
-        } else if self.most < self.marks.len() {
-            self.most += 1;
+        self.words.set(word, self.marks.word(word) != 0);
+        if mark {
+            self.first = least_index(self.first, index);
+        } else if self.first == Some(index) {
+            self.first = least_from(index, &self.marks, &self.words);
         }
     }
 
     /// The least marked index from an index on.
     #[inline]
     pub(crate) fn next(&self, from: usize) -> Option<usize> {
-        if self.most == 0 {
-            return None;
+        match self.first {
+            Some(first) if first < from => least_from(from, &self.marks, &self.words),
+            first => first,
         }
-        self.search(from.max(self.least))
     }
 
-    // The same, by a look at each index from that one on.
-    fn search(&self, from: usize) -> Option<usize> {
-        if let Some(index) = self.marks.next_in_word(from) {
-            return Some(index);
-        }
-        let mut next = from / FLAGS_PER_WORD + 1;
-        while let Some(word) = self.words.next(next) {
-            if let Some(index) = self.marks.next_in_word(word * FLAGS_PER_WORD) {
-                return Some(index);
-            }
-            next = word + 1;
-        }
-        None
-    }
-}
-
-impl Marks {
     /// The least index from one on that is marked here and there.
     #[inline]
     pub(crate) fn next_both(&self, others: &Marks, from: usize) -> Option<usize> {
-        if let Some(index) = self.marks.next_both_in_word(&others.marks, from) {
-            return Some(index);
-        }
-        let mut next = from / FLAGS_PER_WORD + 1;
-        while let Some(word) = self.words.next_both(&others.words, next) {
-            let first = word * FLAGS_PER_WORD;
-            if let Some(index) = self.marks.next_both_in_word(&others.marks, first) {
-                return Some(index);
-            }
-            next = word + 1;
-        }
-        None
+        let summary = Both {
+            marks: &self.words,
+            others: &others.words,
+        };
+        let row = Both {
+            marks: &self.marks,
+            others: &others.marks,
+        };
+        search(from, self.marks.words(), &summary, &row)
     }
-}
 
-impl Marks {
     /// The least index from one on that is marked here and there and wasn't told. Where only these marks count, they are both.
     #[inline]
     pub(crate) fn next_untold(&self, others: &Marks, told: &ToldMarks, from: usize) -> Option<usize> {
-        if self.most == 0 {
-            return None;
-        }
-        let below = self.least.max(told.first());
-        self.search_untold(others, told, from.max(below))
-    }
-
-    // The same, by a look at each index from that one on.
-    fn search_untold(&self, others: &Marks, told: &ToldMarks, from: usize) -> Option<usize> {
-        let marks = told.bits();
-        if let Some(index) = self.marks.next_untold_in_word(&others.marks, marks, from) {
-            return Some(index);
-        }
-        let full = told.full();
-        let mut next = from / FLAGS_PER_WORD + 1;
-        while let Some(word) = self.words.next_untold(&others.words, full, next) {
-            let first = word * FLAGS_PER_WORD;
-            if let Some(index) = self.marks.next_untold_in_word(&others.marks, marks, first) {
-                return Some(index);
-            }
-            next = word + 1;
-        }
-        None
+        let first = self.first?;
+        let words = Both {
+            marks: &self.words,
+            others: &others.words,
+        };
+        let marks = Both {
+            marks: &self.marks,
+            others: &others.marks,
+        };
+        let summary = Left {
+            shared: words,
+            told: told.full(),
+        };
+        let row = Left {
+            shared: marks,
+            told: told.bits(),
+        };
+        let from = from.max(first).max(told.first());
+        search(from, self.marks.words(), &summary, &row)
     }
 }
 
-// Below which index there is no mark, once one index is marked or its mark is taken away.
-fn least_after(least: usize, index: usize, is_marked: bool) -> usize {
-    if is_marked {
-        least.min(index)
-    } else if least == index {
-        index.saturating_add(1)
-    } else {
-        least
+// The lesser of an index and another one, where there is one.
+fn least_index(first: Option<usize>, index: usize) -> Option<usize> {
+    match first {
+        Some(first) => Some(first.min(index)),
+        None => Some(index),
     }
 }
 
-// Whether a word of marks may have one: it has where one was set.
-fn has_mark(marks: &Bits, word: usize, was_set: bool) -> bool {
-    if was_set {
-        return true;
+// The least marked index from an index on. It stands apart, so that where no search is wanted a caller doesn't pay for its room.
+#[inline(never)]
+fn least_from(from: usize, marks: &Bits, words: &Bits) -> Option<usize> {
+    search(from, marks.words(), words, marks)
+}
+
+/// The least flag of a row from an index on, within a count of words. In a word without a flag in the summary there is none.
+#[inline(always)]
+fn search<S: Row, R: Row>(from: usize, words: usize, summary: &S, row: &R) -> Option<usize> {
+    debug_assert!(words <= 1 << 58);
+    let mut place = from / FLAGS_PER_WORD;
+    let mut bit = from % FLAGS_PER_WORD;
+    while place < words {
+        if let Some(flag) = lowest_bit(row.word(place), bit) {
+            return Some(place * FLAGS_PER_WORD + flag);
+        }
+        place = next_word(place + 1, words, summary);
+        bit = 0;
     }
-    marks.next_in_word(word * FLAGS_PER_WORD).is_some()
+    None
+}
+
+// The least word from one on that has a flag in the summary, or one past the last.
+#[inline(always)]
+fn next_word<S: Row>(from: usize, words: usize, summary: &S) -> usize {
+    debug_assert!(words <= 1 << 58);
+    let mut bit = from % FLAGS_PER_WORD;
+    for place in from / FLAGS_PER_WORD..words.div_ceil(FLAGS_PER_WORD) {
+        if let Some(flag) = lowest_bit(summary.word(place), bit) {
+            return place * FLAGS_PER_WORD + flag;
+        }
+        bit = 0;
+    }
+    from.max(words)
 }
 
 /// The lesser of two numbers, where there are some.

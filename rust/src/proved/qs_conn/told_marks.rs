@@ -1,7 +1,7 @@
 // Made from crates/qs_conn/src/told_marks.rt by rust/erase; not edited by hand.
 //! Which indexes of the streams of one type an owner was told of.
 
-use crate::proved::qs_conn::bits::{Bits, FLAGS_PER_WORD};
+use crate::proved::qs_conn::bits::{Bits, FLAGS_PER_WORD, Row};
 use crate::proved::qs_conn::marks::Marks;
 use crate::proved::qs_ranges::NoMemory;
 use crate::shim::alloc::Global;
@@ -12,7 +12,7 @@ pub(crate) struct ToldMarks {
     marks: Marks,
     // Each index of a word with a flag is marked.
     full: Bits,
-    // Each index below it is marked: a search passes what was told long ago at once.
+    // Each word below it has a flag: a search passes what was told long ago at once.
     first: usize,
 }
 
@@ -36,10 +36,7 @@ impl ToldMarks {
     /// Whether an index was told: one past the last wasn't.
     #[inline]
     pub(crate) fn has(&self, index: usize) -> bool {
-        if index >= self.marks.len() {
-            return false;
-        }
-        self.marks.has(index)
+        self.bits().has(index)
     }
 
     /// Makes room for all indexes below a count: the new ones weren't told. It takes memory where one is new.
@@ -62,9 +59,13 @@ impl ToldMarks {
         }
         self.marks.set(index, is_marked);
         let word = index / FLAGS_PER_WORD;
-        let is_full = self.marks.is_full(word);
+        let is_full = self.marks.bits().word(word) == u64::MAX;
         self.full.set(word, is_full);
-        self.first = first_after(self.first, index, is_full);
+        if !is_full {
+            self.first = self.first.min(word);
+        } else if self.first == word {
+            self.first = word + 1;
+        }
     }
 
     /// Whether some index may have been told.
@@ -108,22 +109,9 @@ impl ToldMarks {
         &self.full
     }
 
-    /// Each index below it was told.
+    /// An index below which each was told.
     #[inline]
     pub(crate) fn first(&self) -> usize {
-        self.first
-    }
-}
-
-// Below which index all were told, once an index was told or may be told again. Words become full in their order, mostly.
-fn first_after(first: usize, index: usize, is_full: bool) -> usize {
-    if !is_full {
-        return first.min(index);
-    }
-    let word = index / FLAGS_PER_WORD;
-    if first / FLAGS_PER_WORD == word {
-        (word * FLAGS_PER_WORD).saturating_add(FLAGS_PER_WORD)
-    } else {
-        first
+        self.first.saturating_mul(FLAGS_PER_WORD)
     }
 }

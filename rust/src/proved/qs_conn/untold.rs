@@ -34,10 +34,7 @@ impl UntoldLanes {
     }
 
     fn has(&self, index: usize) -> bool {
-        if index >= self.marks.len() {
-            return false;
-        }
-        self.marks.has(index)
+        self.marks.bits().has(index)
     }
 
     #[inline(always)]

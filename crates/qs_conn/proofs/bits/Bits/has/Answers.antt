@@ -1,11 +1,6 @@
-use Rattle.std.proofs.Common.{arith}
-use Rattle.qs_conn.proofs.Words.{index_below, flag_read}
+use Rattle.std.proofs.Common.{◌∙◌}
+use Rattle.qs_conn.proofs.Words.{mark_in}
 use Rattle.qs_conn.proofs.bits.Bits.has.Goals as goal
 
-pub index-requires : goal.index-requires
-index-requires c = omega (arith, c.self.invariant.room, index_below c.self.inside.words.items c.self.inside.count c.args.index c.args.self.now c.self.view_is c.requires)
-
 pub returns : goal.returns
-returns c =
-    let there = index_below c.self.inside.words.items c.self.inside.count c.args.index c.args.self.now c.self.view_is c.requires in
-    rw (← c.self.view_is) (flag_read c.self.inside.words.items c.self.inside.count c.args.index c.index.result.now c.has_bit.result c.self.invariant there c.index.ensures c.has_bit.ensures)
+returns c = c.has_bit.ensures ∙ mark_in c.args.self.now c.args.index c.word-word.result c.word-word.ensures

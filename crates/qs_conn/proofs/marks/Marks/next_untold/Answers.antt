@@ -1,15 +1,19 @@
 use Rattle.std.proofs.Common.{arith}
 use Rattle.qs_conn.specs.Marks.{both, untold}
-use Rattle.qs_conn.proofs.Most.{most_none}
-use Rattle.qs_conn.proofs.Summed.{next_past}
-use Rattle.qs_conn.proofs.UntoldMarks.{none_untold, left_from}
+use Rattle.qs_conn.proofs.Boths.{both_len, untold_len, summed_both, summed_untold}
+use Rattle.qs_conn.proofs.Firsts.{none_left, left_from}
 use Rattle.qs_conn.proofs.marks.Marks.next_untold.Goals as goal
 
-pub returns-then-self-eq0 : goal.returns-then-self-eq0
-returns-then-self-eq0 c = rw (← c.self.view_is) (none_untold c.self.inside.marks c.args.others.now c.args.told.now c.args.from (most_none c.self.inside.marks c.self.inside.most c.self.invariant.1 (omega (arith, c.if-self-eq0.true))))
+pub returns-in_err-first : goal.returns-in_err-first
+returns-in_err-first c = rw (← c.self.view_is, c.from_residual.ensures) (none_left c.self.inside.marks c.args.others.now c.args.told.now c.args.from (rw c.in_err-first.was at c.self.invariant.1))
+
+pub search-requires-clause-within : goal.search-requires-clause-within
+search-requires-clause-within c = omega (arith, c.words.ensures.room, both_len c.self.inside.marks c.others.inside.marks, untold_len (both c.self.inside.marks c.others.inside.marks) c.bits.result.now)
+
+pub search-requires-clause-summed : goal.search-requires-clause-summed
+search-requires-clause-summed c = summed_untold _ _ _ _ (summed_both _ _ _ _ c.self.invariant.0 c.others.invariant.0) (rw c.bits.ensures c.full.ensures)
 
 pub returns : goal.returns
 returns c =
-    rw (← c.self.view_is)
-    (next_past (untold (both c.self.inside.marks c.args.others.now) c.args.told.now) c.args.from c.max-below.result c.max.result c.search_untold.result (omega arith) (omega arith)
-    (left_from c.self.inside.marks c.args.others.now c.args.told.now c.self.inside.least c.first.result c.max-below.result (omega arith) c.self.invariant.2 c.first.ensures) (rw c.self.view_is c.search_untold.ensures))
+    rw (← c.self.view_is, ← c.others.view_is)
+    (left_from c.self.inside.marks c.others.inside.marks c.args.told.now c.args.from c.in_ok-first.first c.first.result c.max-from.result c.search.result (omega arith) (rw c.in_ok-first.was at c.self.invariant.1) c.first.ensures (rw c.bits.ensures at c.search.ensures))

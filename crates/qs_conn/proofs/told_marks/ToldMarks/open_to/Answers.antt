@@ -1,9 +1,9 @@
 use Rattle.std.proofs.Common.{arith}
-use Rattle.qs_conn.proofs.UntoldMarks.{full_opened, told_opened}
+use Rattle.qs_conn.proofs.Fulls.{full_open, below_opened}
 use Rattle.qs_conn.proofs.told_marks.ToldMarks.open_to.Goals as goal
 
 pub invariant_of-self-2 : goal.invariant_of-self-2
 invariant_of-self-2 c = (
-  full_opened c.open_to-2.result c.self.inside.marks c.self.inside.full c.open_to-2.new.self c.open_to.new.self c.args.count c.div_ceil.result c.self.invariant.0 (omega arith) c.in_ok-open_to.ensures.ok c.open_to-2.ensures.ok c.open_to-2.ensures.err,
-  told_opened c.open_to-2.result c.self.inside.marks c.open_to-2.new.self _ c.self.inside.first c.open_to-2.ensures.ok c.open_to-2.ensures.err c.self.invariant.1,
+  full_open c.open_to-2.result c.self.inside.marks c.self.inside.full c.open_to-2.new.self c.open_to.new.self c.args.count c.div_ceil.result c.self.invariant.0 (omega arith) c.in_ok-open_to.ensures.ok c.open_to-2.ensures.ok c.open_to-2.ensures.err,
+  rw c.in_ok-open_to.ensures.ok (below_opened c.self.inside.full _ c.self.inside.first c.self.invariant.1),
 )

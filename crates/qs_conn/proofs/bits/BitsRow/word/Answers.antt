@@ -1,6 +1,6 @@
 use Rattle.std.proofs.Common.{arith}
-use Rattle.qs_conn.proofs.UntoldMarks.{word_there, word_past}
-use Rattle.qs_conn.proofs.bits.Bits.word.Goals as goal
+use Rattle.qs_conn.proofs.Words.{word_there, word_past}
+use Rattle.qs_conn.proofs.bits.BitsRow.word.Goals as goal
 
 pub returns-then-place-len : goal.returns-then-place-len
 returns-then-place-len c = rw (← c.self.view_is) (word_past c.self.inside.words.items c.self.inside.count c.args.place c.self.invariant (omega (arith, c.if-place-len.true, c.len.ensures)))

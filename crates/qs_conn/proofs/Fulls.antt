@@ -1,0 +1,74 @@
+-- Words of which each index is marked: one changes, or more are opened.
+use Rattle.std.proofs.Common.{◌≡◌, ℕ, ◌+◌, ◌-◌, ◌*◌, ◌/◌, ◌^◌, ◌<◌, ◌≤◌, ◌==◌, ◌⊎◌, Bool, true, false, List, ◌++◌, Result, Ok, Err, length, replicate, sym, ap, ◌∙◌, subst, inl, inr, arith}
+use Rattle.std.specs.Result.{OnOk, OnErr}
+use Rattle.std.proofs.Math.ListN.{set}
+use Rattle.std.proofs.lemmas.Bool.{cases_lt, cases_eq, eq-eqb}
+use Rattle.std.proofs.lemmas.Grind.{get_or-set_at}
+use Rattle.std.proofs.lemmas.List.{length-append, length-replicate, length-set, get_or-set_other}
+use Rattle.qs_conn.proofs.Words.{padded, all_in}
+use Rattle.qs_conn.specs.Marks.{is_marked, HasAllMarks, AreFull, AreMarkedBelow}
+use Rattle.qs_conn.specs.Words.{IsWordOf}
+
+-- a flag for each word of marks that opens
+module _ {A E : Type 0} (r : Result A E) (marks full marks_now full_now : List Bool) (count n : ℕ) (are : AreFull marks full) (enough : count ≤ 64 * n) (is : full_now ≡ full ++ replicate (n - length full) false) where
+  room : (more : ℕ) → more ≤ count - length marks → length marks + more ≤ 64 * length full_now
+  room more few = omega (arith, enough, few, are.room, ap length is, length-append full (replicate (n - length full) false), length-replicate (n - length full) false)
+
+  all : (word : ℕ) → is_marked full_now word ≡ true → HasAllMarks marks word
+  all word whole = are.all word (sym (ap (λ xs. is_marked xs word) is ∙ padded full (n - length full) word false) ∙ whole)
+
+  pub full_open : OnOk r (marks_now ≡ marks ++ replicate (count - length marks) false) → OnErr r (marks_now ≡ marks) → AreFull marks_now full_now
+  full_open = go r
+    where
+      go : (q : Result A E) → OnOk q (marks_now ≡ marks ++ replicate (count - length marks) false) → OnErr q (marks_now ≡ marks) → AreFull marks_now full_now
+      go (Ok a) ok err =
+          record {
+            room = omega (arith, room (count - length marks) (omega arith), ap length ok, length-append marks (replicate (count - length marks) false), length-replicate (count - length marks) false);
+            all = λ word whole i at. ap (λ xs. is_marked xs i) ok ∙ padded marks (count - length marks) i false ∙ all word whole i at;
+          }
+      go (Err e) ok err = rw err record { room = omega (arith, room 0 (omega arith)); all = all }
+
+-- one mark is set or taken away, and its word's flag with it
+module _ (marks full marks_now full_now : List Bool) (i : ℕ) (b whole : Bool) (are : AreFull marks full) (there : i < length marks) (is : marks_now ≡ set marks i b) (looked : whole ≡ true → HasAllMarks marks_now (i / 64)) (flags_are : full_now ≡ set full (i / 64) whole) where
+  here : (word : ℕ) → word ≡ i / 64 → is_marked full_now word ≡ true → HasAllMarks marks_now word
+  here word e set_now =
+      let yes : whole ≡ true = sym (get_or-set_at full (i / 64) word whole false e (omega (arith, there, are.room))) ∙ ap (λ xs. is_marked xs word) (sym flags_are) ∙ set_now in
+      subst (HasAllMarks marks_now) (sym e) (looked yes)
+
+  other : (word : ℕ) → (word ≡ i / 64 → ⊥) → is_marked full_now word ≡ true → HasAllMarks marks_now word
+  other word not_here set_now j at =
+      ap (λ xs. is_marked xs j) is ∙ get_or-set_other marks i j b false (λ e. not_here (sym at ∙ ap (λ n. n / 64) e)) ∙ are.all word (sym (get_or-set_other full (i / 64) word whole false not_here) ∙ ap (λ xs. is_marked xs word) (sym flags_are) ∙ set_now) j at
+
+  pub full_set : AreFull marks_now full_now
+  full_set =
+      record {
+        room = omega (arith, are.room, ap length is, length-set marks i b, ap length flags_are, length-set full (i / 64) whole);
+        all = λ word set_now.
+            elim (cases_lt word (i / 64)) [
+              | inl lt ↦ other word (λ e. omega (arith, lt, e)) set_now
+              | inr ge ↦ elim (cases_lt (i / 64) word) [ inl lt ↦ other word (λ e. omega (arith, lt, e)) set_now | inr le ↦ here word (omega (arith, ge, le)) set_now ]
+            ];
+      }
+
+-- each index of that word is marked now
+pub full_here : (marks full marks_now full_now : List Bool) (i w : ℕ) (b : Bool) → AreFull marks full → i < length marks → marks_now ≡ set marks i b → IsWordOf marks_now (i / 64) w → w ≡ 2 ^ 64 - 1 → full_now ≡ set full (i / 64) (w == 2 ^ 64 - 1)
+    → AreFull marks_now full_now × (full_now ≡ set full (i / 64) true)
+full_here marks full marks_now full_now i w b are there is of whole flags =
+    let yes : full_now ≡ set full (i / 64) true = flags ∙ ap (set full (i / 64)) (eq-eqb w (2 ^ 64 - 1) whole) in
+    (full_set marks full marks_now full_now i b true are there is (λ refl. all_in marks_now (i / 64) w of whole) yes, yes)
+
+-- below a word each has a flag
+pub below_opened : (full : List Bool) (n first : ℕ) → AreMarkedBelow full first → AreMarkedBelow (full ++ replicate n false) first
+below_opened full n first below i lt = padded full n i false ∙ below i lt
+
+module _ (full : List Bool) (word : ℕ) (there : word < length full) where
+  flagged : (i : ℕ) → (i ≡ word → ⊥) ⊎ (i ≡ word) → ((i ≡ word → ⊥) → is_marked full i ≡ true) → is_marked (set full word true) i ≡ true
+  flagged i (inl other) old = get_or-set_other full word i true false other ∙ old other
+  flagged i (inr same) old = get_or-set_at full word i true false same there
+
+  pub below_more : (first : ℕ) → AreMarkedBelow full first → AreMarkedBelow (set full word true) first
+  below_more first below i lt = flagged i (elim (cases_eq i word) [ inl same ↦ inr same | inr other ↦ inl other ]) (λ other. below i lt)
+
+  -- and the next one has one now
+  pub below_next : AreMarkedBelow full word → AreMarkedBelow (set full word true) (word + 1)
+  below_next below i lt = flagged i (elim (cases_eq i word) [ inl same ↦ inr same | inr other ↦ inl other ]) (λ other. below i (elim (cases_lt i word) [ inl under ↦ under | inr over ↦ absurd (other (omega (arith, lt, over))) ]))

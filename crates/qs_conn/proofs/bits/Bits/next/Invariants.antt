@@ -1,5 +1,0 @@
-use Rattle.qs_conn.proofs.Words.{IsClearTo}
-use Rattle.qs_conn.proofs.bits.Bits.next.Given as goal
-
-abbrev pub invariant-loop-place : goal.invariant-loop-place
-invariant-loop-place l = IsClearTo l.self-inside.words.items l.fn.from l.place l.bit
