@@ -65,6 +65,7 @@ pub mod UntoldMarks
 pub mod UntoldSearch
 pub mod SoughtTold
 pub mod EndedUntold
+pub mod Exact
 pub mod ToldSearch
 pub mod ToldTables
 pub mod Summed
