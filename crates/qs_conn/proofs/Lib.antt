@@ -67,6 +67,7 @@ pub mod Boths
 pub mod UntoldSearch
 pub mod SoughtTold
 pub mod EndedUntold
+pub mod Exact
 pub mod ToldSearch
 pub mod ToldTables
 pub mod Tasks

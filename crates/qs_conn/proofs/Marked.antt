@@ -26,8 +26,8 @@ is_marked_taken (m ∷ marks) (suc n) (suc i) none = is_marked_taken marks n i n
 is_marked_taken _ _ _ none = none
 
 -- a mark that is put where it stands already
-pub mark_kept : (ms : List Bool) (i : ℕ) → ms ≡ set ms i (is_marked ms i)
-mark_kept ms i = sym (set-get_or ms i false)
+pub mark_is : (ms : List Bool) (i : ℕ) (b : Bool) → is_marked ms i ≡ b → set ms i b ≡ ms
+mark_is ms i b is = ap (set ms i) (sym is) ∙ set-get_or ms i false
 
 module _ {X : Type 0} (Q : X → Type 0) where
   pub marked_len : (xs : List X) (ms : List Bool) → AreMarked Q xs ms → length ms ≡ length xs

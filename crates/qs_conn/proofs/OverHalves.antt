@@ -1,12 +1,12 @@
 -- A sending half that is over: no call but those that set its limit, its buffer or that it was blocked changes it.
-use Rattle.std.proofs.Common.{◌≡◌, ℕ, ◌+◌, ◌<◌, ◌≤◌, ◌^◌, ◌==◌, ◌&&◌, Bool, true, false, cond, List, length, get_or, Option, None, Some, is_some, refl, sym, ap, ◌∙◌, subst, arith}
+use Rattle.std.proofs.Common.{◌≡◌, ℕ, ◌+◌, ◌<◌, ◌≤◌, ◌^◌, ◌==◌, ◌&&◌, nat_lt, min, Bool, true, false, cond, List, length, get_or, Option, None, Some, is_some, refl, sym, ap, ◌∙◌, subst, arith}
 use Rattle.std.specs.FinSet as set
 use Rattle.std.specs.Ordering.{nat_cmp}
-use Rattle.std.specs.Prelude.{slice_get}
-use Rattle.std.proofs.Math.ListN.{set as set_list}
+use Rattle.std.specs.Prelude.{slice_set}
+use Rattle.std.proofs.Math.ListN.{set as set_list, length-set}
 use Rattle.std.proofs.lemmas.Bool.{true≢false}
 use Rattle.std.proofs.lemmas.Bool.Decides.{nat_tests}
-use Rattle.std.proofs.lemmas.List.{get_or_default, set-get_or, get_or-set_same}
+use Rattle.std.proofs.lemmas.List.{get_or_default, get_or-set_same}
 use Rattle.qs_ranges.specs.Numbers.{numbers, missing_from}
 use Rattle.qs_send.specs.declared.parts.Chunk.{Chunk}
 use Rattle.qs_send.specs.declared.parts.SendFault.{SendFault}
@@ -15,24 +15,19 @@ use Rattle.qs_send.specs.declared.parts.SendState.{SendState}
 use Rattle.qs_send.specs.declared.parts.SendState.TheVariants.{DataRecvd, DataSent, ResetSent}
 use Rattle.qs_send.specs.Chunks.{IsDueChunk, WasSent}
 use Rattle.qs_send.specs.Halves.{over_sending, IsOver, half_at}
-use Rattle.qs_send.specs.Lane.{Sending, refusal, reset_refusal, state, after_finish, after_reset, after_stopped, after_told, after_stop, after_acked, after_lost, finish_lane, broken_off, first_code}
+use Rattle.qs_send.specs.Lane.{Sending, refusal, reset_refusal, state, after_finish, after_reset, after_stopped, after_told, after_stop, after_acked, after_lost, after_allow, after_buffer, after_blocked, finish_lane, broken_off, first_code}
 use Rattle.qs_send.proofs.AtRest.{rest_missing, rest_acked, rest_lost}
 use Rattle.qs_send.proofs.Overs.{none_goes}
 use Rattle.qs_send.specs.Offsets.{Parts}
-use Rattle.qs_machine.specs.Sums.{changed, no_sending}
+use Rattle.qs_machine.specs.Sums.{no_sending}
 use Rattle.qs_machine.specs.Credit.{send_ended}
-use Rattle.qs_conn.proofs.LaneEdits.{changed_at}
 use Rattle.qs_conn.specs.declared.send_marks.Task.{Task}
 use Rattle.qs_conn.specs.declared.send_marks.Task.TheVariants as tasks
 use Rattle.qs_conn.specs.declared.send_marks.SendMarks.{SendMarks}
-use Rattle.qs_conn.specs.Marks.{is_marked}
 use Rattle.qs_conn.specs.Promised.{AreSums}
-use Rattle.qs_conn.specs.Tasks.{IsQuiet, IsLooked, HasTask, AreAllMarked, is_funded, marks_of}
-use Rattle.qs_conn.proofs.Least.{part_at}
-use Rattle.qs_conn.proofs.Marked.{unmarked_at, mark_kept}
+use Rattle.qs_conn.specs.Tasks.{AreAllMarked, AreMarksOf, has, marks_of}
 use Rattle.qs_conn.proofs.Promised.{promised_of, kept_of, sums_same}
-use Rattle.qs_conn.proofs.Tasks.{all_looked}
-use Rattle.qs_send.specs.Writable.{is_writable}
+use Rattle.qs_conn.proofs.Tasks.{all_looked, marks_read, none_below}
 
 -- a half that is lent is that at its index
 pub lent_at : (xs : List Sending) (i : ℕ) (x : Sending) → i < length xs → x ≡ half_at xs i → x ≡ get_or xs i x
@@ -40,10 +35,6 @@ lent_at xs i x there is = is ∙ get_or_default xs i no_sending x there
 
 pub there_at : (xs : List Sending) (i : ℕ) → i < length xs → half_at xs i ≡ get_or xs i (half_at xs i)
 there_at xs i there = get_or_default xs i no_sending (half_at xs i) there
-
--- a half that a call leaves as it is
-pub unchanged_at : (xs : List Sending) (i : ℕ) (f : Sending → Sending) → i < length xs → f (half_at xs i) ≡ half_at xs i → xs ≡ changed xs i f (slice_get xs i)
-unchanged_at xs i f there same = sym (set-get_or xs i no_sending) ∙ changed_at xs i (half_at xs i) (half_at xs i) f there (there_at xs i there) (sym same)
 
 whole_is : (n : ℕ) → ((missing_from (numbers 0 n) 0 == n) && true) ≡ true
 whole_is n = let e = rest_missing n in let same : (missing_from (numbers 0 n) 0 == n) ≡ true = grind (arith, nat_tests, e) in ap (λ b. b && true) same
@@ -103,55 +94,47 @@ module _ (s : Sending) (o : IsOver s) where
       true≢false (sym (ap is_reset_sent (sym at ∙ is)))
 
   -- what it has for a packet or an owner is its end
-  pub over_ended : send_ended s.lane ≡ true
+  over_ended : send_ended s.lane ≡ true
   over_ended = ap (λ (t : Sending). send_ended t.lane) o.is ∙ whole_is o.written
 
 is_end : Task → Bool
 is_end tasks.Ended = true
 is_end other = false
 
-over_quiet : (t : Task) (id n limit : ℕ) (blocked : Bool) (buffer widest : ℕ) → (t ≡ tasks.Ended → ⊥) → IsQuiet t (over_sending id n limit blocked buffer widest)
-over_quiet tasks.Bytes id n limit blocked buffer widest other = record { no_offset = λ q lt. set.contains-empty nat_cmp q; no_end = λ whole. refl; sent = λ none lt. omega arith }
-over_quiet tasks.Again id n limit blocked buffer widest other = record { no_offset = λ q lt. set.contains-empty nat_cmp q; no_end = λ whole. refl }
-over_quiet tasks.Ended id n limit blocked buffer widest other = absurd (other refl)
-over_quiet _ _ _ _ _ _ _ _ = refl
-
-pub over_has : (t : Task) (s : Sending) → IsOver s → (b : Bool) → (b ≡ true → t ≡ tasks.Ended) → (b ≡ false → t ≡ tasks.Ended → ⊥) → (b ≡ true → HasTask t s) × (b ≡ false → IsQuiet t s)
-over_has t s o b is isnt = (
-  λ yes. subst (λ k. HasTask k s) (sym (is yes)) (over_ended s o),
-  λ not_so. subst (IsQuiet t) (sym o.is) (over_quiet t s.lane.id o.written s.lane.limit o.blocked s.lane.buffer o.widest (isnt not_so)),
-)
-
--- a mark stays right where the half is over and goes on to be
-still : (t : Task) (x y : Sending) → send_ended x.lane ≡ true → IsOver y → IsQuiet t x → IsQuiet t y
+over_has : (t : Task) (s : Sending) → IsOver s → has t s ≡ is_end t
 unfolding is_end
-still tasks.Bytes x y a b q = subst (IsQuiet tasks.Bytes) (sym b.is) (over_quiet tasks.Bytes y.lane.id b.written y.lane.limit b.blocked y.lane.buffer b.widest (λ e. true≢false (sym (ap is_end e))))
-still tasks.Again x y a b q = subst (IsQuiet tasks.Again) (sym b.is) (over_quiet tasks.Again y.lane.id b.written y.lane.limit b.blocked y.lane.buffer b.widest (λ e. true≢false (sym (ap is_end e))))
-still tasks.Writable x y a b q = ap (λ (t : Sending). is_writable t.lane) b.is
-still tasks.Funded x y a b q = ap (λ (t : Sending). is_funded t.lane) b.is
-still tasks.Ended x y a b q = absurd (true≢false (sym a ∙ q))
-still tasks.Stopped x y a b q = ap (λ (t : Sending). t.lane.stopped) b.is
+over_has tasks.Bytes s o = ap (has tasks.Bytes) o.is ∙ rw (none_below (over_sending s.lane.id o.written s.lane.limit o.blocked s.lane.buffer o.widest) s.lane.limit (λ q le. set.contains-empty nat_cmp q)) (let none : nat_lt o.written (min o.written s.lane.limit) ≡ false = grind (arith, nat_tests) in grind (arith, none))
+over_has tasks.Again s o = ap (has tasks.Again) o.is ∙ none_below (over_sending s.lane.id o.written s.lane.limit o.blocked s.lane.buffer o.widest) o.written (λ q le. set.contains-empty nat_cmp q)
+over_has tasks.Ended s o = over_ended s o
+over_has tasks.Writable s o = ap (has tasks.Writable) o.is
+over_has tasks.Funded s o = ap (has tasks.Funded) o.is
+over_has tasks.Stopped s o = ap (has tasks.Stopped) o.is
 
-pub still_marked : (xs now : List Sending) (marks : SendMarks) (i n k : ℕ) (y : Sending) → i < length xs → send_ended (half_at xs i).lane ≡ send_ended y.lane → IsOver (half_at now i) → now ≡ set_list xs i y → promised_of y ≡ promised_of (half_at xs i) → kept_of y ≡ kept_of (half_at xs i)
-    → (length xs ≤ 2 ^ 60) × AreAllMarked xs marks × AreSums xs n k → (length now ≤ 2 ^ 60) × AreAllMarked now marks × AreSums now n k
-still_marked xs now marks i n k y there same over now_is promised kept h =
-    let x = half_at xs i in
-    let b : IsOver y = subst IsOver (ap (λ l. half_at l i) now_is ∙ get_or-set_same xs i y no_sending there) over in
-    let a : send_ended x.lane ≡ true = same ∙ over_ended y b in
-    subst (λ (l : List Sending). (length l ≤ 2 ^ 60) × AreAllMarked l marks × AreSums l n k) (sym now_is)
-    (all_looked xs marks marks n k n k i y
-    (λ t. (is_marked (marks_of marks t) i, (λ none. still t x y a b (unmarked_at (IsQuiet t) xs (marks_of marks t) i x (h.1 t) (part_at xs i x there (there_at xs i there)) none)), mark_kept (marks_of marks t) i)) h
-    (sums_same xs n k i x y there (there_at xs i there) promised kept h.2))
+-- one that is over once its limit, its buffer or that it was blocked was set was over before
+module _ (s : Sending) where
+  pub allow_over : (limit : ℕ) → IsOver (after_allow s limit) → IsOver s
+  allow_over limit o = record { written = o.written; blocked = o.blocked; widest = o.widest; is = ap (λ (t : Sending). record t { lane = record t.lane { limit = s.lane.limit } }) o.is }
 
--- what is read where a half was put
-pub set_read : (xs now : List Sending) (i : ℕ) (y z : Sending) → i < length xs → now ≡ set_list xs i y → z ≡ half_at now i → z ≡ y
-set_read xs now i y z there now_is is = is ∙ ap (λ l. half_at l i) now_is ∙ get_or-set_same xs i y no_sending there
+  pub buffer_over : (size : ℕ) → IsOver (after_buffer s size) → IsOver s
+  buffer_over size o = record { written = o.written; blocked = o.blocked; widest = s.lane.widest; is = ap (λ (t : Sending). record t { lane = record t.lane { buffer = s.lane.buffer; widest = s.lane.widest } }) o.is }
 
--- a half that isn't over was put, and looked at
-pub put_looked : (xs now : List Sending) (old new : SendMarks) (i n k : ℕ) (y z : Sending) → i < length xs → now ≡ set_list xs i y → z ≡ half_at now i → ((t : Task) → IsLooked t i z (marks_of old t) (marks_of new t)) → promised_of y ≡ promised_of (half_at xs i) → kept_of y ≡ kept_of (half_at xs i)
-    → (length xs ≤ 2 ^ 60) × AreAllMarked xs old × AreSums xs n k → (length now ≤ 2 ^ 60) × AreAllMarked now new × AreSums now n k
-put_looked xs now old new i n k y z there now_is is looked promised kept h =
-    let same = set_read xs now i y z there now_is is in
-    subst (λ (l : List Sending). (length l ≤ 2 ^ 60) × AreAllMarked l new × AreSums l n k) (sym now_is)
-    (all_looked xs old new n k n k i y (subst (λ (s : Sending). (t : Task) → IsLooked t i s (marks_of old t) (marks_of new t)) same looked) h
-    (sums_same xs n k i (half_at xs i) y there (there_at xs i there) promised kept h.2))
+  pub blocked_over : IsOver (after_blocked s) → IsOver s
+  blocked_over o = record { written = o.written; blocked = s.lane.blocked_sent; widest = o.widest; is = ap (λ (t : Sending). record t { lane = record t.lane { blocked_sent = s.lane.blocked_sent } }) o.is }
+
+-- a half was put so that it is over exactly if it was
+module _ (xs now : List Sending) (marks : SendMarks) (i : ℕ) (y : Sending) (there : i < length xs) (is : now ≡ set_list xs i y) where
+  put_read : half_at now i ≡ y
+  put_read = ap (λ l. half_at l i) is ∙ get_or-set_same xs i y no_sending there
+
+  pub put_over : AreAllMarked xs marks → (IsOver y → IsOver (half_at xs i)) → IsOver (half_at now i) → AreMarksOf marks i (half_at now i)
+  put_over marked back o t = marks_read xs marks i (half_at xs i) marked there (there_at xs i there) t ∙ over_has t (half_at xs i) (back (subst IsOver put_read o)) ∙ sym (over_has t (half_at now i) o)
+
+  pub put_there : i < length now
+  put_there = rw (is, length-set) there
+
+  -- and looked at
+  pub put_looked : (new : SendMarks) (n k : ℕ) → ((t : Task) → marks_of new t ≡ slice_set (marks_of marks t) i (has t (half_at now i))) → promised_of y ≡ promised_of (half_at xs i) → kept_of y ≡ kept_of (half_at xs i)
+      → (length xs ≤ 2 ^ 60) × AreAllMarked xs marks × AreSums xs n k → (length now ≤ 2 ^ 60) × AreAllMarked now new × AreSums now n k
+  put_looked new n k looked promised kept h =
+      subst (λ (l : List Sending). (length l ≤ 2 ^ 60) × AreAllMarked l new × AreSums l n k) (sym is)
+      (all_looked xs marks new n k n k i y (λ t. looked t ∙ ap (λ s. slice_set (marks_of marks t) i (has t s)) put_read) h (sums_same xs n k i (half_at xs i) y there (there_at xs i there) promised kept h.2))

@@ -26,6 +26,9 @@ use Rattle.qs_machine.proofs.TableEdits.{table_at, opened_closed}
 use Rattle.qs_machine.proofs.LaneTables.{lanes_closed}
 use Rattle.qs_machine.proofs.Taken.{mid_sends, sends_back}
 use Rattle.qs_conn.specs.Promised.{promised_on, EachSmall, IsSumOf, AreSums}
+use Rattle.qs_conn.specs.Tasks.{Stays, counted}
+use Rattle.qs_conn.specs.declared.send_marks.Moves.{Moves}
+use Rattle.qs_conn.specs.declared.send_marks.Moves.TheVariants as moves
 use Rattle.qs_conn.proofs.Helds.{total_lanes}
 
 abbrev pub promised_of : Sending → ℕ
@@ -85,76 +88,39 @@ pub sums_same : (xs : List Sending) (n k i : ℕ) (x y : Sending) → i < length
 sums_same xs n k i x y there at promised kept h =
     record { promised = sum_same promised_of xs n i x y there at promised h.promised; kept = sum_same kept_of xs k i x y there at kept h.kept }
 
--- one that may do both
-pub sums_moved : (xs : List Sending) (n k i before after had has : ℕ) (s y : Sending) → i < length xs → s ≡ get_or xs i s → before ≡ promised_on s.lane → after ≡ promised_on y.lane → after ≤ MAX_VARINT → had ≡ kept_on s.lane → has ≡ kept_on y.lane → has ≤ MAX_VARINT
-    → AreSums xs n k → AreSums (set xs i y) (n - before + after) (k - had + has)
-sums_moved xs n k i before after had has s y there at was is small kept_was kept_is kept_small h =
-    record { promised = sum_moved promised_of xs n i before after s y there at was is small h.promised; kept = sum_moved kept_of xs k i had has s y there at kept_was kept_is kept_small h.kept }
+-- one that may do both is counted anew, where it may
+sum_counted : (f : Sending → ℕ) (m : Moves) (xs : List Sending) (n i was is : ℕ) (s now : Sending) → i < length xs → s ≡ get_or xs i s → was ≡ counted m (f s) → is ≡ counted m (f now) → is ≤ MAX_VARINT → (m ≡ moves.Sent → f now ≡ f s) → IsSumOf f xs n
+    → IsSumOf f (set xs i now) (n - was + is)
+sum_counted f moves.Sent xs n i was is s now there at before after small same h =
+    let e : n ≡ n - was + is = omega (arith, before, after) in
+    subst (λ k. IsSumOf f (set xs i now) k) e (sum_same f xs n i s now there at (same refl) h)
+sum_counted f moves.Room xs n i was is s now there at before after small same h = sum_moved f xs n i was is s now there at before after small h
+sum_counted f moves.All xs n i was is s now there at before after small same h = sum_moved f xs n i was is s now there at before after small h
+
+pub sums_counted : (m : Moves) (xs : List Sending) (n k i before after had has : ℕ) (s now : Sending) → i < length xs → s ≡ get_or xs i s → Stays m s now → before ≡ counted m (promised_of s) → after ≡ counted m (promised_of now) → after ≤ MAX_VARINT → had ≡ counted m (kept_of s) → has ≡ counted m (kept_of now)
+    → has ≤ MAX_VARINT → AreSums xs n k → AreSums (set xs i now) (n - before + after) (k - had + has)
+sums_counted m xs n k i before after had has s now there at stays was is small kept_was kept_is kept_small h =
+    record {
+      promised = sum_counted promised_of m xs n i before after s now there at was is small (λ e. (rw e at stays).promised) h.promised;
+      kept = sum_counted kept_of m xs k i had has s now there at kept_was kept_is kept_small (λ e. (rw e at stays).kept) h.kept;
+    }
+
+-- what is taken away is part of a sum
+pub part_counted : (f : Sending → ℕ) (m : Moves) (xs : List Sending) (n i was : ℕ) (s : Sending) → i < length xs → s ≡ get_or xs i s → was ≡ counted m (f s) → IsSumOf f xs n → was ≤ n
+part_counted f moves.Sent xs n i was s there at is h = omega (arith, is)
+part_counted f moves.Room xs n i was s there at is h = (let part = sum_part f xs n i s there at h in omega (arith, part, is))
+part_counted f moves.All xs n i was s there at is h = (let part = sum_part f xs n i s there at h in omega (arith, part, is))
 
 -- The changes of a half
 
 unsent_and_sent : (b : Bool) (written before after : ℕ) → before ≤ written → after ≤ written → b ≡ false → cond b 0 (written - after) + after ≡ cond b 0 (written - before) + before
 unsent_and_sent b written before after low high is = rw is (omega (arith, low, high))
 
-pub sent_promises : (s y : Sending) (c : Chunk) → IsLawful s → IsDueChunk s c → y ≡ after_sent s c → promised_of y ≡ promised_of s
-sent_promises s y c law due is =
+pub sent_promises : (s : Sending) (c : Chunk) → IsLawful s → IsDueChunk s c → promised_of (after_sent s c) ≡ promised_of s
+sent_promises s c law due =
     let within = due_within s c due law in
     let low = law.order.sent_written in
-    ap promised_of is ∙ unsent_and_sent (is_some s.lane.was_reset) s.lane.written s.lane.sent_end (after_sent s c).lane.sent_end low (omega (arith, within, low)) (none_due s c due law)
-
--- bytes that are written
-
-open_half : (r : Option Reset) (finished : Bool) → cond (is_some r) (Some WasReset) (cond finished (Some Finished) None) ≡ None → is_some r ≡ false
-open_half None finished is = refl
-open_half (Some r) finished is = absurd (none-some WasReset (sym is))
-
-more_written : (b : Bool) (written sent more : ℕ) → b ≡ false → sent ≤ written → cond b 0 (written + more - sent) + sent ≡ cond b 0 (written - sent) + sent + more
-more_written b written sent more is low = rw is (omega (arith, low))
-
-all_written : (b : Bool) (written sent : ℕ) → b ≡ false → sent ≤ written → cond b 0 (written - sent) + sent ≡ written
-all_written b written sent is low = rw is (omega (arith, low))
-
--- how many a write took
-pub wrote_few : (r : Result ℕ SendFault) (s y : Sending) (bytes : List ℕ) (k : ℕ) → k ≡ result_unwrap_or r 0 → IfOk r (λ j. (refusal s.lane ≡ None) × (j ≡ accepted s.lane (length bytes)) × (y ≡ after_write s (take j bytes))) → k ≤ MAX_VARINT
-wrote_few (Ok j) s y bytes k is ok = omega (arith, is, ok.1)
-wrote_few (Err f) s y bytes k is ok = omega (arith, is)
-
-promised_wrote : (r : Result ℕ SendFault) (xs : List Sending) (n i : ℕ) (s y : Sending) (bytes : List ℕ) (k : ℕ) → i < length xs → s ≡ get_or xs i s → IsLawful s → k ≡ result_unwrap_or r 0
-    → IfOk r (λ j. (refusal s.lane ≡ None) × (j ≡ accepted s.lane (length bytes)) × (y ≡ after_write s (take j bytes)))
-    → IfErr r (λ f. (y ≡ s) × (f ≡ unwrap_or (refusal s.lane) NoMemory)) → IsSumOf promised_of xs n → IsSumOf promised_of (set xs i y) (n + k)
-promised_wrote (Err f) xs n i s y bytes k there at law is ok err h =
-    let same : n ≡ n + k = omega (arith, is) in
-    subst (λ m. IsSumOf promised_of (set xs i y) m) same (sum_same promised_of xs n i s y there at (ap promised_of err.0) h)
-promised_wrote (Ok j) xs n i s y bytes k there at law is ok err h =
-    let free : is_some s.lane.was_reset ≡ false = open_half s.lane.was_reset s.lane.finished ok.0 in
-    let low = law.order.sent_written in
-    let small = law.order.small in
-    let len = length-take j bytes in
-    let few = ok.1 in
-    let part : promised_of y ≡ promised_of s + length (take j bytes) = ap promised_of ok.2 ∙ more_written (is_some s.lane.was_reset) s.lane.written s.lane.sent_end (length (take j bytes)) free low in
-    let whole : promised_of s ≡ s.lane.written = all_written (is_some s.lane.was_reset) s.lane.written s.lane.sent_end free low in
-    sum_set promised_of xs n (n + k) i s y there at (omega (arith, part, whole, small, len, few)) (omega (arith, part, len, few, is)) h
-
-kept_wrote : (r : Result ℕ SendFault) (xs : List Sending) (n i : ℕ) (s y : Sending) (bytes : List ℕ) (k : ℕ) → i < length xs → s ≡ get_or xs i s → IsLawful s → k ≡ result_unwrap_or r 0
-    → IfOk r (λ j. (refusal s.lane ≡ None) × (j ≡ accepted s.lane (length bytes)) × (y ≡ after_write s (take j bytes)))
-    → IfErr r (λ f. (y ≡ s) × (f ≡ unwrap_or (refusal s.lane) NoMemory)) → IsSumOf kept_of xs n → IsSumOf kept_of (set xs i y) (n + k)
-kept_wrote (Err f) xs n i s y bytes k there at law is ok err h =
-    let same : n ≡ n + k = omega (arith, is) in
-    subst (λ m. IsSumOf kept_of (set xs i y) m) same (sum_same kept_of xs n i s y there at (ap kept_of err.0) h)
-kept_wrote (Ok j) xs n i s y bytes k there at law is ok err h =
-    let free : is_some s.lane.was_reset ≡ false = open_half s.lane.was_reset s.lane.finished ok.0 in
-    let from = law.bytes.from free in
-    let small = law.order.small in
-    let len = length-take j bytes in
-    let few = ok.1 in
-    let part : kept_of y ≡ kept_of s + length (take j bytes) = ap kept_of ok.2 ∙ length-append s.lane.kept (take j bytes) in
-    sum_set kept_of xs n (n + k) i s y there at (omega (arith, part, from, small, len, few)) (omega (arith, part, len, few, is)) h
-
-pub sums_wrote : (r : Result ℕ SendFault) (xs : List Sending) (n m i : ℕ) (s y : Sending) (bytes : List ℕ) (k : ℕ) → i < length xs → s ≡ get_or xs i s → IsLawful s → k ≡ result_unwrap_or r 0
-    → IfOk r (λ j. (refusal s.lane ≡ None) × (j ≡ accepted s.lane (length bytes)) × (y ≡ after_write s (take j bytes)))
-    → IfErr r (λ f. (y ≡ s) × (f ≡ unwrap_or (refusal s.lane) NoMemory)) → AreSums xs n m → AreSums (set xs i y) (n + k) (m + k)
-sums_wrote r xs n m i s y bytes k there at law is ok err h =
-    record { promised = promised_wrote r xs n i s y bytes k there at law is ok err h.promised; kept = kept_wrote r xs m i s y bytes k there at law is ok err h.kept }
+    unsent_and_sent (is_some s.lane.was_reset) s.lane.written s.lane.sent_end (after_sent s c).lane.sent_end low (omega (arith, within, low)) (none_due s c due law)
 
 -- Some open, some leave
 

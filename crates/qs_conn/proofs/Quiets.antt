@@ -19,6 +19,7 @@ use Rattle.qs_conn.specs.declared.send_marks.Task.{Task}
 use Rattle.qs_conn.specs.declared.send_marks.Task.TheVariants as tasks
 use Rattle.qs_conn.specs.Tasks.{IsQuiet, IsQuietAt, IsDoneAfter, IsFree}
 use Rattle.qs_conn.proofs.DueTied.{is_due, is_end_due}
+use Rattle.qs_conn.proofs.Tasks.{all_sent, no_byte, no_fin, no_fin_again, none_again}
 use Rattle.qs_machine.proofs.LaneTables.{lookup_lanes}
 use Rattle.qs_machine.proofs.TableLaws.{lookup_same}
 use Rattle.qs_machine.proofs.Tied.{tied_sent}
@@ -46,7 +47,7 @@ module _ (o : Outgoing) (n : ℕ) (q : IsQuietAt tasks.Bytes o n) where
           let same : l.sent_end ≡ s.lane.sent_end = ap (λ x. x.sent_end) (sym is) in
           let all : l.written ≡ s.lane.written = ap (λ x. x.written) (sym is) in
           let limit : l.limit ≡ s.lane.limit = ap (λ x. x.limit) (sym is) in
-          let sent : s.lane.written ≤ s.lane.sent_end = quiet.sent (ap (λ x. x.was_reset) is ∙ none) (omega (arith, below, same, limit)) in
+          let sent : s.lane.written ≤ s.lane.sent_end = all_sent s quiet (ap (λ x. x.was_reset) is ∙ none) (omega (arith, below, same, limit)) in
           omega (arith, more, sent, same, all)
 
   pub no_goes : (t : Limits) (recvs : Tables RecvLane) (e : End) → StreamGoes (end_by t recvs o e) n → ⊥
@@ -54,11 +55,11 @@ module _ (o : Outgoing) (n : ℕ) (q : IsQuietAt tasks.Bytes o n) where
       let (s, is, tied, quiet) = q l at in
       let there = end_by t recvs o e in
       let limit : l.limit ≡ s.lane.limit = ap (λ x. x.limit) (sym is) in
-      both_ways (set.contains s.due.offsets k) (quiet.no_offset k (omega (arith, below, limit))) (is_due there n s tied k (subst (λ x. IsDue there n x k) (sym is) due))
+      both_ways (set.contains s.due.offsets k) (no_byte s quiet k (omega (arith, below, limit))) (is_due there n s tied k (subst (λ x. IsDue there n x k) (sym is) due))
   no_goes t recvs e (l, at, inr (due, whole)) =
       let (s, is, tied, quiet) = q l at in
       let there = end_by t recvs o e in
-      both_ways s.due.fin (quiet.no_end (ap (λ x. x.sent_end) is ∙ whole ∙ ap (λ x. x.written) (sym is))) (is_end_due there n s tied (subst (IsEndDue there n) (sym is) due))
+      both_ways s.due.fin (no_fin s quiet (ap (λ x. x.sent_end) is ∙ whole ∙ ap (λ x. x.written) (sym is))) (is_end_due there n s tied (subst (IsEndDue there n) (sym is) due))
 
 -- A stream of which a chunk went
 module _ (o : Outgoing) (n : ℕ) (s : Sending) (c : Chunk) (there : HasSending o n s) (due : IsDueChunk s c) where
@@ -77,12 +78,12 @@ no_goes_again o n q t recvs e spent (l, at, inl (k, due, below, inl before)) =
     let (s, is, tied, quiet) = q l at in
     let there = end_by t recvs o e in
     let sent : l.sent_end ≡ s.lane.sent_end = ap (λ x. x.sent_end) (sym is) in
-    both_ways (set.contains s.due.offsets k) (quiet.no_offset k (omega (arith, before, sent))) (is_due there n s tied k (subst (λ x. IsDue there n x k) (sym is) due))
+    both_ways (set.contains s.due.offsets k) (none_again s quiet k (omega (arith, before, sent))) (is_due there n s tied k (subst (λ x. IsDue there n x k) (sym is) due))
 no_goes_again o n q t recvs e spent (l, at, inl (k, due, below, inr (first, credit))) = omega (arith, credit, spent)
 no_goes_again o n q t recvs e spent (l, at, inr (due, whole)) =
     let (s, is, tied, quiet) = q l at in
     let there = end_by t recvs o e in
-    both_ways s.due.fin (quiet.no_end (ap (λ x. x.sent_end) is ∙ whole ∙ ap (λ x. x.written) (sym is))) (is_end_due there n s tied (subst (IsEndDue there n) (sym is) due))
+    both_ways s.due.fin (no_fin_again s quiet (ap (λ x. x.sent_end) is ∙ whole ∙ ap (λ x. x.written) (sym is))) (is_end_due there n s tied (subst (IsEndDue there n) (sym is) due))
 
 -- the streams below a number want no more, and those up to the next one that is looked at
 pub wants_next : (o : Outgoing) (from m : ℕ) → ((n : ℕ) → n < from → WantsMore (lookup o.sends n) → ⊥) → ((n : ℕ) → from ≤ n → n < m → IsQuietAt tasks.Bytes o n) → (WantsMore (lookup o.sends m) → ⊥) → (n : ℕ) → n < m + 1 → WantsMore (lookup o.sends n) → ⊥

@@ -1,7 +1,7 @@
 -- Sending halves that have something for a packet, or for their owner.
-use Rattle.std.proofs.Common.{◌≡◌, ℕ, ◌≤◌, Bool, false, Option, Some, None, is_some, option_map, refl, sym, ap, ◌∙◌, subst, inl, inr}
+use Rattle.std.proofs.Common.{◌≡◌, ℕ, ◌≤◌, ◌||◌, Bool, true, false, arith, Option, Some, None, is_some, option_map, refl, sym, ap, ◌∙◌, subst, inl, inr}
 use Rattle.std.specs.Prelude.{⊤}
-use Rattle.std.proofs.lemmas.Bool.{both_ways}
+use Rattle.std.proofs.lemmas.Bool.{true≢false}
 use Rattle.std.proofs.lemmas.Option.{none-some, same_Some}
 use Rattle.std.specs.FinSet as set
 use Rattle.qs_send.specs.Lane.{SendLane, Sending}
@@ -18,31 +18,29 @@ use Rattle.qs_conn.specs.Sending.{IsDueOf, MayWrite}
 use Rattle.qs_conn.specs.RecvTasks.{HasOne}
 use Rattle.qs_conn.specs.declared.recv_marks.RecvTask.TheVariants as recv_tasks
 use Rattle.qs_conn.proofs.Least.{least_given}
-use Rattle.qs_conn.specs.Tasks.{IsQuiet, HasTask, is_funded}
-use Rattle.qs_conn.specs.declared.send_marks.Task.{Task}
+use Rattle.qs_send.specs.Chunks.{has_unsent}
+use Rattle.qs_conn.specs.Tasks.{HasTask, has, is_due_below, may_end}
+use Rattle.qs_conn.proofs.Tasks.{below_due, due_below, end_parts, parts_end, unsent_below}
 use Rattle.qs_conn.specs.declared.send_marks.Task.TheVariants as tasks
 use Rattle.qs_conn.proofs.DueTied.{due_is, is_due, end_due_is, is_end_due}
 use Rattle.qs_conn.proofs.Openings.{none_is}
 
--- no half both has something of a task and is quiet of it
-pub quiet_has_none : (t : Task) (s : Sending) → IsQuiet t s → HasTask t s → ⊥
-quiet_has_none tasks.Bytes s quiet (inl (q, due, below)) = both_ways (set.contains s.due.offsets q) (quiet.no_offset q below) due
-quiet_has_none tasks.Bytes s quiet (inr (due, whole)) = both_ways s.due.fin (quiet.no_end whole) due
-quiet_has_none tasks.Again s quiet (inl (q, due, sent)) = both_ways (set.contains s.due.offsets q) (quiet.no_offset q sent) due
-quiet_has_none tasks.Again s quiet (inr (due, whole)) = both_ways s.due.fin (quiet.no_end whole) due
-quiet_has_none tasks.Writable s quiet room = both_ways (is_writable s.lane) quiet room
-quiet_has_none tasks.Funded s quiet room = both_ways (is_funded s.lane) quiet room
-quiet_has_none tasks.Ended s quiet over = both_ways (send_ended s.lane) quiet over
-quiet_has_none tasks.Stopped s quiet came = both_ways (is_some s.lane.stopped) (ap is_some quiet) came
-
 module _ (e : End) (n : ℕ) (s : Sending) (tied : IsTied e.outstanding n s) where
   packet_has : IsLawful s → HasTask tasks.Bytes s → HasForPacket e n s.lane
-  packet_has law (inl (q, due, below)) = inl (q, due_is e n s tied law q due, below)
-  packet_has law (inr (due, whole)) = inr (end_due_is e n s tied law due, whole)
+  packet_has law some = go (has_unsent s.lane) (may_end s) (is_due_below s s.lane.limit) refl refl refl some
+    where
+      go : (u f d : Bool) → has_unsent s.lane ≡ u → may_end s ≡ f → is_due_below s s.lane.limit ≡ d → (u || (f || d)) ≡ true → HasForPacket e n s.lane
+      go true f d u_is f_is d_is any =
+          let (alive, below) = unsent_below s.lane u_is in
+          let due = law.parts.unsent_due alive s.lane.sent_end (omega arith) (omega (arith, below)) in
+          inl (s.lane.sent_end, due_is e n s tied law s.lane.sent_end due, omega (arith, below))
+      go false true d u_is f_is d_is any = let (due, whole) = end_parts s f_is in inr (end_due_is e n s tied law due, whole)
+      go false false true u_is f_is d_is any = let (q, due, below) = below_due s s.lane.limit d_is in inl (q, due_is e n s tied law q due, below)
+      go false false false u_is f_is d_is any = absurd (true≢false (sym any))
 
   has_packet : HasForPacket e n s.lane → HasTask tasks.Bytes s
-  has_packet (inl (q, due, below)) = inl (q, is_due e n s tied q due, below)
-  has_packet (inr (due, whole)) = inr (is_end_due e n s tied due, whole)
+  has_packet (inl (q, due, below)) = let d = due_below s s.lane.limit q below (is_due e n s tied q due) in grind (arith, d)
+  has_packet (inr (due, whole)) = let f = parts_end s (is_end_due e n s tied due) whole in grind (arith, f)
 
 -- a lane among the lanes of halves is that of a half
 pub half_of_lane : (t : Tables Sending) (n : ℕ) (l : SendLane) → lookup (lanes_of t) n ≡ Some l → (s : Sending) × (lookup t n ≡ Some s) × (s.lane ≡ l)

@@ -1,5 +1,5 @@
 -- Searches for the least stream whose sending half has something, of those that an owner was told of or of those that it wasn't.
-use Rattle.std.proofs.Common.{◌≡◌, ℕ, ◌+◌, ◌-◌, ◌*◌, ◌/◌, ◌<◌, ◌&&◌, not, if◌then◌else◌, Bool, true, false, List, length, get_or, Option, None, Some, slice_get, refl, sym, ap, ◌∙◌, subst, arith}
+use Rattle.std.proofs.Common.{◌≡◌, ℕ, ◌+◌, ◌-◌, ◌*◌, ◌/◌, ◌<◌, ◌&&◌, not, if◌then◌else◌, Bool, true, false, List, length, map, get_or, Option, None, Some, slice_get, refl, sym, ap, ◌∙◌, subst, arith}
 use Rattle.std.proofs.lemmas.Bool.{both_ways, true≢false, and_right}
 use Rattle.std.proofs.lemmas.Option.{same_Some}
 use Rattle.qs_send.specs.Lane.{SendLane, Sending}
@@ -9,15 +9,15 @@ use Rattle.qs_machine.specs.Outgoing.{Outgoing, lanes_of}
 use Rattle.qs_machine.specs.Sums.{tables_of}
 use Rattle.qs_machine.specs.Tables.{Tables, type_of, table}
 use Rattle.qs_machine.proofs.TableEdits.{lookup_is}
-use Rattle.qs_conn.specs.Marks.{is_marked, both, untold, AreMarked, IsNextMark}
-use Rattle.qs_conn.specs.Tasks.{IsQuiet, HasTask, sought_of, IsSoughtAt, IsSought, IsSoughtOf}
+use Rattle.qs_conn.specs.Marks.{is_marked, both, untold, IsNextMark}
+use Rattle.qs_conn.specs.Tasks.{HasTask, has, sought_of, IsSoughtAt, IsSought, IsSoughtOf}
 use Rattle.qs_conn.specs.Untold.{IsClear as HasNoMarks}
 use Rattle.qs_conn.specs.declared.send_marks.Search.{Search}
-use Rattle.qs_conn.proofs.Least.{IsClear, clear_marked, none_marked, clear_over, least_here, row_none, row_some}
-use Rattle.qs_conn.proofs.Marked.{marked_len, unmarked_at, clear_next}
-use Rattle.qs_conn.proofs.Sought.{quiet_has_none, lanes_with}
-use Rattle.qs_conn.proofs.Words.{marked_below}
 use Rattle.qs_conn.proofs.Boths.{both_is, untold_is}
+use Rattle.qs_conn.proofs.Exact.{at_mark, mark_at}
+use Rattle.qs_conn.proofs.Least.{least_by, row_none, row_some}
+use Rattle.qs_conn.proofs.Marked.{clear_next}
+use Rattle.qs_conn.proofs.Sought.{lanes_with}
 use Rattle.qs_conn.proofs.UntoldSearch.{next_self, told_of}
 
 -- Marks that are sought
@@ -47,7 +47,7 @@ pub asked_told : (told : Bool) (ms ts : List Bool) (from : ℕ) (r : Option ℕ)
 asked_told true ms ts from r is h = h
 asked_told false ms ts from r is h = absurd (true≢false is)
 
-sought_mark : (told : Bool) (ms ts : List Bool) (i : ℕ) → is_marked (if told then both ms ts else untold ms ts) i ≡ true → (is_marked ms i ≡ true) × (is_marked ts i ≡ told)
+pub sought_mark : (told : Bool) (ms ts : List Bool) (i : ℕ) → is_marked (if told then both ms ts else untold ms ts) i ≡ true → (is_marked ms i ≡ true) × (is_marked ts i ≡ told)
 sought_mark true ms ts i is = two_marks (is_marked ms i) (is_marked ts i) (sym (both_is ms ts i) ∙ is)
 sought_mark false ms ts i is = let h = two_marks (is_marked ms i) (not (is_marked ts i)) (sym (untold_is ms ts i) ∙ is) in (h.0, not_true (is_marked ts i) h.1)
 
@@ -55,28 +55,11 @@ not_marked : (told : Bool) (ms ts : List Bool) (i : ℕ) → is_marked (if told 
 not_marked true ms ts i none is = one_missing (is_marked ms i) (is_marked ts i) (sym (both_is ms ts i) ∙ none) is
 not_marked false ms ts i none is = one_missing (is_marked ms i) (not (is_marked ts i)) (sym (untold_is ms ts i) ∙ none) (ap not is)
 
--- Halves of one type
-
-module _ (q : Search) (xs : List Sending) (ms ts : List Bool) (marked : AreMarked (IsQuiet q.task) xs ms) where
-  unmarked_none : (i : ℕ) → is_marked (sought_of q ms ts) i ≡ false → IsSoughtAt q xs ts i → ⊥
-  unmarked_none i none ((x, at, r), is) = quiet_has_none q.task x (unmarked_at (IsQuiet q.task) xs ms i x marked at (not_marked q.is_told ms ts i none is)) r
-
-  pub sought_there : (next index : ℕ) → IsNextMark (sought_of q ms ts) next (Some index) → index < length xs
-  sought_there next index h =
-      omega (arith, marked_below ms index (sought_mark q.is_told ms ts index (h.found index refl).1).0, marked_len (IsQuiet q.task) xs ms marked)
-
-  pub sought_left : (from next : ℕ) → IsClear (IsSoughtAt q xs ts) from next → IsNextMark (sought_of q ms ts) next None → IsLeast (IsSoughtAt q xs ts) from None
-  sought_left = none_marked (IsSoughtAt q xs ts) (sought_of q ms ts) unmarked_none
-
-  module _ (from next index : ℕ) (x : Sending) (c : IsClear (IsSoughtAt q xs ts) from next) (h : IsNextMark (sought_of q ms ts) next (Some index)) (at : slice_get xs index ≡ Some x) where
-    clear_here : IsClear (IsSoughtAt q xs ts) from index
-    clear_here = clear_marked (IsSoughtAt q xs ts) (sought_of q ms ts) unmarked_none from next index c h
-
-    pub sought_found : HasTask q.task x → IsLeast (IsSoughtAt q xs ts) from (Some index)
-    sought_found r = least_here (IsSoughtAt q xs ts) from index clear_here ((x, at, r), (sought_mark q.is_told ms ts index (h.found index refl).1).1)
-
-    pub sought_passed : (HasTask q.task x → ⊥) → IsClear (IsSoughtAt q xs ts) from (index + 1)
-    sought_passed without = clear_over (IsSoughtAt q xs ts) from index clear_here (λ p. without (subst (HasTask q.task) (same_Some p.0.0 x (sym p.0.1 ∙ at)) p.0.2))
+-- a search over the marks is one over the halves of a type
+pub sought_least : (q : Search) (xs : List Sending) (ms ts : List Bool) → ms ≡ map (has q.task) xs → (from : ℕ) (r : Option ℕ) → IsNextMark (sought_of q ms ts) from r → IsLeast (IsSoughtAt q xs ts) from r
+sought_least q xs ms ts is from r next =
+    least_by (IsSoughtAt q xs ts) from r (λ n found. (let m = sought_mark q.is_told ms ts n (next.found n found).1 in ((next.found n found).0, (at_mark (has q.task) xs ms is n m.0, m.1))))
+    (λ i ge before ((x, at, some), told). both_ways (has q.task x) (sym (mark_at (has q.task) xs ms is i x at) ∙ not_marked q.is_told ms ts i (next.unmarked i ge before) told) some)
 
 -- Streams of a type
 

@@ -1,6 +1,7 @@
 pub mod Touches
 pub mod Layers
 pub mod ByDir
+pub mod Edits
 pub mod Ended
 pub mod Written
 pub mod Filling

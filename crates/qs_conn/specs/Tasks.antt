@@ -1,65 +1,64 @@
 -- Of private contracts.
 -- Which sending halves have something for a packet or for their owner, by what it is, and those that have not.
-use Rattle.std.specs.Prelude.{◌≡◌, ℕ, ◌≤◌, ◌<◌, ◌⊎◌, ◌&&◌, nat_lt, Bool, true, false, if◌then◌else◌, List, slice_set, None, Some, is_some}
+use Rattle.std.specs.Prelude.{◌≡◌, ℕ, ◌≤◌, ◌<◌, ◌&&◌, ◌||◌, ◌==◌, nat_lt, Bool, true, false, if◌then◌else◌, List, map, None, Some, is_some, ⊤}
+use Rattle.std.specs.List.{list_any, range_with_len}
 use Rattle.std.specs.FinSet as set
 use Rattle.qs_send.specs.declared.parts.Chunk.{Chunk}
+use Rattle.qs_send.specs.Chunks.{has_unsent}
 use Rattle.qs_send.specs.Lane.{SendLane, Sending, after_sent}
 use Rattle.qs_send.specs.Writable.{is_writable}
+use Rattle.qs_machine.specs.Asking.{kept_on}
 use Rattle.qs_machine.specs.Credit.{send_ended}
 use Rattle.qs_machine.specs.Heard.{is_told}
 use Rattle.qs_machine.specs.News.{IsHeld}
 use Rattle.qs_machine.specs.Tables.{Tables, type_of, lookup}
 use Rattle.qs_machine.specs.Outgoing.{Outgoing, IsTied, HasSending}
+use Rattle.qs_conn.specs.Promised.{promised_on}
+use Rattle.qs_conn.specs.declared.send_marks.Moves.{Moves}
+use Rattle.qs_conn.specs.declared.send_marks.Moves.TheVariants as moves
 use Rattle.qs_conn.specs.declared.send_marks.Task.{Task}
 use Rattle.qs_conn.specs.declared.send_marks.Task.TheVariants as tasks
 use Rattle.qs_conn.specs.declared.send_marks.Search.{Search}
 use Rattle.qs_conn.specs.declared.send_marks.SendMarks.{SendMarks}
-use Rattle.qs_conn.specs.Marks.{AreMarked, is_marked, both, untold, IsAt}
+use Rattle.qs_conn.specs.Marks.{is_marked, both, untold, IsAt}
 
--- A half of which no byte and no end may go: none that is due is below its limit, and no end is due with every byte sent (RFC 9000,
--- sections 3.1, 4.1 and 13.3).
-pub record HasNothing (s : Sending) : Type 0 where
-  pub no_offset : (q : ℕ) → q < s.lane.limit → set.contains s.due.offsets q ≡ false
-  pub no_end : s.lane.sent_end ≡ s.lane.written → s.due.fin ≡ false
-  pub sent : s.lane.was_reset ≡ None → s.lane.sent_end < s.lane.limit → s.lane.written ≤ s.lane.sent_end
+-- whether a byte below n is due (RFC 9000, section 13.3)
+unfoldable pub is_due_below : Sending → ℕ → Bool
+is_due_below s n = list_any (set.contains s.due.offsets) (range_with_len 0 n)
 
--- A half of which nothing may go that takes no credit of the connection: no byte that was sent before is due, and no end is due with every
--- byte sent (RFC 9000, sections 3.1, 4.1 and 13.3).
-pub record HasNoneAgain (s : Sending) : Type 0 where
-  pub no_offset : (q : ℕ) → q < s.lane.sent_end → set.contains s.due.offsets q ≡ false
-  pub no_end : s.lane.sent_end ≡ s.lane.written → s.due.fin ≡ false
+-- whether the end may go: it is due, with every byte sent (RFC 9000, section 3.1)
+abbrev pub may_end : Sending → Bool
+may_end s = s.due.fin && (s.lane.sent_end == s.lane.written)
 
 -- whether a half takes bytes now that its limit lets go (RFC 9000, sections 2.2 and 4.1)
 abbrev pub is_funded : SendLane → Bool
 is_funded lane = is_writable lane && nat_lt lane.written lane.limit
 
--- A half that has nothing of a kind: no bytes and no end for a packet; none that takes no credit; no room to write, and none below its limit; not its end; no
--- STOP_SENDING that came (RFC 9000, sections 3.1, 3.5, 4.1 and 13.3).
+-- whether a half has something of a kind: bytes or the end for a packet; those that take no credit of the connection; room to write, and
+-- below its limit; its end; a STOP_SENDING that came (RFC 9000, sections 3.1, 3.5, 4.1 and 13.3)
+abbrev pub has : Task → Sending → Bool
+has tasks.Bytes s = has_unsent s.lane || (may_end s || is_due_below s s.lane.limit)
+has tasks.Again s = may_end s || is_due_below s s.lane.sent_end
+has tasks.Writable s = is_writable s.lane
+has tasks.Funded s = is_funded s.lane
+has tasks.Ended s = send_ended s.lane
+has tasks.Stopped s = is_some s.lane.stopped
+
+-- a half that has nothing of a kind
 abbrev pub IsQuiet : Task → Sending → Type 0
-IsQuiet tasks.Bytes s = HasNothing s
-IsQuiet tasks.Again s = HasNoneAgain s
-IsQuiet tasks.Writable s = is_writable s.lane ≡ false
-IsQuiet tasks.Funded s = is_funded s.lane ≡ false
-IsQuiet tasks.Ended s = send_ended s.lane ≡ false
-IsQuiet tasks.Stopped s = s.lane.stopped ≡ None
+IsQuiet t s = has t s ≡ false
 
--- a half that has something of a kind (RFC 9000, sections 3.1, 3.5, 4.1 and 13.3)
 abbrev pub HasTask : Task → Sending → Type 0
-HasTask tasks.Bytes s = ((q : ℕ) × (set.contains s.due.offsets q ≡ true) × (q < s.lane.limit)) ⊎ ((s.due.fin ≡ true) × (s.lane.sent_end ≡ s.lane.written))
-HasTask tasks.Again s = ((q : ℕ) × (set.contains s.due.offsets q ≡ true) × (q < s.lane.sent_end)) ⊎ ((s.due.fin ≡ true) × (s.lane.sent_end ≡ s.lane.written))
-HasTask tasks.Writable s = is_writable s.lane ≡ true
-HasTask tasks.Funded s = is_funded s.lane ≡ true
-HasTask tasks.Ended s = send_ended s.lane ≡ true
-HasTask tasks.Stopped s = is_some s.lane.stopped ≡ true
+HasTask t s = has t s ≡ true
 
--- whether a half that opens has a mark: it may be written to at once
-abbrev pub begins : Task → Bool
-begins tasks.Bytes = false
-begins tasks.Again = false
-begins tasks.Writable = true
-begins tasks.Funded = true
-begins tasks.Ended = false
-begins tasks.Stopped = false
+-- whether a half that begins with a limit and a buffer has something of a kind (RFC 9000, section 3.1)
+abbrev pub begins : Task → ℕ → ℕ → Bool
+begins tasks.Bytes limit buffer = false
+begins tasks.Again limit buffer = false
+begins tasks.Writable limit buffer = nat_lt 0 buffer
+begins tasks.Funded limit buffer = nat_lt 0 buffer && nat_lt 0 limit
+begins tasks.Ended limit buffer = false
+begins tasks.Stopped limit buffer = false
 
 -- the marks for a task
 abbrev pub marks_of : SendMarks → Task → List Bool
@@ -70,17 +69,47 @@ marks_of marks tasks.Funded = marks.funded
 marks_of marks tasks.Ended = marks.ended
 marks_of marks tasks.Stopped = marks.stopped
 
--- a half was looked at, and has no mark only where it is quiet
-abbrev pub IsLooked : Task → ℕ → Sending → List Bool → List Bool → Type 0
-IsLooked t index s before after = (m : Bool) × (m ≡ false → IsQuiet t s) × (after ≡ slice_set before index m)
-
--- a half that changed is quiet still, where it has no mark
-abbrev pub IsStill : Task → ℕ → Sending → SendMarks → Type 0
-IsStill t index s marks = is_marked (marks_of marks t) index ≡ false → IsQuiet t s
-
--- each half without a mark for a task is quiet
+-- the marks tell which halves have something
 abbrev pub AreAllMarked : List Sending → SendMarks → Type 0
-AreAllMarked halves marks = (t : Task) → AreMarked (IsQuiet t) halves (marks_of marks t)
+AreAllMarked halves marks = (t : Task) → marks_of marks t ≡ map (has t) halves
+
+-- the marks of an index are those of a half
+abbrev pub AreMarksOf : SendMarks → ℕ → Sending → Type 0
+AreMarksOf marks i s = (t : Task) → is_marked (marks_of marks t) i ≡ has t s
+
+-- A change that makes nothing due to be sent again, and moves the end only by an acknowledgement: a half before and after it.
+pub record IsStill (s now : Sending) : Type 0 where
+  pub again : has tasks.Again s ≡ false → has tasks.Again now ≡ false
+  pub ended : now.lane.fin_acked ≡ false → has tasks.Ended now ≡ has tasks.Ended s
+  pub stopped : has tasks.Stopped now ≡ has tasks.Stopped s
+
+-- and one that moves neither the room nor a sum
+pub record IsStillButSent (s now : Sending) : Type 0 where
+  pub again : has tasks.Again s ≡ false → has tasks.Again now ≡ false
+  pub writable : has tasks.Writable now ≡ has tasks.Writable s
+  pub funded : has tasks.Funded now ≡ has tasks.Funded s
+  pub ended : has tasks.Ended now ≡ has tasks.Ended s
+  pub stopped : has tasks.Stopped now ≡ has tasks.Stopped s
+  pub promised : promised_on now.lane ≡ promised_on s.lane
+  pub kept : kept_on now.lane ≡ kept_on s.lane
+
+-- what a change that moves no more leaves of a half
+abbrev pub Stays : Moves → Sending → Sending → Type 0
+Stays moves.Sent s now = IsStillButSent s now
+Stays moves.Room s now = IsStill s now
+Stays moves.All s now = ⊤
+
+-- the marks of an index are those of a half that a change, which moves no more, left so
+abbrev pub AreMarkedBefore : Moves → SendMarks → ℕ → Sending → Type 0
+AreMarkedBefore moves.Sent marks i now = (s : Sending) × AreMarksOf marks i s × IsStillButSent s now
+AreMarkedBefore moves.Room marks i now = (s : Sending) × AreMarksOf marks i s × IsStill s now
+AreMarkedBefore moves.All marks i now = ⊤
+
+-- what is counted anew of a half where a change may move its sums
+abbrev pub counted : Moves → ℕ → ℕ
+counted moves.Sent n = 0
+counted moves.Room n = n
+counted moves.All n = n
 
 -- the stream's half, where it has one, has nothing of the kind
 abbrev pub IsQuietAt : Task → Outgoing → ℕ → Type 0
@@ -92,7 +121,7 @@ IsOpen t n = is_some (lookup t n) ≡ true
 
 -- of a stream whose half takes in that a chunk was sent nothing more may go
 abbrev pub IsDoneAfter : Outgoing → ℕ → Chunk → Type 0
-IsDoneAfter o n c = (s : Sending) → HasSending o n s → HasNothing (after_sent s c)
+IsDoneAfter o n c = (s : Sending) → HasSending o n s → IsQuiet tasks.Bytes (after_sent s c)
 
 -- the stream's own limit holds nothing back (RFC 9000, section 4.1)
 abbrev pub IsFree : Outgoing → ℕ → Type 0

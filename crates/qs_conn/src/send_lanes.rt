@@ -1,5 +1,5 @@
 //! The sending halves of the streams of one type.
-ghost use Rattle.std.specs.Prelude.{◌≡◌, ◌+◌, ◌-◌, ◌*◌, ◌≤◌, ◌<◌, ◌^◌, [], true, length, min, take, slice_get, slice_index_or, unwrap_or, ℕ, false, None, Some, OnOk, OnErr, IfOk, IfErr, IfSome};
+ghost use Rattle.std.specs.Prelude.{◌≡◌, ◌+◌, ◌-◌, ◌*◌, ◌≤◌, ◌<◌, ◌^◌, [], true, length, min, take, slice_get, slice_index_or, slice_set, unwrap_or, ℕ, false, None, Some, OnOk, OnErr, IfOk, IfErr, IfSome};
 ghost use Rattle.std.specs.List.{sum_by};
 ghost use Rattle.qs_ranges.specs.Numbers.{MAX_VARINT};
 ghost use Rattle.qs_send.specs.Lane.{Sending, new_sending, accepted, refusal, reset_refusal, answer_of, state, after_write, after_finish, after_reset, after_stop, after_reset_acked, after_blocked, after_allow, after_buffer, after_sent, after_acked, after_lost};
@@ -11,13 +11,16 @@ ghost use Rattle.qs_machine.specs.Sums.{changed, no_sending};
 ghost use Rattle.qs_machine.specs.News.{IsLeast};
 ghost use Rattle.qs_machine.specs.Asking.{kept_on};
 ghost use Rattle.qs_conn.specs.Held.{most_buffered};
+ghost use Rattle.std.specs.Fn.{FnOnceTakesAtMut, FnOnceReturnsAtMut};
+ghost use Rattle.qs_send.specs.Halves.{IsOver, half_at};
+ghost use Rattle.qs_conn.specs.Edits.{IsEdited};
 ghost use Rattle.qs_conn.specs.Promised.{promised_on};
 ghost use Rattle.qs_conn.specs.Marks.{AreMarked, IsBefore, IsAt};
 ghost use Rattle.qs_conn.specs.declared.send_marks.Task.TheVariants as tasks;
-ghost use Rattle.qs_conn.specs.Tasks.{IsQuiet, HasTask, IsSoughtAt};
+ghost use Rattle.qs_conn.specs.Tasks.{AreMarksOf, HasTask, IsQuiet, IsSoughtAt, Stays, counted, has, marks_of};
 
 use crate::marks::Marks;
-use crate::send_marks::{Search, SendMarks, Task, has};
+use crate::send_marks::{Moves, Search, SendMarks, Task};
 use crate::told_marks::ToldMarks;
 use qs_ranges::NoMemory;
 use qs_send::{Chunk, SendFault, SendHalf, SendHalves, SendState, SendView};
@@ -36,6 +39,13 @@ pub(crate) struct Sent {
     pub(crate) is_free: bool,
 }
 
+// What a half counts for in the two sums.
+#[derive(Clone, Copy, Drop)]
+struct Sizes {
+    promised: u128,
+    kept: u128,
+}
+
 /// The sending halves of the streams of one type, by index.
 #[derive(Drop)]
 pub(crate) struct SendLanes {
@@ -45,7 +55,7 @@ pub(crate) struct SendLanes {
     promised: u128,
     // How many bytes of all halves are kept until they are acknowledged.
     kept: u128,
-    // A half without a mark for a task is quiet of it.
+    // The marks tell which halves have a task.
     marks: SendMarks,
 }
 
@@ -163,7 +173,7 @@ impl SendLanes {
                 return Err(NoMemory);
             }
         }
-        if let Err(_refused) = self.marks.open_to(count) {
+        if let Err(_refused) = self.marks.open_to(count, limit, buffer) {
             self.halves.truncate(before);
             return Err(NoMemory);
         }
@@ -188,6 +198,34 @@ impl SendLanes {
         self.marks.close_to(count);
     }
 
+    // Changes a half: the one way in. The sums and the marks follow. One that is over stays as it is, and what is given is the answer.
+    #[inline(always)]
+    fn edit<R: Drop, F: FnOnce(&mut SendHalf) -> R>(
+        &mut self,
+        index: usize,
+        over: R,
+        moves: Moves,
+        change: F,
+    ) -> R
+        requires there { index < length self.old }
+        requires callable { FnOnceTakesAtMut F.FnOnce change (half_at self.old index) }
+        requires stays { IsLawful (half_at self.old index) → (r : _) (s : _) → FnOnceReturnsAtMut F.FnOnce change (half_at self.old index) r s → Stays moves (half_at self.old index) s }
+        ensures { IsEdited (FnOnceReturnsAtMut F.FnOnce change) over self.old index result self.new }
+    {
+        let Some(half) = self.halves.full_mut(index) else {
+            return over;
+        };
+        half.learn_lawful();
+        let was = measure(half, moves);
+        let answer = change(half);
+        let is = measure(half, moves);
+        self.promised = self.promised - was.promised + is.promised;
+        self.kept = self.kept - was.kept + is.kept;
+        self.marks.look(index, half, moves);
+        answer
+    }
+
+    #[tactic(auto, using(crate::proofs::SendEdits::changed_is, crate::proofs::SendEdits::set_same, crate::proofs::OverHalves::over_refused))]
     /// Accepts bytes at an open half, as many as there is room for; or changes nothing.
     pub(crate) fn write(&mut self, index: usize, bytes: &[u8]) -> Result<usize, SendFault>
         requires { index < length self.old }
@@ -198,35 +236,33 @@ impl SendLanes {
         ensures grows { result ≡ Err SendFault.NoMemory → 0 < accepted (slice_index_or self.old index no_sending).lane (length bytes.now) }
     {
         // Of a half without room no more than the refusal is looked at.
-        if !self.marks.may_write(index) {
+        if !self.marks.has(Task::Writable, index) {
             return write_none(&self.halves.at(index));
         }
-        let Some(half) = self.halves.full_mut(index) else {
-            return Err(SendFault::Finished);
-        };
-        half.learn_lawful();
-        let answer = half.write(bytes);
-        let accepted = answer.unwrap_or(0) as u128;
-        self.promised += accepted;
-        self.kept += accepted;
-        self.marks.look_written(index, half);
-        answer
+        self.edit(
+            index,
+            Err(SendFault::Finished),
+            Moves::Room,
+            |half| half.write(bytes),
+        )
     }
 
+    #[tactic(auto, using(crate::proofs::SendEdits::changed_is, crate::proofs::OverHalves::over_refused, crate::proofs::OverHalves::over_finish))]
     /// Asks for the end of an open half.
     pub(crate) fn finish(&mut self, index: usize) -> Result<(), SendFault>
         requires { index < length self.old }
         ensures answer { result ≡ answer_of (refusal (slice_index_or self.old index no_sending).lane) }
         ensures after { self.new ≡ changed self.old index after_finish (slice_get self.old index) }
     {
-        let Some(half) = self.halves.full_mut(index) else {
-            return Err(SendFault::Finished);
-        };
-        let answer = half.finish();
-        self.marks.look(index, half);
-        answer
+        self.edit(
+            index,
+            Err(SendFault::Finished),
+            Moves::All,
+            |half| half.finish(),
+        )
     }
 
+    #[tactic(auto, using(crate::proofs::SendEdits::changed_is, crate::proofs::OverHalves::over_reset_refused, crate::proofs::OverHalves::over_reset))]
     /// Breaks an open half off.
     pub(crate) fn reset(&mut self, index: usize, code: u64) -> Result<(), SendFault>
         requires there { index < length self.old }
@@ -234,33 +270,27 @@ impl SendLanes {
         ensures answer { result ≡ answer_of (reset_refusal (slice_index_or self.old index no_sending).lane) }
         ensures after { self.new ≡ changed self.old index (λ s. after_reset s code) (slice_get self.old index) }
     {
-        let Some(half) = self.halves.full_mut(index) else {
-            return Err(SendFault::Finished);
-        };
-        let (before, had) = (promised(half), kept(half));
-        let answer = half.reset(code);
-        let (after, has) = (promised(half), kept(half));
-        self.promised = self.promised - before + after;
-        self.kept = self.kept - had + has;
-        self.marks.look(index, half);
-        answer
+        self.edit(
+            index,
+            Err(SendFault::Finished),
+            Moves::All,
+            |half| half.reset(code),
+        )
     }
 
+    #[tactic(auto, using(crate::proofs::SendEdits::changed_is, crate::proofs::OverHalves::over_stop))]
     /// Takes in a STOP_SENDING of an open half, which the owner answers or not.
     pub(crate) fn stopped(&mut self, index: usize, code: u64, owner_answers: bool)
         requires there { index < length self.old }
         requires fits { code ≤ MAX_VARINT }
         ensures { self.new ≡ changed self.old index (λ s. after_stop owner_answers s code) (slice_get self.old index) }
     {
-        let Some(half) = self.halves.full_mut(index) else {
-            return;
-        };
-        let (before, had) = (promised(half), kept(half));
-        take_stop(half, code, owner_answers);
-        let (after, has) = (promised(half), kept(half));
-        self.promised = self.promised - before + after;
-        self.kept = self.kept - had + has;
-        self.marks.look_stopped(index, half);
+        self.edit(
+            index,
+            (),
+            Moves::All,
+            |half| take_stop(half, code, owner_answers),
+        )
     }
 
     /// Takes in that the peer allows the offsets of an open half below a limit.
@@ -270,10 +300,7 @@ impl SendLanes {
         ensures { self.new ≡ changed self.old index (λ s. after_allow s limit) (slice_get self.old index) }
     {
         self.halves.allow(index, limit);
-        let Some(half) = self.halves.full(index) else {
-            return;
-        };
-        self.marks.look(index, half);
+        look_at(&self.halves, &mut self.marks, index);
     }
 
     /// Sets how many bytes an open half keeps at most.
@@ -282,10 +309,7 @@ impl SendLanes {
         ensures { self.new ≡ changed self.old index (λ s. after_buffer s size) (slice_get self.old index) }
     {
         self.halves.set_buffer(index, size);
-        let Some(half) = self.halves.full(index) else {
-            return;
-        };
-        self.marks.look(index, half);
+        look_at(&self.halves, &mut self.marks, index);
     }
 
     /// Takes in that a STREAM_DATA_BLOCKED was sent.
@@ -294,25 +318,20 @@ impl SendLanes {
         ensures { self.new ≡ changed self.old index after_blocked (slice_get self.old index) }
     {
         self.halves.note_blocked(index);
-        let Some(half) = self.halves.full(index) else {
-            return;
-        };
-        self.marks.look(index, half);
+        look_at(&self.halves, &mut self.marks, index);
     }
 
+    #[tactic(auto, using(crate::proofs::SendEdits::changed_is, crate::proofs::OverHalves::over_not_reset))]
     /// Takes in that the RESET_STREAM is acknowledged.
     pub(crate) fn reset_acked(&mut self, index: usize)
         requires there { index < length self.old }
         requires sent { state (slice_index_or self.old index no_sending).lane ≡ SendState.ResetSent }
         ensures { self.new ≡ changed self.old index after_reset_acked (slice_get self.old index) }
     {
-        let Some(half) = self.halves.full_mut(index) else {
-            return;
-        };
-        half.reset_acked();
-        self.marks.look(index, half);
+        self.edit(index, (), Moves::All, |half| half.reset_acked())
     }
 
+    #[tactic(auto, using(crate::proofs::SendEdits::changed_is, crate::proofs::OverHalves::over_sent))]
     /// Takes in that a chunk was sent.
     pub(crate) fn sent(&mut self, index: usize, chunk: Chunk) -> Sent
         requires there { index < length self.old }
@@ -322,25 +341,19 @@ impl SendLanes {
         ensures done { result.is_done ≡ true → IsQuiet tasks.Bytes (after_sent (slice_index_or self.old index no_sending) chunk) }
         ensures free { let half = slice_index_or self.old index no_sending in result.is_free ≡ true → half.lane.written ≤ half.lane.limit }
     {
-        let Some(half) = self.halves.full_mut(index) else {
-            return Sent {
-                moved: 0,
-                is_done: false,
-                is_free: false,
-            };
-        };
-        half.learn_lawful();
-        let before = half.sent_end();
-        half.sent(chunk);
-        let moved = half.sent_end() - before;
-        let is_done = self.marks.look_sent(index, half);
+        let (moved, is_free) = self.edit(index, (0, false), Moves::Sent, |half| {
+            let before = half.sent_end();
+            half.sent(chunk);
+            (half.sent_end() - before, half.written() <= half.limit())
+        });
         Sent {
             moved,
-            is_done,
-            is_free: half.written() <= half.limit(),
+            is_done: !self.marks.has(Task::Bytes, index),
+            is_free,
         }
     }
 
+    #[tactic(auto, using(crate::proofs::SendEdits::changed_is, crate::proofs::SendEdits::set_same, crate::proofs::OverHalves::over_acked))]
     /// Takes in that a chunk is acknowledged, or changes nothing.
     pub(crate) fn acked(&mut self, index: usize, chunk: Chunk) -> Result<(), NoMemory>
         requires there { index < length self.old }
@@ -349,22 +362,17 @@ impl SendLanes {
         ensures err { OnErr result (self.new ≡ self.old) }
         ensures asks { OnErr result (ChunkMayRunOut (slice_index_or self.old index no_sending).lane chunk) }
     {
-        let Some(half) = self.halves.full_mut(index) else {
-            return Ok(());
-        };
-        let had = kept(half);
-        let answer = half.acked(chunk);
-        let has = kept(half);
-        self.kept = self.kept - had + has;
-        let ends = half.end_acked();
-        self.marks.look_acked(index, half);
-        if !ends {
-            return answer;
+        let (answer, ends) = self.edit(index, (Ok(()), false), Moves::Room, |half| {
+            let answer = half.acked(chunk);
+            (answer, half.end_acked())
+        });
+        if ends {
+            self.halves.settle(index);
         }
-        self.halves.settle(index);
         answer
     }
 
+    #[tactic(auto, using(crate::proofs::SendEdits::changed_is, crate::proofs::SendEdits::set_same, crate::proofs::OverHalves::over_lost))]
     /// Takes in that a chunk is lost, or changes nothing.
     pub(crate) fn lost(&mut self, index: usize, chunk: Chunk) -> Result<(), NoMemory>
         requires there { index < length self.old }
@@ -372,12 +380,7 @@ impl SendLanes {
         ensures ok { OnOk result (self.new ≡ changed self.old index (λ s. after_lost s chunk) (slice_get self.old index)) }
         ensures err { OnErr result (self.new ≡ self.old) }
     {
-        let Some(half) = self.halves.full_mut(index) else {
-            return Ok(());
-        };
-        let answer = half.lost(chunk);
-        self.marks.look(index, half);
-        answer
+        self.edit(index, Ok(()), Moves::All, |half| half.lost(chunk))
     }
 
     /// Whether any half may have a task.
@@ -401,7 +404,7 @@ impl SendLanes {
         self.marks.next(task, from)
     }
 
-    /// The marks of the halves that may have come to their end. One without a mark hasn't.
+    /// The marks of the halves that came to their end.
     pub(crate) fn ended_marks(&self) -> &Marks
         ensures none { AreMarked (IsQuiet tasks.Ended) self.now result.now }
         ensures few { length result.now ≤ 2 ^ 60 }
@@ -409,19 +412,12 @@ impl SendLanes {
         self.marks.ended()
     }
 
-    /// The least index from one on whose half has something of a task.
+    /// The least index from one on whose half has a task.
     pub(crate) fn next_with(&self, task: Task, from: usize) -> Option<usize>
         ensures least { IsLeast (IsAt (HasTask task) self.now) from result }
         ensures small { IfSome result (λ n. n < 2 ^ 60) }
     {
-        let mut next = from;
-        while let Some(index) = self.marks.next(task, next) {
-            if has(task, &self.halves.at(index)) {
-                return Some(index);
-            }
-            next = index + 1;
-        }
-        None
+        self.marks.next(task, from)
     }
 
     /// The least index from one on whose half is sought.
@@ -430,14 +426,27 @@ impl SendLanes {
         ensures least { IsLeast (IsSoughtAt search self.now told.now) from result }
         ensures small { IfSome result (λ n. n < 2 ^ 60) }
     {
-        let mut next = from;
-        while let Some(index) = self.marks.next_sought(search, told, next) {
-            if has(search.task, &self.halves.at(index)) {
-                return Some(index);
-            }
-            next = index + 1;
-        }
-        None
+        self.marks.next_sought(search, told, from)
+    }
+}
+
+// What a half counts for in the sums. Where a change moves neither, nothing is looked at.
+#[inline(always)]
+fn measure(half: &SendHalf, moves: Moves) -> Sizes
+    ensures promised { result.promised ≡ counted moves (promised_on half.now.lane) }
+    ensures kept { result.kept ≡ counted moves (kept_on half.now.lane) }
+    ensures few_promised { result.promised ≤ MAX_VARINT }
+    ensures few_kept { result.kept ≤ MAX_VARINT }
+{
+    if matches!(moves, Moves::Sent) {
+        return Sizes {
+            promised: 0,
+            kept: 0,
+        };
+    }
+    Sizes {
+        promised: promised(half),
+        kept: kept(half),
     }
 }
 
@@ -460,6 +469,18 @@ fn kept(half: &SendHalf) -> u128
 {
     half.learn_lawful();
     half.kept_len() as u128
+}
+
+// Looks again at a half that was put, where it isn't over.
+fn look_at(halves: &SendHalves, marks: &mut SendMarks, index: usize)
+    requires there { index < length halves.now }
+    requires marks { (t : Task) → index < length (marks_of marks.old t) }
+    requires over { IsOver (half_at halves.now index) → AreMarksOf marks.old index (half_at halves.now index) }
+    ensures { (t : Task) → marks_of marks.new t ≡ slice_set (marks_of marks.old t) index (has t (half_at halves.now index)) }
+{
+    if let Some(half) = halves.full(index) {
+        marks.look(index, half, Moves::All);
+    }
 }
 
 // A STOP_SENDING breaks a half off, or its owner answers it.

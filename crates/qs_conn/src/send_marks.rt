@@ -1,15 +1,15 @@
 //! Which sending halves of one type have something for a packet, by what it is.
-ghost use Rattle.std.specs.Prelude.{◌≡◌, ◌++◌, ◌-◌, ◌<◌, [], true, false, length, take, replicate, OnOk, OnErr};
+ghost use Rattle.std.specs.Prelude.{◌≡◌, ◌++◌, ◌-◌, ◌<◌, [], false, length, take, slice_set, replicate, OnOk, OnErr};
 ghost use Rattle.qs_machine.specs.Credit.{send_ended};
 ghost use Rattle.qs_conn.specs.Marks.{is_marked, IsNextMark};
-ghost use Rattle.qs_conn.specs.Tasks.{IsQuiet, IsLooked, IsStill, HasTask, begins, is_funded, marks_of, sought_of};
+ghost use Rattle.qs_conn.specs.Tasks.{AreMarkedBefore, begins, has, is_due_below, is_funded, marks_of, sought_of};
 ghost use Rattle.qs_conn.specs.Untold.{IsClear};
 ghost use Rattle.qs_conn.specs.declared.send_marks.Task.TheVariants as tasks;
 
 use crate::marks::Marks;
 use crate::told_marks::ToldMarks;
 use qs_ranges::NoMemory;
-use qs_send::{SendHalf, SendState, SendView};
+use qs_send::{SendHalf, SendState};
 use std::alloc::Global;
 
 /// What a sending half may have for a packet.
@@ -29,6 +29,17 @@ pub(crate) enum Task {
     Stopped,
 }
 
+/// What a change may move of a half.
+#[derive(Clone, Copy, Drop)]
+pub(crate) enum Moves {
+    /// Which bytes go, and nothing else.
+    Sent,
+    /// Its room and the sums, too, and where its end is acknowledged whether it is over. Nothing falls due that was sent before.
+    Room,
+    /// All of it.
+    All,
+}
+
 /// What a search looks for: halves that have something of a task, of streams that an owner was told of, or of those that it wasn't.
 #[derive(Clone, Copy, Drop)]
 pub(crate) struct Search {
@@ -36,7 +47,7 @@ pub(crate) struct Search {
     pub(crate) is_told: bool,
 }
 
-/// The halves of one type that have a task, for each task. A half without a mark has none.
+/// The halves of one type that have a task, for each task.
 #[derive(Drop)]
 pub(crate) struct SendMarks {
     bytes: Marks,
@@ -61,9 +72,9 @@ impl SendMarks {
         }
     }
 
-    /// Makes room for all indexes below a count: the new ones have no mark but that they may be written to, below their limit or not.
-    pub(crate) fn open_to(&mut self, count: usize) -> Result<(), NoMemory>
-        ensures ok { OnOk result ((t : Task) → marks_of self.new t ≡ marks_of self.old t ++ replicate (count - length (marks_of self.old t)) (begins t)) }
+    /// Makes room for all indexes below a count, for halves that begin with a limit and a buffer.
+    pub(crate) fn open_to(&mut self, count: usize, limit: u64, buffer: u32) -> Result<(), NoMemory>
+        ensures ok { OnOk result ((t : Task) → marks_of self.new t ≡ marks_of self.old t ++ replicate (count - length (marks_of self.old t)) (begins t limit buffer)) }
         ensures err { OnErr result ((t : Task) → marks_of self.new t ≡ marks_of self.old t) }
     {
         let (bytes, again) = (self.bytes.len(), self.again.len());
@@ -74,12 +85,12 @@ impl SendMarks {
             self.bytes.close_to(bytes);
             return Err(refused);
         }
-        if let Err(refused) = self.writable.open_marked_to(count) {
+        if let Err(refused) = open_as(&mut self.writable, count, buffer > 0) {
             self.bytes.close_to(bytes);
             self.again.close_to(again);
             return Err(refused);
         }
-        if let Err(refused) = self.funded.open_marked_to(count) {
+        if let Err(refused) = open_as(&mut self.funded, count, buffer > 0 && limit > 0) {
             self.bytes.close_to(bytes);
             self.again.close_to(again);
             self.writable.close_to(writable);
@@ -115,79 +126,48 @@ impl SendMarks {
         self.stopped.close_to(count);
     }
 
-    /// Looks again at a half that changed, but by no STOP_SENDING.
-    pub(crate) fn look(&mut self, index: usize, half: &SendHalf)
+    /// Looks again at a half that changed: at what the change may move.
+    #[inline(always)]
+    pub(crate) fn look(&mut self, index: usize, half: &SendHalf, moves: Moves)
         requires there { (t : Task) → index < length (marks_of self.old t) }
-        requires stop { IsStill tasks.Stopped index half.now self.old }
-        ensures { (t : Task) → IsLooked t index half.now (marks_of self.old t) (marks_of self.new t) }
+        requires stays { AreMarkedBefore moves self.old index half.now }
+        ensures { (t : Task) → marks_of self.new t ≡ slice_set (marks_of self.old t) index (has t half.now) }
     {
         self.bytes.set(index, may_send(half));
-        self.again.set(index, may_send_again(half));
+        match moves {
+            Moves::Sent => look_again(&mut self.again, index, half),
+            Moves::Room => {
+                look_again(&mut self.again, index, half);
+                look_end(&mut self.ended, index, half);
+                self.look_room(index, half);
+            }
+            Moves::All => {
+                self.again.set(index, may_send_again(half));
+                self.ended.set(index, has_ended(half));
+                self.stopped.set(index, half.stop_code().is_some());
+                self.look_room(index, half);
+            }
+        }
+    }
+
+    // Looks again at the room of a half.
+    #[inline(always)]
+    fn look_room(&mut self, index: usize, half: &SendHalf)
+        requires writable { index < length self.old.writable }
+        requires funded { index < length self.old.funded }
+        ensures { self.new ≡ record self.old { writable = slice_set self.old.writable index (has tasks.Writable half.now); funded = slice_set self.old.funded index (has tasks.Funded half.now) } }
+    {
         self.writable.set(index, half.is_writable());
         self.funded.set(index, is_funded(half));
-        self.ended.set(index, has_ended(half));
     }
 
-    /// Looks again at a half of which a STOP_SENDING came.
-    pub(crate) fn look_stopped(&mut self, index: usize, half: &SendHalf)
-        requires { (t : Task) → index < length (marks_of self.old t) }
-        ensures { (t : Task) → IsLooked t index half.now (marks_of self.old t) (marks_of self.new t) }
+    /// Whether a half has a task.
+    #[inline(always)]
+    pub(crate) fn has(&self, task: Task, index: usize) -> bool
+        requires { index < length (marks_of self.now task) }
+        ensures { result ≡ is_marked (marks_of self.now task) index }
     {
-        self.stopped.set(index, half.stop_code().is_some());
-        self.look(index, half);
-    }
-
-    /// Looks again at a half that was given bytes: that moves neither what was sent before nor its end.
-    pub(crate) fn look_written(&mut self, index: usize, half: &SendHalf)
-        requires there { (t : Task) → index < length (marks_of self.old t) }
-        requires again { IsStill tasks.Again index half.now self.old }
-        requires end { IsStill tasks.Ended index half.now self.old }
-        requires stop { IsStill tasks.Stopped index half.now self.old }
-        ensures { (t : Task) → IsLooked t index half.now (marks_of self.old t) (marks_of self.new t) }
-    {
-        self.bytes.set(index, may_send(half));
-        self.writable.set(index, half.is_writable());
-        self.funded.set(index, is_funded(half));
-    }
-
-    /// Looks again at a half of which a chunk was sent, and answers whether nothing more may go: that moves neither its room nor its end, and
-    /// leaves no more to send again.
-    pub(crate) fn look_sent(&mut self, index: usize, half: &SendHalf) -> bool
-        requires there { (t : Task) → index < length (marks_of self.old t) }
-        requires again { IsStill tasks.Again index half.now self.old }
-        requires room { IsStill tasks.Writable index half.now self.old }
-        requires funds { IsStill tasks.Funded index half.now self.old }
-        requires end { IsStill tasks.Ended index half.now self.old }
-        requires stop { IsStill tasks.Stopped index half.now self.old }
-        ensures looked { (t : Task) → IsLooked t index half.now (marks_of self.old t) (marks_of self.new t) }
-        ensures done { result ≡ true → IsQuiet tasks.Bytes half.now }
-    {
-        let goes_on = may_send(half);
-        self.bytes.set(index, goes_on);
-        look_again(&mut self.again, index, half);
-        !goes_on
-    }
-
-    /// Looks again at a half of which a chunk was acknowledged: that leaves no more to send again.
-    pub(crate) fn look_acked(&mut self, index: usize, half: &SendHalf)
-        requires there { (t : Task) → index < length (marks_of self.old t) }
-        requires again { IsStill tasks.Again index half.now self.old }
-        requires stop { IsStill tasks.Stopped index half.now self.old }
-        ensures { (t : Task) → IsLooked t index half.now (marks_of self.old t) (marks_of self.new t) }
-    {
-        self.bytes.set(index, may_send(half));
-        look_again(&mut self.again, index, half);
-        self.writable.set(index, half.is_writable());
-        self.funded.set(index, is_funded(half));
-        self.ended.set(index, has_ended(half));
-    }
-
-    /// Whether a half may have room for its owner to write.
-    pub(crate) fn may_write(&self, index: usize) -> bool
-        requires { index < length self.now.writable }
-        ensures { result ≡ is_marked self.now.writable index }
-    {
-        self.writable.has(index)
+        self.of(task).has(index)
     }
 
     /// Whether any index may be marked.
@@ -244,45 +224,46 @@ impl SendMarks {
     }
 }
 
-// Looks whether a half has something to send again, where it may have had.
+// Makes room for all indexes below a count: the new ones have a mark or have none.
+fn open_as(marks: &mut Marks, count: usize, is_marked: bool) -> Result<(), NoMemory>
+    ensures ok { OnOk result (marks.new ≡ marks.old ++ replicate (count - length marks.old) is_marked) }
+    ensures err { OnErr result (marks.new ≡ marks.old) }
+{
+    if is_marked {
+        return marks.open_marked_to(count);
+    }
+    marks.open_to(count)
+}
+
+// Looks whether a half has something to send again, where it had.
 #[inline(always)]
+#[tactic(auto, using(crate::proofs::Marked::mark_is))]
 fn look_again(again: &mut Marks, index: usize, half: &SendHalf)
     requires there { index < length again.old }
-    requires still { is_marked again.old index ≡ false → IsQuiet tasks.Again half.now }
-    ensures { IsLooked tasks.Again index half.now again.old again.new }
+    requires still { is_marked again.old index ≡ false → has tasks.Again half.now ≡ false }
+    ensures { again.new ≡ slice_set again.old index (has tasks.Again half.now) }
 {
     if !again.may_have() {
         return;
     }
-    if again.has(index) {
-        again.set(index, may_send_again(half));
+    if !again.has(index) {
+        return;
     }
+    again.set(index, may_send_again(half));
 }
 
-/// Whether a half has something of a task. One that is over has its end alone.
-pub(crate) fn has(task: Task, half: &SendView<'_>) -> bool
-    ensures some { result ≡ true → HasTask task half.now }
-    ensures none { result ≡ false → IsQuiet task half.now }
+// Looks whether a half is over, where its end is acknowledged.
+#[inline(always)]
+#[tactic(auto, using(crate::proofs::Marked::mark_is))]
+fn look_end(ended: &mut Marks, index: usize, half: &SendHalf)
+    requires there { index < length ended.old }
+    requires still { half.now.lane.fin_acked ≡ false → is_marked ended.old index ≡ has tasks.Ended half.now }
+    ensures { ended.new ≡ slice_set ended.old index (has tasks.Ended half.now) }
 {
-    match half.not_over() {
-        Some(half) => full_has(task, half),
-        None => matches!(task, Task::Ended),
+    if !half.end_acked() {
+        return;
     }
-}
-
-// Whether a half that isn't over has something of a task.
-fn full_has(task: Task, half: &SendHalf) -> bool
-    ensures some { result ≡ true → HasTask task half.now }
-    ensures none { result ≡ false → IsQuiet task half.now }
-{
-    match task {
-        Task::Bytes => may_send(half),
-        Task::Again => may_send_again(half),
-        Task::Writable => half.is_writable(),
-        Task::Funded => is_funded(half),
-        Task::Ended => has_ended(half),
-        Task::Stopped => half.stop_code().is_some(),
-    }
+    ended.set(index, has_ended(half));
 }
 
 // Whether its owner may write, and its limit lets what is written go.
@@ -292,32 +273,40 @@ fn is_funded(half: &SendHalf) -> bool
     half.is_writable() && half.written() < half.limit()
 }
 
-// Whether bytes or the end may go: a byte below the limit is due, or the end is and every byte was sent.
+// Whether bytes or the end may go.
 fn may_send(half: &SendHalf) -> bool
-    ensures some { result ≡ true → HasTask tasks.Bytes half.now }
-    ensures none { result ≡ false → IsQuiet tasks.Bytes half.now }
+    ensures { result ≡ has tasks.Bytes half.now }
 {
-    half.learn_lawful();
     // Bytes that were never sent come first: they need no search of what was sent and what of it is acknowledged.
-    if half.reset_code().is_none() && half.sent_end() < half.written().min(half.limit()) {
+    if half.has_unsent() {
         return true;
     }
     if half.end_due() && half.sent_end() == half.written() {
         return true;
     }
-    matches!(half.lowest_due(), Some(offset) if offset < half.limit())
+    is_due_below(half, half.limit())
 }
 
 // Whether bytes that were sent before may go, or the end.
 fn may_send_again(half: &SendHalf) -> bool
-    ensures some { result ≡ true → HasTask tasks.Again half.now }
-    ensures none { result ≡ false → IsQuiet tasks.Again half.now }
+    ensures { result ≡ has tasks.Again half.now }
 {
-    half.learn_lawful();
     if half.end_due() && half.sent_end() == half.written() {
         return true;
     }
-    matches!(half.lowest_due(), Some(offset) if offset < half.sent_end())
+    is_due_below(half, half.sent_end())
+}
+
+// Whether a byte below an offset is due.
+#[inline(always)]
+#[tactic(auto, using(crate::proofs::Tasks::least_below, crate::proofs::Tasks::none_below))]
+fn is_due_below(half: &SendHalf, end: u64) -> bool
+    ensures { result ≡ is_due_below half.now end }
+{
+    match half.lowest_due() {
+        Some(offset) => offset < end,
+        None => false,
+    }
 }
 
 // Whether all that was sent is acknowledged, the end too, or the reset is (RFC 9000, section 3.1).

@@ -2,7 +2,7 @@
 //! The sending halves of the streams of one type.
 
 use crate::proved::qs_conn::marks::Marks;
-use crate::proved::qs_conn::send_marks::{Search, SendMarks, Task, has};
+use crate::proved::qs_conn::send_marks::{Moves, Search, SendMarks, Task};
 use crate::proved::qs_conn::told_marks::ToldMarks;
 use crate::proved::qs_ranges::NoMemory;
 use crate::proved::qs_send::{Chunk, SendFault, SendHalf, SendHalves, SendState, SendView};
@@ -20,6 +20,13 @@ pub(crate) struct Sent {
     pub(crate) is_free: bool,
 }
 
+// What a half counts for in the two sums.
+#[derive(Clone, Copy)]
+struct Sizes {
+    promised: u128,
+    kept: u128,
+}
+
 /// The sending halves of the streams of one type, by index.
 pub(crate) struct SendLanes {
     alloc: Global,
@@ -28,7 +35,7 @@ pub(crate) struct SendLanes {
     promised: u128,
     // How many bytes of all halves are kept until they are acknowledged.
     kept: u128,
-    // A half without a mark for a task is quiet of it.
+    // The marks tell which halves have a task.
     marks: SendMarks,
 }
 
@@ -104,7 +111,7 @@ impl SendLanes {
                 return Err(NoMemory);
             }
         }
-        if let Err(_refused) = self.marks.open_to(count) {
+        if let Err(_refused) = self.marks.open_to(count, limit, buffer) {
             self.halves.truncate(before);
             return Err(NoMemory);
         }
@@ -125,64 +132,75 @@ impl SendLanes {
         self.marks.close_to(count);
     }
 
+    // Changes a half: the one way in. The sums and the marks follow. One that is over stays as it is, and what is given is the answer.
+    #[inline(always)]
+    fn edit<R, F: FnOnce(&mut SendHalf) -> R>(
+        &mut self,
+        index: usize,
+        over: R,
+        moves: Moves,
+        change: F,
+    ) -> R {
+        let Some(half) = self.halves.full_mut(index) else {
+            return over;
+        };
+        let was = measure(half, moves);
+        let answer = change(half);
+        let is = measure(half, moves);
+        self.promised = self.promised - was.promised + is.promised;
+        self.kept = self.kept - was.kept + is.kept;
+        self.marks.look(index, half, moves);
+        answer
+    }
+
     /// Accepts bytes at an open half, as many as there is room for; or changes nothing.
     #[inline]
     pub(crate) fn write(&mut self, index: usize, bytes: &[u8]) -> Result<usize, SendFault> {
         // Of a half without room no more than the refusal is looked at.
-        if !self.marks.may_write(index) {
+        if !self.marks.has(Task::Writable, index) {
             return write_none(&self.halves.at(index));
         }
-        let Some(half) = self.halves.full_mut(index) else {
-            return Err(SendFault::Finished);
-        };
-        let answer = half.write(bytes);
-        let accepted = answer.unwrap_or(0) as u128;
-        self.promised += accepted;
-        self.kept += accepted;
-        self.marks.look_written(index, half);
-        answer
+        self.edit(
+            index,
+            Err(SendFault::Finished),
+            Moves::Room,
+            |half| half.write(bytes),
+        )
     }
 
     /// Asks for the end of an open half.
     #[inline]
     pub(crate) fn finish(&mut self, index: usize) -> Result<(), SendFault> {
-        let Some(half) = self.halves.full_mut(index) else {
-            return Err(SendFault::Finished);
-        };
-        let answer = half.finish();
-        self.marks.look(index, half);
-        answer
+        self.edit(
+            index,
+            Err(SendFault::Finished),
+            Moves::All,
+            |half| half.finish(),
+        )
     }
 
     /// Breaks an open half off.
     #[inline]
     pub(crate) fn reset(&mut self, index: usize, code: u64) -> Result<(), SendFault> {
         debug_assert!(code <= 0x3fff_ffff_ffff_ffff);
-        let Some(half) = self.halves.full_mut(index) else {
-            return Err(SendFault::Finished);
-        };
-        let (before, had) = (promised(half), kept(half));
-        let answer = half.reset(code);
-        let (after, has) = (promised(half), kept(half));
-        self.promised = self.promised - before + after;
-        self.kept = self.kept - had + has;
-        self.marks.look(index, half);
-        answer
+        self.edit(
+            index,
+            Err(SendFault::Finished),
+            Moves::All,
+            |half| half.reset(code),
+        )
     }
 
     /// Takes in a STOP_SENDING of an open half, which the owner answers or not.
     #[inline]
     pub(crate) fn stopped(&mut self, index: usize, code: u64, owner_answers: bool) {
         debug_assert!(code <= 0x3fff_ffff_ffff_ffff);
-        let Some(half) = self.halves.full_mut(index) else {
-            return;
-        };
-        let (before, had) = (promised(half), kept(half));
-        take_stop(half, code, owner_answers);
-        let (after, has) = (promised(half), kept(half));
-        self.promised = self.promised - before + after;
-        self.kept = self.kept - had + has;
-        self.marks.look_stopped(index, half);
+        self.edit(
+            index,
+            (),
+            Moves::All,
+            |half| take_stop(half, code, owner_answers),
+        )
     }
 
     /// Takes in that the peer allows the offsets of an open half below a limit.
@@ -190,91 +208,61 @@ impl SendLanes {
     pub(crate) fn allow(&mut self, index: usize, limit: u64) {
         debug_assert!(limit <= 0x3fff_ffff_ffff_ffff);
         self.halves.allow(index, limit);
-        let Some(half) = self.halves.full(index) else {
-            return;
-        };
-        self.marks.look(index, half);
+        look_at(&self.halves, &mut self.marks, index);
     }
 
     /// Sets how many bytes an open half keeps at most.
     #[inline]
     pub(crate) fn set_buffer(&mut self, index: usize, size: u32) {
         self.halves.set_buffer(index, size);
-        let Some(half) = self.halves.full(index) else {
-            return;
-        };
-        self.marks.look(index, half);
+        look_at(&self.halves, &mut self.marks, index);
     }
 
     /// Takes in that a STREAM_DATA_BLOCKED was sent.
     #[inline]
     pub(crate) fn note_blocked(&mut self, index: usize) {
         self.halves.note_blocked(index);
-        let Some(half) = self.halves.full(index) else {
-            return;
-        };
-        self.marks.look(index, half);
+        look_at(&self.halves, &mut self.marks, index);
     }
 
     /// Takes in that the RESET_STREAM is acknowledged.
     #[inline]
     pub(crate) fn reset_acked(&mut self, index: usize) {
-        let Some(half) = self.halves.full_mut(index) else {
-            return;
-        };
-        half.reset_acked();
-        self.marks.look(index, half);
+        self.edit(index, (), Moves::All, |half| half.reset_acked())
     }
 
     /// Takes in that a chunk was sent.
     #[inline]
     pub(crate) fn sent(&mut self, index: usize, chunk: Chunk) -> Sent {
-        let Some(half) = self.halves.full_mut(index) else {
-            return Sent {
-                moved: 0,
-                is_done: false,
-                is_free: false,
-            };
-        };
-        let before = half.sent_end();
-        half.sent(chunk);
-        let moved = half.sent_end() - before;
-        let is_done = self.marks.look_sent(index, half);
+        let (moved, is_free) = self.edit(index, (0, false), Moves::Sent, |half| {
+            let before = half.sent_end();
+            half.sent(chunk);
+            (half.sent_end() - before, half.written() <= half.limit())
+        });
         Sent {
             moved,
-            is_done,
-            is_free: half.written() <= half.limit(),
+            is_done: !self.marks.has(Task::Bytes, index),
+            is_free,
         }
     }
 
     /// Takes in that a chunk is acknowledged, or changes nothing.
     #[inline]
     pub(crate) fn acked(&mut self, index: usize, chunk: Chunk) -> Result<(), NoMemory> {
-        let Some(half) = self.halves.full_mut(index) else {
-            return Ok(());
-        };
-        let had = kept(half);
-        let answer = half.acked(chunk);
-        let has = kept(half);
-        self.kept = self.kept - had + has;
-        let ends = half.end_acked();
-        self.marks.look_acked(index, half);
-        if !ends {
-            return answer;
+        let (answer, ends) = self.edit(index, (Ok(()), false), Moves::Room, |half| {
+            let answer = half.acked(chunk);
+            (answer, half.end_acked())
+        });
+        if ends {
+            self.halves.settle(index);
         }
-        self.halves.settle(index);
         answer
     }
 
     /// Takes in that a chunk is lost, or changes nothing.
     #[inline]
     pub(crate) fn lost(&mut self, index: usize, chunk: Chunk) -> Result<(), NoMemory> {
-        let Some(half) = self.halves.full_mut(index) else {
-            return Ok(());
-        };
-        let answer = half.lost(chunk);
-        self.marks.look(index, half);
-        answer
+        self.edit(index, Ok(()), Moves::All, |half| half.lost(chunk))
     }
 
     /// Whether any half may have a task.
@@ -292,36 +280,37 @@ impl SendLanes {
         self.marks.next(task, from)
     }
 
-    /// The marks of the halves that may have come to their end. One without a mark hasn't.
+    /// The marks of the halves that came to their end.
     #[inline]
     pub(crate) fn ended_marks(&self) -> &Marks {
         self.marks.ended()
     }
 
-    /// The least index from one on whose half has something of a task.
+    /// The least index from one on whose half has a task.
     #[inline]
     pub(crate) fn next_with(&self, task: Task, from: usize) -> Option<usize> {
-        let mut next = from;
-        while let Some(index) = self.marks.next(task, next) {
-            if has(task, &self.halves.at(index)) {
-                return Some(index);
-            }
-            next = index + 1;
-        }
-        None
+        self.marks.next(task, from)
     }
 
     /// The least index from one on whose half is sought.
     #[inline(never)]
     pub(crate) fn next_sought(&self, search: Search, told: &ToldMarks, from: usize) -> Option<usize> {
-        let mut next = from;
-        while let Some(index) = self.marks.next_sought(search, told, next) {
-            if has(search.task, &self.halves.at(index)) {
-                return Some(index);
-            }
-            next = index + 1;
-        }
-        None
+        self.marks.next_sought(search, told, from)
+    }
+}
+
+// What a half counts for in the sums. Where a change moves neither, nothing is looked at.
+#[inline(always)]
+fn measure(half: &SendHalf, moves: Moves) -> Sizes {
+    if matches!(moves, Moves::Sent) {
+        return Sizes {
+            promised: 0,
+            kept: 0,
+        };
+    }
+    Sizes {
+        promised: promised(half),
+        kept: kept(half),
     }
 }
 
@@ -336,6 +325,13 @@ fn promised(half: &SendHalf) -> u128 {
 // How many bytes of a half are kept until they are acknowledged.
 fn kept(half: &SendHalf) -> u128 {
     half.kept_len() as u128
+}
+
+// Looks again at a half that was put, where it isn't over.
+fn look_at(halves: &SendHalves, marks: &mut SendMarks, index: usize) {
+    if let Some(half) = halves.full(index) {
+        marks.look(index, half, Moves::All);
+    }
 }
 
 // A STOP_SENDING breaks a half off, or its owner answers it.

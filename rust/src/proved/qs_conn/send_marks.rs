@@ -4,7 +4,7 @@
 use crate::proved::qs_conn::marks::Marks;
 use crate::proved::qs_conn::told_marks::ToldMarks;
 use crate::proved::qs_ranges::NoMemory;
-use crate::proved::qs_send::{SendHalf, SendState, SendView};
+use crate::proved::qs_send::{SendHalf, SendState};
 use crate::shim::alloc::Global;
 
 /// What a sending half may have for a packet.
@@ -24,6 +24,17 @@ pub(crate) enum Task {
     Stopped,
 }
 
+/// What a change may move of a half.
+#[derive(Clone, Copy)]
+pub(crate) enum Moves {
+    /// Which bytes go, and nothing else.
+    Sent,
+    /// Its room and the sums, too, and where its end is acknowledged whether it is over. Nothing falls due that was sent before.
+    Room,
+    /// All of it.
+    All,
+}
+
 /// What a search looks for: halves that have something of a task, of streams that an owner was told of, or of those that it wasn't.
 #[derive(Clone, Copy)]
 pub(crate) struct Search {
@@ -31,7 +42,7 @@ pub(crate) struct Search {
     pub(crate) is_told: bool,
 }
 
-/// The halves of one type that have a task, for each task. A half without a mark has none.
+/// The halves of one type that have a task, for each task.
 pub(crate) struct SendMarks {
     bytes: Marks,
     again: Marks,
@@ -54,9 +65,9 @@ impl SendMarks {
         }
     }
 
-    /// Makes room for all indexes below a count: the new ones have no mark but that they may be written to, below their limit or not.
+    /// Makes room for all indexes below a count, for halves that begin with a limit and a buffer.
     #[inline]
-    pub(crate) fn open_to(&mut self, count: usize) -> Result<(), NoMemory> {
+    pub(crate) fn open_to(&mut self, count: usize, limit: u64, buffer: u32) -> Result<(), NoMemory> {
         let (bytes, again) = (self.bytes.len(), self.again.len());
         let (writable, funded) = (self.writable.len(), self.funded.len());
         let ended = self.ended.len();
@@ -65,12 +76,12 @@ impl SendMarks {
             self.bytes.close_to(bytes);
             return Err(refused);
         }
-        if let Err(refused) = self.writable.open_marked_to(count) {
+        if let Err(refused) = open_as(&mut self.writable, count, buffer > 0) {
             self.bytes.close_to(bytes);
             self.again.close_to(again);
             return Err(refused);
         }
-        if let Err(refused) = self.funded.open_marked_to(count) {
+        if let Err(refused) = open_as(&mut self.funded, count, buffer > 0 && limit > 0) {
             self.bytes.close_to(bytes);
             self.again.close_to(again);
             self.writable.close_to(writable);
@@ -105,55 +116,37 @@ impl SendMarks {
         self.stopped.close_to(count);
     }
 
-    /// Looks again at a half that changed, but by no STOP_SENDING.
-    #[inline]
-    pub(crate) fn look(&mut self, index: usize, half: &SendHalf) {
+    /// Looks again at a half that changed: at what the change may move.
+    #[inline(always)]
+    pub(crate) fn look(&mut self, index: usize, half: &SendHalf, moves: Moves) {
         self.bytes.set(index, may_send(half));
-        self.again.set(index, may_send_again(half));
+        match moves {
+            Moves::Sent => look_again(&mut self.again, index, half),
+            Moves::Room => {
+                look_again(&mut self.again, index, half);
+                look_end(&mut self.ended, index, half);
+                self.look_room(index, half);
+            }
+            Moves::All => {
+                self.again.set(index, may_send_again(half));
+                self.ended.set(index, has_ended(half));
+                self.stopped.set(index, half.stop_code().is_some());
+                self.look_room(index, half);
+            }
+        }
+    }
+
+    // Looks again at the room of a half.
+    #[inline(always)]
+    fn look_room(&mut self, index: usize, half: &SendHalf) {
         self.writable.set(index, half.is_writable());
         self.funded.set(index, is_funded(half));
-        self.ended.set(index, has_ended(half));
     }
 
-    /// Looks again at a half of which a STOP_SENDING came.
-    #[inline]
-    pub(crate) fn look_stopped(&mut self, index: usize, half: &SendHalf) {
-        self.stopped.set(index, half.stop_code().is_some());
-        self.look(index, half);
-    }
-
-    /// Looks again at a half that was given bytes: that moves neither what was sent before nor its end.
-    #[inline]
-    pub(crate) fn look_written(&mut self, index: usize, half: &SendHalf) {
-        self.bytes.set(index, may_send(half));
-        self.writable.set(index, half.is_writable());
-        self.funded.set(index, is_funded(half));
-    }
-
-    /// Looks again at a half of which a chunk was sent, and answers whether nothing more may go: that moves neither its room nor its end, and
-    /// leaves no more to send again.
-    #[inline]
-    pub(crate) fn look_sent(&mut self, index: usize, half: &SendHalf) -> bool {
-        let goes_on = may_send(half);
-        self.bytes.set(index, goes_on);
-        look_again(&mut self.again, index, half);
-        !goes_on
-    }
-
-    /// Looks again at a half of which a chunk was acknowledged: that leaves no more to send again.
-    #[inline]
-    pub(crate) fn look_acked(&mut self, index: usize, half: &SendHalf) {
-        self.bytes.set(index, may_send(half));
-        look_again(&mut self.again, index, half);
-        self.writable.set(index, half.is_writable());
-        self.funded.set(index, is_funded(half));
-        self.ended.set(index, has_ended(half));
-    }
-
-    /// Whether a half may have room for its owner to write.
-    #[inline]
-    pub(crate) fn may_write(&self, index: usize) -> bool {
-        self.writable.has(index)
+    /// Whether a half has a task.
+    #[inline(always)]
+    pub(crate) fn has(&self, task: Task, index: usize) -> bool {
+        self.of(task).has(index)
     }
 
     /// Whether any index may be marked.
@@ -202,36 +195,33 @@ impl SendMarks {
     }
 }
 
-// Looks whether a half has something to send again, where it may have had.
+// Makes room for all indexes below a count: the new ones have a mark or have none.
+fn open_as(marks: &mut Marks, count: usize, is_marked: bool) -> Result<(), NoMemory> {
+    if is_marked {
+        return marks.open_marked_to(count);
+    }
+    marks.open_to(count)
+}
+
+// Looks whether a half has something to send again, where it had.
 #[inline(always)]
 fn look_again(again: &mut Marks, index: usize, half: &SendHalf) {
     if !again.may_have() {
         return;
     }
-    if again.has(index) {
-        again.set(index, may_send_again(half));
+    if !again.has(index) {
+        return;
     }
+    again.set(index, may_send_again(half));
 }
 
-/// Whether a half has something of a task. One that is over has its end alone.
-#[inline]
-pub(crate) fn has(task: Task, half: &SendView<'_>) -> bool {
-    match half.not_over() {
-        Some(half) => full_has(task, half),
-        None => matches!(task, Task::Ended),
+// Looks whether a half is over, where its end is acknowledged.
+#[inline(always)]
+fn look_end(ended: &mut Marks, index: usize, half: &SendHalf) {
+    if !half.end_acked() {
+        return;
     }
-}
-
-// Whether a half that isn't over has something of a task.
-fn full_has(task: Task, half: &SendHalf) -> bool {
-    match task {
-        Task::Bytes => may_send(half),
-        Task::Again => may_send_again(half),
-        Task::Writable => half.is_writable(),
-        Task::Funded => is_funded(half),
-        Task::Ended => has_ended(half),
-        Task::Stopped => half.stop_code().is_some(),
-    }
+    ended.set(index, has_ended(half));
 }
 
 // Whether its owner may write, and its limit lets what is written go.
@@ -239,16 +229,16 @@ fn is_funded(half: &SendHalf) -> bool {
     half.is_writable() && half.written() < half.limit()
 }
 
-// Whether bytes or the end may go: a byte below the limit is due, or the end is and every byte was sent.
+// Whether bytes or the end may go.
 fn may_send(half: &SendHalf) -> bool {
     // Bytes that were never sent come first: they need no search of what was sent and what of it is acknowledged.
-    if half.reset_code().is_none() && half.sent_end() < half.written().min(half.limit()) {
+    if half.has_unsent() {
         return true;
     }
     if half.end_due() && half.sent_end() == half.written() {
         return true;
     }
-    matches!(half.lowest_due(), Some(offset) if offset < half.limit())
+    is_due_below(half, half.limit())
 }
 
 // Whether bytes that were sent before may go, or the end.
@@ -256,7 +246,16 @@ fn may_send_again(half: &SendHalf) -> bool {
     if half.end_due() && half.sent_end() == half.written() {
         return true;
     }
-    matches!(half.lowest_due(), Some(offset) if offset < half.sent_end())
+    is_due_below(half, half.sent_end())
+}
+
+// Whether a byte below an offset is due.
+#[inline(always)]
+fn is_due_below(half: &SendHalf, end: u64) -> bool {
+    match half.lowest_due() {
+        Some(offset) => offset < end,
+        None => false,
+    }
 }
 
 // Whether all that was sent is acknowledged, the end too, or the reset is (RFC 9000, section 3.1).

@@ -4,7 +4,8 @@ use Rattle.qs_ranges.specs.Numbers.{MAX_VARINT}
 use Rattle.qs_send.specs.Lane.{Sending, after_sent}
 use Rattle.qs_send.specs.Chunks.{IsDueChunk}
 use Rattle.qs_send.specs.Sound.{IsLawful}
-use Rattle.qs_conn.specs.Tasks.{HasNothing}
+use Rattle.qs_conn.specs.Tasks.{IsQuiet}
+use Rattle.qs_conn.specs.declared.send_marks.Task.TheVariants as tasks
 use Rattle.qs_machine.specs.Tables.{lookup}
 use Rattle.qs_machine.specs.Sums.{tables_of, or_no_sending}
 use Rattle.qs_machine.proofs.TableEdits.{open_there, half_is, updated_is}
@@ -66,7 +67,7 @@ returns-clause-done c = λ done s has.
     let at = half_found types c.args.stream (half_there _ c.args.self.now types c.args.stream c.self.view_is refl (open_half c.args.self.now c.args.stream c.args.chunk c.requires.due)) in
     let here = sending_is _ c.args.self.now types c.args.stream half c.self.view_is refl at (subst IsLawful (sym (half_is c.self.inside.types c.args.stream _ _ _ c.self.invariant.2 c.type_of.ensures.value c.index_of-index.ensures.value)) c.learn_lawful.ensures) (c.self.invariant.0.tied.lanes c.args.stream half at) in
     let same = sym (half_is c.self.inside.types c.args.stream _ _ _ c.self.invariant.2 c.type_of.ensures.value c.index_of-index.ensures.value) ∙ same_sending c.args.self.now c.args.stream half s here has in
-    subst (λ x. HasNothing (after_sent x c.args.chunk)) same (c.sent-sent.ensures.done done)
+    subst (λ x. IsQuiet tasks.Bytes (after_sent x c.args.chunk)) same (c.sent-sent.ensures.done done)
 
 pub returns-clause-free : goal.returns-clause-free
 returns-clause-free c = λ free s has.

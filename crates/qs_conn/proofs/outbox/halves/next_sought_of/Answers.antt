@@ -1,8 +1,8 @@
 use Rattle.std.proofs.Common.{◌≡◌, ◌+◌, ◌-◌, ◌/◌, false, get_or, refl, arith}
 use Rattle.qs_machine.specs.Tables.{table}
-use Rattle.qs_conn.specs.Tasks.{IsSoughtAt}
+use Rattle.qs_conn.specs.Tasks.{IsSoughtAt, has}
 use Rattle.qs_conn.proofs.Least.{clear_at}
-use Rattle.qs_conn.proofs.Sought.{quiet_has_none}
+use Rattle.std.proofs.lemmas.Bool.{both_ways}
 use Rattle.qs_conn.proofs.SoughtTold.{sought_some, sought_none}
 use Rattle.qs_conn.proofs.UntoldSearch.{none_on}
 use Rattle.qs_conn.proofs.outbox.halves.next_sought_of.Goals as goal
@@ -21,4 +21,4 @@ returns-then-not-may_have-clause-least c =
     let first = (c.args.from + 3 - c.args.stream_type) / 4 in
     let at = IsSoughtAt c.args.search (get_or c.args.types.now c.args.stream_type c.index-types-stream_type.result) (table c.args.told.now c.args.stream_type) in
     sought_none c.args.search c.args.types.now c.args.told.now c.args.stream_type c.args.from first c.index-types-stream_type.result c.requires.len c.requires.stream_type refl
-    (none_on at first first (clear_at at first) (λ i ge p. quiet_has_none c.args.search.task p.0.0 (c.may_have.ensures none i p.0.0 p.0.1) p.0.2))
+    (none_on at first first (clear_at at first) (λ i ge p. both_ways (has c.args.search.task p.0.0) (c.may_have.ensures none i p.0.0 p.0.1) p.0.2))

@@ -38,7 +38,7 @@ invariant_of-self-in_default-open_to c =
     let len : c.len-before.result ≡ length c.self.inside.halves = c.len-before.ensures.value in
     all_opened c.args.stream_type c.args.limit c.args.buffer c.self.inside.halves c.loop-opened.self-inside.halves c.self.inside.marks c.open_to.new.self c.loop-opened.self-inside.promised c.loop-opened.self-inside.kept c.args.count c.loop-opened.opened c.saturating_sub-missing.result c.requires.count c.loop-opened.invariant.items
     c.loop-opened.auto.opened-end c.loop-opened-test.false (c.saturating_sub-missing.ensures ∙ ap (λ k. c.args.count - k) len)
-    (λ t. c.in_default-open_to.ensures.ok t ∙ ap (λ ms. marks_of ms t ++ replicate (c.args.count - length (marks_of ms t)) (begins t)) c.loop-opened.invariant.marks) (c.self.invariant.0, c.self.invariant.1, rw (c.loop-opened.invariant.promised, c.loop-opened.invariant.kept) c.self.invariant.2)
+    (λ t. c.in_default-open_to.ensures.ok t ∙ ap (λ ms. marks_of ms t ++ replicate (c.args.count - length (marks_of ms t)) (begins t c.args.limit c.args.buffer)) c.loop-opened.invariant.marks) (c.self.invariant.0, c.self.invariant.1, rw (c.loop-opened.invariant.promised, c.loop-opened.invariant.kept) c.self.invariant.2)
 
 pub push-requires : goal.push-requires
 push-requires c =

@@ -1,25 +1,45 @@
 use Rattle.std.proofs.Common.{sym, ◌∙◌}
 use Rattle.qs_conn.specs.declared.send_marks.Task.TheVariants as tasks
-use Rattle.qs_conn.specs.Marks.{is_marked}
-use Rattle.qs_conn.proofs.Marked.{mark_kept}
-use Rattle.qs_conn.proofs.Tasks.{looked}
 use Rattle.qs_conn.proofs.send_marks.SendMarks.look.Goals as goal
 
 pub set-requires : goal.set-requires
 set-requires c = c.requires.there tasks.Bytes
 
-pub set-requires-2 : goal.set-requires-2
-set-requires-2 c = c.requires.there tasks.Again
+pub look_again-requires-clause-there : goal.look_again-requires-clause-there
+look_again-requires-clause-there c = c.requires.there tasks.Again
 
-pub set-requires-3 : goal.set-requires-3
-set-requires-3 c = c.requires.there tasks.Writable
+pub look_again-requires-in-Room-clause-there : goal.look_again-requires-in-Room-clause-there
+look_again-requires-in-Room-clause-there c = c.requires.there tasks.Again
 
-pub set-requires-4 : goal.set-requires-4
-set-requires-4 c = c.requires.there tasks.Funded
+pub look_end-requires-clause-there : goal.look_end-requires-clause-there
+look_end-requires-clause-there c = c.requires.there tasks.Ended
 
-pub set-requires-5 : goal.set-requires-5
-set-requires-5 c = c.requires.there tasks.Ended
+pub look_room-requires-clause-writable : goal.look_room-requires-clause-writable
+look_room-requires-clause-writable c = c.requires.there tasks.Writable
 
-pub returns : goal.returns
-returns c =
-    looked c.args.self.now (record { bytes = c.set.new.self; again = c.set-2.new.self; writable = c.set-3.new.self; funded = c.set-4.new.self; ended = c.set-5.new.self; stopped = c.args.self.now.stopped }) c.args.index c.args.half.now c.may_send.result c.may_send_again.result c.is_writable.result c.is_funded.result c.has_ended.result (is_marked c.args.self.now.stopped c.args.index) c.may_send.ensures.none c.may_send_again.ensures.none (λ is. sym c.is_writable.ensures ∙ is) (λ is. sym c.is_funded.ensures ∙ is) (λ is. sym c.has_ended.ensures ∙ is) c.requires.stop c.set.ensures c.set-2.ensures c.set-3.ensures c.set-4.ensures c.set-5.ensures (mark_kept c.args.self.now.stopped c.args.index)
+pub look_room-requires-clause-funded : goal.look_room-requires-clause-funded
+look_room-requires-clause-funded c = c.requires.there tasks.Funded
+
+pub set-requires-in-All : goal.set-requires-in-All
+set-requires-in-All c = c.requires.there tasks.Again
+
+pub set-requires-in-All-2 : goal.set-requires-in-All-2
+set-requires-in-All-2 c = c.requires.there tasks.Ended
+
+pub set-requires-in-All-3 : goal.set-requires-in-All-3
+set-requires-in-All-3 c = c.requires.there tasks.Stopped
+
+pub look_room-requires-in-All-clause-writable : goal.look_room-requires-in-All-clause-writable
+look_room-requires-in-All-clause-writable c = c.requires.there tasks.Writable
+
+pub look_room-requires-in-All-clause-funded : goal.look_room-requires-in-All-clause-funded
+look_room-requires-in-All-clause-funded c = c.requires.there tasks.Funded
+
+pub look_again-requires-clause-still : goal.look_again-requires-clause-still
+look_again-requires-clause-still c = λ none. (let (s, marks, still) = rw c.in-Sent.is at c.requires.stays in still.again (sym (marks tasks.Again) ∙ none))
+
+pub look_again-requires-in-Room-clause-still : goal.look_again-requires-in-Room-clause-still
+look_again-requires-in-Room-clause-still c = λ none. (let (s, marks, still) = rw c.in-Room.is at c.requires.stays in still.again (sym (marks tasks.Again) ∙ none))
+
+pub look_end-requires-clause-still : goal.look_end-requires-clause-still
+look_end-requires-clause-still c = λ unacked. (let (s, marks, still) = rw c.in-Room.is at c.requires.stays in marks tasks.Ended ∙ sym (still.ended unacked))
