@@ -7,7 +7,7 @@ use Rattle.std.proofs.lemmas.Option.{get_or_from_slice_get, slice_get_within}
 use Rattle.qs_machine.specs.News.{IsLeast}
 use Rattle.qs_conn.specs.Marks.{is_marked, AreMarked, IsAt, IsBefore, IsNextMark}
 use Rattle.qs_conn.proofs.Least.{least_by}
-use Rattle.qs_conn.proofs.Summed.{marked_below}
+use Rattle.qs_conn.proofs.Words.{marked_below}
 
 -- what is marked there passes the test
 marked_at : {X : Type 0} (p : X → Bool) (xs : List X) (i : ℕ) → is_marked (map p xs) i ≡ true → IsAt (λ x. p x ≡ true) xs i
