@@ -1,0 +1,5 @@
+pub mod Sums
+pub mod Halves
+pub mod Items
+pub mod Score
+pub mod Exclusions
