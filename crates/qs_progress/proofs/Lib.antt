@@ -3,3 +3,5 @@ pub mod Halves
 pub mod Items
 pub mod Score
 pub mod Exclusions
+pub mod Within
+pub mod Bound
