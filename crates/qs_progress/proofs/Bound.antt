@@ -1,0 +1,555 @@
+-- What two ends did and know for good is bounded, by the bytes that were written, the streams that were opened, and what was granted beyond.
+use Rattle.std.proofs.Common.{◌≡◌, ℕ, zero, suc, ◌+◌, ◌*◌, ◌-◌, ◌/◌, ◌%◌, ◌<◌, ◌≤◌, Bool, true, false, not, ◌||◌, cond, List, [], ◌∷◌, length, slice_get, sum_by, Option, Some, None, is_some, refl, sym, ap, ◌∙◌, subst, arith, inl, inr, nat_cmp, if◌then◌else◌}
+use Rattle.std.specs.Prelude.{unwrap_or, zip, nat_le, ◌==◌}
+use Rattle.std.specs.List.{range_with_len, filter}
+use Rattle.std.specs.FinSet as set
+use Rattle.std.specs.Cmp.{nat_cmp_total, unsigned_tied}
+use Rattle.std.proofs.lemmas.Bool.{true≢false, cond_both}
+use Rattle.std.proofs.lemmas.Bool.Decides.{nat_tests}
+use Rattle.std.proofs.lemmas.List.Sums.{sum_by-cons}
+use Rattle.qs_ranges.specs.Numbers.{NumberSet, numbers, is_within, contains-numbers, end_of as end_of_set}
+use Rattle.qs_ranges.proofs.Sets.{end_of-last}
+use Rattle.qs_ranges.proofs.Starts.{len_le_of_members}
+use Rattle.qs_wire.specs.declared.stream_id.Role.TheVariants.{Client, Server}
+use Rattle.qs_wire.specs.declared.stream_id.Dir.{Dir}
+use Rattle.qs_wire.specs.declared.stream_id.Dir.TheVariants.{Bidi, Uni}
+use Rattle.qs_recv.specs.Lane.{RecvLane, highest, taken}
+use Rattle.qs_recv.specs.Lawful.{IsLawful}
+use Rattle.qs_send.specs.Lane.{SendLane}
+use Rattle.qs_send.specs.declared.piece.Item.TheVariants.{MaxData, MaxStreamData, MaxStreams, StopSending, DataBlocked, StreamDataBlocked, StreamsBlocked}
+use Rattle.qs_calls.specs.declared.settings.Settings.{Settings}
+use Rattle.qs_calls.specs.declared.event.Side.{Side}
+use Rattle.qs_calls.specs.declared.event.Side.TheVariants.{A, B}
+use Rattle.qs_machine.specs.Tables.{Tables, table, lookup, total}
+use Rattle.qs_machine.specs.Ends.{End, is_uni, is_own, is_own_by, role_bit, own_type, peer_type, first_send_limit, window, window_by}
+use Rattle.qs_machine.specs.Credit.{granted_streams, first_grant, all_taken, recv_ended, both_ended, ended}
+use Rattle.qs_machine.specs.Due.{known_count}
+use Rattle.qs_machine.specs.Seen.{Control}
+use Rattle.qs_machine.specs.Standing.{HasLawfulLane}
+use Rattle.qs_machine.proofs.TableLaws.{value, total_le}
+use Rattle.qs_runs.specs.Logs.{History, other}
+use Rattle.qs_runs.specs.Pasts.{past, Tells}
+use Rattle.qs_runs.specs.Worlds.{World, end_of, Run}
+use Rattle.qs_runs.specs.Invariant.{WorldOk, SendSlot, SendOk, RecvSlot, RecvOk, EndOk}
+use Rattle.qs_runs.proofs.Changes.{acked_written}
+use Rattle.qs_runs.proofs.Clauses.{received_is_below_sent, final_size_is_declared, known_is_within_granted, is_open_at_initiator}
+use Rattle.qs_runs.proofs.Runs.{run_keeps, opposite, known_counts}
+use Rattle.qs_rest.specs.Resting.{KnowsFirstLimits}
+use Rattle.qs_progress.specs.Score.{one_if, is_done, told_from, sent_marks, got_marks, marks_of, stream_marks, first_count, count_marks, credit_marks, halves, type_marks, score}
+use Rattle.qs_progress.specs.Bound.{written_at, streams_at, beyond_on, beyond, most}
+use Rattle.qs_progress.proofs.Sums.{le_same, sum_grows, told_few}
+
+-- Sets and lists
+
+one_most : (b : Bool) → one_if b ≤ 1
+one_most true = omega arith
+one_most false = omega arith
+
+len_numbers : (n : ℕ) → set.len (numbers 0 n) ≤ n
+len_numbers zero =
+    let few = len_le_of_members (numbers 0 0) set.empty (λ q is. absurd (true≢false (sym (sym (contains-numbers 0 0 q) ∙ is) ∙ none q))) in
+    omega (arith, few, set.len-empty nat_cmp)
+  where
+    none : (q : ℕ) → is_within 0 0 q ≡ false
+    none q = grind (arith, nat_tests)
+len_numbers (suc n) =
+    let few = len_le_of_members (numbers 0 (suc n)) (set.insert (numbers 0 n) n) (λ q is. more q (sym (contains-numbers 0 (suc n) q) ∙ is)) in
+    let one : set.len (set.insert (numbers 0 n) n) ≤ set.len (numbers 0 n) + 1 = rw (set.len-insert nat_cmp_total (numbers 0 n) n) (cond_both (set.contains (numbers 0 n) n) (set.len (numbers 0 n)) (set.len (numbers 0 n) + 1) (λ k. k ≤ set.len (numbers 0 n) + 1) (λ _. omega arith) (λ _. omega arith)) in
+    omega (arith, few, one, len_numbers n)
+  where
+    more : (q : ℕ) → is_within 0 (suc n) q ≡ true → set.contains (set.insert (numbers 0 n) n) q ≡ true
+    more q is = contains_insert q ∙ grind (arith, nat_tests, is)
+      where
+        contains_insert : (q : ℕ) → set.contains (set.insert (numbers 0 n) n) q ≡ ((q == n) || is_within 0 n q)
+        contains_insert q = set.contains-insert nat_cmp_total (numbers 0 n) n q ∙ ap (λ b. b || set.contains (numbers 0 n) q) (unsigned_tied q n) ∙ ap (λ b. (q == n) || b) (contains-numbers 0 n q)
+
+-- a set has no more members than the numbers below which they lie
+len_below : (s : NumberSet) (n : ℕ) → ((q : ℕ) → set.contains s q ≡ true → q < n) → set.len s ≤ n
+len_below s n below =
+    let few = len_le_of_members s (numbers 0 n) (λ q is. let lt = below q is in contains-numbers 0 n q ∙ grind (arith, nat_tests)) in
+    omega (arith, few, len_numbers n)
+
+end_below : (s : NumberSet) (n : ℕ) → ((q : ℕ) → set.contains s q ≡ true → q < n) → end_of_set s ≤ n
+end_below s n below = elim (end_of-last s) [
+  | inl none ↦ omega (arith, none)
+  | inr last ↦ (let lt = below (end_of_set s - 1) last in omega (arith, lt))
+]
+
+sums_few : (t f g o x y : ℕ → ℕ) (lo k : ℕ) → ((i : ℕ) → t i ≤ 6 * f i + 6 * g i + 17 * o i + 3 * x i + 3 * y i)
+    → sum_by t (range_with_len lo k) ≤ 6 * sum_by f (range_with_len lo k) + 6 * sum_by g (range_with_len lo k) + 17 * sum_by o (range_with_len lo k) + 3 * sum_by x (range_with_len lo k) + 3 * sum_by y (range_with_len lo k)
+sums_few t f g o x y lo zero few = omega arith
+sums_few t f g o x y lo (suc k) few =
+    rw (sum_by-cons t lo (range_with_len (lo + 1) k), sum_by-cons f lo (range_with_len (lo + 1) k), sum_by-cons g lo (range_with_len (lo + 1) k), sum_by-cons o lo (range_with_len (lo + 1) k), sum_by-cons x lo (range_with_len (lo + 1) k), sum_by-cons y lo (range_with_len (lo + 1) k))
+    (omega (arith, few lo, sums_few t f g o x y (lo + 1) k few))
+
+sum_pair : (f g : ℕ → ℕ) (lo k : ℕ) → sum_by (λ i. f i + g i) (range_with_len lo k) ≡ sum_by f (range_with_len lo k) + sum_by g (range_with_len lo k)
+sum_pair f g lo zero = refl
+sum_pair f g lo (suc k) = rw (sum_by-cons (λ i. f i + g i) lo (range_with_len (lo + 1) k), sum_by-cons f lo (range_with_len (lo + 1) k), sum_by-cons g lo (range_with_len (lo + 1) k)) (omega (arith, sum_pair f g (lo + 1) k))
+
+-- the parts of a list, one for each index
+sum_list : {X : Type 0} (F : X → ℕ) (xs : List X) (lo k : ℕ) (g : ℕ → ℕ) → ((i : ℕ) → g (lo + i) ≡ value F (slice_get xs i)) → sum_by g (range_with_len lo k) ≤ sum_by F xs
+sum_list F xs lo zero g is = omega arith
+sum_list F [] lo (suc k) g is =
+    let here : g lo ≡ 0 = (let e : lo ≡ lo + 0 = omega arith in ap g e) ∙ is 0 in
+    let rest = sum_list F [] (lo + 1) k g (λ i. (let e : lo + 1 + i ≡ lo + suc i = omega arith in ap g e) ∙ is (suc i)) in
+    rw (sum_by-cons g lo (range_with_len (lo + 1) k)) (omega (arith, here, rest))
+sum_list F (x ∷ xs) lo (suc k) g is =
+    let here : g lo ≡ F x = (let e : lo ≡ lo + 0 = omega arith in ap g e) ∙ is 0 in
+    let rest = sum_list F xs (lo + 1) k g (λ i. (let e : lo + 1 + i ≡ lo + suc i = omega arith in ap g e) ∙ is (suc i)) in
+    rw (sum_by-cons g lo (range_with_len (lo + 1) k), sum_by-cons F x xs) (omega (arith, here, rest))
+
+sum_all : {X : Type 0} (F : X → ℕ) (xs : List X) (k : ℕ) (g : ℕ → ℕ) → ((i : ℕ) → g i ≡ value F (slice_get xs i)) → sum_by g (range_with_len 0 k) ≤ sum_by F xs
+sum_all F xs k g is = sum_list F xs 0 k g (λ i. (let e : 0 + i ≡ i = omega arith in ap g e) ∙ is i)
+
+sum_ones : {X : Type 0} (xs : List X) → sum_by (λ (x : X). 1) xs ≡ length xs
+sum_ones [] = refl
+sum_ones {X} (y ∷ xs) = sum_by-cons (λ (x : X). 1) y xs ∙ omega (arith, sum_ones xs)
+
+length_kept : {X Y : Type 0} (xs : List X) (ys : List Y) → ((i : ℕ) → is_some (slice_get xs i) ≡ true → is_some (slice_get ys i) ≡ true) → length xs ≤ length ys
+length_kept [] ys kept = omega arith
+length_kept (x ∷ xs) [] kept = absurd (true≢false (sym (kept 0 refl)))
+length_kept (x ∷ xs) (y ∷ ys) kept = omega (arith, length_kept xs ys (λ i. kept (suc i)))
+
+length_filter : {X : Type 0} (p : X → Bool) (xs : List X) → length (filter p xs) ≤ length xs
+length_filter p [] = omega arith
+length_filter p (x ∷ xs) = cond_both (p x) (x ∷ filter p xs) (filter p xs) (λ ys. length ys ≤ length (x ∷ xs)) (λ _. omega (arith, length_filter p xs)) (λ _. omega (arith, length_filter p xs))
+
+length_zip : {X Y : Type 0} (xs : List X) (ys : List Y) → length (zip xs ys) ≤ length xs
+length_zip [] ys = omega arith
+length_zip (x ∷ xs) [] = omega arith
+length_zip (x ∷ xs) (y ∷ ys) = omega (arith, length_zip xs ys)
+
+-- the stream of a type at an index
+kind_of : (k i : ℕ) → k < 4 → (i * 4 + k) % 4 ≡ k
+kind_of k i lt = omega arith
+
+lookup_at : {X : Type 0} (t : Tables X) (k i : ℕ) → k < 4 → lookup t (i * 4 + k) ≡ slice_get (table t k) i
+unfolding lookup
+lookup_at t k i lt =
+    let index : (i * 4 + k) / 4 ≡ i = omega arith in
+    λ j. slice_get (table t (kind_of k i lt j)) (index j)
+
+window_at : (e : End) (k i : ℕ) → k < 4 → window e (i * 4 + k) ≡ window e k
+window_at e k i lt =
+    let small : k % 4 ≡ k = omega arith in
+    let same : (i * 4 + k) % 4 ≡ k % 4 = kind_of k i lt ∙ sym small in
+    λ j. cond (nat_le 2 (same j)) e.settings.uni (cond (same j % 2 == role_bit e.role) e.settings.bidi_local e.settings.bidi_remote)
+
+first_of : (u b : Bool) (x y z : ℕ) → (if u then x else (if not b then y else z)) ≡ (if u then x else (if b then z else y))
+first_of false true x y z = refl
+first_of _ b x y z = refl
+
+-- One direction: side s sends, the other one receives
+
+module _ (a b : Settings) (h : History) (w : World) (ok : WorldOk a b h w) (told : (s : Side) → KnowsFirstLimits w s) where
+  module _ (s : Side) where
+    abbrev here : End
+    here = end_of w s
+
+    abbrev there : End
+    there = end_of w (other s)
+
+    first_limit : (n : ℕ) → first_send_limit here n ≡ window there n
+    first_limit n = rw (told s, opposite a b h w ok s n) (first_of (is_uni n) (is_own there n) there.settings.uni there.settings.bidi_remote there.settings.bidi_local)
+
+    -- written, granted beyond the first window, and beyond what was taken
+    abbrev bytes : ℕ → ℕ
+    bytes n = value (λ (l : SendLane). l.written) (lookup here.sends n)
+
+    abbrev raised : ℕ → ℕ
+    raised n = value (λ (r : RecvLane). r.limit - window there n) (lookup there.recvs n)
+
+    abbrev given : ℕ → ℕ
+    given n = value (λ (r : RecvLane). r.limit - (window there n + taken r)) (lookup there.recvs n)
+
+    abbrev sending_one : ℕ → ℕ
+    sending_one n = value (λ (l : SendLane). 1) (lookup here.sends n)
+
+    abbrev getting_one : ℕ → ℕ
+    getting_one n = value (λ (r : RecvLane). 1) (lookup there.recvs n)
+
+    send_at : (n : ℕ) (l : SendLane) → lookup here.sends n ≡ Some l → SendOk (past s h) n (first_send_limit here n) l
+    send_at n l is = subst (SendSlot (past s h) n (first_send_limit here n)) is ((ok.ends s).sends n)
+
+    lawful_at : (n : ℕ) (r : RecvLane) → lookup there.recvs n ≡ Some r → IsLawful r
+    lawful_at n r is = (subst (HasLawfulLane there.role there.settings n) is ((ok.sound (other s)).0.lanes n)).0
+
+    -- a limit that is known was granted
+    limit_raised : (n : ℕ) (l : SendLane) → lookup here.sends n ≡ Some l → l.limit - first_send_limit here n ≤ raised n
+    limit_raised n l is = elim (send_at n l is).limit_told [
+      | inl first ↦ omega (arith, first)
+      | inr tells ↦ go (lookup there.recvs n) ((ok.ends (other s)).recvs n) tells
+    ]
+      where
+        go : (o : Option RecvLane) → RecvSlot (past (other s) h) n (window there n) o → Tells (past (other s) h).mine (Control (MaxStreamData n l.limit)) → l.limit - first_send_limit here n ≤ value (λ (r : RecvLane). r.limit - window there n) o
+        go None none tells = absurd (none.no_limit l.limit tells)
+        go (Some r) half tells = (let le = half.limit_told l.limit tells in omega (arith, le, first_limit n))
+
+    sent_few : (n : ℕ) → marks_of (sent_marks here n) (lookup here.sends n) ≤ bytes n + 4 * sending_one n + 2 * raised n
+    sent_few n = go (lookup here.sends n) refl
+      where
+        go : (o : Option SendLane) → lookup here.sends n ≡ o → marks_of (sent_marks here n) o ≤ value (λ (l : SendLane). l.written) o + 4 * value (λ (l : SendLane). 1) o + 2 * raised n
+        go None is = omega arith
+        go (Some l) is =
+            omega (
+              arith,
+              len_below l.acked l.written (acked_written (past s h).mine (past s h).theirs (past s h).tokens ((past s h).bytes n) n (first_send_limit here n) l (send_at n l is)),
+              one_most l.fin_acked,
+              one_most l.reset_acked,
+              one_most (is_some l.stopped || is_some l.was_reset),
+              limit_raised n l is,
+              told_few (first_send_limit here n) l.limit (is_done here.acked (StreamDataBlocked n l.limit)),
+            )
+
+    -- what came was written
+    came_below : (n : ℕ) (r : RecvLane) → lookup there.recvs n ≡ Some r → (q : ℕ) → set.contains r.arrived.received q ≡ true → q < bytes n
+    came_below n r is q came =
+        let (l, at, lt) = received_is_below_sent a b h w ok s n r q is came in
+        let same : bytes n ≡ l.written = ap (value (λ (x : SendLane). x.written)) at in
+        omega (arith, lt, (send_at n l at).sent_written, same)
+
+    read_below : (n : ℕ) (r : RecvLane) → lookup there.recvs n ≡ Some r → r.arrived.read_count ≤ bytes n
+    read_below n r is = go r.arrived.read_count refl
+      where
+        go : (k : ℕ) → r.arrived.read_count ≡ k → k ≤ bytes n
+        go zero e = omega arith
+        go (suc k) e = (let lt = came_below n r is k ((lawful_at n r is).read_received k (omega arith) (omega (arith, e))) in omega (arith, lt))
+
+    highest_below : (n : ℕ) (r : RecvLane) → lookup there.recvs n ≡ Some r → highest r ≤ bytes n
+    highest_below n r is = go r.final_size refl
+      where
+        go : (o : Option ℕ) → r.final_size ≡ o → unwrap_or o (end_of_set r.arrived.received) ≤ bytes n
+        go None e = end_below r.arrived.received (bytes n) (came_below n r is)
+        go (Some size) e =
+            let (l, at, declared, sent, more) = final_size_is_declared a b h w ok s n r size is e in
+            let same : bytes n ≡ l.written = ap (value (λ (x : SendLane). x.written)) at in
+            omega (arith, sent, (send_at n l at).sent_written, same)
+
+    taken_below : (n : ℕ) (r : RecvLane) → lookup there.recvs n ≡ Some r → taken r ≤ bytes n
+    taken_below n r is = cond_both (is_some r.reset_code || is_some r.stop_code) (highest r) r.arrived.read_count (λ k. k ≤ bytes n) (λ _. highest_below n r is) (λ _. read_below n r is)
+
+    got_few : (n : ℕ) → marks_of (got_marks there n) (lookup there.recvs n) ≤ 2 * bytes n + 4 * getting_one n + value (λ (r : RecvLane). one_if (not (is_own there n))) (lookup there.recvs n) + raised n
+    got_few n = go (lookup there.recvs n) refl
+      where
+        go : (o : Option RecvLane) → lookup there.recvs n ≡ o
+            → marks_of (got_marks there n) o ≤ 2 * bytes n + 4 * value (λ (r : RecvLane). 1) o + value (λ (r : RecvLane). one_if (not (is_own there n))) o + value (λ (r : RecvLane). r.limit - window there n) o
+        go None is = omega arith
+        go (Some r) is =
+            omega (
+              arith,
+              len_below r.arrived.received (bytes n) (came_below n r is),
+              read_below n r is,
+              one_most (is_some r.final_size),
+              one_most (is_some r.reset_code),
+              one_most r.told,
+              one_most (is_done there.acked (StopSending n 0)),
+              told_few (window there n + 1) r.limit (is_done there.acked (MaxStreamData n r.limit)),
+            )
+
+    raised_few : (n : ℕ) → raised n ≤ bytes n + given n
+    raised_few n = go (lookup there.recvs n) refl
+      where
+        go : (o : Option RecvLane) → lookup there.recvs n ≡ o → value (λ (r : RecvLane). r.limit - window there n) o ≤ bytes n + value (λ (r : RecvLane). r.limit - (window there n + taken r)) o
+        go None is = omega arith
+        go (Some r) is = omega (arith, taken_below n r is)
+
+    -- of the connection
+    all_taken_few : all_taken there ≤ written_at here
+    all_taken_few = total_le taken (λ (l : SendLane). l.written) there.recvs here.sends (λ n. go n (lookup there.recvs n) refl)
+      where
+        go : (n : ℕ) (o : Option RecvLane) → lookup there.recvs n ≡ o → value taken o ≤ bytes n
+        go n None is = omega arith
+        go n (Some r) is = taken_below n r is
+
+    -- the part of the marks that this side knows, and the part that the other one was told
+    known_credit : (here.known_data - here.peer.max_data) + told_from here.peer.max_data here.known_data (is_done here.acked (DataBlocked here.known_data)) ≤ 2 * (there.granted - there.settings.conn_window) + 1
+    known_credit =
+        let first : here.peer.max_data ≡ there.settings.conn_window = ap (λ x. x.max_data) (told s) in
+        omega (arith, first, (known_is_within_granted a b h w ok s).connection, told_few here.peer.max_data here.known_data (is_done here.acked (DataBlocked here.known_data)))
+
+    known_within : (d : Dir) → known_count here d ≤ granted_streams there d
+    known_within Bidi = (known_counts a b h w ok s).0
+    known_within Uni = (known_counts a b h w ok s).1
+
+    first_count_is : (d : Dir) → first_count here.peer d ≡ first_grant there.settings d
+    first_count_is Bidi = ap (λ x. x.streams_bidi) (told s)
+    first_count_is Uni = ap (λ x. x.streams_uni) (told s)
+
+    known_streams : (d : Dir) → (known_count here d - first_count here.peer d) + told_from (first_count here.peer d) (known_count here d) (is_done here.acked (StreamsBlocked d (known_count here d))) ≤ 2 * (granted_streams there d - first_grant there.settings d) + 1
+    known_streams d = omega (arith, first_count_is d, known_within d, told_few (first_count here.peer d) (known_count here d) (is_done here.acked (StreamsBlocked d (known_count here d))))
+
+  -- Of one stream: what its owner opened bounds which halves are open
+
+  open_few : {X Y : Type 0} (x : Option X) (y : Option Y) → (is_some y ≡ true → is_some x ≡ true) → value (λ (z : Y). 1) y ≤ value (λ (z : X). 1) x
+  open_few x None more = omega arith
+  open_few None (Some y) more = absurd (true≢false (sym (more refl)))
+  open_few (Some x) (Some y) more = omega arith
+
+  -- the four halves of a stream that side s opened, where e is that end and f the other one
+  abbrev HasFew : End → End → ℕ → Type 0
+  HasFew e f n =
+      (value (λ (l : SendLane). 1) (lookup f.sends n) ≤ value (λ (l : SendLane). 1) (lookup e.sends n))
+      × (value (λ (r : RecvLane). 1) (lookup f.recvs n) ≤ value (λ (l : SendLane). 1) (lookup e.sends n))
+      × (value (λ (r : RecvLane). 1) (lookup e.recvs n) ≤ value (λ (l : SendLane). 1) (lookup e.sends n))
+
+  has_few : (s : Side) (n : ℕ) → is_own (end_of w s) n ≡ true → HasFew (end_of w s) (end_of w (other s)) n
+  has_few A n own = (
+    open_few (lookup w.a.sends n) (lookup w.b.sends n) (λ is. is_open_at_initiator a b h w ok B n (inl is) own),
+    open_few (lookup w.a.sends n) (lookup w.b.recvs n) (λ is. is_open_at_initiator a b h w ok B n (inr is) own),
+    open_few (lookup w.a.sends n) (lookup w.a.recvs n) (λ is. ((ok.ends A).streams.own_recv n is own).1),
+  )
+  has_few B n own = (
+    open_few (lookup w.b.sends n) (lookup w.a.sends n) (λ is. is_open_at_initiator a b h w ok A n (inl is) own),
+    open_few (lookup w.b.sends n) (lookup w.a.recvs n) (λ is. is_open_at_initiator a b h w ok A n (inr is) own),
+    open_few (lookup w.b.sends n) (lookup w.b.recvs n) (λ is. ((ok.ends B).streams.own_recv n is own).1),
+  )
+
+  -- a stream is one's own or the peer's
+  none_own : (e : End) (n : ℕ) → is_own e n ≡ true → value (λ (r : RecvLane). one_if (not (is_own e n))) (lookup e.recvs n) ≡ 0
+  none_own e n own = go (lookup e.recvs n)
+    where
+      go : (o : Option RecvLane) → value (λ (r : RecvLane). one_if (not (is_own e n))) o ≡ 0
+      go None = refl
+      go (Some r) = ap (λ b. one_if (not b)) own
+
+  one_peer : (e : End) (n : ℕ) → value (λ (r : RecvLane). one_if (not (is_own e n))) (lookup e.recvs n) ≤ value (λ (r : RecvLane). 1) (lookup e.recvs n)
+  one_peer e n = go (lookup e.recvs n)
+    where
+      go : (o : Option RecvLane) → value (λ (r : RecvLane). one_if (not (is_own e n))) o ≤ value (λ (r : RecvLane). 1) o
+      go None = omega arith
+      go (Some r) = one_most (not (is_own e n))
+
+  module _ (n : ℕ) where
+    abbrev both_marks : ℕ
+    both_marks = stream_marks w.a n + stream_marks w.b n
+
+    abbrev FewBy : ℕ → Type 0
+    FewBy ones = both_marks ≤ 6 * bytes A n + 6 * bytes B n + 17 * ones + 3 * given A n + 3 * given B n
+
+    stream_few_a : is_own w.a n ≡ true → FewBy (sending_one A n)
+    stream_few_a own =
+        let few = has_few A n own in
+        omega (arith, sent_few A n, sent_few B n, got_few A n, got_few B n, raised_few A n, raised_few B n, few.0, few.1, few.2, none_own w.a n own, one_peer w.b n)
+
+    stream_few_b : is_own w.b n ≡ true → FewBy (sending_one B n)
+    stream_few_b own =
+        let few = has_few B n own in
+        omega (arith, sent_few A n, sent_few B n, got_few A n, got_few B n, raised_few A n, raised_few B n, few.0, few.1, few.2, none_own w.b n own, one_peer w.a n)
+
+  -- Sums over the streams of a type
+
+  abbrev many : ℕ
+  many = halves w.a + halves w.b
+
+  abbrev over : (ℕ → ℕ) → ℕ → ℕ
+  over f kind = sum_by (λ i. f (i * 4 + kind)) (range_with_len 0 many)
+
+  all_bytes : (s : Side) (k : ℕ) → k < 4 → over (bytes s) k ≤ sum_by (λ (l : SendLane). l.written) (table (end_of w s).sends k)
+  all_bytes s k lt = sum_all (λ (l : SendLane). l.written) (table (end_of w s).sends k) many (λ i. bytes s (i * 4 + k)) (λ i. ap (value (λ (l : SendLane). l.written)) (lookup_at (end_of w s).sends k i lt))
+
+  all_ones : (s : Side) (k : ℕ) → k < 4 → over (sending_one s) k ≤ length (table (end_of w s).sends k)
+  all_ones s k lt =
+      let few = sum_all (λ (l : SendLane). 1) (table (end_of w s).sends k) many (λ i. sending_one s (i * 4 + k)) (λ i. ap (value (λ (l : SendLane). 1)) (lookup_at (end_of w s).sends k i lt)) in
+      omega (arith, few, sum_ones (table (end_of w s).sends k))
+
+  all_given : (s : Side) (k : ℕ) → k < 4 → over (given s) k ≤ beyond_on (end_of w (other s)) k
+  all_given s k lt =
+      sum_all (λ (r : RecvLane). r.limit - (window (end_of w (other s)) k + taken r)) (table (end_of w (other s)).recvs k) many (λ i. given s (i * 4 + k))
+      (λ i j. value (λ (r : RecvLane). r.limit - (window_at (end_of w (other s)) k i lt j + taken r)) (lookup_at (end_of w (other s)).recvs k i lt j))
+
+  -- a longer sum
+  longer : (e : End) (kind : ℕ) → halves e ≤ many → type_marks e kind ≤ over (stream_marks e) kind
+  longer e kind le = sum_grows (λ i. stream_marks e (i * 4 + kind)) (λ i. stream_marks e (i * 4 + kind)) 0 (halves e) many le (λ i. le_same (stream_marks e (i * 4 + kind)))
+
+  type_few : (k : ℕ) → k < 4 → (ones : ℕ → ℕ) → ((i : ℕ) → FewBy (i * 4 + k) (ones i))
+      → type_marks w.a k + type_marks w.b k ≤ 6 * sum_by (λ (l : SendLane). l.written) (table w.a.sends k) + 6 * sum_by (λ (l : SendLane). l.written) (table w.b.sends k) + 17 * sum_by ones (range_with_len 0 many) + 3 * beyond_on w.a k + 3 * beyond_on w.b k
+  type_few k lt ones few =
+      let sums = sums_few (λ i. both_marks (i * 4 + k)) (λ i. bytes A (i * 4 + k)) (λ i. bytes B (i * 4 + k)) ones (λ i. given A (i * 4 + k)) (λ i. given B (i * 4 + k)) 0 many few in
+      let pair = sum_pair (λ i. stream_marks w.a (i * 4 + k)) (λ i. stream_marks w.b (i * 4 + k)) 0 many in
+      omega (arith, sums, pair, longer w.a k (omega arith), longer w.b k (omega arith), all_bytes A k lt, all_bytes B k lt, all_given A k lt, all_given B k lt)
+
+  -- A is the client, and B the server
+  role_a : w.a.role ≡ Client
+  role_a = ap (λ x. x.role) (ok.stand A)
+
+  role_b : w.b.role ≡ Server
+  role_b = ap (λ x. x.role) (ok.stand B)
+
+  own_a : (k i : ℕ) → k < 4 → (k % 2 == 0) ≡ true → is_own w.a (i * 4 + k) ≡ true
+  own_a k i lt even = (λ j. kind_of k i lt j % 2 == role_bit (role_a j)) ∙ even
+
+  own_b : (k i : ℕ) → k < 4 → (k % 2 == 1) ≡ true → is_own w.b (i * 4 + k) ≡ true
+  own_b k i lt odd = (λ j. kind_of k i lt j % 2 == role_bit (role_b j)) ∙ odd
+
+  few_a : (k : ℕ) → k < 4 → (k % 2 == 0) ≡ true
+      → type_marks w.a k + type_marks w.b k ≤ 6 * sum_by (λ (l : SendLane). l.written) (table w.a.sends k) + 6 * sum_by (λ (l : SendLane). l.written) (table w.b.sends k) + 17 * length (table w.a.sends k) + 3 * beyond_on w.a k + 3 * beyond_on w.b k
+  few_a k lt even = omega (arith, type_few k lt (λ i. sending_one A (i * 4 + k)) (λ i. stream_few_a (i * 4 + k) (own_a k i lt even)), all_ones A k lt)
+
+  few_b : (k : ℕ) → k < 4 → (k % 2 == 1) ≡ true
+      → type_marks w.a k + type_marks w.b k ≤ 6 * sum_by (λ (l : SendLane). l.written) (table w.a.sends k) + 6 * sum_by (λ (l : SendLane). l.written) (table w.b.sends k) + 17 * length (table w.b.sends k) + 3 * beyond_on w.a k + 3 * beyond_on w.b k
+  few_b k lt odd = omega (arith, type_few k lt (λ i. sending_one B (i * 4 + k)) (λ i. stream_few_b (i * 4 + k) (own_b k i lt odd)), all_ones B k lt)
+
+  -- Counts of streams: what ended was opened
+
+  recvs_few : (s : Side) (k : ℕ) → k < 4 → ((i : ℕ) → is_own (end_of w s) (i * 4 + k) ≡ true) → length (table (end_of w (other s)).recvs k) ≤ length (table (end_of w s).sends k)
+  recvs_few s k lt own =
+      length_kept (table (end_of w (other s)).recvs k) (table (end_of w s).sends k)
+      (λ i is. ap is_some (sym (lookup_at (end_of w s).sends k i lt)) ∙ opened s (i * 4 + k) (own i) (ap is_some (lookup_at (end_of w (other s)).recvs k i lt) ∙ is))
+    where
+      opened : (s : Side) (n : ℕ) → is_own (end_of w s) n ≡ true → is_some (lookup (end_of w (other s)).recvs n) ≡ true → is_some (lookup (end_of w s).sends n) ≡ true
+      opened A n own is = is_open_at_initiator a b h w ok B n (inr is) own
+      opened B n own is = is_open_at_initiator a b h w ok A n (inr is) own
+
+  ended_bidi : (e : End) (k : ℕ) → peer_type e Bidi ≡ k → ended e Bidi ≤ length (table e.recvs k)
+  ended_bidi e k is =
+      let zipped = zip (table e.recvs (peer_type e Bidi)) (table e.sends (peer_type e Bidi)) in
+      let same : length (table e.recvs (peer_type e Bidi)) ≡ length (table e.recvs k) = ap (λ j. length (table e.recvs j)) is in
+      omega (arith, length_filter both_ended zipped, length_zip (table e.recvs (peer_type e Bidi)) (table e.sends (peer_type e Bidi)), same)
+
+  ended_uni : (e : End) (k : ℕ) → peer_type e Uni ≡ k → ended e Uni ≤ length (table e.recvs k)
+  ended_uni e k is =
+      let same : length (table e.recvs (peer_type e Uni)) ≡ length (table e.recvs k) = ap (λ j. length (table e.recvs j)) is in
+      omega (arith, length_filter recv_ended (table e.recvs (peer_type e Uni)), same)
+
+  streams_a : streams_at w.a ≡ length (table w.a.sends 0) + length (table w.a.sends 2)
+  streams_a = λ j. length (table w.a.sends (role_bit (role_a j))) + length (table w.a.sends (2 + role_bit (role_a j)))
+
+  streams_b : streams_at w.b ≡ length (table w.b.sends 1) + length (table w.b.sends 3)
+  streams_b = λ j. length (table w.b.sends (role_bit (role_b j))) + length (table w.b.sends (2 + role_bit (role_b j)))
+
+  -- what of the peer's streams ended at an end
+  ended_at_b : ended w.b Bidi + ended w.b Uni ≤ streams_at w.a
+  ended_at_b =
+      omega (
+        arith,
+        streams_a,
+        ended_bidi w.b 0 (λ j. 1 - role_bit (role_b j)),
+        ended_uni w.b 2 (λ j. 3 - role_bit (role_b j)),
+        recvs_few A 0 (omega arith) (λ i. own_a 0 i (omega arith) refl),
+        recvs_few A 2 (omega arith) (λ i. own_a 2 i (omega arith) refl),
+      )
+
+  ended_at_a : ended w.a Bidi + ended w.a Uni ≤ streams_at w.b
+  ended_at_a =
+      omega (
+        arith,
+        streams_b,
+        ended_bidi w.a 1 (λ j. 1 - role_bit (role_a j)),
+        ended_uni w.a 3 (λ j. 3 - role_bit (role_a j)),
+        recvs_few B 1 (omega arith) (λ i. own_b 1 i (omega arith) refl),
+        recvs_few B 3 (omega arith) (λ i. own_b 3 i (omega arith) refl),
+      )
+
+  -- The parts of the bound
+
+  abbrev lanes_beyond : End → ℕ
+  lanes_beyond e = beyond_on e 0 + beyond_on e 1 + beyond_on e 2 + beyond_on e 3
+
+  abbrev all_types : End → ℕ
+  all_types e = type_marks e 0 + type_marks e 1 + type_marks e 2 + type_marks e 3
+
+  types_few : all_types w.a + all_types w.b ≤ 6 * (written_at w.a + written_at w.b) + 17 * (streams_at w.a + streams_at w.b) + 3 * (lanes_beyond w.a + lanes_beyond w.b)
+  unfolding total
+  types_few =
+      let zeroth = few_a 0 (omega arith) refl in
+      let first = few_b 1 (omega arith) refl in
+      let second = few_a 2 (omega arith) refl in
+      let third = few_b 3 (omega arith) refl in
+      omega (arith, zeroth, first, second, third, streams_a, streams_b)
+
+  abbrev told_count : End → Dir → ℕ
+  told_count e d = told_from (first_grant e.settings d + 1) (granted_streams e d) (is_done e.acked (MaxStreams d (granted_streams e d)))
+
+  told_counts : (e : End) (d : Dir) → told_count e d ≤ granted_streams e d - first_grant e.settings d
+  told_counts e d = (let few = told_few (first_grant e.settings d + 1) (granted_streams e d) (is_done e.acked (MaxStreams d (granted_streams e d))) in omega (arith, few))
+
+  abbrev counts_beyond : End → ℕ
+  counts_beyond e = (e.granted_bidi - (e.settings.grant_bidi + ended e Bidi)) + (e.granted_uni - (e.settings.grant_uni + ended e Uni))
+
+  -- what both ends count of a direction, by how many streams more the other end granted than at first
+  abbrev known_more : Side → Dir → ℕ
+  known_more s d = known_count (end_of w s) d - first_count (end_of w s).peer d
+
+  abbrev blocked_count : Side → Dir → ℕ
+  blocked_count s d = told_from (first_count (end_of w s).peer d) (known_count (end_of w s) d) (is_done (end_of w s).acked (StreamsBlocked d (known_count (end_of w s) d)))
+
+  abbrev given_count : End → Dir → ℕ
+  given_count e d = granted_streams e d - (first_grant e.settings d + ended e d)
+
+  grown_count : (g f e : ℕ) → g - f ≤ e + (g - (f + e))
+  grown_count g f e = omega arith
+
+  one_few : (t k f g e x : ℕ) → t ≤ g → k + f ≤ 2 * g + 1 → g ≤ e + x → t + k + f ≤ 3 * e + 3 * x + 1
+  one_few t k f g e x a b c = omega (arith, a, b, c)
+
+  direction_few : (s : Side) (d : Dir) → told_count (end_of w (other s)) d + known_more s d + blocked_count s d ≤ 3 * ended (end_of w (other s)) d + 3 * given_count (end_of w (other s)) d + 1
+  direction_few s d =
+      let e : End = end_of w (other s) in
+      one_few (told_count e d) (known_more s d) (blocked_count s d) (granted_streams e d - first_grant e.settings d) (ended e d) (given_count e d) (told_counts e d) (known_streams s d)
+      (grown_count (granted_streams e d) (first_grant e.settings d) (ended e d))
+
+  counts_few : count_marks w.a Bidi + count_marks w.a Uni + count_marks w.b Bidi + count_marks w.b Uni ≤ 3 * (streams_at w.a + streams_at w.b) + 3 * (counts_beyond w.a + counts_beyond w.b) + 4
+  counts_few =
+      add
+      (told_count w.b Bidi) (known_more A Bidi) (blocked_count A Bidi) (ended w.b Bidi) (given_count w.b Bidi)
+      (told_count w.b Uni) (known_more A Uni) (blocked_count A Uni) (ended w.b Uni) (given_count w.b Uni)
+      (told_count w.a Bidi) (known_more B Bidi) (blocked_count B Bidi) (ended w.a Bidi) (given_count w.a Bidi)
+      (told_count w.a Uni) (known_more B Uni) (blocked_count B Uni) (ended w.a Uni) (given_count w.a Uni)
+      (streams_at w.a) (streams_at w.b)
+      (direction_few A Bidi) (direction_few A Uni) (direction_few B Bidi) (direction_few B Uni) ended_at_b ended_at_a
+    where
+      add : (t1 k1 f1 e1 x1 t2 k2 f2 e2 x2 t3 k3 f3 e3 x3 t4 k4 f4 e4 x4 na nb : ℕ) → t1 + k1 + f1 ≤ 3 * e1 + 3 * x1 + 1 → t2 + k2 + f2 ≤ 3 * e2 + 3 * x2 + 1 → t3 + k3 + f3 ≤ 3 * e3 + 3 * x3 + 1 → t4 + k4 + f4 ≤ 3 * e4 + 3 * x4 + 1
+          → e1 + e2 ≤ na → e3 + e4 ≤ nb → (t3 + k1 + f1) + (t4 + k2 + f2) + (t1 + k3 + f3) + (t2 + k4 + f4) ≤ 3 * (na + nb) + 3 * ((x3 + x4) + (x1 + x2)) + 4
+      add t1 k1 f1 e1 x1 t2 k2 f2 e2 x2 t3 k3 f3 e3 x3 t4 k4 f4 e4 x4 na nb a b c d m n = omega (arith, a, b, c, d, m, n)
+
+  -- and of the connection
+  abbrev told_credit : End → ℕ
+  told_credit e = told_from (e.settings.conn_window + 1) e.granted (is_done e.acked (MaxData e.granted))
+
+  abbrev known_credit_more : End → ℕ
+  known_credit_more e = e.known_data - e.peer.max_data
+
+  abbrev blocked_credit : End → ℕ
+  blocked_credit e = told_from e.peer.max_data e.known_data (is_done e.acked (DataBlocked e.known_data))
+
+  abbrev given_credit : End → ℕ
+  given_credit e = e.granted - (e.settings.conn_window + all_taken e)
+
+  told_credits : (e : End) → told_credit e ≤ e.granted - e.settings.conn_window
+  told_credits e = (let few = told_few (e.settings.conn_window + 1) e.granted (is_done e.acked (MaxData e.granted)) in omega (arith, few))
+
+  credit_few : (s : Side) → told_credit (end_of w (other s)) + known_credit_more (end_of w s) + blocked_credit (end_of w s) ≤ 3 * all_taken (end_of w (other s)) + 3 * given_credit (end_of w (other s)) + 1
+  credit_few s =
+      let e : End = end_of w (other s) in
+      one_few (told_credit e) (known_credit_more (end_of w s)) (blocked_credit (end_of w s)) (e.granted - e.settings.conn_window) (all_taken e) (given_credit e) (told_credits e) (known_credit s)
+      (grown_count e.granted e.settings.conn_window (all_taken e))
+
+  credits_few : credit_marks w.a + credit_marks w.b ≤ 3 * (written_at w.a + written_at w.b) + 3 * (given_credit w.a + given_credit w.b) + 2
+  credits_few =
+      add
+      (told_credit w.b) (known_credit_more w.a) (blocked_credit w.a) (all_taken w.b) (given_credit w.b)
+      (told_credit w.a) (known_credit_more w.b) (blocked_credit w.b) (all_taken w.a) (given_credit w.a)
+      (written_at w.a) (written_at w.b)
+      (credit_few A) (credit_few B) (all_taken_few A) (all_taken_few B)
+    where
+      add : (t1 k1 f1 e1 x1 t2 k2 f2 e2 x2 na nb : ℕ) → t1 + k1 + f1 ≤ 3 * e1 + 3 * x1 + 1 → t2 + k2 + f2 ≤ 3 * e2 + 3 * x2 + 1 → e1 ≤ na → e2 ≤ nb → (t2 + k1 + f1) + (t1 + k2 + f2) ≤ 3 * (na + nb) + 3 * (x2 + x1) + 2
+      add t1 k1 f1 e1 x1 t2 k2 f2 e2 x2 na nb a b c d = omega (arith, a, b, c, d)
+
+  pub score_few : score w.a + score w.b ≤ most w
+  score_few =
+      add
+      (all_types w.a) (all_types w.b) (count_marks w.a Bidi) (count_marks w.a Uni) (count_marks w.b Bidi) (count_marks w.b Uni) (credit_marks w.a) (credit_marks w.b)
+      (written_at w.a) (written_at w.b) (streams_at w.a) (streams_at w.b)
+      (given_credit w.a) (beyond_on w.a 0) (beyond_on w.a 1) (beyond_on w.a 2) (beyond_on w.a 3) (given_count w.a Bidi) (given_count w.a Uni)
+      (given_credit w.b) (beyond_on w.b 0) (beyond_on w.b 1) (beyond_on w.b 2) (beyond_on w.b 3) (given_count w.b Bidi) (given_count w.b Uni)
+      types_few counts_few credits_few
+    where
+      add : (ta tb ab au bb bu ca cb wa wb na nb ga l0 l1 l2 l3 pa qa gb m0 m1 m2 m3 pb qb : ℕ)
+          → ta + tb ≤ 6 * (wa + wb) + 17 * (na + nb) + 3 * ((l0 + l1 + l2 + l3) + (m0 + m1 + m2 + m3))
+          → ab + au + bb + bu ≤ 3 * (na + nb) + 3 * ((pa + qa) + (pb + qb)) + 4
+          → ca + cb ≤ 3 * (wa + wb) + 3 * (ga + gb) + 2
+          → (ta + ab + au + ca) + (tb + bb + bu + cb) ≤ 9 * (wa + wb) + 20 * (na + nb) + 6 + 3 * ((ga + l0 + l1 + l2 + l3 + pa + qa) + (gb + m0 + m1 + m2 + m3 + pb + qb))
+      add ta tb ab au bb bu ca cb wa wb na nb ga l0 l1 l2 l3 pa qa gb m0 m1 m2 m3 pb qb x y z = omega (arith, x, y, z)
+
+pub is_below : (a b : Settings) (h : History) (w : World) → Run a b h w → ((s : Side) → KnowsFirstLimits w s) → score w.a + score w.b ≤ most w
+is_below a b h w run told = score_few a b h w (run_keeps a b h w run) told

@@ -1,0 +1,4 @@
+pub mod Score
+pub mod Within
+pub mod Bound
+pub mod Exclusions

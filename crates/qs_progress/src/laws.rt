@@ -1,0 +1,27 @@
+//! Laws of the definitions alone: each is a function whose contract is the law.
+
+ghost use Rattle.qs_progress.specs.Score.{WhatIsDoneStays};
+ghost use Rattle.qs_progress.specs.Within.{ItemsAreWithin};
+ghost use Rattle.qs_progress.specs.Bound.{DoneIsBounded};
+ghost use Rattle.qs_progress.specs.Exclusions.{Exclusions};
+
+/// What is done stays done: whatever happens, an end's score never falls, once it was told its peer's true limits.
+pub fn what_is_done_stays()
+    ensures { WhatIsDoneStays }
+{}
+
+/// And it is bounded, once both ends were told them: by the bytes that were written, the streams that were opened, and what was granted
+/// beyond the first windows and grants.
+pub fn done_is_bounded()
+    ensures { DoneIsBounded }
+{}
+
+/// In every run no packet of an end, outstanding or lost, holds an item whose value is above the present one, and none such was acknowledged.
+pub fn items_are_within()
+    ensures { ItemsAreWithin }
+{}
+
+/// What a score counts, and what it doesn't: small ends with theirs, and one whose score falls where it takes in higher limits of its peer.
+pub fn exclusions()
+    ensures { Exclusions }
+{}
