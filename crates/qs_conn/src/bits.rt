@@ -8,7 +8,6 @@ use qs_ranges::{NoMemory, with_bit};
 use std::alloc::Global;
 use std::marker::Model;
 
-/// How many flags a word has.
 pub(crate) const FLAGS_PER_WORD: usize = 64;
 
 /// A flag for each index. A search looks at a word of them at a time.
@@ -33,7 +32,6 @@ impl Model for Bits {
 }
 
 impl Bits {
-    /// No index has a flag.
     pub(crate) fn new(alloc: Global) -> Self
         ensures { result ≡ [] }
     {
@@ -43,7 +41,6 @@ impl Bits {
         }
     }
 
-    /// How many indexes there are.
     pub(crate) fn len(&self) -> usize
         ensures value { result ≡ length self.now }
         ensures small { result < 2 ^ 64 }
@@ -59,7 +56,6 @@ impl Bits {
         self.words.len()
     }
 
-    /// Makes room for all indexes below a count: the new ones aren't marked.
     pub(crate) fn open_to(&mut self, count: usize) -> Result<(), NoMemory>
         ensures ok { OnOk result (self.new ≡ self.old ++ replicate (count - length self.old) false) }
         ensures err { OnErr result (self.new ≡ self.old) }
@@ -68,7 +64,6 @@ impl Bits {
             return Ok(());
         }
         let words = count.div_ceil(FLAGS_PER_WORD);
-        // Mostly the last word has room.
         if words <= self.words.len() {
             self.count = count;
             return Ok(());
@@ -82,7 +77,6 @@ impl Bits {
         }
     }
 
-    /// Takes the indexes from a count on away.
     pub(crate) fn close_to(&mut self, count: usize)
         ensures { self.new ≡ take count self.old }
     {
@@ -95,7 +89,6 @@ impl Bits {
         self.count = count;
     }
 
-    /// Whether an index is marked.
     pub(crate) fn has(&self, index: usize) -> bool
         ensures { result ≡ is_marked self.now index }
     {
@@ -103,7 +96,6 @@ impl Bits {
         has_bit(word, index % FLAGS_PER_WORD)
     }
 
-    /// Marks an index, or takes its mark away.
     pub(crate) fn set(&mut self, index: usize, is_marked: bool)
         requires { index < length self.old }
         ensures { self.new ≡ slice_set self.old index is_marked }
@@ -165,7 +157,6 @@ impl Row for Left<'_> {
     }
 }
 
-/// Whether a bit of a word is set.
 fn has_bit(word: u64, bit: usize) -> bool
     requires { bit < 64 }
     ensures { result ≡ (bit_at word bit == 1) }
@@ -173,7 +164,6 @@ fn has_bit(word: u64, bit: usize) -> bool
     (word >> bit) & 1 == 1
 }
 
-/// A word with its bits from one on cleared.
 fn cut_at(word: u64, bit: usize) -> u64
     requires { bit < 64 }
     ensures { IsCutAt word bit result }

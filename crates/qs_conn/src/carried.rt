@@ -10,8 +10,9 @@ use qs_send::Item;
 use qs_wire::StreamId;
 use std::alloc::Global;
 
-/// A mark for each half of which an outstanding packet told the present item of a kind: its stop or its limit, its reset, or that it
-/// stands at its limit. So a packet that is filled needs no search among all that is outstanding.
+/// Whether an outstanding packet has the present item of a half: its stop or its limit, its reset, or that it stands at its limit. A bit
+/// for each half and kind, set as the item goes in, and gone with that piece or as the value rises: exact, since values never fall. One
+/// ordered list of all outstanding items moved megabytes for one more on a low stream, with 100,000 in it.
 #[derive(Drop)]
 pub(crate) struct Carried {
     pub stops: Untold,
@@ -32,7 +33,7 @@ impl Carried {
         }
     }
 
-    /// Makes room for a stream and all lower ones of its type: the new ones aren't marked. A refusal may leave some room.
+    /// A refusal may leave some room: it is no value.
     pub(crate) fn open_to(&mut self, stream: StreamId) -> Result<(), NoMemory>
         ensures ok { OnOk result (self.new ≡ places_to stream self.old) }
         ensures err { OnErr result (HasPlaces self.old self.new) }
@@ -43,7 +44,6 @@ impl Carried {
         self.blocks.open_to(stream)
     }
 
-    /// Whether an outstanding packet told the present item of a kind.
     pub(crate) fn has(&self, kind: Kind, stream: StreamId) -> bool
         ensures { result ≡ is_carried_at kind self.now stream }
     {
@@ -55,7 +55,7 @@ impl Carried {
         }
     }
 
-    /// The present item of a half is outstanding now, or is so no more. Items of the connection itself aren't noted here.
+    /// Items of the connection itself aren't noted here: they are few enough for a value each.
     pub(crate) fn set(&mut self, item: &Item, is_carried: bool)
         ensures { self.new ≡ item_carried item.now is_carried self.old }
     {

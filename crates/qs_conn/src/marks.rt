@@ -9,8 +9,8 @@ use qs_ranges::{NoMemory, lowest_bit};
 use std::alloc::Global;
 use std::marker::Model;
 
-/// A mark for each index of the streams of one type, and a flag for each word of marks that has one: so a search looks at one word of
-/// flags for 4,096 indexes without a mark, and at none where no index has one.
+/// A mark for each index of the streams of one type, and a flag for each word of marks that has one: so a search looks at one word of flags
+/// for 4,096 indexes without a mark, and at none if no index has one.
 #[derive(Drop)]
 pub(crate) struct Marks {
     marks: Bits,
@@ -35,7 +35,6 @@ impl Model for Marks {
 }
 
 impl Marks {
-    /// No index has a mark.
     pub(crate) fn new(alloc: Global) -> Self
         ensures { result ≡ [] }
     {
@@ -54,7 +53,6 @@ impl Marks {
         self.first.is_some()
     }
 
-    /// Whether an index is marked.
     pub(crate) fn has(&self, index: usize) -> bool
         requires { index < length self.now }
         ensures { result ≡ is_marked self.now index }
@@ -62,21 +60,18 @@ impl Marks {
         self.marks.has(index)
     }
 
-    /// How many indexes there are.
     pub(crate) fn len(&self) -> usize
         ensures { result ≡ length self.now }
     {
         self.marks.len()
     }
 
-    /// The bits of the marks.
     pub(crate) fn bits(&self) -> &Bits
         ensures { result.now ≡ self.now }
     {
         &self.marks
     }
 
-    /// Makes room for all indexes below a count: the new ones aren't marked.
     pub(crate) fn open_to(&mut self, count: usize) -> Result<(), NoMemory>
         ensures ok { OnOk result (self.new ≡ self.old ++ replicate (count - length self.old) false) }
         ensures err { OnErr result (self.new ≡ self.old) }
@@ -86,7 +81,6 @@ impl Marks {
         self.marks.open_to(count)
     }
 
-    /// Makes room for all indexes below a count: the new ones are marked.
     pub(crate) fn open_marked_to(&mut self, count: usize) -> Result<(), NoMemory>
         ensures ok { OnOk result (self.new ≡ self.old ++ replicate (count - length self.old) true) }
         ensures err { OnErr result (self.new ≡ self.old) }
@@ -100,7 +94,6 @@ impl Marks {
         Ok(())
     }
 
-    /// Takes the indexes from a count on away.
     pub(crate) fn close_to(&mut self, count: usize)
         ensures { self.new ≡ take count self.old }
     {
@@ -108,7 +101,6 @@ impl Marks {
         self.first = least_from(0, &self.marks, &self.words);
     }
 
-    /// Marks an index, or takes its mark away.
     #[inline(always)]
     pub(crate) fn set(&mut self, index: usize, is_marked: bool)
         requires { index < length self.old }
@@ -121,7 +113,7 @@ impl Marks {
         self.turn(index, is_marked);
     }
 
-    // The same, where that changes it. It stands apart, so that where it doesn't a caller pays for the look at the mark alone.
+    // Apart, so that a caller that changes nothing pays for one look at the mark.
     #[inline(never)]
     fn turn(&mut self, index: usize, mark: bool)
         requires { index < length self.old }
@@ -137,7 +129,6 @@ impl Marks {
         }
     }
 
-    /// The least marked index from an index on.
     pub(crate) fn next(&self, from: usize) -> Option<usize>
         ensures { IsNextMark self.now from result }
     {
@@ -147,7 +138,6 @@ impl Marks {
         }
     }
 
-    /// The least index from one on that is marked here and there.
     pub(crate) fn next_both(&self, others: &Marks, from: usize) -> Option<usize>
         ensures { IsNextMark (both self.now others.now) from result }
     {
@@ -162,7 +152,7 @@ impl Marks {
         search(from, self.marks.words(), &summary, &row)
     }
 
-    /// The least index from one on that is marked here and there and wasn't told. Where only these marks count, they are both.
+    /// If only these marks count, they are both, so that one search serves all.
     pub(crate) fn next_untold(&self, others: &Marks, told: &ToldMarks, from: usize) -> Option<usize>
         ensures { IsNextMark (untold (both self.now others.now) told.now) from result }
     {
@@ -244,7 +234,6 @@ fn next_word<S: Row>(from: usize, words: usize, summary: &S) -> usize
     from.max(words)
 }
 
-/// The lesser of two numbers, where there are some.
 pub(crate) fn least(a: Option<u64>, b: Option<u64>) -> Option<u64>
     ensures { result ≡ least_of a b }
 {

@@ -1,17 +1,15 @@
 //! Who is told which packets a payload newly acknowledges.
 ghost use Rattle.std.specs.Prelude.{ℕ, ⊤};
 
-/// Is told which packets a payload newly acknowledges, one after the other.
 pub trait Told {
-    // What may come of it as it is told a number.
+    // What may come of it: so a caller of `receive_telling` knows what its own code has seen.
     ghost tells: { Self → ℕ → Self → Type 0 };
 
-    /// The packet of this number is newly acknowledged.
     fn tell(&mut self, number: u64)
         ensures { tells self.old number self.new };
 }
 
-/// Keeps nothing of what it is told.
+/// For calls that name no packet, so that there is one way to receive.
 #[derive(Drop)]
 pub(crate) struct Silent;
 

@@ -1,4 +1,3 @@
-//! The sending side of an end.
 ghost use Rattle.std.specs.Prelude.{◌≡◌, ◌-◌, ◌≤◌, ◌^◌, ◌<◌, length, min, take, is_some, option_map, unwrap_or, true, OnOk, OnErr, IfOk, IfErr, IfSome, IfNone};
 ghost use Rattle.qs_ranges.specs.Numbers.{MAX_VARINT};
 ghost use Rattle.qs_send.specs.Lane.{Sending, new_lane, accepted, refusal, reset_refusal, answer_of, write_lane, finish_lane, reset_lane, stop_taken, allow_lane, buffer_lane};
@@ -32,21 +31,19 @@ mod telling;
 
 pub(crate) use acks::KeptPacket;
 
-/// What an end sends: its sending halves, what its packets carried, and what was acknowledged of them.
+/// The sending halves, what packets carried, and what was acknowledged of them. Apart from the receiving halves: a packet in the making
+/// changes these and reads those, a frame with data the other way round, and each borrows what it needs of the two.
 #[derive(Drop)]
 pub(crate) struct Outbox {
-    // Its sending halves, of each of the four types of streams in the order of their bits.
+    // In the order of the two lowest bits of a stream's number.
     types: [SendLanes; 4],
-    // The sum of all sent ends.
     sent: u64,
     records: Records,
-    // What the packets carried that were declared lost.
+    // For late ACKs.
     lost: LostRecords,
-    // The pieces of the packet in the making.
     pending: Vec<Piece>,
-    // Memory in which they will be kept.
     room: PieceRoom,
-    // For how many more pieces there is memory.
+    // Taken before the packet is filled, so that a refusal changes nothing.
     spare: usize,
     next: u64,
     told: ToldItems,
@@ -121,7 +118,6 @@ impl Outbox {
         halves::learn_lawful(&self.types, stream);
     }
 
-    /// Whether the stream has a sending half.
     pub(crate) fn is_open(&self, stream: StreamId) -> bool
         ensures { result ≡ is_some (lookup self.now.sends stream) }
     {
@@ -143,14 +139,12 @@ impl Outbox {
         Some(half)
     }
 
-    /// How many streams of the type of this one are open.
     pub(crate) fn count(&self, stream: StreamId) -> usize
         ensures { result ≡ length (table self.now.sends (type_of stream)) }
     {
         self.count_of(type_of(stream))
     }
 
-    /// How many streams of a type are open.
     pub(crate) fn count_of(&self, stream_type: usize) -> usize
         requires { stream_type < 4 }
         ensures value { result ≡ length (table self.now.sends stream_type) }
@@ -199,7 +193,6 @@ impl Outbox {
         self.spare
     }
 
-    /// The sum of all sent ends.
     pub(crate) fn sent_sum(&self) -> u64
         ensures value { result ≡ sent_sum self.now.sends }
         ensures small { result ≤ MAX_VARINT }
@@ -207,7 +200,6 @@ impl Outbox {
         self.sent
     }
 
-    /// How many bytes of all streams were written that are still to be sent for the first time. A sum that is no u64 is the greatest one.
     pub(crate) fn unsent_sum(&self) -> u64
         ensures { result ≡ min (total unsent_on self.now.sends) (2 ^ 64 - 1) }
     {
@@ -220,7 +212,6 @@ impl Outbox {
         unsent as u64
     }
 
-    /// How many bytes of all streams are kept until they are acknowledged. A sum that is no u64 is the greatest one.
     pub(crate) fn kept_sum(&self) -> u64
         ensures { result ≡ min (total kept_on self.now.sends) (2 ^ 64 - 1) }
     {
@@ -233,7 +224,6 @@ impl Outbox {
         kept as u64
     }
 
-    /// What the buffers of all streams take, in bytes, by a walk over them. A sum that is no u64 is the greatest one.
     pub(crate) fn held(&self) -> u64
         ensures kept { min (total kept_on self.now.sends) (2 ^ 64 - 1) ≤ result }
         ensures most { result ≤ total most_buffered self.now.sends }
@@ -243,7 +233,6 @@ impl Outbox {
         bidi.saturating_add(uni)
     }
 
-    /// Opens a stream and all lower ones of its type.
     pub(crate) fn open_to(
         &mut self,
         limit: u64,
@@ -258,7 +247,7 @@ impl Outbox {
         lanes.open_to(type_of(stream) as u64, limit, buffer, index_of(stream) + 1)
     }
 
-    /// Takes the memory for the sending halves of a stream and of all lower ones of its type, and opens none.
+    /// Opens none: several streams may open at once, and a refusal of any is to change nothing.
     pub(crate) fn reserve(&mut self, stream: StreamId) -> Result<(), NoMemory>
         ensures { self.new ≡ self.old }
     {
@@ -266,7 +255,7 @@ impl Outbox {
         lanes.reserve_to(index_of(stream) + 1)
     }
 
-    /// Takes the streams of the type of this one from a count on away. Nothing of them was sent or is to be sent, and they keep nothing.
+    /// An opening is undone: nothing of these streams was sent or is to be sent, and they keep nothing.
     pub(crate) fn close_to(&mut self, stream: StreamId, count: usize)
         requires none { AreOfOpen (with_table self.old.sends (type_of stream) (take count (table self.old.sends (type_of stream)))) self.old.outstanding }
         requires lost { AreOfOpen (with_table self.old.sends (type_of stream) (take count (table self.old.sends (type_of stream)))) self.old.lost.pieces }
@@ -279,7 +268,6 @@ impl Outbox {
         lanes.close_to(count);
     }
 
-    /// Accepts bytes at an open stream, as many as there is room for; or changes nothing.
     pub(crate) fn write(&mut self, stream: StreamId, bytes: &[u8]) -> Result<usize, SendFault>
         requires { is_some (lookup self.old.sends stream) ≡ true }
         ensures accepted { let lane = or_none (lookup self.old.sends stream) in
@@ -293,7 +281,6 @@ impl Outbox {
         lanes.write(index_of(stream), bytes)
     }
 
-    /// Asks for the end of an open stream.
     pub(crate) fn finish(&mut self, stream: StreamId) -> Result<(), SendFault>
         requires { is_some (lookup self.old.sends stream) ≡ true }
         ensures answer { result ≡ answer_of (refusal (or_none (lookup self.old.sends stream))) }
@@ -305,7 +292,6 @@ impl Outbox {
         lanes.finish(index_of(stream))
     }
 
-    /// Breaks an open stream off.
     pub(crate) fn reset(&mut self, stream: StreamId, code: u64) -> Result<(), SendFault>
         requires open { is_some (lookup self.old.sends stream) ≡ true }
         requires fits { code ≤ MAX_VARINT }
@@ -317,7 +303,6 @@ impl Outbox {
         lanes.reset(index_of(stream), code)
     }
 
-    /// Takes in a STOP_SENDING of an open stream, which the owner answers or not.
     pub(crate) fn stopped(&mut self, stream: StreamId, code: u64, owner_answers: bool)
         requires open { is_some (lookup self.old.sends stream) ≡ true }
         requires fits { code ≤ MAX_VARINT }
@@ -327,7 +312,6 @@ impl Outbox {
         lanes.stopped(index_of(stream), code, owner_answers);
     }
 
-    /// The code of the first STOP_SENDING that came of a stream.
     pub(crate) fn stop_code(&self, stream: StreamId) -> Option<u64>
         ensures { result ≡ stop_of (lookup self.now.sends stream) }
     {
@@ -335,7 +319,6 @@ impl Outbox {
         half.stop_code()
     }
 
-    /// Sets how many bytes an open stream keeps at most.
     pub(crate) fn set_buffer(&mut self, stream: StreamId, size: u32)
         requires { is_some (lookup self.old.sends stream) ≡ true }
         ensures { self.new ≡ on_lane stream (λ l. buffer_lane l size) self.old }
@@ -344,7 +327,6 @@ impl Outbox {
         lanes.set_buffer(index_of(stream), size);
     }
 
-    /// Takes in that the peer allows the offsets of an open stream below a limit.
     pub(crate) fn allow(&mut self, stream: StreamId, limit: u64)
         requires open { is_some (lookup self.old.sends stream) ≡ true }
         requires limit { limit ≤ MAX_VARINT }

@@ -1,4 +1,3 @@
-//! Which items of the connection itself are outstanding.
 ghost use Rattle.std.specs.Prelude.{◌≡◌, ◌↔◌, IsTrue, true, false, None, replicate};
 ghost use Rattle.qs_send.specs.PieceCodes.{dir_number};
 ghost use Rattle.qs_machine.specs.Outgoing.{IsAckedOut};
@@ -9,11 +8,11 @@ use qs_send::Item;
 use qs_wire::Dir;
 use std::marker::Model;
 
-/// So many items are the connection's own: a limit and two counts of streams for the peer, and what this end lacks of its own three.
+/// A limit and two counts of streams for the peer, and what this endpoint lacks of its own three.
 pub(crate) const OWN_ITEMS: usize = 6;
 
-/// For each kind of item of the connection itself the value that went into a packet last, while that packet is outstanding. Nothing
-/// outstanding is above the present value, so that it is outstanding only where it is the one that is kept; a limit that rises changes nothing.
+/// For each kind the value that went into a packet last, while that packet is outstanding. A value instead of a mark, which would have to
+/// go as a limit rises: nothing outstanding is above the present value, so that is outstanding only if it is the one that is kept.
 #[derive(Drop)]
 pub(crate) struct OwnCarried {
     values: [Option<u64>; 6],
@@ -33,7 +32,6 @@ impl Model for OwnCarried {
 }
 
 impl OwnCarried {
-    /// Nothing is outstanding.
     pub(crate) fn new() -> Self
         ensures { result ≡ replicate 6 None }
     {
@@ -42,7 +40,6 @@ impl OwnCarried {
         }
     }
 
-    /// Whether an item's value is kept. An item of a stream isn't.
     pub(crate) fn has(&self, item: &Item) -> bool
         ensures { result ≡ has_own item.now self.now }
     {
@@ -53,7 +50,6 @@ impl OwnCarried {
         matches!(self.values[place], Some(value) if value == value_of(item))
     }
 
-    /// Whether an acknowledged packet told an item with this value, or one that is outstanding as far as it is kept here.
     pub(crate) fn is_told(&self, outbox: &Outbox, item: &Item) -> bool
         ensures told { has_own item.now self.now ≡ true → result ≡ true }
         ensures acked { has_own item.now self.now ≡ false → IsTrue result ↔ IsAckedOut outbox.now item.now }
@@ -64,7 +60,6 @@ impl OwnCarried {
         outbox.is_acked(*item)
     }
 
-    /// An item went into a packet.
     pub(crate) fn insert(&mut self, item: &Item)
         ensures { self.new ≡ own_with item.now self.old }
     {
@@ -74,7 +69,6 @@ impl OwnCarried {
         }
     }
 
-    /// An item left its packet.
     pub(crate) fn remove(&mut self, item: &Item)
         ensures { self.new ≡ own_without item.now self.old }
     {
@@ -84,7 +78,6 @@ impl OwnCarried {
     }
 }
 
-// Where an item's value is kept; an item of a stream has no place.
 fn place_of(item: &Item) -> usize
     ensures { result ≡ own_place item.now }
 {

@@ -1,4 +1,3 @@
-//! The receiving halves of the streams of one type.
 ghost use Rattle.std.specs.Prelude.{◌≡◌, ◌+◌, ◌-◌, ◌≤◌, ◌<◌, ◌^◌, ◌++◌, ◌∷◌, [], length, map, min, take, slice_get, slice_index_or, ℕ, false, None, Some, IfSome, IfNone, OnOk, OnErr};
 ghost use Rattle.std.specs.List.{sum_by};
 ghost use Rattle.qs_ranges.specs.Numbers.{MAX_VARINT};
@@ -31,20 +30,19 @@ use std::marker::Model;
 
 pub(crate) type Half = RecvHalf<RingAssembly>;
 
-/// The receiving halves of the streams of one type, by index.
+/// A vector of records of 24 bytes: a half is found by one look, and one more at its box. A table of slots, as sending halves have it,
+/// would cost a half that stores bytes a third look at each call.
 #[derive(Drop)]
 pub(crate) struct RecvLanes {
     alloc: Global,
     halves: Vec<Half>,
     // Modulo 2^64: whoever asks for the sums knows that they fit.
     tally: Tally,
-    // A lane that wasn't touched has no limit that is to be raised.
+    // Limits are raised for these alone, as each call ends.
     touched: Touches,
-    // Which lanes have an answer for their owner.
     news: RecvMarks,
 }
 
-// Clauses see the lanes.
 impl Model for RecvLanes {
     ghost use Rattle.std.specs.Prelude.{List};
     ghost use Rattle.std.specs.Coded.{coded_list};
@@ -79,7 +77,6 @@ impl RecvLanes {
         }
     }
 
-    /// How many lanes are open.
     pub(crate) fn len(&self) -> usize
         ensures value { result ≡ length self.now }
         ensures small { result ≤ 2 ^ 60 }
@@ -87,7 +84,6 @@ impl RecvLanes {
         self.halves.len()
     }
 
-    /// A lane, where it is open.
     #[inline(always)]
     pub(crate) fn half(&self, index: usize) -> Option<&Half>
         ensures found { IfSome result (λ half. slice_get self.now index ≡ Some half.now) }
@@ -105,7 +101,7 @@ impl RecvLanes {
         self.tally
     }
 
-    /// What the rings of all lanes take, in bytes, by a walk over them.
+    /// By a walk: a sum would have to be kept at each call.
     pub(crate) fn held(&self) -> u64
         ensures stored { min (sum_by stored_on self.now) (2 ^ 64 - 1) ≤ result }
         ensures least { min (sum_by least_held self.now) (2 ^ 64 - 1) ≤ result }
@@ -114,7 +110,6 @@ impl RecvLanes {
         held_of(&self.halves)
     }
 
-    /// Whether a reset may be taken at an index, whose lane may have yet to be opened.
     pub(crate) fn check_reset(
         &self,
         window: u64,
@@ -132,7 +127,6 @@ impl RecvLanes {
         }
     }
 
-    /// Opens the lanes of all indexes below a count.
     pub(crate) fn open_to(
         &mut self,
         window: u64,
@@ -165,7 +159,7 @@ impl RecvLanes {
         Ok(())
     }
 
-    /// Takes the memory for the lanes of all indexes below a count, and opens none.
+    /// Opens none, so that a refusal of several streams' memory changes nothing.
     pub(crate) fn reserve_to(&mut self, count: usize) -> Result<(), NoMemory>
         ensures { self.new ≡ self.old }
     {
@@ -174,7 +168,6 @@ impl RecvLanes {
         Ok(())
     }
 
-    /// Takes the lanes from a count on away, which nothing came for.
     pub(crate) fn close_to(&mut self, count: usize)
         requires { tally_on (take count self.old) ≡ tally_on self.old }
         ensures { self.new ≡ take count self.old }
@@ -208,7 +201,7 @@ impl RecvLanes {
         answer
     }
 
-    /// Whether a reader of an open lane may be told something. It looks at marks alone.
+    /// By marks alone, so that a read of a stream without news costs no more.
     pub(crate) fn may_tell(&self, index: usize) -> bool
         requires { index < length self.now }
         ensures { result ≡ false → (t : RecvTask) → HasNone t (slice_index_or self.now index (new_lane 0 Share.Half)) }
@@ -216,8 +209,7 @@ impl RecvLanes {
         self.news.may_tell(index)
     }
 
-    /// Each limit becomes the next one, and a stream whose limit rises is marked: the new one is untold, and none that is outstanding is
-    /// the present one. Only lanes that were touched are looked at.
+    /// Only lanes that were touched are looked at. A stream whose limit rises is marked: the new one is in no packet yet.
     #[inline]
     pub(crate) fn raise_all(
         &mut self,
@@ -243,7 +235,7 @@ impl RecvLanes {
         );
     }
 
-    /// The marks of the lanes that may have come to their end. One without a mark hasn't.
+    /// One without a mark isn't over, so a search passes it.
     pub(crate) fn ended_marks(&self) -> &Marks
         ensures none { AreMarked (HasNone tasks.Ended) self.now result.now }
         ensures few { length result.now ≤ 2 ^ 60 }
@@ -251,7 +243,6 @@ impl RecvLanes {
         self.news.ended()
     }
 
-    /// The least index from one on whose lane has an answer for its owner.
     pub(crate) fn next_with(&self, task: RecvTask, from: usize) -> Option<usize>
         ensures least { IsLeast (IsAt (HasOne task) self.now) from result }
         ensures small { IfSome result (λ n. n < 2 ^ 60) }
@@ -261,7 +252,6 @@ impl RecvLanes {
 }
 
 impl RecvLanes {
-    /// Whether any lane may have an answer for its owner.
     #[inline(always)]
     pub(crate) fn may_have(&self, task: RecvTask) -> bool
         ensures { result ≡ false → (i : ℕ) → IsAt (HasOne task) self.now i → ⊥ }
@@ -269,7 +259,6 @@ impl RecvLanes {
         self.news.may_have(task)
     }
 
-    /// The least index whose lane has an answer for its owner that wasn't told.
     #[inline(never)]
     pub(crate) fn next_untold(&self, task: RecvTask, told: &ToldMarks) -> Option<usize>
         ensures least { IsLeast (IsUntoldAt (HasOne task) self.now told.now) 0 result }
@@ -279,7 +268,6 @@ impl RecvLanes {
     }
 }
 
-// One lane more.
 fn open_one(
     halves: &mut Vec<Half>,
     alloc: Global,
@@ -296,7 +284,6 @@ fn open_one(
     Ok(())
 }
 
-// What a half adds to the sums.
 fn measure(half: &Half) -> Tally
     ensures value { result ≡ tally_of half.now }
     ensures small { result.spent ≤ MAX_VARINT }
@@ -312,7 +299,6 @@ fn measure(half: &Half) -> Tally
     }
 }
 
-// What the rings of some halves take. A sum that is no u64 is the greatest one.
 #[tactic(auto, using(crate::proofs::Helds::half_least))]
 fn held_of(halves: &[Half]) -> u64
     ensures stored { min (sum_by stored_on halves.now) (2 ^ 64 - 1) ≤ result }
@@ -342,8 +328,7 @@ fn moved(total: Tally, was: Tally, is: Tally) -> Tally
     }
 }
 
-// Each lane that was touched gets the next limit, and none is touched any more. It stands apart, so that where none was a caller pays for
-// the look at that alone.
+// Apart, so that a call that touched nothing pays for one look.
 #[inline(never)]
 fn raise_touched(
     halves: &mut Vec<Half>,

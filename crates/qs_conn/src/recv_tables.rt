@@ -1,4 +1,3 @@
-//! The receiving halves of an end.
 ghost use Rattle.std.specs.Prelude.{◌≡◌, ◌+◌, ◌≤◌, ◌<◌, ◌^◌, ◌%◌, ◌++◌, ℕ, length, drop, take, is_some, option_map, true, false, Some, None, OnOk, OnErr, IsOk, IfSome, IfNone, min, ◌-◌};
 ghost use Rattle.qs_ranges.specs.Numbers.{MAX_VARINT};
 ghost use Rattle.qs_recv.specs.Lane.{RecvLane, new_lane, check_stream, check_reset, check_bytes, highest, taken, take_stream, take_reset, read_answer, bytes_read, after_read, raise, stop, stop_and_forget, MAX_WINDOW, set_window};
@@ -35,10 +34,10 @@ use qs_wire::StreamId;
 use std::alloc::Global;
 use std::marker::Model;
 
-/// The receiving halves of an end, by the type of the stream and by its index.
+/// Apart from the sending halves: a frame with data changes these alone, and a packet in the making reads them.
 #[derive(Drop)]
 pub(crate) struct RecvTables {
-    // Of each of the four types, in the order of their bits.
+    // In the order of the two lowest bits of a stream's number.
     types: [RecvLanes; 4],
 }
 
@@ -73,7 +72,6 @@ impl RecvTables {
         }
     }
 
-    /// Whether the stream has a receiving half.
     pub(crate) fn is_open(&self, stream: StreamId) -> bool
         ensures { result ≡ is_some (lookup self.now stream) }
     {
@@ -81,7 +79,6 @@ impl RecvTables {
         index_of(stream) < lanes.len()
     }
 
-    /// The receiving half of a stream, where it is open.
     pub(crate) fn half(&self, stream: Place) -> Option<&Half>
         ensures found { IfSome result (λ half. lookup self.now stream ≡ Some half.now) }
         ensures none { IfNone result (lookup self.now stream ≡ None) }
@@ -90,7 +87,6 @@ impl RecvTables {
         lanes.half(stream.index)
     }
 
-    /// Whether a reset may be taken, at a stream that may have yet to be opened with that window.
     pub(crate) fn check_reset(
         &self,
         window: u64,
@@ -106,7 +102,6 @@ impl RecvTables {
         lanes.check_reset(window, index_of(stream), size)
     }
 
-    /// Whether a frame that passed both checks would change an open stream.
     pub(crate) fn stream_changes(&self, stream: StreamId, offset: u64, len: u64, fin: bool) -> bool
         requires { offset + len ≤ MAX_VARINT }
         ensures { result ≡ half_changes (λ l. stream_changes l offset len fin) (lookup self.now stream) }
@@ -117,7 +112,6 @@ impl RecvTables {
         half.stream_changes(offset, len, fin)
     }
 
-    /// Whether a reset that passed the check would change an open stream.
     pub(crate) fn reset_changes(&self, stream: StreamId) -> bool
         ensures { result ≡ half_changes reset_changes (lookup self.now stream) }
     {
@@ -127,14 +121,12 @@ impl RecvTables {
         matches!(half.state(), RecvState::Recv | RecvState::SizeKnown)
     }
 
-    /// How many streams of the type of this one are open.
     pub(crate) fn count(&self, stream: StreamId) -> usize
         ensures { result ≡ length (table self.now (type_of stream)) }
     {
         self.count_of(type_of(stream))
     }
 
-    /// How many streams of a type are open.
     pub(crate) fn count_of(&self, stream_type: usize) -> usize
         requires { stream_type < 4 }
         ensures value { result ≡ length (table self.now stream_type) }
@@ -144,7 +136,6 @@ impl RecvTables {
         lanes.len()
     }
 
-    /// Takes the memory for a stream and all lower ones of its type, and opens none.
     pub(crate) fn reserve(&mut self, stream: StreamId) -> Result<(), NoMemory>
         ensures { self.new ≡ self.old }
     {
@@ -152,7 +143,6 @@ impl RecvTables {
         lanes.reserve_to(index_of(stream) + 1)
     }
 
-    /// Takes the streams of the type of this one from a count on away, which nothing came for.
     pub(crate) fn close_to(&mut self, stream: StreamId, count: usize)
         requires { let lanes = table self.old (type_of stream) in tally_on (take count lanes) ≡ tally_on lanes }
         ensures { self.new ≡ with_table self.old (type_of stream) (take count (table self.old (type_of stream))) }
@@ -161,7 +151,6 @@ impl RecvTables {
         lanes.close_to(count);
     }
 
-    /// Opens a stream and all lower ones of its type.
     pub(crate) fn open_to(
         &mut self,
         window: u64,
@@ -194,7 +183,6 @@ impl RecvTables {
         lanes.edit(stream.index, into, f)
     }
 
-    /// Takes a frame that passed both checks, at an open stream; or changes nothing.
     pub(crate) fn take_stream(
         &mut self,
         stream: Place,
@@ -218,7 +206,6 @@ impl RecvTables {
         }
     }
 
-    /// Takes a reset that passed the check, at an open stream.
     pub(crate) fn take_reset(&mut self, stream: StreamId, code: u64, size: u64)
         requires open { is_some (lookup self.old stream) ≡ true }
         requires in_range { size ≤ MAX_VARINT }
@@ -230,7 +217,6 @@ impl RecvTables {
         })
     }
 
-    /// Whether a reader of an open stream may be told something. It looks at marks alone.
     pub(crate) fn may_tell(&self, stream: StreamId) -> bool
         requires { is_some (lookup self.now stream) ≡ true }
         ensures { result ≡ false → (t : RecvTask) → HasNone t (or_new (lookup self.now stream) 0 Share.Half) }
@@ -239,7 +225,6 @@ impl RecvTables {
         lanes.may_tell(index_of(stream))
     }
 
-    /// Whether a read of one byte of a stream tells something new.
     pub(crate) fn is_readable(&self, stream: StreamId) -> bool
         ensures { result ≡ has_news (lookup self.now stream) }
     {
@@ -249,7 +234,6 @@ impl RecvTables {
         }
     }
 
-    /// Reads at an open stream.
     pub(crate) fn read(&mut self, stream: StreamId, into: &mut [u8]) -> Read
         requires open { is_some (lookup self.old stream) ≡ true }
         ensures answer { result ≡ read_answer (or_new (lookup self.old stream) 0 Share.Half) (length into.old) }
@@ -259,7 +243,6 @@ impl RecvTables {
         self.edit(Place::of(stream), into, |half, into| half.read(into))
     }
 
-    /// Takes the bytes that are next at an open stream, as a read of so many does, and copies none.
     pub(crate) fn skip(&mut self, stream: StreamId, most: usize) -> Read
         requires open { is_some (lookup self.old stream) ≡ true }
         ensures answer { result ≡ read_answer (or_new (lookup self.old stream) 0 Share.Half) most }
@@ -268,7 +251,6 @@ impl RecvTables {
         self.edit(Place::of(stream), &mut [], |half, _into| half.skip(most))
     }
 
-    /// Tells what a read at an open stream would, and changes nothing.
     pub(crate) fn peek(&self, stream: StreamId) -> Peek<'_>
         requires { is_some (lookup self.now stream) ≡ true }
         ensures { IsPeek (or_new (lookup self.now stream) 0 Share.Half) result }
@@ -277,7 +259,6 @@ impl RecvTables {
         half.peek()
     }
 
-    /// Stops an open stream.
     pub(crate) fn stop(&mut self, stream: StreamId, code: u64)
         requires open { is_some (lookup self.old stream) ≡ true }
         requires fits { code ≤ MAX_VARINT }
@@ -286,7 +267,6 @@ impl RecvTables {
         self.edit(Place::of(stream), &mut [], |half, _into| half.stop(code))
     }
 
-    /// Stops an open stream, and tells nothing more of it.
     pub(crate) fn stop_and_forget(&mut self, stream: StreamId, code: u64)
         requires open { is_some (lookup self.old stream) ≡ true }
         requires fits { code ≤ MAX_VARINT }
@@ -297,7 +277,6 @@ impl RecvTables {
         })
     }
 
-    /// Sets the window of an open stream.
     #[tactic(auto, using(crate::proofs::Settling::calm_window))]
     pub(crate) fn set_window(&mut self, stream: StreamId, window: u64)
         requires open { is_some (lookup self.old stream) ≡ true }
@@ -310,7 +289,6 @@ impl RecvTables {
         })
     }
 
-    /// Whether a stream's receiving half is in Data Read or Reset Read (RFC 9000, section 3.2).
     pub(crate) fn has_ended(&self, stream: StreamId) -> bool
         ensures { result ≡ recv_over (lookup self.now stream) }
     {
@@ -330,7 +308,6 @@ impl RecvTables {
         let _server_uni = self.types[3].len();
     }
 
-    /// How a stream stands, where it is open.
     pub(crate) fn report(&self, stream: StreamId) -> Option<RecvReport>
         ensures { result ≡ option_map recv_report (lookup self.now stream) }
     {
@@ -346,7 +323,6 @@ impl RecvTables {
         })
     }
 
-    /// How many bytes of a stream count as taken, where it is open.
     pub(crate) fn taken(&self, stream: StreamId) -> Option<u64>
         ensures { result ≡ option_map taken (lookup self.now stream) }
     {
@@ -354,7 +330,6 @@ impl RecvTables {
         Some(half.sizes().taken)
     }
 
-    /// The limit of an open stream.
     pub(crate) fn limit_of(&self, stream: StreamId) -> Option<u64>
         ensures { result ≡ option_map (λ l. l.limit) (lookup self.now stream) }
     {
@@ -362,7 +337,7 @@ impl RecvTables {
         Some(half.limit())
     }
 
-    /// The limit of an open stream of which no final size is known.
+    /// Once a final size is known nobody needs a limit.
     pub(crate) fn limit_to_tell(&self, stream: StreamId) -> Option<u64>
         ensures value { result ≡ limit_to_tell (lookup self.now stream) }
         ensures small { IfSome result (λ limit. limit ≤ MAX_VARINT) }
@@ -374,7 +349,7 @@ impl RecvTables {
         }
     }
 
-    /// The code of a stop that the peer is to be told of.
+    /// Only while bytes may still come (RFC 9000, section 3.5).
     pub(crate) fn stop_to_tell(&self, stream: StreamId) -> Option<u64>
         ensures value { result ≡ stop_to_tell (lookup self.now stream) }
         ensures small { IfSome result (λ code. code ≤ MAX_VARINT) }
@@ -386,7 +361,6 @@ impl RecvTables {
         }
     }
 
-    /// The least number from one on of a stream whose receiving half has an answer for its owner.
     pub(crate) fn next_with(&self, task: RecvTask, from: u64) -> Option<StreamId>
         requires { from ≤ 2 ^ 62 }
         ensures { IsLeast (IsHeld (HasOne task) self.now) from result }
@@ -399,7 +373,6 @@ impl RecvTables {
         )
     }
 
-    // The least such number among the streams of a type.
     fn next_with_of(&self, task: RecvTask, stream_type: usize, from: u64) -> Option<u64>
         requires stream_type { stream_type < 4 }
         requires from { from ≤ 2 ^ 62 }
@@ -413,7 +386,6 @@ impl RecvTables {
         }
     }
 
-    /// The least number of a stream whose receiving half has an answer for its owner that wasn't told.
     #[inline(always)]
     pub(crate) fn next_untold(&self, task: RecvTask, told: &ToldStreams) -> Option<StreamId>
         ensures { IsLeast (IsUntold (IsHeld (HasOne task) self.now) told.now) 0 result }
@@ -426,7 +398,6 @@ impl RecvTables {
         )
     }
 
-    // The least such number among the streams of a type.
     #[inline(always)]
     fn next_untold_of(&self, task: RecvTask, stream_type: usize, told: &ToldStreams) -> Option<u64>
         requires { stream_type < 4 }
@@ -443,7 +414,7 @@ impl RecvTables {
         }
     }
 
-    /// The marks of the streams of a type, by index, whose receiving half may have come to its end. One without a mark hasn't.
+    /// One without a mark isn't over, so a search passes it.
     pub(crate) fn ended_marks(&self, stream_type: usize) -> &Marks
         requires { stream_type < 4 }
         ensures none { AreEndsMarked (HasOne tasks.Ended) self.now stream_type result.now }
@@ -453,7 +424,6 @@ impl RecvTables {
         lanes.ended_marks()
     }
 
-    /// The sums over all streams.
     pub(crate) fn tally(&self) -> Tally
         requires { total highest self.now < 2 ^ 62 }
         ensures { IsTallyOf self.now result }
@@ -466,7 +436,6 @@ impl RecvTables {
         )
     }
 
-    /// What the rings of all streams take, in bytes, by a walk over them.
     pub(crate) fn held(&self) -> u64
         requires { total highest self.now < 2 ^ 62 }
         ensures stored { total stored_on self.now ≤ result }
@@ -479,8 +448,6 @@ impl RecvTables {
         bidi.saturating_add(uni)
     }
 
-    /// Each limit becomes the next one, and a stream whose limit rises is marked: the new one is untold, and none that is outstanding is
-    /// the present one.
     pub(crate) fn raise_all(&mut self, untold: &mut Untold, carried: &mut Untold)
         ensures after { self.new ≡ each raise self.old }
         ensures marks { HasMore untold.old untold.new }

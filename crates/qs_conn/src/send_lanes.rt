@@ -1,4 +1,3 @@
-//! The sending halves of the streams of one type.
 ghost use Rattle.std.specs.Prelude.{◌≡◌, ◌+◌, ◌-◌, ◌*◌, ◌≤◌, ◌<◌, ◌^◌, [], true, length, min, take, slice_get, slice_index_or, slice_set, unwrap_or, ℕ, false, None, Some, OnOk, OnErr, IfOk, IfErr, IfSome};
 ghost use Rattle.std.specs.List.{sum_by};
 ghost use Rattle.qs_ranges.specs.Numbers.{MAX_VARINT};
@@ -28,14 +27,11 @@ use qs_wire::StreamId;
 use std::alloc::Global;
 use std::marker::Model;
 
-/// What a chunk that was sent does to its half.
 #[derive(Clone, Copy, Drop)]
 pub(crate) struct Sent {
-    /// So far it moves the sent end.
     pub(crate) moved: u64,
-    /// Nothing more of the half may go.
     pub(crate) is_done: bool,
-    /// Its own limit holds nothing back.
+    /// Then it needn't be looked at for STREAM_DATA_BLOCKED.
     pub(crate) is_free: bool,
 }
 
@@ -46,20 +42,17 @@ struct Sizes {
     kept: u128,
 }
 
-/// The sending halves of the streams of one type, by index.
 #[derive(Drop)]
 pub(crate) struct SendLanes {
     alloc: Global,
     halves: SendHalves,
-    // How many bytes of all halves were sent or are still to be sent. A sum over 2^60 halves is no u64.
+    // Sums are kept, since a walk over all halves at each call would cost with their count; of 2^60 halves none is a u64.
     promised: u128,
-    // How many bytes of all halves are kept until they are acknowledged.
     kept: u128,
     // The marks tell which halves have a task.
     marks: SendMarks,
 }
 
-// Clauses see the halves: each lane and what of it is due.
 impl Model for SendLanes {
     ghost use Rattle.std.specs.Prelude.{◌≤◌, ◌^◌, List, length};
     ghost use Rattle.std.specs.Coded.{coded_list};
@@ -78,7 +71,6 @@ impl Model for SendLanes {
 }
 
 impl SendLanes {
-    /// None yet, of a type of streams.
     pub(crate) fn new(alloc: Global, stream_type: u64) -> Self
         requires { stream_type < 4 }
         ensures { result ≡ [] }
@@ -92,7 +84,6 @@ impl SendLanes {
         }
     }
 
-    /// How many halves are open.
     #[inline(always)]
     pub(crate) fn len(&self) -> usize
         ensures value { result ≡ length self.now }
@@ -101,7 +92,7 @@ impl SendLanes {
         self.halves.len()
     }
 
-    /// What the buffers of all halves take, in bytes, by a walk over them. A sum that is no u64 is the greatest one.
+    /// By a walk, so that no call has a sum more to keep.
     pub(crate) fn held(&self) -> u64
         ensures kept { min (sum_by (λ s. kept_on s.lane) self.now) (2 ^ 64 - 1) ≤ result }
         ensures most { result ≤ sum_by (λ s. most_buffered s.lane) self.now }
@@ -114,7 +105,6 @@ impl SendLanes {
         held
     }
 
-    /// How many bytes of all halves were sent or are still to be sent for the first time.
     pub(crate) fn promised(&self) -> u128
         ensures value { result ≡ sum_by (λ s. promised_on s.lane) self.now }
         ensures small { result ≤ 2 ^ 122 }
@@ -122,7 +112,6 @@ impl SendLanes {
         self.promised
     }
 
-    /// How many bytes of all halves are kept until they are acknowledged.
     pub(crate) fn kept(&self) -> u128
         ensures value { result ≡ sum_by (λ s. kept_on s.lane) self.now }
         ensures small { result ≤ 2 ^ 122 }
@@ -139,7 +128,6 @@ impl SendLanes {
         let _half = self.halves.at(index);
     }
 
-    /// An open half.
     #[inline(always)]
     pub(crate) fn get(&self, index: usize) -> SendView<'_>
         requires { index < length self.now }
@@ -148,7 +136,6 @@ impl SendLanes {
         self.halves.at(index)
     }
 
-    /// Opens the halves of all indexes below a count, in streams of that type.
     pub(crate) fn open_to(
         &mut self,
         stream_type: u64,
@@ -180,7 +167,7 @@ impl SendLanes {
         Ok(())
     }
 
-    /// Takes the memory for the lanes of all indexes below a count, and opens none.
+    /// Opens none, so that a refusal of several streams' memory changes nothing.
     pub(crate) fn reserve_to(&mut self, count: usize) -> Result<(), NoMemory>
         ensures { self.new ≡ self.old }
     {
@@ -188,7 +175,6 @@ impl SendLanes {
         self.halves.reserve(missing)
     }
 
-    /// Takes the halves from a count on away. Nothing of them was sent or is to be sent, and they keep nothing.
     pub(crate) fn close_to(&mut self, count: usize)
         requires unwritten { sum_by (λ s. promised_on s.lane) (take count self.old) ≡ sum_by (λ s. promised_on s.lane) self.old }
         requires unkept { sum_by (λ s. kept_on s.lane) (take count self.old) ≡ sum_by (λ s. kept_on s.lane) self.old }
@@ -226,7 +212,6 @@ impl SendLanes {
     }
 
     #[tactic(auto, using(crate::proofs::SendEdits::changed_is, crate::proofs::SendEdits::set_same, crate::proofs::OverHalves::over_refused))]
-    /// Accepts bytes at an open half, as many as there is room for; or changes nothing.
     pub(crate) fn write(&mut self, index: usize, bytes: &[u8]) -> Result<usize, SendFault>
         requires { index < length self.old }
         ensures accepted { let half = slice_index_or self.old index no_sending in
@@ -235,7 +220,7 @@ impl SendLanes {
             IfErr result (λ fault. (self.new ≡ self.old) × (fault ≡ unwrap_or (refusal half.lane) SendFault.NoMemory)) }
         ensures grows { result ≡ Err SendFault.NoMemory → 0 < accepted (slice_index_or self.old index no_sending).lane (length bytes.now) }
     {
-        // Of a half without room no more than the refusal is looked at.
+        // A write to a full buffer costs no more than its marks.
         if !self.marks.has(Task::Writable, index) {
             return write_none(&self.halves.at(index));
         }
@@ -248,7 +233,6 @@ impl SendLanes {
     }
 
     #[tactic(auto, using(crate::proofs::SendEdits::changed_is, crate::proofs::OverHalves::over_refused, crate::proofs::OverHalves::over_finish))]
-    /// Asks for the end of an open half.
     pub(crate) fn finish(&mut self, index: usize) -> Result<(), SendFault>
         requires { index < length self.old }
         ensures answer { result ≡ answer_of (refusal (slice_index_or self.old index no_sending).lane) }
@@ -263,7 +247,6 @@ impl SendLanes {
     }
 
     #[tactic(auto, using(crate::proofs::SendEdits::changed_is, crate::proofs::OverHalves::over_reset_refused, crate::proofs::OverHalves::over_reset))]
-    /// Breaks an open half off.
     pub(crate) fn reset(&mut self, index: usize, code: u64) -> Result<(), SendFault>
         requires there { index < length self.old }
         requires fits { code ≤ MAX_VARINT }
@@ -279,7 +262,6 @@ impl SendLanes {
     }
 
     #[tactic(auto, using(crate::proofs::SendEdits::changed_is, crate::proofs::OverHalves::over_stop))]
-    /// Takes in a STOP_SENDING of an open half, which the owner answers or not.
     pub(crate) fn stopped(&mut self, index: usize, code: u64, owner_answers: bool)
         requires there { index < length self.old }
         requires fits { code ≤ MAX_VARINT }
@@ -293,7 +275,6 @@ impl SendLanes {
         )
     }
 
-    /// Takes in that the peer allows the offsets of an open half below a limit.
     pub(crate) fn allow(&mut self, index: usize, limit: u64)
         requires there { index < length self.old }
         requires limit { limit ≤ MAX_VARINT }
@@ -303,7 +284,6 @@ impl SendLanes {
         look_at(&self.halves, &mut self.marks, index);
     }
 
-    /// Sets how many bytes an open half keeps at most.
     pub(crate) fn set_buffer(&mut self, index: usize, size: u32)
         requires { index < length self.old }
         ensures { self.new ≡ changed self.old index (λ s. after_buffer s size) (slice_get self.old index) }
@@ -312,7 +292,6 @@ impl SendLanes {
         look_at(&self.halves, &mut self.marks, index);
     }
 
-    /// Takes in that a STREAM_DATA_BLOCKED was sent.
     pub(crate) fn note_blocked(&mut self, index: usize)
         requires { index < length self.old }
         ensures { self.new ≡ changed self.old index after_blocked (slice_get self.old index) }
@@ -322,7 +301,6 @@ impl SendLanes {
     }
 
     #[tactic(auto, using(crate::proofs::SendEdits::changed_is, crate::proofs::OverHalves::over_not_reset))]
-    /// Takes in that the RESET_STREAM is acknowledged.
     pub(crate) fn reset_acked(&mut self, index: usize)
         requires there { index < length self.old }
         requires sent { state (slice_index_or self.old index no_sending).lane ≡ SendState.ResetSent }
@@ -332,7 +310,6 @@ impl SendLanes {
     }
 
     #[tactic(auto, using(crate::proofs::SendEdits::changed_is, crate::proofs::OverHalves::over_sent))]
-    /// Takes in that a chunk was sent.
     pub(crate) fn sent(&mut self, index: usize, chunk: Chunk) -> Sent
         requires there { index < length self.old }
         requires due { IsDueChunk (slice_index_or self.old index no_sending) chunk }
@@ -354,7 +331,6 @@ impl SendLanes {
     }
 
     #[tactic(auto, using(crate::proofs::SendEdits::changed_is, crate::proofs::SendEdits::set_same, crate::proofs::OverHalves::over_acked))]
-    /// Takes in that a chunk is acknowledged, or changes nothing.
     pub(crate) fn acked(&mut self, index: usize, chunk: Chunk) -> Result<(), NoMemory>
         requires there { index < length self.old }
         requires sent { WasSent (slice_index_or self.old index no_sending).lane chunk }
@@ -373,7 +349,6 @@ impl SendLanes {
     }
 
     #[tactic(auto, using(crate::proofs::SendEdits::changed_is, crate::proofs::SendEdits::set_same, crate::proofs::OverHalves::over_lost))]
-    /// Takes in that a chunk is lost, or changes nothing.
     pub(crate) fn lost(&mut self, index: usize, chunk: Chunk) -> Result<(), NoMemory>
         requires there { index < length self.old }
         requires sent { WasSent (slice_index_or self.old index no_sending).lane chunk }
@@ -383,7 +358,6 @@ impl SendLanes {
         self.edit(index, Ok(()), Moves::All, |half| half.lost(chunk))
     }
 
-    /// Whether any half may have a task.
     #[inline(always)]
     pub(crate) fn may_have(&self, task: Task) -> bool
         ensures { result ≡ false → (i : ℕ) (s : Sending) → slice_get self.now i ≡ Some s → IsQuiet task s }
@@ -391,7 +365,6 @@ impl SendLanes {
         self.marks.may_have(task)
     }
 
-    /// The least index from one on whose half may have a task. The halves between are quiet of it.
     pub(crate) fn next_marked(&self, task: Task, from: usize) -> Option<usize>
         ensures from { IfSome result (λ n. from ≤ n) }
         ensures small { IfSome result (λ n. n < 2 ^ 60) }
@@ -420,7 +393,6 @@ impl SendLanes {
         self.marks.next(task, from)
     }
 
-    /// The least index from one on whose half is sought.
     #[inline(never)]
     pub(crate) fn next_sought(&self, search: Search, told: &ToldMarks, from: usize) -> Option<usize>
         ensures least { IsLeast (IsSoughtAt search self.now told.now) from result }
@@ -450,7 +422,6 @@ fn measure(half: &SendHalf, moves: Moves) -> Sizes
     }
 }
 
-// How many bytes of a half were sent or are still to be sent for the first time.
 fn promised(half: &SendHalf) -> u128
     ensures value { result ≡ promised_on half.now.lane }
     ensures small { result ≤ MAX_VARINT }
@@ -462,7 +433,6 @@ fn promised(half: &SendHalf) -> u128
     half.written() as u128
 }
 
-// How many bytes of a half are kept until they are acknowledged.
 fn kept(half: &SendHalf) -> u128
     ensures value { result ≡ kept_on half.now.lane }
     ensures small { result ≤ MAX_VARINT }
@@ -483,7 +453,6 @@ fn look_at(halves: &SendHalves, marks: &mut SendMarks, index: usize)
     }
 }
 
-// A STOP_SENDING breaks a half off, or its owner answers it.
 fn take_stop(half: &mut SendHalf, code: u64, owner_answers: bool)
     requires { code ≤ MAX_VARINT }
     ensures { half.new ≡ after_stop owner_answers half.old code }
@@ -495,7 +464,6 @@ fn take_stop(half: &mut SendHalf, code: u64, owner_answers: bool)
     }
 }
 
-// A write to a half that has no room: no byte is accepted.
 fn write_none(half: &SendView<'_>) -> Result<usize, SendFault>
     ensures accepted { IfOk result (λ n. (refusal half.now.lane ≡ None) × (n ≡ 0)) }
     ensures refused { IfErr result (λ fault. refusal half.now.lane ≡ Some fault) }

@@ -1,4 +1,3 @@
-//! Which sending halves of one type have something for a packet, by what it is.
 ghost use Rattle.std.specs.Prelude.{◌≡◌, ◌++◌, ◌-◌, ◌<◌, [], false, length, take, slice_set, replicate, OnOk, OnErr};
 ghost use Rattle.qs_machine.specs.Credit.{send_ended};
 ghost use Rattle.qs_conn.specs.Marks.{is_marked, IsNextMark};
@@ -12,20 +11,17 @@ use qs_ranges::NoMemory;
 use qs_send::{SendHalf, SendState};
 use std::alloc::Global;
 
-/// What a sending half may have for a packet.
 #[derive(Clone, Copy, Drop)]
 pub(crate) enum Task {
-    /// Bytes or the end, as far as the stream's limit lets them go.
+    /// Whatever the connection's limit says: that one holds all alike.
     Bytes,
-    /// Bytes that were sent before, or the end: these take no credit of the connection.
+    /// They take no credit of the connection, so they go when it is used up.
     Again,
-    /// Room for its owner to write.
     Writable,
-    /// The same, below the stream's limit.
+    /// Below the stream's limit: for an application whose writes keep within credit. The connection's limit isn't asked, since marks that
+    /// knew it would move for every stream as it moves.
     Funded,
-    /// Its end: Data Recvd or Reset Recvd.
     Ended,
-    /// A STOP_SENDING that came.
     Stopped,
 }
 
@@ -40,7 +36,6 @@ pub(crate) enum Moves {
     All,
 }
 
-/// What a search looks for: halves that have something of a task, of streams that an owner was told of, or of those that it wasn't.
 #[derive(Clone, Copy, Drop)]
 pub(crate) struct Search {
     pub(crate) task: Task,
@@ -114,7 +109,6 @@ impl SendMarks {
         Ok(())
     }
 
-    /// Takes the indexes from a count on away.
     pub(crate) fn close_to(&mut self, count: usize)
         ensures { (t : Task) → marks_of self.new t ≡ take count (marks_of self.old t) }
     {
@@ -170,7 +164,6 @@ impl SendMarks {
         self.of(task).has(index)
     }
 
-    /// Whether any index may be marked.
     #[inline(always)]
     pub(crate) fn may_have(&self, task: Task) -> bool
         ensures { result ≡ false → IsClear (marks_of self.now task) }
@@ -178,14 +171,12 @@ impl SendMarks {
         self.of(task).may_have()
     }
 
-    /// The marks of those that came to their end.
     pub(crate) fn ended(&self) -> &Marks
         ensures { result.now ≡ self.now.ended }
     {
         &self.ended
     }
 
-    /// The least marked index from one on.
     #[inline(always)]
     pub(crate) fn next(&self, task: Task, from: usize) -> Option<usize>
         ensures { IsNextMark (marks_of self.now task) from result }
@@ -193,7 +184,6 @@ impl SendMarks {
         self.of(task).next(from)
     }
 
-    /// The least marked index from one on that is sought.
     pub(crate) fn next_sought(&self, search: Search, told: &ToldMarks, from: usize) -> Option<usize>
         ensures { IsNextMark (sought_of search (marks_of self.now search.task) told.now) from result }
     {
@@ -208,7 +198,6 @@ impl SendMarks {
         marks.next_both(others, from)
     }
 
-    // The marks for a task.
     #[inline(always)]
     fn of(&self, task: Task) -> &Marks
         ensures { result.now ≡ marks_of self.now task }
@@ -266,7 +255,6 @@ fn look_end(ended: &mut Marks, index: usize, half: &SendHalf)
     ended.set(index, has_ended(half));
 }
 
-// Whether its owner may write, and its limit lets what is written go.
 fn is_funded(half: &SendHalf) -> bool
     ensures { result ≡ is_funded half.now.lane }
 {
@@ -277,7 +265,7 @@ fn is_funded(half: &SendHalf) -> bool
 fn may_send(half: &SendHalf) -> bool
     ensures { result ≡ has tasks.Bytes half.now }
 {
-    // Bytes that were never sent come first: they need no search of what was sent and what of it is acknowledged.
+    // New bytes come first: they need no search of what was sent and what of it is acknowledged.
     if half.has_unsent() {
         return true;
     }
@@ -287,7 +275,6 @@ fn may_send(half: &SendHalf) -> bool
     is_due_below(half, half.limit())
 }
 
-// Whether bytes that were sent before may go, or the end.
 fn may_send_again(half: &SendHalf) -> bool
     ensures { result ≡ has tasks.Again half.now }
 {
@@ -309,7 +296,6 @@ fn is_due_below(half: &SendHalf, end: u64) -> bool
     }
 }
 
-// Whether all that was sent is acknowledged, the end too, or the reset is (RFC 9000, section 3.1).
 fn has_ended(half: &SendHalf) -> bool
     ensures { result ≡ send_ended half.now.lane }
 {

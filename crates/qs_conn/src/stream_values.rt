@@ -9,7 +9,6 @@ use std::alloc::Global;
 use std::collections::BTreeMap;
 use std::marker::Model;
 
-/// The greatest value that was told of each stream, by the stream's number.
 #[derive(Drop)]
 pub(crate) struct StreamValues {
     values: BTreeMap<u64, u64>,
@@ -37,7 +36,6 @@ impl StreamValues {
         }
     }
 
-    /// Keeps the value, where it is greater than the one known.
     #[tactic(auto, using(crate::proofs::ToldLaws::value_absent))]
     pub(crate) fn raise(&mut self, stream: StreamId, value: u64) -> Result<(), NoMemory>
         ensures ok { OnOk result (self.new ≡ greatest_of self.old stream value) }
@@ -50,7 +48,6 @@ impl StreamValues {
         Ok(())
     }
 
-    /// Whether this is the greatest value of the stream.
     pub(crate) fn is_greatest(&self, stream: StreamId, value: u64) -> bool
         ensures { IsTrue result ↔ (fmap.get self.now stream ≡ Some value) }
     {

@@ -15,7 +15,8 @@ use qs_wire::StreamId;
 use std::alloc::Global;
 use std::marker::Model;
 
-/// The greatest acknowledged value of each control item. Of a reset the stream's sending half tells it.
+/// The greatest acknowledged value of each control item is enough: no item's value ever falls, so an older one is covered. A reset's is in
+/// its half.
 #[derive(Drop)]
 pub(crate) struct ToldItems {
     max_data: Option<u64>,
@@ -49,7 +50,6 @@ impl Model for ToldItems {
 }
 
 impl ToldItems {
-    /// Nothing was acknowledged. It takes no memory.
     pub(crate) fn new(alloc: Global) -> Self
         ensures { result ≡ no_items }
     {
@@ -64,7 +64,6 @@ impl ToldItems {
         }
     }
 
-    /// A packet that told the item was acknowledged.
     pub(crate) fn note(&mut self, item: Item) -> Result<(), NoMemory>
         ensures ok { OnOk result (self.new ≡ item_noted item self.old) }
         ensures err { OnErr result (self.new ≡ self.old) }
@@ -98,7 +97,6 @@ impl ToldItems {
         }
     }
 
-    /// Whether a packet that told the item with this value was acknowledged, of any item but a reset.
     pub(crate) fn is_acked(&self, item: Item) -> bool
         ensures { IsTrue result ↔ IsNoted self.now item }
     {
@@ -119,7 +117,6 @@ impl ToldItems {
     }
 }
 
-// The value, or the one known where that is greater.
 fn greatest(known: Option<u64>, value: u64) -> Option<u64>
     ensures { result ≡ greatest known value }
 {
@@ -129,7 +126,6 @@ fn greatest(known: Option<u64>, value: u64) -> Option<u64>
     }
 }
 
-// Adds the stream's number.
 fn add(streams: &mut RangeSet, stream: StreamId) -> Result<(), NoMemory>
     ensures ok { OnOk result (streams.new ≡ set.insert streams.old stream) }
     ensures err { OnErr result (streams.new ≡ streams.old) }

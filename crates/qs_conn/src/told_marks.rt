@@ -1,4 +1,3 @@
-//! Which indexes of the streams of one type an owner was told of.
 ghost use Rattle.std.specs.Prelude.{◌≡◌, ◌++◌, ◌+◌, ◌-◌, ◌*◌, ◌/◌, ◌<◌, ◌≤◌, ◌^◌, ◌⊎◌, [], true, false, length, slice_get, slice_set, replicate, None, OnOk, OnErr};
 ghost use Rattle.qs_conn.specs.Marks.{is_marked, IsMarkedBeside, IsUnmarkedBeside, AreFull, AreMarkedBelow};
 ghost use Rattle.qs_conn.specs.Untold.{IsClear};
@@ -9,8 +8,8 @@ use qs_ranges::NoMemory;
 use std::alloc::Global;
 use std::marker::Model;
 
-/// A mark for each index, and a flag for each word of marks of which every index has one: so a search for what wasn't told passes
-/// 4,096 indexes that were by one look.
+/// A mark for each index, and a flag for each word of marks of which every index has one: so a search for what wasn't reported passes 4,096
+/// that were by one look.
 #[derive(Drop)]
 pub(crate) struct ToldMarks {
     marks: Marks,
@@ -35,7 +34,6 @@ impl Model for ToldMarks {
 }
 
 impl ToldMarks {
-    /// Nothing was told.
     pub(crate) fn new(alloc: Global) -> Self
         ensures { result ≡ [] }
     {
@@ -46,21 +44,18 @@ impl ToldMarks {
         }
     }
 
-    /// How many indexes there are.
     pub(crate) fn len(&self) -> usize
         ensures { result ≡ length self.now }
     {
         self.marks.len()
     }
 
-    /// Whether an index was told: one past the last wasn't.
     pub(crate) fn has(&self, index: usize) -> bool
         ensures { result ≡ is_marked self.now index }
     {
         self.bits().has(index)
     }
 
-    /// Makes room for all indexes below a count: the new ones weren't told. It takes memory where one is new.
     pub(crate) fn open_to(&mut self, count: usize) -> Result<(), NoMemory>
         ensures ok { OnOk result (self.new ≡ self.old ++ replicate (count - length self.old) false) }
         ensures err { OnErr result (self.new ≡ self.old) }
@@ -69,17 +64,15 @@ impl ToldMarks {
         if count <= self.marks.len() {
             return Ok(());
         }
-        // More flags than there are words of marks tell of the same words.
+        // More flags than there are words of marks say the same of the same words.
         self.full.open_to(count.div_ceil(FLAGS_PER_WORD))?;
         self.marks.open_to(count)
     }
 
-    /// An index was told, or may be told again.
     pub(crate) fn set(&mut self, index: usize, is_marked: bool)
         requires { index < length self.old }
         ensures { self.new ≡ slice_set self.old index is_marked }
     {
-        // Most stay as they are.
         if self.marks.has(index) == is_marked {
             return;
         }
@@ -94,7 +87,6 @@ impl ToldMarks {
         }
     }
 
-    /// Whether some index may have been told.
     #[inline(always)]
     pub(crate) fn may_have(&self) -> bool
         ensures { result ≡ false → IsClear self.now }
@@ -102,7 +94,7 @@ impl ToldMarks {
         self.marks.may_have()
     }
 
-    /// An index was told: all up to it get room. It takes memory where it is past the last.
+    /// Room up to it: memory is taken only past the last.
     pub(crate) fn tell(&mut self, index: usize) -> Result<(), NoMemory>
         requires { index < 2 ^ 60 }
         ensures ok { OnOk result (IsMarkedBeside index self.old self.new) }
@@ -114,7 +106,6 @@ impl ToldMarks {
         Ok(())
     }
 
-    /// An index may be told again.
     pub(crate) fn forget(&mut self, index: usize)
         ensures { IsUnmarkedBeside index self.old self.new }
     {
@@ -123,21 +114,18 @@ impl ToldMarks {
         }
     }
 
-    /// The marks.
     pub(crate) fn marks(&self) -> &Marks
         ensures { result.now ≡ self.now }
     {
         &self.marks
     }
 
-    /// Their bits.
     pub(crate) fn bits(&self) -> &Bits
         ensures { result.now ≡ self.now }
     {
         self.marks.bits()
     }
 
-    /// The words that were told whole.
     pub(crate) fn full(&self) -> &Bits
         ensures { AreFull self.now result.now }
     {

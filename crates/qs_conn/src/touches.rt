@@ -7,7 +7,7 @@ use crate::marks::Marks;
 use qs_ranges::NoMemory;
 use std::alloc::Global;
 
-/// How many lanes were touched: none, one, or those that are marked.
+/// Mostly none or one, which takes no marks.
 #[derive(Clone, Copy, Drop)]
 pub(crate) enum Touched {
     Nothing,
@@ -15,8 +15,7 @@ pub(crate) enum Touched {
     Several,
 }
 
-/// The lanes that were touched since limits were raised last. Mostly it is one; where there are more each has a mark, so raising limits
-/// costs what was touched, however many lanes there are.
+/// So raising limits costs what was touched, however many lanes there are.
 #[derive(Drop)]
 pub(crate) struct Touches {
     lanes: Touched,
@@ -24,7 +23,6 @@ pub(crate) struct Touches {
 }
 
 impl Touches {
-    /// No lane was touched.
     pub(crate) fn new(alloc: Global) -> Self
         ensures lanes { result.lanes ≡ touched.Nothing }
         ensures marks { result.marks ≡ [] }
@@ -35,7 +33,6 @@ impl Touches {
         }
     }
 
-    /// Makes room for all indexes below a count: the new ones weren't touched.
     pub(crate) fn open_to(&mut self, count: usize) -> Result<(), NoMemory>
         ensures lanes { self.new.lanes ≡ self.old.lanes }
         ensures ok { OnOk result (self.new.marks ≡ self.old.marks ++ replicate (count - length self.old.marks) false) }
@@ -44,7 +41,6 @@ impl Touches {
         self.marks.open_to(count)
     }
 
-    /// Takes the indexes from a count on away.
     pub(crate) fn close_to(&mut self, count: usize)
         ensures lanes { self.new.lanes ≡ self.old.lanes }
         ensures marks { self.new.marks ≡ take count self.old.marks }
@@ -52,7 +48,6 @@ impl Touches {
         self.marks.close_to(count);
     }
 
-    /// Whether no lane was touched.
     pub(crate) fn is_none(&self) -> bool
         ensures { result ≡ true → (i : ℕ) → is_touched self.now i ≡ false }
     {
@@ -71,7 +66,6 @@ impl Touches {
         }
     }
 
-    // A lane is touched.
     #[inline]
     fn touch(&mut self, index: usize)
         requires { index < length self.old.marks }
@@ -92,7 +86,6 @@ impl Touches {
         }
     }
 
-    /// A lane that was touched, which isn't any more; `None` where none is left.
     #[inline]
     pub(crate) fn pop(&mut self) -> Option<usize>
         ensures len { length self.new.marks ≡ length self.old.marks }
@@ -109,7 +102,6 @@ impl Touches {
         }
     }
 
-    // The least of several.
     fn pop_marked(&mut self) -> Option<usize>
         requires { self.old.lanes ≡ touched.Several }
         ensures len { length self.new.marks ≡ length self.old.marks }

@@ -1,4 +1,3 @@
-//! Of which halves of streams a control item may still have to be told.
 ghost use Rattle.std.specs.Prelude.{◌≡◌, ◌+◌, ◌-◌, ◌++◌, ◌≤◌, ◌<◌, ◌^◌, [], ℕ, Bool, true, false, length, slice_get, replicate, IfSome, OnOk, OnErr};
 ghost use Rattle.qs_machine.specs.Tables.{no_streams, lookup, updated, open_to};
 ghost use Rattle.qs_machine.specs.Sums.{changed};
@@ -16,7 +15,6 @@ use qs_wire::StreamId;
 use std::alloc::Global;
 use std::marker::Model;
 
-/// A mark for each stream of one type, by its index.
 #[derive(Drop)]
 struct UntoldLanes {
     marks: Marks,
@@ -82,10 +80,10 @@ impl UntoldLanes {
     }
 }
 
-/// A mark for each receiving half or each sending half, by the type of the stream and by its index. Of a half without a mark all was told.
+/// Of a half without a mark nothing is left to send, so filling a packet searches marks alone.
 #[derive(Drop)]
 pub(crate) struct Untold {
-    // Of each of the four types, in the order of their bits.
+    // In the order of the two lowest bits of a stream's number.
     types: [UntoldLanes; 4],
 }
 
@@ -119,7 +117,6 @@ impl Untold {
         }
     }
 
-    /// Makes room for a stream and all lower ones of its type: the new ones aren't marked.
     pub(crate) fn open_to(&mut self, stream: StreamId) -> Result<(), NoMemory>
         ensures ok { OnOk result (self.new ≡ open_to self.old stream (λ n. false)) }
         ensures err { OnErr result (self.new ≡ self.old) }
@@ -128,7 +125,6 @@ impl Untold {
         lanes.open_to(index_of(stream) + 1)
     }
 
-    /// Marks a stream that has a place, or takes its mark away.
     pub(crate) fn set(&mut self, stream: StreamId, is_marked: bool)
         ensures { self.new ≡ updated self.old stream (λ b. is_marked) (lookup self.old stream) }
     {
@@ -136,7 +132,6 @@ impl Untold {
         lanes.set(index_of(stream), is_marked);
     }
 
-    /// Whether a stream is marked.
     pub(crate) fn has(&self, stream: StreamId) -> bool
         ensures { result ≡ is_told self.now stream }
     {
@@ -144,8 +139,7 @@ impl Untold {
         lanes.has(index_of(stream))
     }
 
-    /// A sending half was written to, or its bytes went into a packet: it is marked where it stands at its limit with more written
-    /// (RFC 9000, section 4.1).
+    /// Marked if it stands at its limit with more written (RFC 9000, section 4.1).
     #[inline(always)]
     pub(crate) fn look_blocked(&mut self, outbox: &Outbox, stream: StreamId)
         ensures more { HasMore self.old self.new }
@@ -156,7 +150,6 @@ impl Untold {
         }
     }
 
-    /// The least number from one on of a marked stream.
     pub(crate) fn next(&self, from: u64) -> Option<StreamId>
         requires { from ≤ 2 ^ 62 }
         ensures from { IfSome result (λ n. from ≤ n) }
@@ -168,7 +161,7 @@ impl Untold {
         self.least_marked(from)
     }
 
-    // The search. It stands apart, so that where no half has a mark a caller pays for the look above alone.
+    // Apart, so that a caller pays for one look if no half has a mark.
     #[inline(never)]
     fn least_marked(&self, from: u64) -> Option<StreamId>
         requires { from ≤ 2 ^ 62 }
@@ -183,7 +176,6 @@ impl Untold {
         )
     }
 
-    /// Whether any stream may be marked.
     #[inline(always)]
     pub(crate) fn may_have(&self) -> bool
         ensures { result ≡ false → (n : ℕ) (b : Bool) → lookup self.now n ≡ Some b → b ≡ false }
@@ -200,7 +192,6 @@ impl Untold {
         self.types[3].may_have()
     }
 
-    // The least such number among the streams of a type.
     fn next_of(&self, stream_type: usize, from: u64) -> Option<u64>
         requires stream_type { stream_type < 4 }
         requires from { from ≤ 2 ^ 62 }
@@ -214,7 +205,7 @@ impl Untold {
     }
 }
 
-/// A piece leaves its packet: the half of which it told an item is marked.
+/// The half of which it carried an item is marked: it may be due again.
 pub(crate) fn look_again(recvs: &mut Untold, sends: &mut Untold, piece: &Piece)
     ensures recvs { recvs.new ≡ marked_for told_by_recv piece.now recvs.old }
     ensures sends { sends.new ≡ marked_for told_by_send piece.now sends.old }

@@ -1,4 +1,3 @@
-//! Streams are opened, and given out.
 ghost use Rattle.std.specs.Prelude.{◌≡◌, ◌≤◌, ◌<◌, ◌^◌, length, max, not, ◌&&◌, if◌then◌else◌, true, false, OnOk, OnErr};
 ghost use Rattle.qs_ranges.specs.Numbers.{MAX_VARINT};
 ghost use Rattle.qs_recv.specs.Lane.{MAX_WINDOW, new_lane as new_recv_lane};
@@ -19,10 +18,9 @@ use qs_ranges::NoMemory;
 use qs_wire::{Dir, StreamId};
 
 impl Endpoint {
-    /// Opens the next stream of that direction, and answers its number.
+    /// Opens the next stream of that direction, and returns its number.
     ///
-    /// Refused: `Closed`; `Blocked` with the peer's count where as many are open; and `NoMemory` where memory was refused, and then
-    /// nothing changed.
+    /// Refused: `Closed`; `Blocked` with the peer's count if as many are open; and `NoMemory`, and then nothing changed.
     pub fn open(&mut self, dir: Dir) -> Result<StreamId, OpenFault>
         ensures { OpenStep self.old dir result self.new }
     {
@@ -45,7 +43,7 @@ impl Endpoint {
         Ok(stream)
     }
 
-    /// Gives out each stream that the peer opened, once: bidirectional ones first, lower numbers first.
+    /// Returns each stream that the peer opened, once: bidirectional ones first, lower numbers first.
     #[tactic(auto, using(crate::proofs::Accepting::bidi_given, crate::proofs::Accepting::uni_given))]
     pub fn accept(&mut self) -> Option<StreamId>
         ensures { AcceptStep self.old result self.new }
@@ -56,8 +54,8 @@ impl Endpoint {
         }
     }
 
-    /// Gives out each stream of one direction that the peer opened, once: lower numbers first (RFC 9000, section 2.1). What this
-    /// call gave out `accept` doesn't, and the other way round.
+    /// Returns each stream of one direction that the peer opened, once: lower numbers first (RFC 9000, section 2.1). What this call
+    /// returned `accept` doesn't, and the other way round.
     pub fn accept_of(&mut self, dir: Dir) -> Option<StreamId>
         ensures { AcceptOfStep self.old dir result self.new }
     {
@@ -96,7 +94,8 @@ impl Endpoint {
         None
     }
 
-    // A frame that names a stream of the peer opens it (RFC 9000, section 3.2). Memory is asked for only where it isn't open yet.
+    // A frame that names a stream of the peer opens it (RFC 9000, section 3.2). Memory is asked for only if it isn't open yet, so a repeat
+    // needs none.
     pub(super) fn open_by_peer(&mut self, stream: StreamId) -> Result<(), NoMemory>
         ensures ok { OnOk result (self.new ≡ opened_by_peer stream self.old) }
         ensures err { OnErr result (self.new ≡ self.old) }
@@ -108,7 +107,6 @@ impl Endpoint {
         self.open_stream(stream)
     }
 
-    // Whether no frame opens the stream: it is this end's own, or open with the halves that it has here.
     #[tactic(auto, using(crate::proofs::Openings::own_stays, crate::proofs::Openings::open_stays, crate::proofs::Openings::none_in, crate::proofs::Openings::none_out))]
     fn is_open_here(&self, stream: StreamId) -> bool
         ensures yes { result ≡ true → opened_by_peer stream self.now ≡ self.now }
@@ -123,8 +121,8 @@ impl Endpoint {
         is_uni(stream) || self.core.outbox.is_open(stream)
     }
 
-    // Opens a stream and all lower ones of its type, or changes nothing. The memory of halves is taken first: their marks are a few bits
-    // more.
+    // The memory of the halves comes first, for all streams that open, so that a refusal there changes nothing. Their marks come behind: to
+    // take theirs in advance, too, cost a look at each row of marks for each stream.
     fn open_stream(&mut self, stream: StreamId) -> Result<(), NoMemory>
         ensures ok { OnOk result (self.new ≡ opens stream self.old) }
         ensures err { OnErr result (self.new ≡ self.old) }
@@ -133,7 +131,7 @@ impl Endpoint {
         self.open_reserved(stream)
     }
 
-    // The same, where memory was taken. No clause tells that, so a refusal is undone.
+    // No clause says that memory was taken, so a refusal is undone.
     #[tactic(auto, using(crate::proofs::Runs::idle_with))]
     fn open_reserved(&mut self, stream: StreamId) -> Result<(), NoMemory>
         ensures ok { OnOk result (self.new ≡ opens stream self.old) }
@@ -172,7 +170,6 @@ impl Endpoint {
         Ok(())
     }
 
-    // Takes the memory that the halves want, so that a refusal of theirs comes before anything changes.
     fn reserve(&mut self, stream: StreamId) -> Result<(), NoMemory>
         ensures { self.new ≡ self.old }
     {
@@ -187,14 +184,12 @@ impl Endpoint {
         )
     }
 
-    // That another stream was wanted is noted.
     fn want(&mut self, dir: Dir, count: u64)
         ensures { self.new ≡ with_wanted dir count self.old }
     {
         self.core.limits.wanted_streams.set(dir, Some(count));
     }
 
-    // How many streams of a direction the peer allows.
     pub(super) fn known_count(&self, dir: Dir) -> u64
         ensures value { result ≡ known_count self.now dir }
         ensures small { result ≤ 2 ^ 60 }
@@ -202,7 +197,6 @@ impl Endpoint {
         self.core.limits.known_streams.of(dir)
     }
 
-    // How many streams of a type are open.
     pub(super) fn opened_count(&self, stream_type: usize) -> usize
         requires { stream_type < 4 }
         ensures value { result ≡ opened_count self.now stream_type }
@@ -214,7 +208,6 @@ impl Endpoint {
             .max(self.core.recvs.count_of(stream_type))
     }
 
-    // The type of the streams that this end opens.
     pub(super) fn own_type(&self, dir: Dir) -> usize
         ensures value { result ≡ own_type self.now dir }
         ensures small { result < 4 }
@@ -225,7 +218,6 @@ impl Endpoint {
         }
     }
 
-    // The type of the streams that the peer opens.
     pub(super) fn peer_type(&self, dir: Dir) -> usize
         ensures value { result ≡ peer_type self.now dir }
         ensures small { result < 4 }
@@ -272,7 +264,6 @@ fn open_recvs(
     recvs.open_to(window, share, stream)
 }
 
-// Takes the memory for those halves of a stream that it has, and opens none.
 fn reserve_halves(
     outbox: &mut Outbox,
     recvs: &mut RecvTables,

@@ -1,4 +1,3 @@
-//! Packets are acknowledged.
 ghost use Rattle.std.specs.Prelude.{if◌then◌else◌, ◌≡◌, ◌<◌, ◌^◌, false, Some, OnOk, OnErr};
 ghost use Rattle.std.specs.FinMap as fmap;
 ghost use Rattle.qs_wire.specs.Varint.{numbers_of};
@@ -22,8 +21,8 @@ use qs_send::{AckPass, Item, Piece};
 use qs_wire::{AckRanges, StreamId};
 
 impl Core {
-    /// The packets that an ACK names are acknowledged: the outstanding ones and then the lost ones, each from the highest number down
-    /// (RFC 9000, sections 13.2.1 and 13.3).
+    /// The outstanding packets first and then the lost ones, each from the highest number down, as the ranges come (RFC 9000, sections
+    /// 13.2.1 and 13.3). If memory runs out, some first pieces are acknowledged: the payload may come again and finishes the work.
     #[tactic(auto, using(crate::proofs::AckRuns::first_stops))]
     pub(crate) fn ack<T: Told>(
         &mut self,
@@ -42,8 +41,7 @@ impl Core {
         self.ack_all(true, AckRanges::new(largest, ranges), &mut Silent)
     }
 
-    /// The packets from one number on and below another are acknowledged, as by an ACK of them alone: the outstanding ones and then the lost
-    /// ones, each from the highest number down (RFC 9000, section 13.3).
+    /// As by an ACK of these numbers alone, so that tokens are defined by ACKs (RFC 9000, section 13.3).
     pub(crate) fn ack_range(&mut self, first: u64, end: u64) -> Result<(), NoMemory>
         requires rest { IsAtRest self.old }
         ensures rest { IsAtRest self.new }
@@ -55,7 +53,6 @@ impl Core {
         result
     }
 
-    // The packets of these numbers are acknowledged, those that are outstanding and those that were declared lost.
     #[tactic(auto, using(crate::proofs::RangeAcks::both_stops, crate::proofs::RangeAcks::both_done))]
     fn ack_both(&mut self, first: u64, end: u64) -> Result<(), NoMemory>
         requires rest { IsAtRest self.old }
@@ -70,7 +67,6 @@ impl Core {
         self.ack_numbers(true, first, end)
     }
 
-    // The packets of these numbers are acknowledged, the outstanding ones or the lost ones.
     #[tactic(auto, using(crate::proofs::RangeAcks::range_end, crate::proofs::RangeAcks::range_stop, crate::proofs::RangeAcks::range_more))]
     fn ack_numbers(&mut self, late: bool, first: u64, end: u64) -> Result<(), NoMemory>
         requires rest { IsAtRest self.old }
@@ -86,7 +82,6 @@ impl Core {
         Ok(())
     }
 
-    // The packets that the ranges name are acknowledged in one pass, the outstanding ones or the lost ones.
     #[tactic(auto, using(crate::proofs::AckRuns::all_named, crate::proofs::NewlyTold::told_named))]
     fn ack_all<T: Told>(
         &mut self,
@@ -106,7 +101,6 @@ impl Core {
         result
     }
 
-    // The packets that a pass has ahead are acknowledged.
     fn ack_ahead<T: Told>(
         &mut self,
         late: bool,
@@ -127,7 +121,6 @@ impl Core {
         Ok(())
     }
 
-    // The pieces of a packet are acknowledged, from the first on.
     #[tactic(auto, using(crate::proofs::AckRuns::packet_end, crate::proofs::AckRuns::packet_stop, crate::proofs::AckRuns::packet_more, crate::proofs::AckRuns::packet_less))]
     #[inline(always)]
     fn ack_packet(&mut self, packet: KeptPacket) -> Result<(), NoMemory>
@@ -142,7 +135,7 @@ impl Core {
         Ok(())
     }
 
-    // The first piece of a packet is acknowledged, or nothing changes.
+    // One by one, so that after a refusal each piece is either acknowledged or not.
     #[inline(always)]
     fn ack_piece(&mut self, packet: KeptPacket, piece: Piece) -> Result<(), NoMemory>
         requires rest { IsAtRest self.old }
@@ -168,12 +161,11 @@ impl Core {
             return Ok(());
         }
         self.drop_unless(packet, piece);
-        // Of a reset that the peer has nothing is left to tell.
+        // Of a reset that the peer has nothing is left to send.
         self.unmark_told(Kind::ResetStream, stream);
         Ok(())
     }
 
-    // A piece left its packet, if that was outstanding.
     fn drop_unless(&mut self, packet: KeptPacket, piece: Piece)
         ensures { self.new ≡ record self.old { carried = if packet.late then self.old.carried else carried_without piece self.old.recvs self.old.outbox.sends self.old.carried; own = if packet.late then self.old.own else own_left piece self.old.own } }
     {
@@ -183,7 +175,6 @@ impl Core {
     }
 }
 
-// The stream whose sending half changes as a piece is acknowledged.
 fn half_of(piece: &Piece) -> Option<StreamId>
     ensures { result ≡ half_of piece.now }
 {

@@ -1,4 +1,3 @@
-//! Which items of streams are outstanding.
 ghost use Rattle.std.specs.Prelude.{if◌then◌else◌, ◌≡◌, ◌≤◌, ◌↔◌, IsTrue, is_some, true, false};
 ghost use Rattle.qs_ranges.specs.Numbers.{MAX_VARINT};
 ghost use Rattle.qs_recv.specs.Lane.{MAX_WINDOW, set_window};
@@ -17,7 +16,7 @@ use qs_send::{Item, Piece};
 use qs_wire::StreamId;
 
 impl Core {
-    /// Whether an outstanding or acknowledged packet told a current item.
+    /// Then it isn't due: with this value the peer has it, or will have it.
     pub(super) fn has_covered(&self, item: &Item) -> bool
         requires core { IsCore self.now }
         requires current { (e : End) → IsCurrent (end_of self.now e) item.now }
@@ -35,7 +34,7 @@ impl Core {
         }
     }
 
-    // The same of a stream's item: a mark tells whether it is outstanding.
+    // A mark instead of a search through all that is outstanding.
     fn has_told(&self, kind: Kind, stream: StreamId, item: &Item) -> bool
         ensures told { is_carried_at kind self.now.carried stream ≡ true → result ≡ true }
         ensures acked { is_carried_at kind self.now.carried stream ≡ false → IsTrue result ↔ IsAckedOut self.now.outbox item.now }
@@ -46,7 +45,6 @@ impl Core {
         self.outbox.is_acked(*item)
     }
 
-    /// The present item of a half went into a packet, if that wasn't full.
     pub(super) fn note_put(&mut self, item: &Item, is_full: bool)
         ensures { self.new ≡ record self.old { carried = if is_full then self.old.carried else item_carried item.now true self.old.carried; own = if is_full then self.old.own else own_with item.now self.old.own } }
     {
@@ -56,7 +54,7 @@ impl Core {
         }
     }
 
-    /// A piece left its packet: where it was the present item of a half, that is outstanding no more.
+    /// If it was the present item of a half, that is outstanding no more.
     #[inline(always)]
     pub(super) fn drop_carried(&mut self, piece: &Piece)
         ensures { self.new ≡ record self.old { carried = carried_without piece.now self.old.recvs self.old.outbox.sends self.old.carried; own = own_left piece.now self.old.own } }
@@ -69,7 +67,7 @@ impl Core {
         }
     }
 
-    /// The peer allows the offsets of a stream below a limit. Where that rises nothing outstanding tells that the stream stands at it.
+    /// A raised limit makes any STREAM_DATA_BLOCKED in flight obsolete: nothing outstanding says that the stream stands at the new one.
     #[tactic(auto, using(crate::proofs::Runs::idle_with))]
     pub(crate) fn allow(&mut self, stream: StreamId, limit: u64)
         requires rest { IsAtRest self.old }
@@ -93,7 +91,7 @@ impl Core {
         }
     }
 
-    /// Sets the window of an open stream. Where its limit rises nothing outstanding tells of that.
+    /// A raised limit isn't in any packet yet.
     pub(crate) fn set_window(&mut self, stream: StreamId, window: u64)
         requires rest { IsAtRest self.old }
         requires open { is_some (lookup self.old.recvs stream) ≡ true }
@@ -108,7 +106,6 @@ impl Core {
         self.untold_recvs.set(stream, true);
     }
 
-    // The limit of a half was this one.
     fn drop_limit(&mut self, stream: StreamId, was: Option<u64>)
         ensures { self.new ≡ record self.old { carried = record self.old.carried { limits = limits_by was (recv_limit self.old.recvs stream) stream self.old.carried.limits } } }
     {
@@ -118,7 +115,7 @@ impl Core {
         }
     }
 
-    // Whether an item has the present value of its half. A stop and a reset keep their value.
+    // A stop and a reset keep their value, so theirs always is.
     fn is_present(&self, item: &Item) -> bool
         ensures { result ≡ is_present item.now self.now.recvs self.now.outbox.sends }
     {
@@ -134,7 +131,6 @@ impl Core {
     }
 }
 
-// Whether two limits are there, and are one.
 fn is_same(a: Option<u64>, b: Option<u64>) -> bool
     ensures { result ≡ is_same a b }
 {

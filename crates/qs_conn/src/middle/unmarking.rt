@@ -9,8 +9,8 @@ use crate::slot::{Kind, Slot};
 use qs_wire::StreamId;
 
 impl Core {
-    /// Takes the mark of a stream's half away, the one that has items of this kind, if all was told that it has to tell. Each look at a
-    /// marked half ends so or finds something due, so a half that is due keeps none that follow it marked.
+    /// Takes the mark of a half away if it has nothing left to send. Each look at a marked half ends so or finds something due, so a search
+    /// finds no mark in vain twice.
     pub(super) fn unmark_told(&mut self, kind: Kind, stream: StreamId)
         requires { IsCore self.old }
         ensures core { IsCore self.new }
@@ -50,7 +50,6 @@ impl Core {
         self.untold_sends.set(stream, false);
     }
 
-    // Whether what is current of a slot was told.
     #[tactic(auto, using(crate::proofs::Untolds::idle_none))]
     fn is_idle(&self, slot: Slot) -> bool
         requires { IsCore self.now }

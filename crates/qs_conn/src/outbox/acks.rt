@@ -1,4 +1,3 @@
-//! Packets are acknowledged and lost.
 ghost use Rattle.std.specs.Prelude.{◌≡◌, ◌<◌, ◌≤◌, ◌↔◌, ℕ, length, is_some, true, None, Some, false, IfSome, IfNone, OnOk, OnErr};
 ghost use Rattle.std.specs.FinMap as fmap;
 ghost use Rattle.qs_send.specs.declared.piece.Item.{Item};
@@ -23,7 +22,7 @@ use qs_ranges::NoMemory;
 use qs_send::{AckPass, Chunk, Item, Piece, Records, SendState};
 use qs_wire::StreamId;
 
-/// A packet whose record is kept: of the outstanding ones, or of the lost ones, for which an acknowledgement comes late.
+/// Of the outstanding ones, or of the lost ones, for which an ACK comes late.
 #[derive(Clone, Copy)]
 pub(crate) struct KeptPacket {
     pub late: bool,
@@ -40,7 +39,6 @@ impl Outbox {
         self.records.learn_none_empty();
     }
 
-    /// The least number from one on of an outstanding packet.
     pub(crate) fn next_outstanding(&self, from: u64) -> Option<u64>
         requires { IsIdle self.now }
         ensures { IsNextOutstanding self.now.outstanding from result }
@@ -49,7 +47,6 @@ impl Outbox {
         next_held(&self.records, from)
     }
 
-    /// The next packet that a pass over an ACK names, of the outstanding ones or of the lost ones; `None` after the last.
     #[inline(always)]
     pub(crate) fn next_named(&self, late: bool, pass: &mut AckPass<'_>) -> Option<u64>
         requires { IsIdle self.now }
@@ -61,14 +58,13 @@ impl Outbox {
         if late {
             return pass.next_lost(&self.lost);
         }
-        // Below the first record there is none, however many ranges follow.
+        // Below the first record there is none, however many ranges follow: a peer's long ACK costs no more.
         if pass.below() <= self.records.base() {
             return None;
         }
         pass.next(&self.records)
     }
 
-    /// Whether a packet is kept that was declared lost.
     pub(crate) fn keeps_lost(&self) -> bool
         ensures { result ≡ false → (n : ℕ) → fmap.get self.now.lost.pieces n ≡ None }
     {
@@ -77,14 +73,13 @@ impl Outbox {
         self.lost.len() > 0
     }
 
-    /// Lets go what is kept of the packets below the lowest outstanding one. No clause sees it.
+    /// No clause sees it: what is kept of empty slots is how records are kept.
     pub(crate) fn trim(&mut self)
         ensures { self.new ≡ self.old }
     {
         self.records.trim();
     }
 
-    /// The first piece of an outstanding packet.
     pub(crate) fn first(&self, number: u64) -> Option<Piece>
         requires { IsIdle self.now }
         ensures { result ≡ first_piece (fmap.get self.now.outstanding number) }
@@ -93,7 +88,6 @@ impl Outbox {
         self.records.first(number)
     }
 
-    /// The first piece of a packet of which a record is kept.
     #[inline(always)]
     pub(crate) fn first_kept(&self, packet: KeptPacket) -> Option<Piece>
         requires { IsIdle self.now }
@@ -106,7 +100,6 @@ impl Outbox {
         self.first(packet.number)
     }
 
-    /// The first piece of a packet of which a record is kept is acknowledged, or nothing changes.
     #[inline]
     pub(crate) fn ack_kept(&mut self, packet: KeptPacket, piece: Piece) -> Result<(), NoMemory>
         requires idle { IsIdle self.old }
@@ -122,7 +115,6 @@ impl Outbox {
         self.ack_outstanding(packet.number, piece)
     }
 
-    // The first piece of an outstanding packet is acknowledged, or nothing changes.
     #[inline(always)]
     fn ack_outstanding(&mut self, number: u64, piece: Piece) -> Result<(), NoMemory>
         requires idle { IsIdle self.old }
@@ -138,7 +130,6 @@ impl Outbox {
         Ok(())
     }
 
-    // The first piece of a lost packet is acknowledged, or nothing changes.
     fn ack_lost(&mut self, number: u64, piece: Piece) -> Result<(), NoMemory>
         requires idle { IsIdle self.old }
         requires first { first_piece (fmap.get self.old.lost.pieces number) ≡ Some piece }
@@ -153,8 +144,6 @@ impl Outbox {
         Ok(())
     }
 
-    /// The first piece of an outstanding packet is lost, or nothing changes. It is due again, if it is of use, and kept for a late
-    /// acknowledgement.
     pub(crate) fn lose_first(&mut self, number: u64, piece: Piece) -> Result<(), NoMemory>
         requires idle { IsIdle self.old }
         requires first { first_piece (fmap.get self.old.outstanding number) ≡ Some piece }
@@ -171,8 +160,8 @@ impl Outbox {
     }
 }
 
-// The least number from one on that is held: steps that double lead past those that aren't, and halves back to the least. Each look is
-// a search downwards, at one word for 4,096 numbers of which none is held.
+// Steps that double lead past numbers that aren't held, and halves back to the least. Each look is a search downwards, at one word for
+// 4,096 numbers of which none is held.
 #[tactic(auto, using(crate::proofs::Asked::next_none, crate::proofs::Asked::next_start, crate::proofs::Asked::next_found, crate::proofs::Asked::next_above, crate::proofs::Asked::next_end))]
 fn next_held(records: &Records, from: u64) -> Option<u64>
     ensures { IsNextOutstanding records.now.pieces from result }
@@ -199,7 +188,6 @@ fn next_held(records: &Records, from: u64) -> Option<u64>
     Some(top)
 }
 
-// The greatest number from `low` on and below `end` that is held.
 fn last_held(records: &Records, low: u64, end: u64) -> Option<u64>
     ensures found { IfSome result (λ n. (low ≤ n) × (n < end) × (fmap.contains_key records.now.pieces n ≡ true)) }
     ensures none { IfNone result ((k : ℕ) → low ≤ k → k < end → fmap.contains_key records.now.pieces k ≡ false) }
@@ -211,7 +199,6 @@ fn last_held(records: &Records, low: u64, end: u64) -> Option<u64>
     Some(number)
 }
 
-// A chunk, or an item, is acknowledged; or nothing changes.
 fn piece_acked(
     types: &mut [SendLanes; 4],
     told: &mut ToldItems,
@@ -231,7 +218,6 @@ fn piece_acked(
     }
 }
 
-// Takes in that a chunk is acknowledged, or changes nothing.
 fn chunk_acked(types: &mut [SendLanes; 4], stream: StreamId, chunk: Chunk) -> Result<(), NoMemory>
     requires there { is_some (lookup (tables_of types.old) stream) ≡ true }
     requires sent { WasSent (or_no_sending (lookup (tables_of types.old) stream)).lane chunk }
@@ -244,7 +230,7 @@ fn chunk_acked(types: &mut [SendLanes; 4], stream: StreamId, chunk: Chunk) -> Re
     lanes.acked(index_of(stream), chunk)
 }
 
-// An item is acknowledged, or nothing changes. A RESET_STREAM is marked in its half, once.
+// A RESET_STREAM is marked in its half, once: the half's state follows from it.
 fn item_acked(types: &mut [SendLanes; 4], told: &mut ToldItems, item: Item) -> Result<(), NoMemory>
     requires { IsSentPiece (tables_of types.old) (pieces.Told item) }
     ensures len { length types.new ≡ 4 }
@@ -261,7 +247,6 @@ fn item_acked(types: &mut [SendLanes; 4], told: &mut ToldItems, item: Item) -> R
     told.note(item)
 }
 
-// The RESET_STREAM of a half is acknowledged, once more or for the first time.
 fn reset_acked(types: &mut [SendLanes; 4], stream: StreamId)
     requires { (s : Sending) × (lookup (tables_of types.old) stream ≡ Some s) × (is_some s.lane.was_reset ≡ true) }
     ensures len { length types.new ≡ 4 }
@@ -273,7 +258,6 @@ fn reset_acked(types: &mut [SendLanes; 4], stream: StreamId)
     }
 }
 
-// A chunk is due again, or nothing changes. An item is due by itself.
 fn piece_lost(types: &mut [SendLanes; 4], piece: &Piece) -> Result<(), NoMemory>
     requires { IsSentPiece (tables_of types.old) piece.now }
     ensures len { length types.new ≡ 4 }
@@ -286,7 +270,6 @@ fn piece_lost(types: &mut [SendLanes; 4], piece: &Piece) -> Result<(), NoMemory>
     }
 }
 
-// Takes in that a chunk is lost, or changes nothing.
 fn chunk_lost(types: &mut [SendLanes; 4], stream: StreamId, chunk: Chunk) -> Result<(), NoMemory>
     requires there { is_some (lookup (tables_of types.old) stream) ≡ true }
     requires sent { WasSent (or_no_sending (lookup (tables_of types.old) stream)).lane chunk }

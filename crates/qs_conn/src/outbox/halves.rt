@@ -15,7 +15,6 @@ use crate::told_streams::ToldStreams;
 use qs_send::SendView;
 use qs_wire::StreamId;
 
-/// Whether the stream has a sending half.
 #[inline(always)]
 pub(super) fn is_open(types: &[SendLanes; 4], stream: StreamId) -> bool
     requires { length types.now ≡ 4 }
@@ -35,7 +34,6 @@ pub(super) fn learn_lawful(types: &[SendLanes; 4], stream: StreamId)
     lanes.learn_lawful(index_of(stream));
 }
 
-/// The half of an open stream.
 #[inline(always)]
 pub(super) fn half_of(types: &[SendLanes; 4], stream: StreamId) -> SendView<'_>
     requires len { length types.now ≡ 4 }
@@ -46,7 +44,6 @@ pub(super) fn half_of(types: &[SendLanes; 4], stream: StreamId) -> SendView<'_>
     lanes.get(index_of(stream))
 }
 
-/// Whether any half may have a task.
 #[inline(always)]
 pub(super) fn may_have(types: &[SendLanes; 4], task: Task) -> bool
     requires { length types.now ≡ 4 }
@@ -64,8 +61,7 @@ pub(super) fn may_have(types: &[SendLanes; 4], task: Task) -> bool
     types[3].may_have(task)
 }
 
-/// The least number from one on of a stream that may have a task. The halves of the streams between are quiet of it. It stands apart, so
-/// that where no half has a task a caller pays for the look at that alone.
+/// The halves of the streams between have nothing for it. Apart, so that a caller pays for one look if no half has a mark.
 #[inline(never)]
 pub(super) fn least_marked(types: &[SendLanes; 4], task: Task, from: u64) -> Option<StreamId>
     requires len { length types.now ≡ 4 }
@@ -82,7 +78,6 @@ pub(super) fn least_marked(types: &[SendLanes; 4], task: Task, from: u64) -> Opt
     )
 }
 
-// The least such number among the streams of a type.
 #[inline(always)]
 fn next_of(types: &[SendLanes; 4], task: Task, stream_type: usize, from: u64) -> Option<u64>
     requires len { length types.now ≡ 4 }
@@ -101,7 +96,6 @@ fn next_of(types: &[SendLanes; 4], task: Task, stream_type: usize, from: u64) ->
     Some((index * 4 + stream_type) as u64)
 }
 
-/// The least number from one on of a stream whose half has something of a task.
 pub(super) fn next_with(types: &[SendLanes; 4], task: Task, from: u64) -> Option<StreamId>
     requires len { length types.now ≡ 4 }
     requires from { from ≤ 2 ^ 62 }
@@ -115,7 +109,6 @@ pub(super) fn next_with(types: &[SendLanes; 4], task: Task, from: u64) -> Option
     )
 }
 
-// The least such number among the streams of a type.
 fn next_with_of(types: &[SendLanes; 4], task: Task, stream_type: usize, from: u64) -> Option<u64>
     requires len { length types.now ≡ 4 }
     requires stream_type { stream_type < 4 }
@@ -130,8 +123,7 @@ fn next_with_of(types: &[SendLanes; 4], task: Task, stream_type: usize, from: u6
     }
 }
 
-/// The least number from one on of a stream whose half is sought. Of a type of which no half has the task a caller pays for the look at
-/// that alone.
+/// Of a type of which no half has a mark a caller pays for one look.
 #[inline(always)]
 pub(super) fn next_sought(
     types: &[SendLanes; 4],
@@ -151,7 +143,6 @@ pub(super) fn next_sought(
     )
 }
 
-// The least such number among the streams of a type.
 #[inline(always)]
 fn next_sought_of(
     types: &[SendLanes; 4],

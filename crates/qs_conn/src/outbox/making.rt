@@ -1,4 +1,3 @@
-//! Packets are made.
 ghost use Rattle.std.specs.Prelude.{◌≡◌, ◌+◌, ◌-◌, ◌≤◌, ◌<◌, ◌↔◌, ◌⊎◌, ◌++◌, ◌∷◌, [], None, vec_len, vec_capacity, IsTrue, length, is_some, true, OnOk, OnErr};
 ghost use Rattle.std.specs.FinMap as fmap;
 ghost use Rattle.qs_ranges.specs.Numbers.{MAX_VARINT};
@@ -23,7 +22,7 @@ use qs_send::{Chunk, Item, Piece, Records};
 use qs_wire::StreamId;
 
 impl Outbox {
-    /// Makes room for a packet of so many pieces. Nothing else changes.
+    /// Before the packet is filled, so that a refusal changes nothing.
     #[inline(always)]
     pub(crate) fn begin(&mut self, count: usize) -> Result<(), NoMemory>
         ensures ok { OnOk result (self.new ≡ record self.old { spare = count }) }
@@ -36,7 +35,6 @@ impl Outbox {
         Ok(())
     }
 
-    /// The longest chunk of an open stream that may go out in a frame of at most `room` bytes, with `fresh` bytes of credit.
     pub(crate) fn next_chunk(&self, stream: StreamId, room: usize, fresh: u64) -> Option<Chunk>
         requires { is_some (lookup self.now.sends stream) ≡ true }
         ensures { (s : Sending) × HasSending self.now stream s × ChunkFound s room fresh result }
@@ -47,7 +45,6 @@ impl Outbox {
         half.next_chunk(room, fresh)
     }
 
-    /// Whether bytes of an open stream that were never sent may go by its own limit.
     pub(crate) fn has_unsent(&self, stream: StreamId) -> bool
         requires { is_some (lookup self.now.sends stream) ≡ true }
         ensures { (s : Sending) × HasSending self.now stream s × (result ≡ has_unsent s.lane) }
@@ -58,7 +55,6 @@ impl Outbox {
         half.has_unsent()
     }
 
-    /// Whether the room alone holds a chunk of an open stream back.
     pub(crate) fn is_held_by_room(&self, stream: StreamId, room: usize, fresh: u64) -> bool
         requires { is_some (lookup self.now.sends stream) ≡ true }
         ensures { (s : Sending) × HasSending self.now stream s × (IsTrue result ↔ IsHeldByRoom s room fresh) }
@@ -69,7 +65,6 @@ impl Outbox {
         half.is_held_by_room(room, fresh)
     }
 
-    /// The bytes of a chunk that is still in the buffer, in two pieces.
     pub(crate) fn bytes(&self, stream: StreamId, chunk: Chunk) -> (&[u8], &[u8])
         requires open { is_some (lookup self.now.sends stream) ≡ true }
         requires kept { HasBytes (or_none (lookup self.now.sends stream)) chunk }
@@ -79,7 +74,6 @@ impl Outbox {
         half_of(&self.types, stream).bytes(chunk)
     }
 
-    /// The chunk stands in the packet in the making.
     pub(crate) fn put_chunk(&mut self, stream: StreamId, chunk: Chunk) -> Sent
         requires spare { 0 < self.old.spare }
         requires due { (s : Sending) × HasSending self.old stream s × IsDueChunk s chunk }
@@ -98,7 +92,7 @@ impl Outbox {
         sent
     }
 
-    /// The item stands in the packet in the making. No outstanding packet told it with this value.
+    /// No outstanding packet has it with this value, so it is new.
     pub(crate) fn put_item(&mut self, item: Item)
         requires spare { 0 < self.old.spare }
         requires may { MayTell self.old.sends item }
@@ -111,21 +105,18 @@ impl Outbox {
         self.spare -= 1;
     }
 
-    /// The stream of the last STREAM frame in the packet in the making, if it has one (RFC 9000, section 19.8).
     pub(crate) fn last_stream(&self) -> Option<StreamId>
         ensures { result ≡ last_data None (pieces_at self.now.outstanding self.now.next) }
     {
         last_data(&self.pending)
     }
 
-    /// Whether the packet in the making has a piece.
     pub(crate) fn has_piece(&self) -> bool
         ensures { result ≡ is_some (fmap.get self.now.outstanding self.now.next) }
     {
         self.pending.len() > 0
     }
 
-    /// The packet is made, and the next one has the next number.
     pub(crate) fn commit(&mut self)
         requires { self.old.next ≤ MAX_VARINT }
         ensures after { self.new ≡ record self.old { next = self.old.next + 1; spare = 0 } }
@@ -142,7 +133,7 @@ impl Outbox {
     }
 }
 
-// That a STREAM_DATA_BLOCKED was sent is marked in its half.
+// The half's state depends on it (RFC 9000, section 3.1).
 fn note_told(types: &mut [SendLanes; 4], item: &Item)
     ensures len { length types.new ≡ 4 }
     ensures after { tables_of types.new ≡ halves_told item.now (tables_of types.old) }
@@ -162,7 +153,6 @@ fn note_blocked(types: &mut [SendLanes; 4], stream: StreamId)
     }
 }
 
-// The pieces of the packet in the making are kept, where it has some, and none is left in the making. It takes no memory.
 #[inline(always)]
 fn put_pieces(records: &mut Records, number: u64, pending: &mut Vec<Piece>, room: &mut PieceRoom)
     requires ready { 0 < length pending.old.items → number < records.old.room }
@@ -179,7 +169,7 @@ fn put_pieces(records: &mut Records, number: u64, pending: &mut Vec<Piece>, room
     }
 }
 
-// The stream of the last chunk among the pieces: mostly the last piece, as the items go in first.
+// Mostly the last piece, as control frames go in first.
 fn last_data(pieces: &[Piece]) -> Option<StreamId>
     ensures { result ≡ last_data None pieces.now }
 {
@@ -189,7 +179,6 @@ fn last_data(pieces: &[Piece]) -> Option<StreamId>
     last_looked_for(pieces)
 }
 
-// The same by a look at each piece.
 #[inline(never)]
 fn last_looked_for(pieces: &[Piece]) -> Option<StreamId>
     ensures { result ≡ last_data None pieces.now }
@@ -203,7 +192,6 @@ fn last_looked_for(pieces: &[Piece]) -> Option<StreamId>
     last
 }
 
-// One piece more, for which there is memory.
 #[inline(always)]
 fn hold(pending: &mut Vec<Piece>, piece: Piece)
     requires { vec_len pending.old < vec_capacity pending.old }

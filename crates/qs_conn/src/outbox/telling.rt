@@ -1,4 +1,3 @@
-//! What an end has to tell of its sending side.
 ghost use Rattle.std.specs.Prelude.{nat_lt, ◌-◌, ◌≡◌, ◌≤◌, ◌<◌, ◌^◌, ◌↔◌, ◌||◌, IsTrue, ℕ, length, IfSome, IfNone, option_map, true, false};
 ghost use Rattle.qs_ranges.specs.Numbers.{MAX_VARINT};
 ghost use Rattle.qs_send.specs.declared.piece.Piece.TheVariants as pieces;
@@ -24,7 +23,6 @@ use qs_send::{Item, MAX_VARINT, Reset, SendState, SendView};
 use qs_wire::StreamId;
 
 impl Outbox {
-    /// Whether an acknowledged packet told the item with this value.
     pub(crate) fn is_acked(&self, item: Item) -> bool
         ensures { IsTrue result ↔ IsAckedOut self.now item }
     {
@@ -34,7 +32,6 @@ impl Outbox {
         self.told.is_acked(item)
     }
 
-    /// Whether the reset of a stream was acknowledged.
     pub(crate) fn is_reset_acked(&self, stream: StreamId) -> bool
         ensures { IsTrue result ↔ IsAckedReset (lookup self.now.sends stream) }
     {
@@ -44,7 +41,7 @@ impl Outbox {
         matches!(half.state(), SendState::ResetRecvd)
     }
 
-    /// The reset of a stream. A frame can tell it.
+    /// With values that a frame can carry, so that the writer below can't fail.
     pub(crate) fn reset_of(&self, stream: StreamId) -> Option<Reset>
         ensures value { result ≡ (or_none (lookup self.now.sends stream)).was_reset }
         ensures small { IfSome result (λ r. (r.code ≤ MAX_VARINT) × (r.size ≤ MAX_VARINT)) }
@@ -53,7 +50,7 @@ impl Outbox {
         reset_by(half.reset_code(), half.final_size())
     }
 
-    /// The limit at which a stream is blocked. A frame can tell it.
+    /// With a value that a frame can carry.
     pub(crate) fn blocked_at(&self, stream: StreamId) -> Option<u64>
         ensures found { IfSome result (IsBlockedAt (lookup self.now.sends stream)) }
         ensures none { IfNone result ((m : ℕ) → IsBlockedAt (lookup self.now.sends stream) m → ⊥) }
@@ -73,7 +70,6 @@ impl Outbox {
         Some(limit)
     }
 
-    /// The limit of an open stream.
     pub(crate) fn limit_of(&self, stream: StreamId) -> Option<u64>
         ensures { result ≡ option_map (λ l. l.limit) (lookup self.now.sends stream) }
     {
@@ -81,7 +77,6 @@ impl Outbox {
         Some(half.limit())
     }
 
-    /// Whether a MAX_STREAM_DATA of this limit would raise that of an open stream.
     pub(crate) fn limit_rises(&self, stream: StreamId, limit: u64) -> bool
         ensures { result ≡ half_changes (λ l. nat_lt l.limit limit) (lookup self.now.sends stream) }
     {
@@ -91,7 +86,6 @@ impl Outbox {
         half.limit() < limit
     }
 
-    /// Whether a STOP_SENDING, which the owner answers or not, would change an open stream.
     pub(crate) fn stop_changes(&self, stream: StreamId, owner_answers: bool) -> bool
         ensures { result ≡ half_changes (changes_by_stop owner_answers) (lookup self.now.sends stream) }
     {
@@ -101,7 +95,6 @@ impl Outbox {
         changed_by_stop(&half, owner_answers)
     }
 
-    /// Whether a stream has bytes that only the connection's credit holds back.
     pub(crate) fn wants_more(&self, stream: StreamId) -> bool
         ensures { IsTrue result ↔ WantsMore (lookup self.now.sends stream) }
     {
@@ -114,7 +107,7 @@ impl Outbox {
         half.sent_end() < half.written().min(half.limit())
     }
 
-    /// Whether bytes of a stream weren't sent, and its limit alone holds them back, or that of the connection, where that is used up.
+    /// Its limit alone, or the connection's if that is used up: lost bytes need no credit.
     pub(crate) fn waits_for_credit(&self, stream: StreamId, is_used_up: bool) -> bool
         ensures { result ≡ waits_for_credit is_used_up (lookup self.now.sends stream) }
     {
@@ -130,7 +123,6 @@ impl Outbox {
         either(half.sent_end() == half.limit(), is_used_up)
     }
 
-    /// How many bytes a stream has room for now, however many are written.
     pub(crate) fn room(&self, stream: StreamId) -> u64
         ensures { result ≡ buffer_room (lookup self.now.sends stream) }
     {
@@ -143,7 +135,6 @@ impl Outbox {
         (half.room() as u64).min(MAX_VARINT - half.written())
     }
 
-    /// How many bytes more may be written to a stream that its own limit lets go.
     pub(crate) fn limit_left(&self, stream: StreamId) -> u64
         ensures { result ≡ limit_left (or_none (lookup self.now.sends stream)) }
     {
@@ -153,7 +144,6 @@ impl Outbox {
         half.limit().saturating_sub(half.written())
     }
 
-    /// How many bytes of a stream were written that are still to be sent for the first time.
     pub(crate) fn unsent(&self, stream: StreamId) -> u64
         ensures { result ≡ unsent_of (lookup self.now.sends stream) }
     {
@@ -166,7 +156,6 @@ impl Outbox {
         half.written().saturating_sub(half.sent_end())
     }
 
-    /// The lowest offset of a stream that isn't acknowledged.
     pub(crate) fn acked_below(&self, stream: StreamId) -> Option<u64>
         ensures { result ≡ acked_below_of (lookup self.now.sends stream) }
     {
@@ -174,14 +163,12 @@ impl Outbox {
         Some(half.unacked_from())
     }
 
-    /// Whether any stream may have a task.
     pub(crate) fn may_have(&self, task: Task) -> bool
         ensures { result ≡ false → (n : ℕ) → IsQuietAt task self.now n }
     {
         may_have(&self.types, task)
     }
 
-    /// The least number from one on of a stream that may have a task. The streams between have none of it.
     pub(crate) fn next_marked(&self, task: Task, from: u64) -> Option<StreamId>
         requires { from ≤ 2 ^ 62 }
         ensures from { IfSome result (λ n. from ≤ n) }
@@ -194,7 +181,6 @@ impl Outbox {
         least_marked(&self.types, task, from)
     }
 
-    /// The least number from one on of a stream that may be written to.
     pub(crate) fn next_writable(&self, from: u64) -> Option<StreamId>
         requires { from ≤ 2 ^ 62 }
         ensures { IsLeast (IsHeld MayWrite self.now.sends) from result }
@@ -203,7 +189,6 @@ impl Outbox {
         next_with(&self.types, Task::Writable, from)
     }
 
-    /// The least number of a stream that may be written to, of those in `short`.
     pub(crate) fn next_short(&self, short: &ToldStreams) -> Option<StreamId>
         ensures { IsLeast (λ n. IsHeld MayWrite self.now.sends n × (is_told short.now n ≡ true)) 0 result }
     {
@@ -215,7 +200,6 @@ impl Outbox {
         next_sought(&self.types, search, short, 0)
     }
 
-    /// The least number of a stream that may be written to below its limit, of those in `short`.
     pub(crate) fn next_short_funded(&self, short: &ToldStreams) -> Option<StreamId>
         ensures { IsLeast (λ n. IsHeld IsFunded self.now.sends n × (is_told short.now n ≡ true)) 0 result }
     {
@@ -227,7 +211,6 @@ impl Outbox {
         next_sought(&self.types, search, short, 0)
     }
 
-    /// The least number of a stream whose sending half came to its end and wasn't told.
     #[inline(always)]
     pub(crate) fn next_ended_untold(&self, told: &ToldStreams) -> Option<StreamId>
         ensures { IsLeast (λ n. IsHeld HasSent self.now.sends n × (is_told told.now n ≡ false)) 0 result }
@@ -240,7 +223,6 @@ impl Outbox {
         next_sought(&self.types, search, told, 0)
     }
 
-    /// The least number of a stream of which a STOP_SENDING came that wasn't told.
     #[inline(always)]
     pub(crate) fn next_stopped_untold(&self, told: &ToldStreams) -> Option<StreamId>
         ensures { IsLeast (λ n. IsHeld WasStopped self.now.sends n × (is_told told.now n ≡ false)) 0 result }
@@ -253,7 +235,7 @@ impl Outbox {
         next_sought(&self.types, search, told, 0)
     }
 
-    /// The marks of the streams of a type, by index, whose sending half may have come to its end. One without a mark hasn't.
+    /// One without a mark isn't over, so a search passes it.
     pub(crate) fn ended_marks(&self, stream_type: usize) -> &Marks
         requires { stream_type < 4 }
         ensures none { AreEndsMarked HasSent self.now.sends stream_type result.now }
@@ -264,7 +246,7 @@ impl Outbox {
         lanes.ended_marks()
     }
 
-    /// The least number from one on of a stream of which bytes or the end are due, which its own limit lets go.
+    /// Whatever the connection's limit says: that one holds all alike.
     pub(crate) fn next_sendable(&self, from: u64) -> Option<StreamId>
         requires { from ≤ 2 ^ 62 }
         ensures { (e : End) → IsLeast (IsDueOf (with_outgoing self.now e)) from result }
@@ -286,7 +268,6 @@ fn either(a: bool, b: bool) -> bool
     a || b
 }
 
-// A reset, where it has a code.
 fn reset_by(code: Option<u64>, size: Option<u64>) -> Option<Reset>
     requires code { IfSome code (λ n. n ≤ MAX_VARINT) }
     requires size { IfSome size (λ n. n ≤ MAX_VARINT) }
@@ -300,7 +281,6 @@ fn reset_by(code: Option<u64>, size: Option<u64>) -> Option<Reset>
     }
 }
 
-// Whether a STOP_SENDING would change a half.
 fn changed_by_stop(half: &SendView<'_>, owner_answers: bool) -> bool
     ensures { result ≡ changes_by_stop owner_answers half.now.lane }
 {
