@@ -5,7 +5,6 @@ use crate::shim::Vec;
 use crate::proved::qs_ranges::{NoMemory, with_bit};
 use crate::shim::alloc::Global;
 
-/// How many flags a word has.
 pub(crate) const FLAGS_PER_WORD: usize = 64;
 
 /// A flag for each index. A search looks at a word of them at a time.
@@ -15,7 +14,6 @@ pub(crate) struct Bits {
 }
 
 impl Bits {
-    /// No index has a flag.
     #[inline]
     pub(crate) fn new(alloc: Global) -> Self {
         Bits {
@@ -24,7 +22,6 @@ impl Bits {
         }
     }
 
-    /// How many indexes there are.
     #[inline]
     pub(crate) fn len(&self) -> usize {
         self.count
@@ -36,14 +33,12 @@ impl Bits {
         self.words.len()
     }
 
-    /// Makes room for all indexes below a count: the new ones aren't marked.
     #[inline]
     pub(crate) fn open_to(&mut self, count: usize) -> Result<(), NoMemory> {
         if count <= self.count {
             return Ok(());
         }
         let words = count.div_ceil(FLAGS_PER_WORD);
-        // Mostly the last word has room.
         if words <= self.words.len() {
             self.count = count;
             return Ok(());
@@ -57,7 +52,6 @@ impl Bits {
         }
     }
 
-    /// Takes the indexes from a count on away.
     #[inline]
     pub(crate) fn close_to(&mut self, count: usize) {
         if self.count <= count {
@@ -69,14 +63,12 @@ impl Bits {
         self.count = count;
     }
 
-    /// Whether an index is marked.
     #[inline]
     pub(crate) fn has(&self, index: usize) -> bool {
         let word = self.word(index / FLAGS_PER_WORD);
         has_bit(word, index % FLAGS_PER_WORD)
     }
 
-    /// Marks an index, or takes its mark away.
     #[inline]
     pub(crate) fn set(&mut self, index: usize, is_marked: bool) {
         let place = index / FLAGS_PER_WORD;
@@ -123,13 +115,11 @@ impl Row for Left<'_> {
     }
 }
 
-/// Whether a bit of a word is set.
 fn has_bit(word: u64, bit: usize) -> bool {
     debug_assert!(bit < 64);
     (word >> bit) & 1 == 1
 }
 
-/// A word with its bits from one on cleared.
 fn cut_at(word: u64, bit: usize) -> u64 {
     debug_assert!(bit < 64);
     word & ((1 << bit) - 1)

@@ -8,8 +8,9 @@ use crate::proved::qs_send::Item;
 use crate::proved::qs_wire::StreamId;
 use crate::shim::alloc::Global;
 
-/// A mark for each half of which an outstanding packet told the present item of a kind: its stop or its limit, its reset, or that it
-/// stands at its limit. So a packet that is filled needs no search among all that is outstanding.
+/// Whether an outstanding packet has the present item of a half: its stop or its limit, its reset, or that it stands at its limit. A bit
+/// for each half and kind, set as the item goes in, and gone with that piece or as the value rises: exact, since values never fall. One
+/// ordered list of all outstanding items moved megabytes for one more on a low stream, with 100,000 in it.
 pub(crate) struct Carried {
     pub stops: Untold,
     pub limits: Untold,
@@ -28,7 +29,7 @@ impl Carried {
         }
     }
 
-    /// Makes room for a stream and all lower ones of its type: the new ones aren't marked. A refusal may leave some room.
+    /// A refusal may leave some room: it is no value.
     #[inline]
     pub(crate) fn open_to(&mut self, stream: StreamId) -> Result<(), NoMemory> {
         self.stops.open_to(stream)?;
@@ -37,7 +38,6 @@ impl Carried {
         self.blocks.open_to(stream)
     }
 
-    /// Whether an outstanding packet told the present item of a kind.
     #[inline]
     pub(crate) fn has(&self, kind: Kind, stream: StreamId) -> bool {
         match kind {
@@ -48,7 +48,7 @@ impl Carried {
         }
     }
 
-    /// The present item of a half is outstanding now, or is so no more. Items of the connection itself aren't noted here.
+    /// Items of the connection itself aren't noted here: they are few enough for a value each.
     #[inline]
     pub(crate) fn set(&mut self, item: &Item, is_carried: bool) {
         match *item {

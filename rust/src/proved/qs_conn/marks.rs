@@ -6,8 +6,8 @@ use crate::proved::qs_conn::told_marks::ToldMarks;
 use crate::proved::qs_ranges::{NoMemory, lowest_bit};
 use crate::shim::alloc::Global;
 
-/// A mark for each index of the streams of one type, and a flag for each word of marks that has one: so a search looks at one word of
-/// flags for 4,096 indexes without a mark, and at none where no index has one.
+/// A mark for each index of the streams of one type, and a flag for each word of marks that has one: so a search looks at one word of flags
+/// for 4,096 indexes without a mark, and at none if no index has one.
 pub(crate) struct Marks {
     marks: Bits,
     // A word without a flag has no mark.
@@ -17,7 +17,6 @@ pub(crate) struct Marks {
 }
 
 impl Marks {
-    /// No index has a mark.
     #[inline]
     pub(crate) fn new(alloc: Global) -> Self {
         Marks {
@@ -33,25 +32,21 @@ impl Marks {
         self.first.is_some()
     }
 
-    /// Whether an index is marked.
     #[inline]
     pub(crate) fn has(&self, index: usize) -> bool {
         self.marks.has(index)
     }
 
-    /// How many indexes there are.
     #[inline]
     pub(crate) fn len(&self) -> usize {
         self.marks.len()
     }
 
-    /// The bits of the marks.
     #[inline]
     pub(crate) fn bits(&self) -> &Bits {
         &self.marks
     }
 
-    /// Makes room for all indexes below a count: the new ones aren't marked.
     #[inline]
     pub(crate) fn open_to(&mut self, count: usize) -> Result<(), NoMemory> {
         // More words than there are marks for sum up the same marks.
@@ -59,7 +54,6 @@ impl Marks {
         self.marks.open_to(count)
     }
 
-    /// Makes room for all indexes below a count: the new ones are marked.
     #[inline]
     pub(crate) fn open_marked_to(&mut self, count: usize) -> Result<(), NoMemory> {
         let before = self.len();
@@ -71,14 +65,12 @@ impl Marks {
         Ok(())
     }
 
-    /// Takes the indexes from a count on away.
     #[inline]
     pub(crate) fn close_to(&mut self, count: usize) {
         self.marks.close_to(count);
         self.first = least_from(0, &self.marks, &self.words);
     }
 
-    /// Marks an index, or takes its mark away.
     #[inline(always)]
     pub(crate) fn set(&mut self, index: usize, is_marked: bool) {
         // Most marks stay as they are.
@@ -88,7 +80,7 @@ impl Marks {
         self.turn(index, is_marked);
     }
 
-    // The same, where that changes it. It stands apart, so that where it doesn't a caller pays for the look at the mark alone.
+    // Apart, so that a caller that changes nothing pays for one look at the mark.
     #[inline(never)]
     fn turn(&mut self, index: usize, mark: bool) {
         self.marks.set(index, mark);
@@ -101,7 +93,6 @@ impl Marks {
         }
     }
 
-    /// The least marked index from an index on.
     #[inline]
     pub(crate) fn next(&self, from: usize) -> Option<usize> {
         match self.first {
@@ -110,7 +101,6 @@ impl Marks {
         }
     }
 
-    /// The least index from one on that is marked here and there.
     #[inline]
     pub(crate) fn next_both(&self, others: &Marks, from: usize) -> Option<usize> {
         let summary = Both {
@@ -124,7 +114,7 @@ impl Marks {
         search(from, self.marks.words(), &summary, &row)
     }
 
-    /// The least index from one on that is marked here and there and wasn't told. Where only these marks count, they are both.
+    /// If only these marks count, they are both, so that one search serves all.
     #[inline]
     pub(crate) fn next_untold(&self, others: &Marks, told: &ToldMarks, from: usize) -> Option<usize> {
         let first = self.first?;
@@ -193,7 +183,6 @@ fn next_word<S: Row>(from: usize, words: usize, summary: &S) -> usize {
     from.max(words)
 }
 
-/// The lesser of two numbers, where there are some.
 #[inline]
 pub(crate) fn least(a: Option<u64>, b: Option<u64>) -> Option<u64> {
     match (a, b) {

@@ -1,5 +1,4 @@
 // Made from crates/qs_conn/src/outbox.rt by rust/erase; not edited by hand.
-//! The sending side of an end.
 use crate::shim::Vec;
 
 use crate::proved::qs_conn::piece_room::PieceRoom;
@@ -20,20 +19,18 @@ mod telling;
 
 pub(crate) use acks::KeptPacket;
 
-/// What an end sends: its sending halves, what its packets carried, and what was acknowledged of them.
+/// The sending halves, what packets carried, and what was acknowledged of them. Apart from the receiving halves: a packet in the making
+/// changes these and reads those, a frame with data the other way round, and each borrows what it needs of the two.
 pub(crate) struct Outbox {
-    // Its sending halves, of each of the four types of streams in the order of their bits.
+    // In the order of the two lowest bits of a stream's number.
     types: [SendLanes; 4],
-    // The sum of all sent ends.
     sent: u64,
     records: Records,
-    // What the packets carried that were declared lost.
+    // For late ACKs.
     lost: LostRecords,
-    // The pieces of the packet in the making.
     pending: Vec<Piece>,
-    // Memory in which they will be kept.
     room: PieceRoom,
-    // For how many more pieces there is memory.
+    // Taken before the packet is filled, so that a refusal changes nothing.
     spare: usize,
     next: u64,
     told: ToldItems,
@@ -60,7 +57,6 @@ impl Outbox {
         }
     }
 
-    /// Whether the stream has a sending half.
     #[inline]
     pub(crate) fn is_open(&self, stream: StreamId) -> bool {
         is_open(&self.types, stream)
@@ -76,13 +72,11 @@ impl Outbox {
         Some(half)
     }
 
-    /// How many streams of the type of this one are open.
     #[inline]
     pub(crate) fn count(&self, stream: StreamId) -> usize {
         self.count_of(type_of(stream))
     }
 
-    /// How many streams of a type are open.
     #[inline]
     pub(crate) fn count_of(&self, stream_type: usize) -> usize {
         debug_assert!(stream_type < 4);
@@ -124,13 +118,11 @@ impl Outbox {
         self.spare
     }
 
-    /// The sum of all sent ends.
     #[inline]
     pub(crate) fn sent_sum(&self) -> u64 {
         self.sent
     }
 
-    /// How many bytes of all streams were written that are still to be sent for the first time. A sum that is no u64 is the greatest one.
     #[inline]
     pub(crate) fn unsent_sum(&self) -> u64 {
         let bidi = self.types[0].promised() + self.types[1].promised();
@@ -142,7 +134,6 @@ impl Outbox {
         unsent as u64
     }
 
-    /// How many bytes of all streams are kept until they are acknowledged. A sum that is no u64 is the greatest one.
     #[inline]
     pub(crate) fn kept_sum(&self) -> u64 {
         let bidi = self.types[0].kept() + self.types[1].kept();
@@ -154,7 +145,6 @@ impl Outbox {
         kept as u64
     }
 
-    /// What the buffers of all streams take, in bytes, by a walk over them. A sum that is no u64 is the greatest one.
     #[inline]
     pub(crate) fn held(&self) -> u64 {
         let bidi = self.types[0].held().saturating_add(self.types[1].held());
@@ -162,7 +152,6 @@ impl Outbox {
         bidi.saturating_add(uni)
     }
 
-    /// Opens a stream and all lower ones of its type.
     #[inline]
     pub(crate) fn open_to(
         &mut self,
@@ -175,35 +164,32 @@ impl Outbox {
         lanes.open_to(type_of(stream) as u64, limit, buffer, index_of(stream) + 1)
     }
 
-    /// Takes the memory for the sending halves of a stream and of all lower ones of its type, and opens none.
+    /// Opens none: several streams may open at once, and a refusal of any is to change nothing.
     #[inline]
     pub(crate) fn reserve(&mut self, stream: StreamId) -> Result<(), NoMemory> {
         let lanes = &mut self.types[type_of(stream)];
         lanes.reserve_to(index_of(stream) + 1)
     }
 
-    /// Takes the streams of the type of this one from a count on away. Nothing of them was sent or is to be sent, and they keep nothing.
+    /// An opening is undone: nothing of these streams was sent or is to be sent, and they keep nothing.
     #[inline]
     pub(crate) fn close_to(&mut self, stream: StreamId, count: usize) {
         let lanes = &mut self.types[type_of(stream)];
         lanes.close_to(count);
     }
 
-    /// Accepts bytes at an open stream, as many as there is room for; or changes nothing.
     #[inline]
     pub(crate) fn write(&mut self, stream: StreamId, bytes: &[u8]) -> Result<usize, SendFault> {
         let lanes = &mut self.types[type_of(stream)];
         lanes.write(index_of(stream), bytes)
     }
 
-    /// Asks for the end of an open stream.
     #[inline]
     pub(crate) fn finish(&mut self, stream: StreamId) -> Result<(), SendFault> {
         let lanes = &mut self.types[type_of(stream)];
         lanes.finish(index_of(stream))
     }
 
-    /// Breaks an open stream off.
     #[inline]
     pub(crate) fn reset(&mut self, stream: StreamId, code: u64) -> Result<(), SendFault> {
         debug_assert!(code <= 0x3fff_ffff_ffff_ffff);
@@ -211,7 +197,6 @@ impl Outbox {
         lanes.reset(index_of(stream), code)
     }
 
-    /// Takes in a STOP_SENDING of an open stream, which the owner answers or not.
     #[inline]
     pub(crate) fn stopped(&mut self, stream: StreamId, code: u64, owner_answers: bool) {
         debug_assert!(code <= 0x3fff_ffff_ffff_ffff);
@@ -219,21 +204,18 @@ impl Outbox {
         lanes.stopped(index_of(stream), code, owner_answers);
     }
 
-    /// The code of the first STOP_SENDING that came of a stream.
     #[inline]
     pub(crate) fn stop_code(&self, stream: StreamId) -> Option<u64> {
         let half = self.half(stream)?;
         half.stop_code()
     }
 
-    /// Sets how many bytes an open stream keeps at most.
     #[inline]
     pub(crate) fn set_buffer(&mut self, stream: StreamId, size: u32) {
         let lanes = &mut self.types[type_of(stream)];
         lanes.set_buffer(index_of(stream), size);
     }
 
-    /// Takes in that the peer allows the offsets of an open stream below a limit.
     #[inline]
     pub(crate) fn allow(&mut self, stream: StreamId, limit: u64) {
         debug_assert!(limit <= 0x3fff_ffff_ffff_ffff);

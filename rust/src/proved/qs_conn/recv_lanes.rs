@@ -1,5 +1,4 @@
 // Made from crates/qs_conn/src/recv_lanes.rt by rust/erase; not edited by hand.
-//! The receiving halves of the streams of one type.
 use crate::shim::Vec;
 
 use crate::proved::qs_conn::marks::Marks;
@@ -15,15 +14,15 @@ use crate::shim::alloc::Global;
 
 pub(crate) type Half = RecvHalf<RingAssembly>;
 
-/// The receiving halves of the streams of one type, by index.
+/// A vector of records of 24 bytes: a half is found by one look, and one more at its box. A table of slots, as sending halves have it,
+/// would cost a half that stores bytes a third look at each call.
 pub(crate) struct RecvLanes {
     alloc: Global,
     halves: Vec<Half>,
     // Modulo 2^64: whoever asks for the sums knows that they fit.
     tally: Tally,
-    // A lane that wasn't touched has no limit that is to be raised.
+    // Limits are raised for these alone, as each call ends.
     touched: Touches,
-    // Which lanes have an answer for their owner.
     news: RecvMarks,
 }
 
@@ -44,13 +43,11 @@ impl RecvLanes {
         }
     }
 
-    /// How many lanes are open.
     #[inline]
     pub(crate) fn len(&self) -> usize {
         self.halves.len()
     }
 
-    /// A lane, where it is open.
     #[inline(always)]
     pub(crate) fn half(&self, index: usize) -> Option<&Half> {
         self.halves.get(index)
@@ -62,13 +59,12 @@ impl RecvLanes {
         self.tally
     }
 
-    /// What the rings of all lanes take, in bytes, by a walk over them.
+    /// By a walk: a sum would have to be kept at each call.
     #[inline]
     pub(crate) fn held(&self) -> u64 {
         held_of(&self.halves)
     }
 
-    /// Whether a reset may be taken at an index, whose lane may have yet to be opened.
     #[inline]
     pub(crate) fn check_reset(
         &self,
@@ -85,7 +81,6 @@ impl RecvLanes {
         }
     }
 
-    /// Opens the lanes of all indexes below a count.
     #[inline]
     pub(crate) fn open_to(
         &mut self,
@@ -116,7 +111,7 @@ impl RecvLanes {
         Ok(())
     }
 
-    /// Takes the memory for the lanes of all indexes below a count, and opens none.
+    /// Opens none, so that a refusal of several streams' memory changes nothing.
     #[inline]
     pub(crate) fn reserve_to(&mut self, count: usize) -> Result<(), NoMemory> {
         let missing = count.saturating_sub(self.halves.len());
@@ -124,7 +119,6 @@ impl RecvLanes {
         Ok(())
     }
 
-    /// Takes the lanes from a count on away, which nothing came for.
     #[inline]
     pub(crate) fn close_to(&mut self, count: usize) {
         self.halves.truncate(count);
@@ -151,14 +145,13 @@ impl RecvLanes {
         answer
     }
 
-    /// Whether a reader of an open lane may be told something. It looks at marks alone.
+    /// By marks alone, so that a read of a stream without news costs no more.
     #[inline]
     pub(crate) fn may_tell(&self, index: usize) -> bool {
         self.news.may_tell(index)
     }
 
-    /// Each limit becomes the next one, and a stream whose limit rises is marked: the new one is untold, and none that is outstanding is
-    /// the present one. Only lanes that were touched are looked at.
+    /// Only lanes that were touched are looked at. A stream whose limit rises is marked: the new one is in no packet yet.
     #[inline]
     pub(crate) fn raise_all(
         &mut self,
@@ -179,13 +172,12 @@ impl RecvLanes {
         );
     }
 
-    /// The marks of the lanes that may have come to their end. One without a mark hasn't.
+    /// One without a mark isn't over, so a search passes it.
     #[inline]
     pub(crate) fn ended_marks(&self) -> &Marks {
         self.news.ended()
     }
 
-    /// The least index from one on whose lane has an answer for its owner.
     #[inline]
     pub(crate) fn next_with(&self, task: RecvTask, from: usize) -> Option<usize> {
         self.news.next(task, from)
@@ -193,20 +185,17 @@ impl RecvLanes {
 }
 
 impl RecvLanes {
-    /// Whether any lane may have an answer for its owner.
     #[inline(always)]
     pub(crate) fn may_have(&self, task: RecvTask) -> bool {
         self.news.may_have(task)
     }
 
-    /// The least index whose lane has an answer for its owner that wasn't told.
     #[inline(never)]
     pub(crate) fn next_untold(&self, task: RecvTask, told: &ToldMarks) -> Option<usize> {
         self.news.next_untold(task, told, 0)
     }
 }
 
-// One lane more.
 fn open_one(
     halves: &mut Vec<Half>,
     alloc: Global,
@@ -220,7 +209,6 @@ fn open_one(
     Ok(())
 }
 
-// What a half adds to the sums.
 fn measure(half: &Half) -> Tally {
     let sizes = half.sizes();
     Tally {
@@ -231,7 +219,6 @@ fn measure(half: &Half) -> Tally {
     }
 }
 
-// What the rings of some halves take. A sum that is no u64 is the greatest one.
 fn held_of(halves: &[Half]) -> u64 {
     let mut held: u64 = 0;
     for index in 0..halves.len() {
@@ -254,8 +241,7 @@ fn moved(total: Tally, was: Tally, is: Tally) -> Tally {
     }
 }
 
-// Each lane that was touched gets the next limit, and none is touched any more. It stands apart, so that where none was a caller pays for
-// the look at that alone.
+// Apart, so that a call that touched nothing pays for one look.
 #[inline(never)]
 fn raise_touched(
     halves: &mut Vec<Half>,

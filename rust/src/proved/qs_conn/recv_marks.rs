@@ -1,22 +1,16 @@
 // Made from crates/qs_conn/src/recv_marks.rt by rust/erase; not edited by hand.
-//! Which receiving halves of one type wait for their owner, and which are over.
-
 use crate::proved::qs_conn::marks::Marks;
 use crate::proved::qs_conn::told_marks::ToldMarks;
 use crate::proved::qs_ranges::NoMemory;
 use crate::proved::qs_recv::{RecvHalf, RingAssembly};
 use crate::shim::alloc::Global;
 
-/// What an owner may want to know of a receiving half.
 #[derive(Clone, Copy)]
 pub(crate) enum RecvTask {
-    /// A read of one byte tells something new.
     Readable,
-    /// It came to its end: Data Read or Reset Read.
     Ended,
 }
 
-/// The halves of one type with an answer for their owner, for each task.
 pub(crate) struct RecvMarks {
     readable: Marks,
     ended: Marks,
@@ -31,7 +25,6 @@ impl RecvMarks {
         }
     }
 
-    /// Makes room for all indexes below a count: the new ones have no mark.
     #[inline]
     pub(crate) fn open_to(&mut self, count: usize) -> Result<(), NoMemory> {
         let readable = self.readable.len();
@@ -43,14 +36,12 @@ impl RecvMarks {
         Ok(())
     }
 
-    /// Takes the indexes from a count on away.
     #[inline]
     pub(crate) fn close_to(&mut self, count: usize) {
         self.readable.close_to(count);
         self.ended.close_to(count);
     }
 
-    /// Looks again at a half that changed.
     #[inline]
     pub(crate) fn look(&mut self, index: usize, half: &RecvHalf<RingAssembly>) {
         let standing = half.standing();
@@ -58,19 +49,16 @@ impl RecvMarks {
         self.ended.set(index, standing.has_ended);
     }
 
-    /// Whether a half may have an answer of any kind.
     #[inline]
     pub(crate) fn may_tell(&self, index: usize) -> bool {
         self.readable.has(index) || self.ended.has(index)
     }
 
-    /// The marks of those that came to their end.
     #[inline]
     pub(crate) fn ended(&self) -> &Marks {
         &self.ended
     }
 
-    /// Whether any index may be marked.
     #[inline(always)]
     pub(crate) fn may_have(&self, task: RecvTask) -> bool {
         match task {
@@ -79,7 +67,6 @@ impl RecvMarks {
         }
     }
 
-    /// The least marked index from one on.
     #[inline]
     pub(crate) fn next(&self, task: RecvTask, from: usize) -> Option<usize> {
         match task {
@@ -88,7 +75,6 @@ impl RecvMarks {
         }
     }
 
-    /// The least marked index from one on that wasn't told.
     #[inline]
     pub(crate) fn next_untold(&self, task: RecvTask, told: &ToldMarks, from: usize) -> Option<usize> {
         match task {

@@ -1,6 +1,4 @@
 // Made from crates/qs_conn/src/recv_tables.rt by rust/erase; not edited by hand.
-//! The receiving halves of an end.
-
 use crate::proved::qs_conn::marks::Marks;
 use crate::proved::qs_conn::places::{Place, index_from, index_of, least_stream, type_of};
 use crate::proved::qs_conn::recv_lanes::{Half, RecvLanes};
@@ -14,9 +12,9 @@ use crate::proved::qs_recv::{Highest, Peek, Read, RecvFault, RecvState, Share};
 use crate::proved::qs_wire::StreamId;
 use crate::shim::alloc::Global;
 
-/// The receiving halves of an end, by the type of the stream and by its index.
+/// Apart from the sending halves: a frame with data changes these alone, and a packet in the making reads them.
 pub(crate) struct RecvTables {
-    // Of each of the four types, in the order of their bits.
+    // In the order of the two lowest bits of a stream's number.
     types: [RecvLanes; 4],
 }
 
@@ -33,21 +31,18 @@ impl RecvTables {
         }
     }
 
-    /// Whether the stream has a receiving half.
     #[inline]
     pub(crate) fn is_open(&self, stream: StreamId) -> bool {
         let lanes = &self.types[type_of(stream)];
         index_of(stream) < lanes.len()
     }
 
-    /// The receiving half of a stream, where it is open.
     #[inline]
     pub(crate) fn half(&self, stream: Place) -> Option<&Half> {
         let lanes = &self.types[stream.stream_type];
         lanes.half(stream.index)
     }
 
-    /// Whether a reset may be taken, at a stream that may have yet to be opened with that window.
     #[inline]
     pub(crate) fn check_reset(
         &self,
@@ -62,7 +57,6 @@ impl RecvTables {
         lanes.check_reset(window, index_of(stream), size)
     }
 
-    /// Whether a frame that passed both checks would change an open stream.
     #[inline]
     pub(crate) fn stream_changes(&self, stream: StreamId, offset: u64, len: u64, fin: bool) -> bool {
         let Some(half) = self.half(Place::of(stream)) else {
@@ -71,7 +65,6 @@ impl RecvTables {
         half.stream_changes(offset, len, fin)
     }
 
-    /// Whether a reset that passed the check would change an open stream.
     #[inline]
     pub(crate) fn reset_changes(&self, stream: StreamId) -> bool {
         let Some(half) = self.half(Place::of(stream)) else {
@@ -80,13 +73,11 @@ impl RecvTables {
         matches!(half.state(), RecvState::Recv | RecvState::SizeKnown)
     }
 
-    /// How many streams of the type of this one are open.
     #[inline]
     pub(crate) fn count(&self, stream: StreamId) -> usize {
         self.count_of(type_of(stream))
     }
 
-    /// How many streams of a type are open.
     #[inline]
     pub(crate) fn count_of(&self, stream_type: usize) -> usize {
         debug_assert!(stream_type < 4);
@@ -94,21 +85,18 @@ impl RecvTables {
         lanes.len()
     }
 
-    /// Takes the memory for a stream and all lower ones of its type, and opens none.
     #[inline]
     pub(crate) fn reserve(&mut self, stream: StreamId) -> Result<(), NoMemory> {
         let lanes = &mut self.types[type_of(stream)];
         lanes.reserve_to(index_of(stream) + 1)
     }
 
-    /// Takes the streams of the type of this one from a count on away, which nothing came for.
     #[inline]
     pub(crate) fn close_to(&mut self, stream: StreamId, count: usize) {
         let lanes = &mut self.types[type_of(stream)];
         lanes.close_to(count);
     }
 
-    /// Opens a stream and all lower ones of its type.
     #[inline]
     pub(crate) fn open_to(
         &mut self,
@@ -134,7 +122,6 @@ impl RecvTables {
         lanes.edit(stream.index, into, f)
     }
 
-    /// Takes a frame that passed both checks, at an open stream; or changes nothing.
     #[inline]
     pub(crate) fn take_stream(
         &mut self,
@@ -151,7 +138,6 @@ impl RecvTables {
         }
     }
 
-    /// Takes a reset that passed the check, at an open stream.
     #[inline]
     pub(crate) fn take_reset(&mut self, stream: StreamId, code: u64, size: u64) {
         debug_assert!(size <= 0x3fff_ffff_ffff_ffff);
@@ -160,14 +146,12 @@ impl RecvTables {
         })
     }
 
-    /// Whether a reader of an open stream may be told something. It looks at marks alone.
     #[inline]
     pub(crate) fn may_tell(&self, stream: StreamId) -> bool {
         let lanes = &self.types[type_of(stream)];
         lanes.may_tell(index_of(stream))
     }
 
-    /// Whether a read of one byte of a stream tells something new.
     #[inline]
     pub(crate) fn is_readable(&self, stream: StreamId) -> bool {
         match self.half(Place::of(stream)) {
@@ -176,33 +160,28 @@ impl RecvTables {
         }
     }
 
-    /// Reads at an open stream.
     #[inline]
     pub(crate) fn read(&mut self, stream: StreamId, into: &mut [u8]) -> Read {
         self.edit(Place::of(stream), into, |half, into| half.read(into))
     }
 
-    /// Takes the bytes that are next at an open stream, as a read of so many does, and copies none.
     #[inline]
     pub(crate) fn skip(&mut self, stream: StreamId, most: usize) -> Read {
         self.edit(Place::of(stream), &mut [], |half, _into| half.skip(most))
     }
 
-    /// Tells what a read at an open stream would, and changes nothing.
     #[inline]
     pub(crate) fn peek(&self, stream: StreamId) -> Peek<'_> {
         let half = self.half(Place::of(stream)).unwrap();
         half.peek()
     }
 
-    /// Stops an open stream.
     #[inline]
     pub(crate) fn stop(&mut self, stream: StreamId, code: u64) {
         debug_assert!(code <= 0x3fff_ffff_ffff_ffff);
         self.edit(Place::of(stream), &mut [], |half, _into| half.stop(code))
     }
 
-    /// Stops an open stream, and tells nothing more of it.
     #[inline]
     pub(crate) fn stop_and_forget(&mut self, stream: StreamId, code: u64) {
         debug_assert!(code <= 0x3fff_ffff_ffff_ffff);
@@ -211,7 +190,6 @@ impl RecvTables {
         })
     }
 
-    /// Sets the window of an open stream.
     #[inline]
     pub(crate) fn set_window(&mut self, stream: StreamId, window: u64) {
         debug_assert!(1 <= window);
@@ -221,7 +199,6 @@ impl RecvTables {
         })
     }
 
-    /// Whether a stream's receiving half is in Data Read or Reset Read (RFC 9000, section 3.2).
     #[inline]
     pub(crate) fn has_ended(&self, stream: StreamId) -> bool {
         match self.half(Place::of(stream)) {
@@ -230,7 +207,6 @@ impl RecvTables {
         }
     }
 
-    /// How a stream stands, where it is open.
     #[inline]
     pub(crate) fn report(&self, stream: StreamId) -> Option<RecvReport> {
         let half = self.half(Place::of(stream))?;
@@ -245,21 +221,19 @@ impl RecvTables {
         })
     }
 
-    /// How many bytes of a stream count as taken, where it is open.
     #[inline]
     pub(crate) fn taken(&self, stream: StreamId) -> Option<u64> {
         let half = self.half(Place::of(stream))?;
         Some(half.sizes().taken)
     }
 
-    /// The limit of an open stream.
     #[inline]
     pub(crate) fn limit_of(&self, stream: StreamId) -> Option<u64> {
         let half = self.half(Place::of(stream))?;
         Some(half.limit())
     }
 
-    /// The limit of an open stream of which no final size is known.
+    /// Once a final size is known nobody needs a limit.
     #[inline]
     pub(crate) fn limit_to_tell(&self, stream: StreamId) -> Option<u64> {
         let half = self.half(Place::of(stream))?;
@@ -269,7 +243,7 @@ impl RecvTables {
         }
     }
 
-    /// The code of a stop that the peer is to be told of.
+    /// Only while bytes may still come (RFC 9000, section 3.5).
     #[inline]
     pub(crate) fn stop_to_tell(&self, stream: StreamId) -> Option<u64> {
         let half = self.half(Place::of(stream))?;
@@ -279,7 +253,6 @@ impl RecvTables {
         }
     }
 
-    /// The least number from one on of a stream whose receiving half has an answer for its owner.
     #[inline]
     pub(crate) fn next_with(&self, task: RecvTask, from: u64) -> Option<StreamId> {
         debug_assert!(from <= 1 << 62);
@@ -291,7 +264,6 @@ impl RecvTables {
         )
     }
 
-    // The least such number among the streams of a type.
     fn next_with_of(&self, task: RecvTask, stream_type: usize, from: u64) -> Option<u64> {
         debug_assert!(stream_type < 4);
         debug_assert!(from <= 1 << 62);
@@ -302,7 +274,6 @@ impl RecvTables {
         }
     }
 
-    /// The least number of a stream whose receiving half has an answer for its owner that wasn't told.
     #[inline(always)]
     pub(crate) fn next_untold(&self, task: RecvTask, told: &ToldStreams) -> Option<StreamId> {
         least_stream(
@@ -313,7 +284,6 @@ impl RecvTables {
         )
     }
 
-    // The least such number among the streams of a type.
     #[inline(always)]
     fn next_untold_of(&self, task: RecvTask, stream_type: usize, told: &ToldStreams) -> Option<u64> {
         debug_assert!(stream_type < 4);
@@ -327,7 +297,7 @@ impl RecvTables {
         }
     }
 
-    /// The marks of the streams of a type, by index, whose receiving half may have come to its end. One without a mark hasn't.
+    /// One without a mark isn't over, so a search passes it.
     #[inline]
     pub(crate) fn ended_marks(&self, stream_type: usize) -> &Marks {
         debug_assert!(stream_type < 4);
@@ -335,7 +305,6 @@ impl RecvTables {
         lanes.ended_marks()
     }
 
-    /// The sums over all streams.
     #[inline]
     pub(crate) fn tally(&self) -> Tally {
         sum(
@@ -346,7 +315,6 @@ impl RecvTables {
         )
     }
 
-    /// What the rings of all streams take, in bytes, by a walk over them.
     #[inline]
     pub(crate) fn held(&self) -> u64 {
         let _tally = self.tally();
@@ -355,8 +323,6 @@ impl RecvTables {
         bidi.saturating_add(uni)
     }
 
-    /// Each limit becomes the next one, and a stream whose limit rises is marked: the new one is untold, and none that is outstanding is
-    /// the present one.
     #[inline]
     pub(crate) fn raise_all(&mut self, untold: &mut Untold, carried: &mut Untold) {
         self.types[0].raise_all(0, untold, carried);

@@ -1,6 +1,4 @@
 // Made from crates/qs_conn/src/send_lanes.rt by rust/erase; not edited by hand.
-//! The sending halves of the streams of one type.
-
 use crate::proved::qs_conn::marks::Marks;
 use crate::proved::qs_conn::send_marks::{Moves, Search, SendMarks, Task};
 use crate::proved::qs_conn::told_marks::ToldMarks;
@@ -9,14 +7,11 @@ use crate::proved::qs_send::{Chunk, SendFault, SendHalf, SendHalves, SendState, 
 use crate::proved::qs_wire::StreamId;
 use crate::shim::alloc::Global;
 
-/// What a chunk that was sent does to its half.
 #[derive(Clone, Copy)]
 pub(crate) struct Sent {
-    /// So far it moves the sent end.
     pub(crate) moved: u64,
-    /// Nothing more of the half may go.
     pub(crate) is_done: bool,
-    /// Its own limit holds nothing back.
+    /// Then it needn't be looked at for STREAM_DATA_BLOCKED.
     pub(crate) is_free: bool,
 }
 
@@ -27,20 +22,17 @@ struct Sizes {
     kept: u128,
 }
 
-/// The sending halves of the streams of one type, by index.
 pub(crate) struct SendLanes {
     alloc: Global,
     halves: SendHalves,
-    // How many bytes of all halves were sent or are still to be sent. A sum over 2^60 halves is no u64.
+    // Sums are kept, since a walk over all halves at each call would cost with their count; of 2^60 halves none is a u64.
     promised: u128,
-    // How many bytes of all halves are kept until they are acknowledged.
     kept: u128,
     // The marks tell which halves have a task.
     marks: SendMarks,
 }
 
 impl SendLanes {
-    /// None yet, of a type of streams.
     #[inline]
     pub(crate) fn new(alloc: Global, stream_type: u64) -> Self {
         debug_assert!(stream_type < 4);
@@ -53,13 +45,12 @@ impl SendLanes {
         }
     }
 
-    /// How many halves are open.
     #[inline(always)]
     pub(crate) fn len(&self) -> usize {
         self.halves.len()
     }
 
-    /// What the buffers of all halves take, in bytes, by a walk over them. A sum that is no u64 is the greatest one.
+    /// By a walk, so that no call has a sum more to keep.
     #[inline]
     pub(crate) fn held(&self) -> u64 {
         let mut held: u64 = 0;
@@ -70,25 +61,21 @@ impl SendLanes {
         held
     }
 
-    /// How many bytes of all halves were sent or are still to be sent for the first time.
     #[inline]
     pub(crate) fn promised(&self) -> u128 {
         self.promised
     }
 
-    /// How many bytes of all halves are kept until they are acknowledged.
     #[inline]
     pub(crate) fn kept(&self) -> u128 {
         self.kept
     }
 
-    /// An open half.
     #[inline(always)]
     pub(crate) fn get(&self, index: usize) -> SendView<'_> {
         self.halves.at(index)
     }
 
-    /// Opens the halves of all indexes below a count, in streams of that type.
     #[inline]
     pub(crate) fn open_to(
         &mut self,
@@ -118,14 +105,13 @@ impl SendLanes {
         Ok(())
     }
 
-    /// Takes the memory for the lanes of all indexes below a count, and opens none.
+    /// Opens none, so that a refusal of several streams' memory changes nothing.
     #[inline]
     pub(crate) fn reserve_to(&mut self, count: usize) -> Result<(), NoMemory> {
         let missing = count.saturating_sub(self.halves.len());
         self.halves.reserve(missing)
     }
 
-    /// Takes the halves from a count on away. Nothing of them was sent or is to be sent, and they keep nothing.
     #[inline]
     pub(crate) fn close_to(&mut self, count: usize) {
         self.halves.truncate(count);
@@ -153,10 +139,9 @@ impl SendLanes {
         answer
     }
 
-    /// Accepts bytes at an open half, as many as there is room for; or changes nothing.
     #[inline]
     pub(crate) fn write(&mut self, index: usize, bytes: &[u8]) -> Result<usize, SendFault> {
-        // Of a half without room no more than the refusal is looked at.
+        // A write to a full buffer costs no more than its marks.
         if !self.marks.has(Task::Writable, index) {
             return write_none(&self.halves.at(index));
         }
@@ -168,7 +153,6 @@ impl SendLanes {
         )
     }
 
-    /// Asks for the end of an open half.
     #[inline]
     pub(crate) fn finish(&mut self, index: usize) -> Result<(), SendFault> {
         self.edit(
@@ -179,7 +163,6 @@ impl SendLanes {
         )
     }
 
-    /// Breaks an open half off.
     #[inline]
     pub(crate) fn reset(&mut self, index: usize, code: u64) -> Result<(), SendFault> {
         debug_assert!(code <= 0x3fff_ffff_ffff_ffff);
@@ -191,7 +174,6 @@ impl SendLanes {
         )
     }
 
-    /// Takes in a STOP_SENDING of an open half, which the owner answers or not.
     #[inline]
     pub(crate) fn stopped(&mut self, index: usize, code: u64, owner_answers: bool) {
         debug_assert!(code <= 0x3fff_ffff_ffff_ffff);
@@ -203,7 +185,6 @@ impl SendLanes {
         )
     }
 
-    /// Takes in that the peer allows the offsets of an open half below a limit.
     #[inline]
     pub(crate) fn allow(&mut self, index: usize, limit: u64) {
         debug_assert!(limit <= 0x3fff_ffff_ffff_ffff);
@@ -211,27 +192,23 @@ impl SendLanes {
         look_at(&self.halves, &mut self.marks, index);
     }
 
-    /// Sets how many bytes an open half keeps at most.
     #[inline]
     pub(crate) fn set_buffer(&mut self, index: usize, size: u32) {
         self.halves.set_buffer(index, size);
         look_at(&self.halves, &mut self.marks, index);
     }
 
-    /// Takes in that a STREAM_DATA_BLOCKED was sent.
     #[inline]
     pub(crate) fn note_blocked(&mut self, index: usize) {
         self.halves.note_blocked(index);
         look_at(&self.halves, &mut self.marks, index);
     }
 
-    /// Takes in that the RESET_STREAM is acknowledged.
     #[inline]
     pub(crate) fn reset_acked(&mut self, index: usize) {
         self.edit(index, (), Moves::All, |half| half.reset_acked())
     }
 
-    /// Takes in that a chunk was sent.
     #[inline]
     pub(crate) fn sent(&mut self, index: usize, chunk: Chunk) -> Sent {
         let (moved, is_free) = self.edit(index, (0, false), Moves::Sent, |half| {
@@ -246,7 +223,6 @@ impl SendLanes {
         }
     }
 
-    /// Takes in that a chunk is acknowledged, or changes nothing.
     #[inline]
     pub(crate) fn acked(&mut self, index: usize, chunk: Chunk) -> Result<(), NoMemory> {
         let (answer, ends) = self.edit(index, (Ok(()), false), Moves::Room, |half| {
@@ -259,19 +235,16 @@ impl SendLanes {
         answer
     }
 
-    /// Takes in that a chunk is lost, or changes nothing.
     #[inline]
     pub(crate) fn lost(&mut self, index: usize, chunk: Chunk) -> Result<(), NoMemory> {
         self.edit(index, Ok(()), Moves::All, |half| half.lost(chunk))
     }
 
-    /// Whether any half may have a task.
     #[inline(always)]
     pub(crate) fn may_have(&self, task: Task) -> bool {
         self.marks.may_have(task)
     }
 
-    /// The least index from one on whose half may have a task. The halves between are quiet of it.
     #[inline]
     pub(crate) fn next_marked(&self, task: Task, from: usize) -> Option<usize> {
         if from >= self.halves.len() {
@@ -292,7 +265,6 @@ impl SendLanes {
         self.marks.next(task, from)
     }
 
-    /// The least index from one on whose half is sought.
     #[inline(never)]
     pub(crate) fn next_sought(&self, search: Search, told: &ToldMarks, from: usize) -> Option<usize> {
         self.marks.next_sought(search, told, from)
@@ -314,7 +286,6 @@ fn measure(half: &SendHalf, moves: Moves) -> Sizes {
     }
 }
 
-// How many bytes of a half were sent or are still to be sent for the first time.
 fn promised(half: &SendHalf) -> u128 {
     if let Some(_code) = half.reset_code() {
         return half.sent_end() as u128;
@@ -322,7 +293,6 @@ fn promised(half: &SendHalf) -> u128 {
     half.written() as u128
 }
 
-// How many bytes of a half are kept until they are acknowledged.
 fn kept(half: &SendHalf) -> u128 {
     half.kept_len() as u128
 }
@@ -334,7 +304,6 @@ fn look_at(halves: &SendHalves, marks: &mut SendMarks, index: usize) {
     }
 }
 
-// A STOP_SENDING breaks a half off, or its owner answers it.
 fn take_stop(half: &mut SendHalf, code: u64, owner_answers: bool) {
     debug_assert!(code <= 0x3fff_ffff_ffff_ffff);
     if owner_answers {
@@ -344,7 +313,6 @@ fn take_stop(half: &mut SendHalf, code: u64, owner_answers: bool) {
     }
 }
 
-// A write to a half that has no room: no byte is accepted.
 fn write_none(half: &SendView<'_>) -> Result<usize, SendFault> {
     match half.refusal() {
         Some(fault) => Err(fault),

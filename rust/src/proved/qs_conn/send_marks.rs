@@ -1,26 +1,21 @@
 // Made from crates/qs_conn/src/send_marks.rt by rust/erase; not edited by hand.
-//! Which sending halves of one type have something for a packet, by what it is.
-
 use crate::proved::qs_conn::marks::Marks;
 use crate::proved::qs_conn::told_marks::ToldMarks;
 use crate::proved::qs_ranges::NoMemory;
 use crate::proved::qs_send::{SendHalf, SendState};
 use crate::shim::alloc::Global;
 
-/// What a sending half may have for a packet.
 #[derive(Clone, Copy)]
 pub(crate) enum Task {
-    /// Bytes or the end, as far as the stream's limit lets them go.
+    /// Whatever the connection's limit says: that one holds all alike.
     Bytes,
-    /// Bytes that were sent before, or the end: these take no credit of the connection.
+    /// They take no credit of the connection, so they go when it is used up.
     Again,
-    /// Room for its owner to write.
     Writable,
-    /// The same, below the stream's limit.
+    /// Below the stream's limit: for an application whose writes keep within credit. The connection's limit isn't asked, since marks that
+    /// knew it would move for every stream as it moves.
     Funded,
-    /// Its end: Data Recvd or Reset Recvd.
     Ended,
-    /// A STOP_SENDING that came.
     Stopped,
 }
 
@@ -35,7 +30,6 @@ pub(crate) enum Moves {
     All,
 }
 
-/// What a search looks for: halves that have something of a task, of streams that an owner was told of, or of those that it wasn't.
 #[derive(Clone, Copy)]
 pub(crate) struct Search {
     pub(crate) task: Task,
@@ -105,7 +99,6 @@ impl SendMarks {
         Ok(())
     }
 
-    /// Takes the indexes from a count on away.
     #[inline]
     pub(crate) fn close_to(&mut self, count: usize) {
         self.bytes.close_to(count);
@@ -149,25 +142,21 @@ impl SendMarks {
         self.of(task).has(index)
     }
 
-    /// Whether any index may be marked.
     #[inline(always)]
     pub(crate) fn may_have(&self, task: Task) -> bool {
         self.of(task).may_have()
     }
 
-    /// The marks of those that came to their end.
     #[inline]
     pub(crate) fn ended(&self) -> &Marks {
         &self.ended
     }
 
-    /// The least marked index from one on.
     #[inline(always)]
     pub(crate) fn next(&self, task: Task, from: usize) -> Option<usize> {
         self.of(task).next(from)
     }
 
-    /// The least marked index from one on that is sought.
     #[inline]
     pub(crate) fn next_sought(&self, search: Search, told: &ToldMarks, from: usize) -> Option<usize> {
         let marks = self.of(search.task);
@@ -181,7 +170,6 @@ impl SendMarks {
         marks.next_both(others, from)
     }
 
-    // The marks for a task.
     #[inline(always)]
     fn of(&self, task: Task) -> &Marks {
         match task {
@@ -224,14 +212,13 @@ fn look_end(ended: &mut Marks, index: usize, half: &SendHalf) {
     ended.set(index, has_ended(half));
 }
 
-// Whether its owner may write, and its limit lets what is written go.
 fn is_funded(half: &SendHalf) -> bool {
     half.is_writable() && half.written() < half.limit()
 }
 
 // Whether bytes or the end may go.
 fn may_send(half: &SendHalf) -> bool {
-    // Bytes that were never sent come first: they need no search of what was sent and what of it is acknowledged.
+    // New bytes come first: they need no search of what was sent and what of it is acknowledged.
     if half.has_unsent() {
         return true;
     }
@@ -241,7 +228,6 @@ fn may_send(half: &SendHalf) -> bool {
     is_due_below(half, half.limit())
 }
 
-// Whether bytes that were sent before may go, or the end.
 fn may_send_again(half: &SendHalf) -> bool {
     if half.end_due() && half.sent_end() == half.written() {
         return true;
@@ -258,7 +244,6 @@ fn is_due_below(half: &SendHalf, end: u64) -> bool {
     }
 }
 
-// Whether all that was sent is acknowledged, the end too, or the reset is (RFC 9000, section 3.1).
 fn has_ended(half: &SendHalf) -> bool {
     matches!(half.state(), SendState::DataRecvd | SendState::ResetRecvd)
 }

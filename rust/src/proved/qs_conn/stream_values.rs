@@ -6,7 +6,6 @@ use crate::proved::qs_wire::StreamId;
 use crate::shim::alloc::Global;
 use crate::shim::collections::BTreeMap;
 
-/// The greatest value that was told of each stream, by the stream's number.
 pub(crate) struct StreamValues {
     values: BTreeMap<u64, u64>,
 }
@@ -19,7 +18,6 @@ impl StreamValues {
         }
     }
 
-    /// Keeps the value, where it is greater than the one known.
     #[inline]
     pub(crate) fn raise(&mut self, stream: StreamId, value: u64) -> Result<(), NoMemory> {
         let number = stream.value();
@@ -28,7 +26,6 @@ impl StreamValues {
         Ok(())
     }
 
-    /// Whether this is the greatest value of the stream.
     #[inline]
     pub(crate) fn is_greatest(&self, stream: StreamId, value: u64) -> bool {
         self.values.get(&stream.value()).copied() == Some(value)

@@ -8,7 +8,8 @@ use crate::proved::qs_send::Item;
 use crate::proved::qs_wire::StreamId;
 use crate::shim::alloc::Global;
 
-/// The greatest acknowledged value of each control item. Of a reset the stream's sending half tells it.
+/// The greatest acknowledged value of each control item is enough: no item's value ever falls, so an older one is covered. A reset's is in
+/// its half.
 pub(crate) struct ToldItems {
     max_data: Option<u64>,
     max_stream_data: StreamValues,
@@ -20,7 +21,6 @@ pub(crate) struct ToldItems {
 }
 
 impl ToldItems {
-    /// Nothing was acknowledged. It takes no memory.
     #[inline]
     pub(crate) fn new(alloc: Global) -> Self {
         ToldItems {
@@ -34,7 +34,6 @@ impl ToldItems {
         }
     }
 
-    /// A packet that told the item was acknowledged.
     #[inline]
     pub(crate) fn note(&mut self, item: Item) -> Result<(), NoMemory> {
         match item {
@@ -65,7 +64,6 @@ impl ToldItems {
         }
     }
 
-    /// Whether a packet that told the item with this value was acknowledged, of any item but a reset.
     #[inline]
     pub(crate) fn is_acked(&self, item: Item) -> bool {
         match item {
@@ -85,7 +83,6 @@ impl ToldItems {
     }
 }
 
-// The value, or the one known where that is greater.
 fn greatest(known: Option<u64>, value: u64) -> Option<u64> {
     match known {
         Some(before) => Some(before.max(value)),
@@ -93,7 +90,6 @@ fn greatest(known: Option<u64>, value: u64) -> Option<u64> {
     }
 }
 
-// Adds the stream's number.
 fn add(streams: &mut RangeSet, stream: StreamId) -> Result<(), NoMemory> {
     let number = stream.value();
     streams.insert(number, number + 1)

@@ -1,13 +1,11 @@
 // Made from crates/qs_conn/src/told_marks.rt by rust/erase; not edited by hand.
-//! Which indexes of the streams of one type an owner was told of.
-
 use crate::proved::qs_conn::bits::{Bits, FLAGS_PER_WORD, Row};
 use crate::proved::qs_conn::marks::Marks;
 use crate::proved::qs_ranges::NoMemory;
 use crate::shim::alloc::Global;
 
-/// A mark for each index, and a flag for each word of marks of which every index has one: so a search for what wasn't told passes
-/// 4,096 indexes that were by one look.
+/// A mark for each index, and a flag for each word of marks of which every index has one: so a search for what wasn't reported passes 4,096
+/// that were by one look.
 pub(crate) struct ToldMarks {
     marks: Marks,
     // Each index of a word with a flag is marked.
@@ -17,7 +15,6 @@ pub(crate) struct ToldMarks {
 }
 
 impl ToldMarks {
-    /// Nothing was told.
     #[inline]
     pub(crate) fn new(alloc: Global) -> Self {
         ToldMarks {
@@ -27,33 +24,28 @@ impl ToldMarks {
         }
     }
 
-    /// How many indexes there are.
     #[inline]
     pub(crate) fn len(&self) -> usize {
         self.marks.len()
     }
 
-    /// Whether an index was told: one past the last wasn't.
     #[inline]
     pub(crate) fn has(&self, index: usize) -> bool {
         self.bits().has(index)
     }
 
-    /// Makes room for all indexes below a count: the new ones weren't told. It takes memory where one is new.
     #[inline]
     pub(crate) fn open_to(&mut self, count: usize) -> Result<(), NoMemory> {
         if count <= self.marks.len() {
             return Ok(());
         }
-        // More flags than there are words of marks tell of the same words.
+        // More flags than there are words of marks say the same of the same words.
         self.full.open_to(count.div_ceil(FLAGS_PER_WORD))?;
         self.marks.open_to(count)
     }
 
-    /// An index was told, or may be told again.
     #[inline]
     pub(crate) fn set(&mut self, index: usize, is_marked: bool) {
-        // Most stay as they are.
         if self.marks.has(index) == is_marked {
             return;
         }
@@ -68,13 +60,12 @@ impl ToldMarks {
         }
     }
 
-    /// Whether some index may have been told.
     #[inline(always)]
     pub(crate) fn may_have(&self) -> bool {
         self.marks.may_have()
     }
 
-    /// An index was told: all up to it get room. It takes memory where it is past the last.
+    /// Room up to it: memory is taken only past the last.
     #[inline]
     pub(crate) fn tell(&mut self, index: usize) -> Result<(), NoMemory> {
         debug_assert!(index < 1 << 60);
@@ -83,7 +74,6 @@ impl ToldMarks {
         Ok(())
     }
 
-    /// An index may be told again.
     #[inline]
     pub(crate) fn forget(&mut self, index: usize) {
         if index < self.len() {
@@ -91,19 +81,16 @@ impl ToldMarks {
         }
     }
 
-    /// The marks.
     #[inline]
     pub(crate) fn marks(&self) -> &Marks {
         &self.marks
     }
 
-    /// Their bits.
     #[inline]
     pub(crate) fn bits(&self) -> &Bits {
         self.marks.bits()
     }
 
-    /// The words that were told whole.
     #[inline]
     pub(crate) fn full(&self) -> &Bits {
         &self.full

@@ -5,7 +5,7 @@ use crate::proved::qs_conn::marks::Marks;
 use crate::proved::qs_ranges::NoMemory;
 use crate::shim::alloc::Global;
 
-/// How many lanes were touched: none, one, or those that are marked.
+/// Mostly none or one, which takes no marks.
 #[derive(Clone, Copy)]
 pub(crate) enum Touched {
     Nothing,
@@ -13,15 +13,13 @@ pub(crate) enum Touched {
     Several,
 }
 
-/// The lanes that were touched since limits were raised last. Mostly it is one; where there are more each has a mark, so raising limits
-/// costs what was touched, however many lanes there are.
+/// So raising limits costs what was touched, however many lanes there are.
 pub(crate) struct Touches {
     lanes: Touched,
     marks: Marks,
 }
 
 impl Touches {
-    /// No lane was touched.
     #[inline]
     pub(crate) fn new(alloc: Global) -> Self {
         Touches {
@@ -30,19 +28,16 @@ impl Touches {
         }
     }
 
-    /// Makes room for all indexes below a count: the new ones weren't touched.
     #[inline]
     pub(crate) fn open_to(&mut self, count: usize) -> Result<(), NoMemory> {
         self.marks.open_to(count)
     }
 
-    /// Takes the indexes from a count on away.
     #[inline]
     pub(crate) fn close_to(&mut self, count: usize) {
         self.marks.close_to(count);
     }
 
-    /// Whether no lane was touched.
     #[inline]
     pub(crate) fn is_none(&self) -> bool {
         matches!(self.lanes, Touched::Nothing)
@@ -56,7 +51,6 @@ impl Touches {
         }
     }
 
-    // A lane is touched.
     #[inline]
     fn touch(&mut self, index: usize) {
         match self.lanes {
@@ -73,7 +67,6 @@ impl Touches {
         }
     }
 
-    /// A lane that was touched, which isn't any more; `None` where none is left.
     #[inline]
     pub(crate) fn pop(&mut self) -> Option<usize> {
         match self.lanes {
@@ -86,7 +79,6 @@ impl Touches {
         }
     }
 
-    // The least of several.
     fn pop_marked(&mut self) -> Option<usize> {
         match self.marks.next(0) {
             Some(index) => {

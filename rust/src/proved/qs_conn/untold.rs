@@ -1,6 +1,4 @@
 // Made from crates/qs_conn/src/untold.rt by rust/erase; not edited by hand.
-//! Of which halves of streams a control item may still have to be told.
-
 use crate::proved::qs_conn::marks::Marks;
 use crate::proved::qs_conn::outbox::Outbox;
 use crate::proved::qs_conn::places::{index_from, index_of, least_stream, type_of};
@@ -9,7 +7,6 @@ use crate::proved::qs_send::{Item, Piece};
 use crate::proved::qs_wire::StreamId;
 use crate::shim::alloc::Global;
 
-/// A mark for each stream of one type, by its index.
 struct UntoldLanes {
     marks: Marks,
 }
@@ -47,9 +44,9 @@ impl UntoldLanes {
     }
 }
 
-/// A mark for each receiving half or each sending half, by the type of the stream and by its index. Of a half without a mark all was told.
+/// Of a half without a mark nothing is left to send, so filling a packet searches marks alone.
 pub(crate) struct Untold {
-    // Of each of the four types, in the order of their bits.
+    // In the order of the two lowest bits of a stream's number.
     types: [UntoldLanes; 4],
 }
 
@@ -66,29 +63,25 @@ impl Untold {
         }
     }
 
-    /// Makes room for a stream and all lower ones of its type: the new ones aren't marked.
     #[inline]
     pub(crate) fn open_to(&mut self, stream: StreamId) -> Result<(), NoMemory> {
         let lanes = &mut self.types[type_of(stream)];
         lanes.open_to(index_of(stream) + 1)
     }
 
-    /// Marks a stream that has a place, or takes its mark away.
     #[inline]
     pub(crate) fn set(&mut self, stream: StreamId, is_marked: bool) {
         let lanes = &mut self.types[type_of(stream)];
         lanes.set(index_of(stream), is_marked);
     }
 
-    /// Whether a stream is marked.
     #[inline]
     pub(crate) fn has(&self, stream: StreamId) -> bool {
         let lanes = &self.types[type_of(stream)];
         lanes.has(index_of(stream))
     }
 
-    /// A sending half was written to, or its bytes went into a packet: it is marked where it stands at its limit with more written
-    /// (RFC 9000, section 4.1).
+    /// Marked if it stands at its limit with more written (RFC 9000, section 4.1).
     #[inline(always)]
     pub(crate) fn look_blocked(&mut self, outbox: &Outbox, stream: StreamId) {
         if outbox.blocked_at(stream).is_some() {
@@ -96,7 +89,6 @@ impl Untold {
         }
     }
 
-    /// The least number from one on of a marked stream.
     #[inline]
     pub(crate) fn next(&self, from: u64) -> Option<StreamId> {
         debug_assert!(from <= 1 << 62);
@@ -106,7 +98,7 @@ impl Untold {
         self.least_marked(from)
     }
 
-    // The search. It stands apart, so that where no half has a mark a caller pays for the look above alone.
+    // Apart, so that a caller pays for one look if no half has a mark.
     #[inline(never)]
     fn least_marked(&self, from: u64) -> Option<StreamId> {
         debug_assert!(from <= 1 << 62);
@@ -118,7 +110,6 @@ impl Untold {
         )
     }
 
-    /// Whether any stream may be marked.
     #[inline(always)]
     pub(crate) fn may_have(&self) -> bool {
         if self.types[0].may_have() {
@@ -133,7 +124,6 @@ impl Untold {
         self.types[3].may_have()
     }
 
-    // The least such number among the streams of a type.
     fn next_of(&self, stream_type: usize, from: u64) -> Option<u64> {
         debug_assert!(stream_type < 4);
         debug_assert!(from <= 1 << 62);
@@ -143,7 +133,7 @@ impl Untold {
     }
 }
 
-/// A piece leaves its packet: the half of which it told an item is marked.
+/// The half of which it carried an item is marked: it may be due again.
 #[inline]
 pub(crate) fn look_again(recvs: &mut Untold, sends: &mut Untold, piece: &Piece) {
     match *piece {

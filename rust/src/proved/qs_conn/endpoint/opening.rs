@@ -1,6 +1,4 @@
 // Made from crates/qs_conn/src/endpoint/opening.rt by rust/erase; not edited by hand.
-//! Streams are opened, and given out.
-
 use super::{Endpoint, is_uni, role_bit};
 use crate::proved::qs_conn::outbox::Outbox;
 use crate::proved::qs_conn::recv_tables::RecvTables;
@@ -9,10 +7,9 @@ use crate::proved::qs_ranges::NoMemory;
 use crate::proved::qs_wire::{Dir, StreamId};
 
 impl Endpoint {
-    /// Opens the next stream of that direction, and answers its number.
+    /// Opens the next stream of that direction, and returns its number.
     ///
-    /// Refused: `Closed`; `Blocked` with the peer's count where as many are open; and `NoMemory` where memory was refused, and then
-    /// nothing changed.
+    /// Refused: `Closed`; `Blocked` with the peer's count if as many are open; and `NoMemory`, and then nothing changed.
     #[inline]
     pub fn open(&mut self, dir: Dir) -> Result<StreamId, OpenFault> {
         if self.closed.is_some() {
@@ -34,7 +31,7 @@ impl Endpoint {
         Ok(stream)
     }
 
-    /// Gives out each stream that the peer opened, once: bidirectional ones first, lower numbers first.
+    /// Returns each stream that the peer opened, once: bidirectional ones first, lower numbers first.
     #[inline]
     pub fn accept(&mut self) -> Option<StreamId> {
         match self.accept_of(Dir::Bidi) {
@@ -43,8 +40,8 @@ impl Endpoint {
         }
     }
 
-    /// Gives out each stream of one direction that the peer opened, once: lower numbers first (RFC 9000, section 2.1). What this
-    /// call gave out `accept` doesn't, and the other way round.
+    /// Returns each stream of one direction that the peer opened, once: lower numbers first (RFC 9000, section 2.1). What this call
+    /// returned `accept` doesn't, and the other way round.
     #[inline]
     pub fn accept_of(&mut self, dir: Dir) -> Option<StreamId> {
         if self.closed.is_some() {
@@ -78,7 +75,8 @@ impl Endpoint {
         None
     }
 
-    // A frame that names a stream of the peer opens it (RFC 9000, section 3.2). Memory is asked for only where it isn't open yet.
+    // A frame that names a stream of the peer opens it (RFC 9000, section 3.2). Memory is asked for only if it isn't open yet, so a repeat
+    // needs none.
     #[inline]
     pub(super) fn open_by_peer(&mut self, stream: StreamId) -> Result<(), NoMemory> {
         if self.is_open_here(stream) {
@@ -87,7 +85,6 @@ impl Endpoint {
         self.open_stream(stream)
     }
 
-    // Whether no frame opens the stream: it is this end's own, or open with the halves that it has here.
     fn is_open_here(&self, stream: StreamId) -> bool {
         if self.is_own(stream) {
             return true;
@@ -98,14 +95,14 @@ impl Endpoint {
         is_uni(stream) || self.core.outbox.is_open(stream)
     }
 
-    // Opens a stream and all lower ones of its type, or changes nothing. The memory of halves is taken first: their marks are a few bits
-    // more.
+    // The memory of the halves comes first, for all streams that open, so that a refusal there changes nothing. Their marks come behind: to
+    // take theirs in advance, too, cost a look at each row of marks for each stream.
     fn open_stream(&mut self, stream: StreamId) -> Result<(), NoMemory> {
         self.reserve(stream)?;
         self.open_reserved(stream)
     }
 
-    // The same, where memory was taken. No clause tells that, so a refusal is undone.
+    // No clause says that memory was taken, so a refusal is undone.
     fn open_reserved(&mut self, stream: StreamId) -> Result<(), NoMemory> {
         let (uni, own) = (is_uni(stream), self.is_own(stream));
         let limit = self.first_send_limit(stream);
@@ -138,7 +135,6 @@ impl Endpoint {
         Ok(())
     }
 
-    // Takes the memory that the halves want, so that a refusal of theirs comes before anything changes.
     fn reserve(&mut self, stream: StreamId) -> Result<(), NoMemory> {
         let (uni, own) = (is_uni(stream), self.is_own(stream));
         let (sends, receives) = (!both(uni, !own), !both(uni, own));
@@ -151,18 +147,15 @@ impl Endpoint {
         )
     }
 
-    // That another stream was wanted is noted.
     fn want(&mut self, dir: Dir, count: u64) {
         self.core.limits.wanted_streams.set(dir, Some(count));
     }
 
-    // How many streams of a direction the peer allows.
     #[inline]
     pub(super) fn known_count(&self, dir: Dir) -> u64 {
         self.core.limits.known_streams.of(dir)
     }
 
-    // How many streams of a type are open.
     #[inline]
     pub(super) fn opened_count(&self, stream_type: usize) -> usize {
         debug_assert!(stream_type < 4);
@@ -172,7 +165,6 @@ impl Endpoint {
             .max(self.core.recvs.count_of(stream_type))
     }
 
-    // The type of the streams that this end opens.
     #[inline]
     pub(super) fn own_type(&self, dir: Dir) -> usize {
         match dir {
@@ -181,7 +173,6 @@ impl Endpoint {
         }
     }
 
-    // The type of the streams that the peer opens.
     #[inline]
     pub(super) fn peer_type(&self, dir: Dir) -> usize {
         match dir {
@@ -220,7 +211,6 @@ fn open_recvs(
     recvs.open_to(window, share, stream)
 }
 
-// Takes the memory for those halves of a stream that it has, and opens none.
 fn reserve_halves(
     outbox: &mut Outbox,
     recvs: &mut RecvTables,

@@ -1,6 +1,4 @@
 // Made from crates/qs_conn/src/middle/acking.rt by rust/erase; not edited by hand.
-//! Packets are acknowledged.
-
 use super::Core;
 use crate::proved::qs_conn::newly_told::{Silent, Told};
 use crate::proved::qs_conn::outbox::KeptPacket;
@@ -11,8 +9,8 @@ use crate::proved::qs_send::{AckPass, Item, Piece};
 use crate::proved::qs_wire::{AckRanges, StreamId};
 
 impl Core {
-    /// The packets that an ACK names are acknowledged: the outstanding ones and then the lost ones, each from the highest number down
-    /// (RFC 9000, sections 13.2.1 and 13.3).
+    /// The outstanding packets first and then the lost ones, each from the highest number down, as the ranges come (RFC 9000, sections
+    /// 13.2.1 and 13.3). If memory runs out, some first pieces are acknowledged: the payload may come again and finishes the work.
     #[inline]
     pub(crate) fn ack<T: Told>(
         &mut self,
@@ -25,8 +23,7 @@ impl Core {
         self.ack_all(true, AckRanges::new(largest, ranges), &mut Silent)
     }
 
-    /// The packets from one number on and below another are acknowledged, as by an ACK of them alone: the outstanding ones and then the lost
-    /// ones, each from the highest number down (RFC 9000, section 13.3).
+    /// As by an ACK of these numbers alone, so that tokens are defined by ACKs (RFC 9000, section 13.3).
     #[inline]
     pub(crate) fn ack_range(&mut self, first: u64, end: u64) -> Result<(), NoMemory> {
         let result = self.ack_both(first, end);
@@ -34,7 +31,6 @@ impl Core {
         result
     }
 
-    // The packets of these numbers are acknowledged, those that are outstanding and those that were declared lost.
     fn ack_both(&mut self, first: u64, end: u64) -> Result<(), NoMemory> {
         self.ack_numbers(false, first, end)?;
         if !self.outbox.keeps_lost() {
@@ -43,7 +39,6 @@ impl Core {
         self.ack_numbers(true, first, end)
     }
 
-    // The packets of these numbers are acknowledged, the outstanding ones or the lost ones.
     fn ack_numbers(&mut self, late: bool, first: u64, end: u64) -> Result<(), NoMemory> {
         let mut number = end;
         while number > first {
@@ -53,7 +48,6 @@ impl Core {
         Ok(())
     }
 
-    // The packets that the ranges name are acknowledged in one pass, the outstanding ones or the lost ones.
     fn ack_all<T: Told>(
         &mut self,
         late: bool,
@@ -66,7 +60,6 @@ impl Core {
         result
     }
 
-    // The packets that a pass has ahead are acknowledged.
     fn ack_ahead<T: Told>(
         &mut self,
         late: bool,
@@ -80,7 +73,6 @@ impl Core {
         Ok(())
     }
 
-    // The pieces of a packet are acknowledged, from the first on.
     #[inline(always)]
     fn ack_packet(&mut self, packet: KeptPacket) -> Result<(), NoMemory> {
         while let Some(piece) = self.outbox.first_kept(packet) {
@@ -89,7 +81,7 @@ impl Core {
         Ok(())
     }
 
-    // The first piece of a packet is acknowledged, or nothing changes.
+    // One by one, so that after a refusal each piece is either acknowledged or not.
     #[inline(always)]
     fn ack_piece(&mut self, packet: KeptPacket, piece: Piece) -> Result<(), NoMemory> {
         look_again(&mut self.untold_recvs, &mut self.untold_sends, &piece);
@@ -106,12 +98,11 @@ impl Core {
             return Ok(());
         }
         self.drop_unless(packet, piece);
-        // Of a reset that the peer has nothing is left to tell.
+        // Of a reset that the peer has nothing is left to send.
         self.unmark_told(Kind::ResetStream, stream);
         Ok(())
     }
 
-    // A piece left its packet, if that was outstanding.
     fn drop_unless(&mut self, packet: KeptPacket, piece: Piece) {
         if !packet.late {
             self.drop_carried(&piece);
@@ -119,7 +110,6 @@ impl Core {
     }
 }
 
-// The stream whose sending half changes as a piece is acknowledged.
 fn half_of(piece: &Piece) -> Option<StreamId> {
     match *piece {
         Piece::Data { stream, .. } => Some(stream),

@@ -1,13 +1,11 @@
 // Made from crates/qs_conn/src/middle/carrying.rt by rust/erase; not edited by hand.
-//! Which items of streams are outstanding.
-
 use super::Core;
 use crate::proved::qs_conn::slot::Kind;
 use crate::proved::qs_send::{Item, Piece};
 use crate::proved::qs_wire::StreamId;
 
 impl Core {
-    /// Whether an outstanding or acknowledged packet told a current item.
+    /// Then it isn't due: with this value the peer has it, or will have it.
     #[inline]
     pub(super) fn has_covered(&self, item: &Item) -> bool {
         match *item {
@@ -21,7 +19,7 @@ impl Core {
         }
     }
 
-    // The same of a stream's item: a mark tells whether it is outstanding.
+    // A mark instead of a search through all that is outstanding.
     fn has_told(&self, kind: Kind, stream: StreamId, item: &Item) -> bool {
         if self.carried.has(kind, stream) {
             return true;
@@ -29,7 +27,6 @@ impl Core {
         self.outbox.is_acked(*item)
     }
 
-    /// The present item of a half went into a packet, if that wasn't full.
     #[inline]
     pub(super) fn note_put(&mut self, item: &Item, is_full: bool) {
         if !is_full {
@@ -38,7 +35,7 @@ impl Core {
         }
     }
 
-    /// A piece left its packet: where it was the present item of a half, that is outstanding no more.
+    /// If it was the present item of a half, that is outstanding no more.
     #[inline(always)]
     pub(super) fn drop_carried(&mut self, piece: &Piece) {
         if let Piece::Told(item) = piece {
@@ -49,7 +46,7 @@ impl Core {
         }
     }
 
-    /// The peer allows the offsets of a stream below a limit. Where that rises nothing outstanding tells that the stream stands at it.
+    /// A raised limit makes any STREAM_DATA_BLOCKED in flight obsolete: nothing outstanding says that the stream stands at the new one.
     #[inline]
     pub(crate) fn allow(&mut self, stream: StreamId, limit: u64) {
         debug_assert!(limit <= 0x3fff_ffff_ffff_ffff);
@@ -63,7 +60,7 @@ impl Core {
         }
     }
 
-    /// Sets the window of an open stream. Where its limit rises nothing outstanding tells of that.
+    /// A raised limit isn't in any packet yet.
     #[inline]
     pub(crate) fn set_window(&mut self, stream: StreamId, window: u64) {
         debug_assert!(1 <= window);
@@ -74,7 +71,6 @@ impl Core {
         self.untold_recvs.set(stream, true);
     }
 
-    // The limit of a half was this one.
     fn drop_limit(&mut self, stream: StreamId, was: Option<u64>) {
         let is = self.recvs.limit_of(stream);
         if !is_same(was, is) {
@@ -82,7 +78,7 @@ impl Core {
         }
     }
 
-    // Whether an item has the present value of its half. A stop and a reset keep their value.
+    // A stop and a reset keep their value, so theirs always is.
     fn is_present(&self, item: &Item) -> bool {
         match *item {
             Item::MaxStreamData { stream, maximum } => {
@@ -96,7 +92,6 @@ impl Core {
     }
 }
 
-// Whether two limits are there, and are one.
 fn is_same(a: Option<u64>, b: Option<u64>) -> bool {
     match (a, b) {
         (Some(x), Some(y)) => x == y,

@@ -6,8 +6,8 @@ use crate::proved::qs_conn::slot::{Kind, Slot};
 use crate::proved::qs_wire::StreamId;
 
 impl Core {
-    /// Takes the mark of a stream's half away, the one that has items of this kind, if all was told that it has to tell. Each look at a
-    /// marked half ends so or finds something due, so a half that is due keeps none that follow it marked.
+    /// Takes the mark of a half away if it has nothing left to send. Each look at a marked half ends so or finds something due, so a search
+    /// finds no mark in vain twice.
     #[inline]
     pub(super) fn unmark_told(&mut self, kind: Kind, stream: StreamId) {
         match kind {
@@ -36,7 +36,6 @@ impl Core {
         self.untold_sends.set(stream, false);
     }
 
-    // Whether what is current of a slot was told.
     fn is_idle(&self, slot: Slot) -> bool {
         let Some(item) = self.limits.current(&self.outbox, &self.recvs, slot) else {
             return true;

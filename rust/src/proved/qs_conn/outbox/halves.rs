@@ -8,21 +8,18 @@ use crate::proved::qs_conn::told_streams::ToldStreams;
 use crate::proved::qs_send::SendView;
 use crate::proved::qs_wire::StreamId;
 
-/// Whether the stream has a sending half.
 #[inline(always)]
 pub(super) fn is_open(types: &[SendLanes; 4], stream: StreamId) -> bool {
     let lanes = &types[type_of(stream)];
     index_of(stream) < lanes.len()
 }
 
-/// The half of an open stream.
 #[inline(always)]
 pub(super) fn half_of(types: &[SendLanes; 4], stream: StreamId) -> SendView<'_> {
     let lanes = &types[type_of(stream)];
     lanes.get(index_of(stream))
 }
 
-/// Whether any half may have a task.
 #[inline(always)]
 pub(super) fn may_have(types: &[SendLanes; 4], task: Task) -> bool {
     if types[0].may_have(task) {
@@ -37,8 +34,7 @@ pub(super) fn may_have(types: &[SendLanes; 4], task: Task) -> bool {
     types[3].may_have(task)
 }
 
-/// The least number from one on of a stream that may have a task. The halves of the streams between are quiet of it. It stands apart, so
-/// that where no half has a task a caller pays for the look at that alone.
+/// The halves of the streams between have nothing for it. Apart, so that a caller pays for one look if no half has a mark.
 #[inline(never)]
 pub(super) fn least_marked(types: &[SendLanes; 4], task: Task, from: u64) -> Option<StreamId> {
     debug_assert!(from <= 1 << 62);
@@ -50,7 +46,6 @@ pub(super) fn least_marked(types: &[SendLanes; 4], task: Task, from: u64) -> Opt
     )
 }
 
-// The least such number among the streams of a type.
 #[inline(always)]
 fn next_of(types: &[SendLanes; 4], task: Task, stream_type: usize, from: u64) -> Option<u64> {
     debug_assert!(stream_type < 4);
@@ -63,7 +58,6 @@ fn next_of(types: &[SendLanes; 4], task: Task, stream_type: usize, from: u64) ->
     Some((index * 4 + stream_type) as u64)
 }
 
-/// The least number from one on of a stream whose half has something of a task.
 #[inline]
 pub(super) fn next_with(types: &[SendLanes; 4], task: Task, from: u64) -> Option<StreamId> {
     debug_assert!(from <= 1 << 62);
@@ -75,7 +69,6 @@ pub(super) fn next_with(types: &[SendLanes; 4], task: Task, from: u64) -> Option
     )
 }
 
-// The least such number among the streams of a type.
 fn next_with_of(types: &[SendLanes; 4], task: Task, stream_type: usize, from: u64) -> Option<u64> {
     debug_assert!(stream_type < 4);
     debug_assert!(from <= 1 << 62);
@@ -86,8 +79,7 @@ fn next_with_of(types: &[SendLanes; 4], task: Task, stream_type: usize, from: u6
     }
 }
 
-/// The least number from one on of a stream whose half is sought. Of a type of which no half has the task a caller pays for the look at
-/// that alone.
+/// Of a type of which no half has a mark a caller pays for one look.
 #[inline(always)]
 pub(super) fn next_sought(
     types: &[SendLanes; 4],
@@ -104,7 +96,6 @@ pub(super) fn next_sought(
     )
 }
 
-// The least such number among the streams of a type.
 #[inline(always)]
 fn next_sought_of(
     types: &[SendLanes; 4],

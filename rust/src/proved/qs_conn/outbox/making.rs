@@ -1,5 +1,4 @@
 // Made from crates/qs_conn/src/outbox/making.rt by rust/erase; not edited by hand.
-//! Packets are made.
 use crate::shim::Vec;
 
 use super::Outbox;
@@ -12,7 +11,7 @@ use crate::proved::qs_send::{Chunk, Item, Piece, Records};
 use crate::proved::qs_wire::StreamId;
 
 impl Outbox {
-    /// Makes room for a packet of so many pieces. Nothing else changes.
+    /// Before the packet is filled, so that a refusal changes nothing.
     #[inline(always)]
     pub(crate) fn begin(&mut self, count: usize) -> Result<(), NoMemory> {
         self.records.make_room(self.next)?;
@@ -22,7 +21,6 @@ impl Outbox {
         Ok(())
     }
 
-    /// The longest chunk of an open stream that may go out in a frame of at most `room` bytes, with `fresh` bytes of credit.
     #[inline]
     pub(crate) fn next_chunk(&self, stream: StreamId, room: usize, fresh: u64) -> Option<Chunk> {
         let _next = self.next;
@@ -30,7 +28,6 @@ impl Outbox {
         half.next_chunk(room, fresh)
     }
 
-    /// Whether bytes of an open stream that were never sent may go by its own limit.
     #[inline]
     pub(crate) fn has_unsent(&self, stream: StreamId) -> bool {
         let _next = self.next;
@@ -38,7 +35,6 @@ impl Outbox {
         half.has_unsent()
     }
 
-    /// Whether the room alone holds a chunk of an open stream back.
     #[inline]
     pub(crate) fn is_held_by_room(&self, stream: StreamId, room: usize, fresh: u64) -> bool {
         let _next = self.next;
@@ -46,13 +42,11 @@ impl Outbox {
         half.is_held_by_room(room, fresh)
     }
 
-    /// The bytes of a chunk that is still in the buffer, in two pieces.
     #[inline]
     pub(crate) fn bytes(&self, stream: StreamId, chunk: Chunk) -> (&[u8], &[u8]) {
         half_of(&self.types, stream).bytes(chunk)
     }
 
-    /// The chunk stands in the packet in the making.
     #[inline]
     pub(crate) fn put_chunk(&mut self, stream: StreamId, chunk: Chunk) -> Sent {
         let lanes = &mut self.types[type_of(stream)];
@@ -64,7 +58,7 @@ impl Outbox {
         sent
     }
 
-    /// The item stands in the packet in the making. No outstanding packet told it with this value.
+    /// No outstanding packet has it with this value, so it is new.
     #[inline]
     pub(crate) fn put_item(&mut self, item: Item) {
         let _next = self.next;
@@ -73,19 +67,16 @@ impl Outbox {
         self.spare -= 1;
     }
 
-    /// The stream of the last STREAM frame in the packet in the making, if it has one (RFC 9000, section 19.8).
     #[inline]
     pub(crate) fn last_stream(&self) -> Option<StreamId> {
         last_data(&self.pending)
     }
 
-    /// Whether the packet in the making has a piece.
     #[inline]
     pub(crate) fn has_piece(&self) -> bool {
         self.pending.len() > 0
     }
 
-    /// The packet is made, and the next one has the next number.
     #[inline]
     pub(crate) fn commit(&mut self) {
         put_pieces(
@@ -99,7 +90,7 @@ impl Outbox {
     }
 }
 
-// That a STREAM_DATA_BLOCKED was sent is marked in its half.
+// The half's state depends on it (RFC 9000, section 3.1).
 fn note_told(types: &mut [SendLanes; 4], item: &Item) {
     if let Item::StreamDataBlocked { stream, .. } = *item {
         note_blocked(types, stream);
@@ -113,7 +104,6 @@ fn note_blocked(types: &mut [SendLanes; 4], stream: StreamId) {
     }
 }
 
-// The pieces of the packet in the making are kept, where it has some, and none is left in the making. It takes no memory.
 #[inline(always)]
 fn put_pieces(records: &mut Records, number: u64, pending: &mut Vec<Piece>, room: &mut PieceRoom) {
     if pending.len() > 1 {
@@ -125,7 +115,7 @@ fn put_pieces(records: &mut Records, number: u64, pending: &mut Vec<Piece>, room
     }
 }
 
-// The stream of the last chunk among the pieces: mostly the last piece, as the items go in first.
+// Mostly the last piece, as control frames go in first.
 fn last_data(pieces: &[Piece]) -> Option<StreamId> {
     if let Some(Piece::Data { stream, .. }) = pieces.last() {
         return Some(*stream);
@@ -133,7 +123,6 @@ fn last_data(pieces: &[Piece]) -> Option<StreamId> {
     last_looked_for(pieces)
 }
 
-// The same by a look at each piece.
 #[inline(never)]
 fn last_looked_for(pieces: &[Piece]) -> Option<StreamId> {
     let mut last = None;
@@ -145,7 +134,6 @@ fn last_looked_for(pieces: &[Piece]) -> Option<StreamId> {
     last
 }
 
-// One piece more, for which there is memory.
 #[inline(always)]
 fn hold(pending: &mut Vec<Piece>, piece: Piece) {
     let _ = match piece {
