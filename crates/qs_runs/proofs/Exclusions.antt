@@ -98,8 +98,8 @@ unfolding total
 worlds =
     record {
       credit = λ h agree. (let le : 3 ≤ 0 = agree.credit B in omega arith);
-      client_closed = λ h untold peer agree. none-some _ (sym (agree.stays_open A untold peer));
-      server_closed = λ h untold peer agree. none-some _ (sym (agree.stays_open B untold peer));
+      client_closed = λ h closing untold agree. elim (agree.stays_open A untold) [ inl none ↦ none-some _ (sym none) | inr (told, code, is) ↦ absurd (cc is) ];
+      server_closed = λ h untold peer agree. elim (agree.stays_open B untold) [ inl none ↦ none-some _ (sym none) | inr (told, code, is) ↦ false≢true (sym peer ∙ told) ];
     }
 
 news : NewsIsNotOld

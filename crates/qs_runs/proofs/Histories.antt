@@ -6,7 +6,7 @@ use Rattle.std.proofs.lemmas.Grind.{flat_map-append}
 use Rattle.std.proofs.lemmas.List.{map-append}
 use Rattle.std.proofs.lemmas.List.Folds.{list_any-append}
 use Rattle.std.proofs.lemmas.Option.{none-some, same_Some, slice_get-map}
-use Rattle.std.proofs.lemmas.Bool.{false≢true, true≢false, eqb-true}
+use Rattle.std.proofs.lemmas.Bool.{false≢true, true≢false, eqb-true, or_left}
 use Rattle.qs_wire.specs.Layout.{FrameValue, reset_stream, stop_sending, stream, max_data, max_stream_data, max_streams, data_blocked, stream_data_blocked, streams_blocked, ping}
 use Rattle.qs_wire.specs.Grammar.{Fits, frames_of}
 use Rattle.qs_wire.specs.Reading.{reading_of}
@@ -30,15 +30,13 @@ use Rattle.qs_machine.specs.Plains.{is_plain, frames_in}
 use Rattle.qs_machine.specs.Making.{MakeStep, MakeAt, make_refusal}
 use Rattle.qs_machine.specs.Owner.{Certain, first_refusal, refuse_if}
 use Rattle.qs_machine.specs.Alone.{is_ours, TakeBy, TakeAllBy}
-use Rattle.qs_machine.specs.Receiving.{ReceiveBy, told_receive}
+use Rattle.qs_machine.specs.Receiving.{ReceiveBy}
 use Rattle.qs_calls.specs.declared.closing.Closed.{Closed}
 use Rattle.qs_calls.specs.declared.closing.Closed.TheVariants as closings
-use Rattle.qs_calls.specs.declared.closing.Closer.{Closer}
-use Rattle.qs_calls.specs.declared.closing.Closer.TheVariants.{Us, Peer}
 use Rattle.qs_machine.specs.EndStep.{Call, Answer, EndStep, Write, Stop, StopAndForget, ReadUpTo, Consume, Receive, TakeFrame, TakeFrames, TokenAcked, Make, MakeAck, FillIn, Claim, TellClosed}
 use Rattle.qs_machine.proofs.Pieces.{All_at, All_append}
 use Rattle.qs_machine.proofs.Plains.{differ_covers, differ_turned, close_comes}
-use Rattle.qs_runs.specs.Logs.{Happening, History, Effect, Wrote, Gave, Ended, Stopped, Sent, Came, CameAlone, Acked, ToldClosed, other, same_side, if_ok, read_effects, sent_effects, came_effects, acked_effects, effects_of, effects, wrote_in, gave_in, stops_in, ends_first, sent_in, comes_in, took_in, acks_in, is_in, made, payload, taken, must_land, HasMade, HasLanded}
+use Rattle.qs_runs.specs.Logs.{Happening, History, Effect, Wrote, Gave, Ended, Stopped, Sent, Came, CameAlone, Acked, ToldClosed, other, same_side, if_ok, read_effects, sent_effects, came_effects, acked_effects, effects_of, effects, wrote_in, gave_in, stops_in, ends_first, sent_in, comes_in, took_in, acks_in, is_in, made, payload, taken, closes_in, was_told_closed, must_land, HasMade, HasLanded}
 use Rattle.qs_runs.specs.Worlds.{World, end_of, IsFrom, IsPayload, May}
 use Rattle.qs_runs.specs.Invariant.{HasNoFault, WorldOk}
 use Rattle.qs_runs.specs.Pasts.{Past, past_of, past, packets_in, Holds, Tells, WasConfirmed, Landed}
@@ -46,6 +44,7 @@ use Rattle.qs_runs.proofs.Past.{with_effect, with_effects}
 use Rattle.qs_runs.proofs.PeerMoves.{with_theirs}
 use Rattle.qs_runs.proofs.OwnMoves.{Hears, Sends}
 use Rattle.qs_runs.proofs.Frames.{MayCome}
+use Rattle.qs_runs.proofs.Receives.{never_done}
 use Rattle.qs_runs.proofs.Lists.{slice_get-append, Among_left}
 use Rattle.qs_runs.proofs.Wire.{text_faultless, text_fits}
 
@@ -356,6 +355,12 @@ still_has_made x h s f (k, text, is, a) = (k, text, still_made x h s k text is, 
 pub still_landed : (x : Happening) (h : History) (s : Side) (k : ℕ) → HasLanded h s k → HasLanded (x ∷ h) s k
 still_landed x h s k (text, is, all) = (text, still_made x h s k text is, λ f a land. still_taken x h (other s) f (all f a land))
 
+-- and what an end was told of a close
+pub still_closed : (x : Happening) (h : History) (s : Side) → was_told_closed s h ≡ true → was_told_closed s (x ∷ h) ≡ true
+still_closed x h s = two_sides (λ t. was_told_closed t h ≡ true → was_told_closed t (x ∷ h) ≡ true) x.end
+    (λ is. ap (list_any closes_in) (effects_here x h) ∙ list_any-append closes_in (effects x.end h) (did x h) ∙ or_left _ _ is)
+    (λ is. ap (list_any closes_in) (effects_there x h) ∙ is) s
+
 -- What an end does in which it hears nothing of its peer
 
 -- something came, or a token was told to be acknowledged
@@ -439,11 +444,7 @@ refused_payload : (o : Option Closed) (e new : End) (k : ℕ) (bytes : List ℕ)
 refused_payload None e new k bytes answer shut h = absurd (false≢true shut)
 refused_payload (Some (closings.ByUs closing)) e new k bytes answer shut h = ap (effects_of (Receive k bytes)) h.0
 refused_payload (Some (closings.ByPeer code)) e new k bytes answer shut h = ap (effects_of (Receive k bytes)) h.0
-refused_payload (Some (closings.Told close)) e new k bytes answer shut h = ap (effects_of (Receive k bytes)) h.0 ∙ by close.by
-  where
-    by : (c : Closer) → effects_of (Receive k bytes) (told_receive c close.code) ≡ []
-    by Us = refl
-    by Peer = refl
+refused_payload (Some (closings.Told close)) e new k bytes answer shut h = ap (effects_of (Receive k bytes)) h.0 ∙ never_done k bytes close.by close.code
 
 refused_token : (b : Bool) (r : Option TokenFault) (e new : End) (t : Token) (answer : Answer (TokenAcked t)) (Effect : Type 0) → b ≡ true → Certain (first_refusal (refuse_if b tokens.Closed) r) e answer new Effect → effects_of (TokenAcked t) answer ≡ []
 refused_token true r e new t answer Effect shut h = ap (effects_of (TokenAcked t)) h.0

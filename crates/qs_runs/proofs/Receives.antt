@@ -189,6 +189,11 @@ module _ (p : Past) (k : ℕ) (bytes : List ℕ) (come : (g : Seen) → Among g 
       (rw (ap (λ (x : End). x.floor) (frame_leaves f e)) low)
       (All_append (FrameTaken (frame_taken f e).recvs) before (f ∷ []) (All_more (FrameTaken e.recvs) (FrameTaken (frame_taken f e).recvs) before (frame_stays e.recvs (frame_taken f e).recvs one.grow) taken) (one.taken, tt)) rest
 
+-- a close that was told brings in nothing
+pub never_done : (k : ℕ) (bytes : List ℕ) (c : Closer) (code : ℕ) → effects_of (Receive k bytes) (told_receive c code) ≡ []
+never_done k bytes Us code = refl
+never_done k bytes Peer code = refl
+
 pub receives : (p : Past) (e new : End) (k : ℕ) (bytes : List ℕ) (result : Result Received Closing) → EndOk p e → ((g : Seen) → Among g (frames_in bytes) → MayCome p.theirs g) → ReceiveStep e k bytes result new →
     EndOk (with_effects (effects_of (Receive k bytes) result) p) new
 receives p e new k bytes result ok come step = by_closed e.closed step
@@ -200,14 +205,10 @@ receives p e new k bytes result ok come step = by_closed e.closed step
     settled_ok : (r : Result Received Closing) (mid new : End) → new ≡ settle mid → EndOk (with_effects (effects_of (Receive k bytes) r) p) mid → EndOk (with_effects (effects_of (Receive k bytes) r) p) new
     settled_ok r mid new same h = ended_by _ _ _ same (settle_ok _ mid h)
 
-    never_done : (c : Closer) (code : ℕ) → effects_of (Receive k bytes) (told_receive c code) ≡ []
-    never_done Us code = refl
-    never_done Peer code = refl
-
     by_closed : (o : Option Closed) → ReceiveBy o k bytes e result new → EndOk (with_effects (effects_of (Receive k bytes) result) p) new
     by_closed (Some (ByUs closing)) h = stays (Err closing) refl h.0 h.1
     by_closed (Some (ByPeer code)) h = stays (Ok (PeerClosed code)) refl h.0 h.1
-    by_closed (Some (closings.Told close)) h = stays (told_receive close.by close.code) (never_done close.by close.code) h.0 h.1
+    by_closed (Some (closings.Told close)) h = stays (told_receive close.by close.code) (never_done k bytes close.by close.code) h.0 h.1
     by_closed None h =
         by_open (EndOk (with_effects (effects_of (Receive k bytes) result) p) new) k bytes e result new h (stays (Ok BelowFloor) refl) (stays (Ok Duplicate) refl) (λ high mid takes same.
         settled_ok result mid new same (takes_ok p k bytes come (reading_of bytes).left [] false (reading_of bytes).fault e result mid refl ok (ltb-false k e.floor high) tt takes))

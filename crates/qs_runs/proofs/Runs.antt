@@ -1,5 +1,5 @@
 -- Every run keeps the invariant of both ends.
-use Rattle.std.proofs.Common.{◌≡◌, ◌≤◌, ℕ, Bool, true, List, [], ◌∷◌, inl, inr, Option, None, Some, is_some, Result, Ok, false, not, arith, sym, subst, refl, ap, ◌∙◌, slice_get}
+use Rattle.std.proofs.Common.{◌≡◌, ◌≤◌, ◌⊎◌, ℕ, Bool, true, List, [], ◌∷◌, inl, inr, Option, None, Some, is_some, Result, Ok, false, not, arith, sym, subst, refl, ap, ◌∙◌, slice_get}
 use Rattle.std.specs.Prelude.{flat_map}
 use Rattle.std.specs.List.{AllByRecursion, list_any}
 use Rattle.std.proofs.lemmas.Bool.{false≢true, true≢false}
@@ -53,7 +53,7 @@ use Rattle.qs_runs.proofs.OwnMoves.{Hears, heard_or, heard_same}
 use Rattle.qs_runs.proofs.Standing.{fixed, call_stands, certain_cases}
 use Rattle.qs_runs.proofs.PeerMoves.{peer_moves}
 use Rattle.qs_runs.proofs.Facing.{facing, opposite_roles, receive_stands, fine_now}
-use Rattle.qs_runs.proofs.Histories.{two_sides, did, effects_there, past_here, past_there, made_here, made_there, taken_here, theirs_mine, payload_seen, AreFaultless, none_sent, frames_told, payload_come, still_has_made, still_landed, any_here, none_here, still_made, back_again, closed_hears, Heard, heard_some, came_made, came_landed, acked_landed}
+use Rattle.qs_runs.proofs.Histories.{two_sides, did, effects_there, past_here, past_there, made_here, made_there, taken_here, theirs_mine, payload_seen, AreFaultless, none_sent, frames_told, payload_come, still_has_made, still_landed, still_closed, any_here, none_here, still_made, back_again, closed_hears, Heard, heard_some, came_made, came_landed, acked_landed}
 use Rattle.qs_runs.proofs.Packing.{Leaves, none_leaves, nothing_leaves, own_leaves}
 use Rattle.qs_runs.proofs.NewEnds.{each_begun, begins_true, tells_nothing, new_ok}
 use Rattle.qs_runs.proofs.Granting.{counts_told, known_within}
@@ -165,7 +165,7 @@ start a b w begins =
       taken = λ s f a. absurd a;
       landed = λ s k is. absurd (false≢true is);
       confirmed = λ s k is. absurd (false≢true is);
-      unclosed = λ s is peer. each_begun (λ t e. e.closed ≡ None) a b w begins (λ t tuning told begun granted. refl) s;
+      unclosed = λ s is. inl (each_begun (λ t e. e.closed ≡ None) a b w begins (λ t tuning told begun granted. refl) s);
     })
 
 -- limits that are granted both
@@ -185,11 +185,11 @@ pub record Stays (granted : PeerLimits → Type 0) (told : Bool) (e new : End) (
   pub role : new.role ≡ e.role
   pub settings : new.settings ≡ e.settings
   pub peer : granted new.peer
-  pub closed : list_any closes_in xs ≡ false → told ≡ false → new.closed ≡ e.closed
+  pub closed : list_any closes_in xs ≡ false → (new.closed ≡ e.closed) ⊎ ((told ≡ true) × (code : ℕ) × (new.closed ≡ Some (ByPeer code)))
 
 module _ (granted : PeerLimits → Type 0) (told : Bool) (e : End) (peer : granted e.peer) where
   all_stays : (new : End) (xs : List Effect) → fixed new ≡ fixed e → Stays granted told e new xs
-  all_stays new xs stays = record { role = ap (λ y. y.0.role) stays; settings = ap (λ y. y.0.settings) stays; peer = subst granted (sym (ap (λ y. y.0.peer) stays)) peer; closed = λ none untold. ap (λ y. y.1) stays }
+  all_stays new xs stays = record { role = ap (λ y. y.0.role) stays; settings = ap (λ y. y.0.settings) stays; peer = subst granted (sym (ap (λ y. y.0.peer) stays)) peer; closed = λ none. inl (ap (λ y. y.1) stays) }
 
   -- limits are taken in by an open end
   open_raise : (o : Option Closed) (r : Option RaiseFault) → first_refusal (refuse_if (is_some o) raising.Closed) r ≡ None → o ≡ None
@@ -201,14 +201,14 @@ module _ (granted : PeerLimits → Type 0) (told : Bool) (e : End) (peer : grant
     where
       by : (o : Option Closed) → Stays granted told e (told_by o close e) (ToldClosed ∷ [])
       by (Some closed) = all_stays e (ToldClosed ∷ []) refl
-      by None = record { role = refl; settings = refl; peer = peer; closed = λ none untold. absurd (true≢false none) }
+      by None = record { role = refl; settings = refl; peer = peer; closed = λ none. absurd (true≢false none) }
 
   -- a call in which an end hears nothing of its peer
   own_stays : (new : End) (call : Call) (answer : Answer call) → (Hears call → ⊥) → ((q : PeerLimits) → call ≡ RaiseLimits q → e.closed ≡ None → granted (greater_limits e.peer q)) → EndStep e call answer new → Stays granted told e new (effects_of call answer)
   own_stays new (RaiseLimits q) answer deaf may step =
       elim (certain_cases (raise_refusal e q) e answer new _ step) [
         | inl (fault, is, same) ↦ all_stays new [] (ap fixed same)
-        | inr (allowed, (is, same)) ↦ subst (λ f. Stays granted told e f []) (sym same) (record { role = refl; settings = refl; peer = may q refl (open_raise e.closed _ allowed); closed = λ none untold. refl })
+        | inr (allowed, (is, same)) ↦ subst (λ f. Stays granted told e f []) (sym same) (record { role = refl; settings = refl; peer = may q refl (open_raise e.closed _ allowed); closed = λ none. inl refl })
       ]
   own_stays new (TellClosed close) answer deaf may step = subst (λ f. Stays granted told e f (ToldClosed ∷ [])) (sym step) (told_stays close e.closed)
   own_stays new (Receive k bytes) answer deaf may step = absurd (deaf tt)
@@ -252,7 +252,7 @@ module _ (a b : Settings) (h : History) (v w : World) (s : Side) (ok : WorldOk a
     close_leaves k bytes result (told, code, is) step =
         let same : LeavesAll old [] = (none_leaves (past s h) old old [] refl here.ok, all_stays _ _ old here.peer old [] refl) in
         close_comes (λ r n. LeavesAll n (effects_of (Receive k bytes) r)) k code bytes old new result open_end is step same same
-        (none_leaves (past s h) old _ [] refl (settle_ok (past s h) _ (closed_ok (past s h) old (ByPeer code) here.ok)), record { role = refl; settings = refl; peer = here.peer; closed = λ none untold. absurd (true≢false (sym told ∙ untold)) })
+        (none_leaves (past s h) old _ [] refl (settle_ok (past s h) _ (closed_ok (past s h) old (ByPeer code) here.ok)), record { role = refl; settings = refl; peer = here.peer; closed = λ none. inr (told, code, refl) })
 
     frames_leave : (fs : List FrameValue) (result : Result Taken TakeFault) → AllByRecursion (IsFrom h (other s)) (seen_all fs) → HandedIn fs old result new → LeavesAll new (effects_of (TakeFrames fs) result)
     frames_leave fs result from handed =
@@ -372,8 +372,9 @@ module _ (a b : Settings) (h : History) (v w : World) (x : Happening) (ok : Worl
   landed_now A k is = landed_by B k is
   landed_now B k is = landed_by A k is
 
-  untold_there : was_told_closed (other x.end) (x ∷ h) ≡ false → was_told_closed (other x.end) h ≡ false
-  untold_there is = sym (ap (list_any closes_in) (effects_there x h)) ∙ is
+  -- an end that stays as open as it was
+  still_open : (s : Side) → was_told_closed s h ≡ false → (end_of w s).closed ≡ (end_of v s).closed → ((end_of w s).closed ≡ None) ⊎ ((was_told_closed (other s) (x ∷ h) ≡ true) × (code : ℕ) × ((end_of w s).closed ≡ Some (ByPeer code)))
+  still_open s untold same = elim (ok.unclosed s untold) [ inl none ↦ inl (same ∙ none) | inr (told, code, is) ↦ inr (still_closed x h (other s) told, code, same ∙ is) ]
 
   lands : Lands (x ∷ h) w
   lands =
@@ -388,8 +389,8 @@ module _ (a b : Settings) (h : History) (v w : World) (x : Happening) (ok : Worl
             ]))
             (λ k is. still_landed x h (other x.end) k (ok.confirmed (other x.end) k (subst (λ xs. list_any (acks_in k) xs ≡ true) (effects_there x h) is)));
         unclosed = two_sides (λ s. StaysOpen (x ∷ h) w s) x.end
-            (λ is peer. (let (was, now) = none_here closes_in x h is in after.1.closed now (untold_there peer) ∙ ok.unclosed x.end was (untold_there peer)))
-            (λ is peer. ap (λ (e : End). e.closed) step.still ∙ ok.unclosed (other x.end) (untold_there is) (back_again (λ t. was_told_closed t (x ∷ h) ≡ false → was_told_closed t h ≡ false) x.end (λ now. (none_here closes_in x h now).0) peer));
+            (λ is. (let (was, now) = none_here closes_in x h is in elim (after.1.closed now) [ inl same ↦ still_open x.end was same | inr (told, code, at) ↦ inr (still_closed x h (other x.end) told, code, at) ]))
+            (λ is. still_open (other x.end) (sym (ap (list_any closes_in) (effects_there x h)) ∙ is) (ap (λ (e : End). e.closed) step.still));
       }
 
 -- and so the invariant

@@ -1,12 +1,13 @@
 -- Trusted.
 -- What two ends agree on, whatever happens to them and to their packets.
-use Rattle.std.specs.Prelude.{◌≡◌, ◌≢◌, ℕ, ◌+◌, ◌<◌, ◌≤◌, true, false, List, [], ◌∷◌, ◌++◌, length, None, Some, ⊤}
+use Rattle.std.specs.Prelude.{◌≡◌, ◌≢◌, ℕ, ◌+◌, ◌<◌, ◌≤◌, true, false, List, [], ◌∷◌, ◌++◌, length, ◌⊎◌, None, Some, ⊤}
 use Rattle.std.specs.List.{AllByRecursion}
 use Rattle.std.specs.FinSet as set
 use Rattle.qs_recv.specs.Lane.{RecvLane}
 use Rattle.qs_send.specs.Lane.{SendLane, state, declared_size}
 use Rattle.qs_send.specs.declared.parts.SendState.TheVariants.{DataRecvd}
 use Rattle.qs_send.specs.declared.piece.Item.TheVariants.{ResetStream}
+use Rattle.qs_calls.specs.declared.closing.Closed.TheVariants.{ByPeer}
 use Rattle.qs_calls.specs.declared.settings.Settings.{Settings}
 use Rattle.qs_calls.specs.declared.event.Side.{Side}
 use Rattle.qs_machine.specs.Ends.{End, send_lane, recv_lane}
@@ -45,9 +46,9 @@ pub record FinalSizesAgree (w : World) (s : Side) (n : ℕ) : Type 0 where
 abbrev pub CreditAgrees : World → Side → Type 0
 CreditAgrees w s = spent (end_of w s) ≤ all_sent (end_of w (other s))
 
--- an end has neither closed nor seen its peer close, unless it or its peer was told of a close (RFC 9000, section 10.2)
+-- an end that was told of no close is open, or its peer was told of one, and it saw that peer's close (RFC 9000, section 10.2)
 abbrev pub StaysOpen : History → World → Side → Type 0
-StaysOpen h w s = was_told_closed s h ≡ false → was_told_closed (other s) h ≡ false → (end_of w s).closed ≡ None
+StaysOpen h w s = was_told_closed s h ≡ false → ((end_of w s).closed ≡ None) ⊎ ((was_told_closed (other s) h ≡ true) × (code : ℕ) × ((end_of w s).closed ≡ Some (ByPeer code)))
 
 -- what agrees in a world with this history (RFC 9000, sections 2.2, 3, 4 and 10.2)
 pub record Agree (h : History) (w : World) : Type 0 where

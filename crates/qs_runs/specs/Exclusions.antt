@@ -10,7 +10,8 @@ use Rattle.qs_recv.specs.Lane.{RecvLane}
 use Rattle.qs_send.specs.Lane.{SendLane}
 use Rattle.qs_send.specs.declared.piece.Item.TheVariants.{MaxData, ResetStream}
 use Rattle.qs_calls.specs.Settings.{limits_of}
-use Rattle.qs_calls.specs.declared.closing.Closed.TheVariants.{ByPeer}
+use Rattle.qs_calls.specs.declared.closing.Closing.{Closing}
+use Rattle.qs_calls.specs.declared.closing.Closed.TheVariants.{ByUs, ByPeer}
 use Rattle.qs_calls.specs.declared.closing.Received.TheVariants.{Done, NoMemory}
 use Rattle.qs_calls.specs.declared.closing.ToldClose.{ToldClose}
 use Rattle.qs_calls.specs.declared.settings.PeerLimits.{PeerLimits}
@@ -78,9 +79,9 @@ pub record SizesDiffer : Type 0 where
 pub record WorldsDiffer : Type 0 where
   -- where more is spent than was sent (section 4.1)
   pub credit : (h : History) → Agree h (both (client_with wrote_half) (server_with all_came)) → ⊥
-  -- where the client closed, and neither end was told to
-  pub client_closed : (h : History) → was_told_closed A h ≡ false → was_told_closed B h ≡ false → Agree h (both (record (client_of standard) { closed = Some (ByPeer 0) }) (server standard)) → ⊥
-  -- or the server
+  -- where the client closed by itself, and wasn't told to
+  pub client_closed : (h : History) (closing : Closing) → was_told_closed A h ≡ false → Agree h (both (record (client_of standard) { closed = Some (ByUs closing) }) (server standard)) → ⊥
+  -- or the server saw a close, and neither end was told of one
   pub server_closed : (h : History) → was_told_closed B h ≡ false → was_told_closed A h ≡ false → Agree h (both (client_of standard) (record (server standard) { closed = Some (ByPeer 0) })) → ⊥
 
 -- It is news (sections 2.2 and 4.5)

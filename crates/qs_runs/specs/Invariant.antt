@@ -235,8 +235,8 @@ HasNoFault text = ((reading_of text).fault ≡ None) × AllByRecursion Fits (fra
 
 -- The invariant of a world: that of each end, about what it lived through; each end is sound, and what it sent was written; the limits
 -- that it was told are granted; each payload that was made has no fault; each frame of streams and flow control that was taken was made
--- by the other, and each packet that was processed landed, as did each that it was told of by a token; and an end closes only where it or
--- its peer is told to.
+-- by the other, and each packet that was processed landed, as did each that it was told of by a token; and an end closes only where it
+-- is told to, or sees the close of a peer that was.
 pub record WorldOk (a b : Settings) (h : History) (w : World) : Type 0 where
   pub ends : (s : Side) → EndOk (past s h) (end_of w s)
   pub counts : (s : Side) → CountsOk (past s h) (end_of w s)

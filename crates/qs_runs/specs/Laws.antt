@@ -95,6 +95,6 @@ ReceivedIsWhole = InEachWorld (λ h w. (s : Side) (n : ℕ) → WholeAgrees h w 
 abbrev pub FinalSizesAlwaysAgree : Type 0
 FinalSizesAlwaysAgree = InEachWorld (λ h w. (s : Side) (n : ℕ) → FinalSizesAgree w s n)
 
--- no end closes unless it or its peer was told to
+-- no end closes unless it was told to, or sees the close of a peer that was
 abbrev pub NoEndCloses : Type 0
 NoEndCloses = InEachWorld (λ h w. (s : Side) → StaysOpen h w s)

@@ -112,7 +112,7 @@ pub fn final_sizes_agree()
     ensures { FinalSizesAlwaysAgree }
 {}
 
-/// No end closes, or sees its peer close, that wasn't told of a close.
+/// An end that was told of no close is open, or its peer was told of one, and it saw that peer's close.
 pub fn no_end_closes()
     ensures { NoEndCloses }
 {}

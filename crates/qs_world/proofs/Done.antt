@@ -1,4 +1,6 @@
 -- Where both ends are at rest, all is done.
+use Rattle.std.proofs.Common.{◌≡◌, None, inl, inr, sym, ◌∙◌}
+use Rattle.std.proofs.lemmas.Bool.{false≢true}
 use Rattle.qs_calls.specs.declared.event.Side.{Side}
 use Rattle.qs_calls.specs.declared.event.Side.TheVariants.{A, B}
 use Rattle.qs_runs.specs.Logs.{other}
@@ -27,8 +29,10 @@ all_done p agreed idle s =
     let h = happened p.log in
     let events = is_run a b p.log p.ends agreed in
     let run : Run a b h p.ends = event_runs a b p.log p.ends events in
+    let stays : (t : Side) → (end_of p.ends t).closed ≡ None =
+    λ t. elim ((run_keeps a b h p.ends run).unclosed t (never_told t p.log)) [ inl open_end ↦ open_end | inr (told, code, is) ↦ absurd (false≢true (sym (never_told (other t) p.log) ∙ told)) ] in
     let rest : (t : Side) → AtRest (end_of p.ends t) =
-    λ t. (let i = each_idle p.ends idle t in idle_rests a b h p.ends run t ((run_keeps a b h p.ends run).unclosed t (never_told t p.log) (never_told (other t) p.log)) i.0 i.1 i.2) in
+    λ t. (let i = each_idle p.ends idle t in idle_rests a b h p.ends run t (stays t) i.0 i.1 i.2) in
     let told = event_runs_tell a b p.log p.ends events s in
     record {
       limits = each_limit_known a b h p.ends run rest s told;
