@@ -33,12 +33,13 @@ skip() {
   finish
 }
 
-# A command that has to succeed. What it says is told where it doesn't.
+# A command that has to succeed. What it says is told where it doesn't, and that it did where it took a while.
 check() {
-  local what=$1
+  local what=$1 since=$SECONDS
   shift
   if "$@" >"$room/log" 2>&1 </dev/null; then
     passed=$((passed + 1))
+    if [ $((SECONDS - since)) -ge 2 ]; then echo "ok: $what ($((SECONDS - since)) s)"; fi
   else
     failed=$((failed + 1))
     echo "FAILED: $what"

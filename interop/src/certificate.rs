@@ -105,6 +105,13 @@ impl Identity {
         let key = &from[..from.len() - body.len()];
         Some(base64::encode(digest(&SHA256, key)))
     }
+
+    /// The hash of the certificate, as Firefox names it in its list of exceptions.
+    pub fn fingerprint(&self) -> Option<String> {
+        let hash = digest(&SHA256, self.certificates.first()?);
+        let bytes: Vec<String> = hash.as_ref().iter().map(|it| format!("{it:02X}")).collect();
+        Some(bytes.join(":"))
+    }
 }
 
 fn refused(path: &Path, what: &str, error: impl Display) -> Refusal {

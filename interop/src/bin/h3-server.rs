@@ -34,14 +34,14 @@ fn serve(mut words: Words) -> Result<(), Refusal> {
     }
     let folder = Folder::open(root)
         .map_err(|error| Refusal::Failure(format!("{root} can't be opened: {error}")))?;
-    let hash = identity.key_hash();
+    let hashes = identity.key_hash().zip(identity.fingerprint());
     let tls = server_config(identity, &[PROTOCOL])?;
     raise_file_limit();
     let sockets = listen_on_all(addresses)?;
-    if let (Some(hash), Some(socket)) = (hash, sockets.first()) {
+    if let (Some((of_key, of_certificate)), Some(socket)) = (hashes, sockets.first()) {
         let port = socket.local_addr().map_err(Refusal::failure)?.port();
-        tell_chromium(&hash, port);
-        tell_firefox(port);
+        tell_chromium(&of_key, port);
+        tell_firefox(&of_certificate, port);
     }
     let budget = Budget::new(budget::OF_ALL);
     let stop = Stop::by_signals(&sockets).map_err(Refusal::failure)?;
@@ -69,14 +69,17 @@ fn tell_chromium(hash: &str, port: u16) {
     ));
 }
 
-// Firefox finds in its folder where HTTP/3 is spoken. An exception for the certificate is the user's to make.
-fn tell_firefox(port: u16) {
+// Firefox finds in its folder where HTTP/3 is spoken, the certificate that it is to take there, and that it may be one of nobody's.
+fn tell_firefox(hash: &str, port: u16) {
     let folder = "/tmp/gotsavena-firefox";
     let pref = "network.http.http3.";
+    let sha256 = "OID.2.16.840.1.101.3.4.2.1";
     say(format_args!(
         "mkdir -p {folder} && \
+         printf 'localhost:{port}:\\t{sha256}\\t{hash}\\t\\n' >{folder}/cert_override.txt && \
          echo 'user_pref(\"{pref}alt-svc-mapping-for-testing\", \"localhost;h3=:{port}\"); \
-         user_pref(\"{pref}force-use-alt-svc-mapping-for-testing\", true);' >{folder}/user.js && \
+         user_pref(\"{pref}force-use-alt-svc-mapping-for-testing\", true); \
+         user_pref(\"{pref}disable_when_third_party_roots_found\", false);' >{folder}/user.js && \
          firefox --profile {folder} https://localhost:{port}/"
     ));
 }
