@@ -3,7 +3,7 @@ use Rattle.std.proofs.Common.{◌≡◌, ℕ, zero, suc, ◌≤◌, ◌<◌, ◌
 use Rattle.std.specs.Option.{IfSome}
 use Rattle.std.proofs.lemmas.Bool.{both_ways, true≢false}
 use Rattle.std.proofs.lemmas.List.{length-map, get_or-map}
-use Rattle.std.proofs.lemmas.Option.{get_or_from_slice_get, slice_get_within}
+use Rattle.std.proofs.lemmas.Option.{get_or_from_slice_get, none-some, slice_get_within}
 use Rattle.qs_machine.specs.News.{IsLeast}
 use Rattle.qs_conn.specs.Marks.{is_marked, AreMarked, IsAt, IsBefore, IsNextMark}
 use Rattle.qs_conn.proofs.Least.{least_by}
@@ -18,6 +18,10 @@ marked_at p (x ∷ xs) (suc i) is = marked_at p xs i is
 marked_by : {X : Type 0} (p : X → Bool) (xs : List X) → AreMarked (λ x. p x ≡ false) xs (map p xs)
 marked_by p [] = tt
 marked_by p (x ∷ xs) = (λ is. is, marked_by p xs)
+
+-- where no part passes
+pub none_has : {X : Type 0} (p : X → Bool) (xs : List X) (from : ℕ) → ((i : ℕ) (x : X) → slice_get xs i ≡ Some x → p x ≡ false) → IsLeast (IsAt (λ x. p x ≡ true) xs) from None
+none_has p xs from none = least_by (IsAt (λ x. p x ≡ true) xs) from None (λ n is. absurd (none-some n is)) (λ i ge before (x, at, is). both_ways (p x) (none i x at) is)
 
 module _ {X : Type 0} (p : X → Bool) (xs : List X) (ms : List Bool) (is : ms ≡ map p xs) where
   pub are_marked : AreMarked (λ x. p x ≡ false) xs ms

@@ -52,32 +52,6 @@ module _ (P : ℕ → Type 0) (from index : ℕ) (c : IsClear P from index) wher
   pub least_here : P index → IsLeast P from (Some index)
   least_here p = least_by P from (Some index) (λ n is. (let same : index ≡ n = same_Some index n is in (omega (arith, c.after, same), subst P same p))) (λ i ge before q. c.none i ge before q)
 
--- parts with the property
-module _ {X : Type 0} (Q R : X → Type 0) (apart : (x : X) → Q x → R x → ⊥) (xs : List X) (ms : List Bool) (marked : AreMarked Q xs ms) where
-  -- an unmarked index has no part with the property
-  unmarked_none : (i : ℕ) → is_marked ms i ≡ false → IsAt R xs i → ⊥
-  unmarked_none i is (x, at, r) = apart x (unmarked_at Q xs ms i x marked at is) r
-
-  pub next_there : (next index : ℕ) → IsNextMark ms next (Some index) → index < length xs
-  next_there next index h = elim (cases_lt index (length xs)) [ inl lt ↦ lt | inr ge ↦ absurd (both_ways (is_marked ms index) (mark_past ms index (omega (arith, ge, marked_len Q xs ms marked))) (h.found index refl).1) ]
-
-  pub clear_to : (from next index : ℕ) → IsClear (IsAt R xs) from next → IsNextMark ms next (Some index) → IsClear (IsAt R xs) from index
-  clear_to = clear_marked (IsAt R xs) ms unmarked_none
-
-  pub clear_all : (from next : ℕ) → IsClear (IsAt R xs) from next → IsNextMark ms next None → IsLeast (IsAt R xs) from None
-  clear_all = none_marked (IsAt R xs) ms unmarked_none
-
--- a part is read
-pub part_at : {X : Type 0} (xs : List X) (i : ℕ) (x : X) → i < length xs → x ≡ get_or xs i x → slice_get xs i ≡ Some x
-part_at xs i x lt is = slice_get_read xs (length xs) i x refl lt is
-
-module _ {X : Type 0} (R : X → Type 0) (xs : List X) where
-  pub clear_past : (from index : ℕ) (x : X) → slice_get xs index ≡ Some x → (R x → ⊥) → IsClear (IsAt R xs) from index → IsClear (IsAt R xs) from (index + 1)
-  clear_past from index x at without c = clear_over (IsAt R xs) from index c (λ p. without (subst R (same_Some p.0 x (sym p.1 ∙ at)) p.2))
-
-  pub least_at : (from index : ℕ) (x : X) → slice_get xs index ≡ Some x → R x → IsClear (IsAt R xs) from index → IsLeast (IsAt R xs) from (Some index)
-  least_at from index x at r c = least_here (IsAt R xs) from index c (x, at, r)
-
 -- Answers of several searches
 
 -- the lesser of two answers, where each number with the property is in one of two parts

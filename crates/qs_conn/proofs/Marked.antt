@@ -36,32 +36,6 @@ module _ {X : Type 0} (Q : X → Type 0) where
   marked_len (x ∷ xs) [] h = absurd h
   marked_len (x ∷ xs) (m ∷ ms) h = ap suc (marked_len xs ms h.1)
 
-  -- one part becomes another, and is looked at
-  pub marked_set : (xs : List X) (ms : List Bool) (i : ℕ) (y : X) (m : Bool) → (m ≡ false → Q y) → AreMarked Q xs ms → AreMarked Q (set xs i y) (set ms i m)
-  marked_set [] [] i y m q h = h
-  marked_set [] (k ∷ ms) i y m q h = absurd h
-  marked_set (x ∷ xs) [] i y m q h = absurd h
-  marked_set (x ∷ xs) (k ∷ ms) zero y m q h = (q, h.1)
-  marked_set (x ∷ xs) (k ∷ ms) (suc i) y m q h = (h.0, marked_set xs ms i y m q h.1)
-
-  pub marked_take : (n : ℕ) (xs : List X) (ms : List Bool) → AreMarked Q xs ms → AreMarked Q (take n xs) (take n ms)
-  marked_take zero xs ms h = tt
-  marked_take (suc n) [] [] h = tt
-  marked_take (suc n) [] (m ∷ ms) h = absurd h
-  marked_take (suc n) (x ∷ xs) [] h = absurd h
-  marked_take (suc n) (x ∷ xs) (m ∷ ms) h = (h.0, marked_take n xs ms h.1)
-
-  -- parts that begin with the property
-  marked_begun : (begin : ℕ → X) → ((i : ℕ) → Q (begin i)) → (lo n : ℕ) → AreMarked Q (map begin (range_with_len lo n)) (replicate n false)
-  marked_begun begin q lo zero = tt
-  marked_begun begin q lo (suc n) = (λ is. q lo, marked_begun begin q (lo + 1) n)
-
-  pub marked_opened : (begin : ℕ → X) → ((i : ℕ) → Q (begin i)) → (xs : List X) (ms : List Bool) (lo n : ℕ) → AreMarked Q xs ms → AreMarked Q (xs ++ map begin (range_with_len lo n)) (ms ++ replicate n false)
-  marked_opened begin q [] [] lo n h = marked_begun begin q lo n
-  marked_opened begin q [] (m ∷ ms) lo n h = absurd h
-  marked_opened begin q (x ∷ xs) [] lo n h = absurd h
-  marked_opened begin q (x ∷ xs) (m ∷ ms) lo n h = (h.0, marked_opened begin q xs ms lo n h.1)
-
   -- a part without a mark
   pub unmarked_at : (xs : List X) (ms : List Bool) (i : ℕ) (x : X) → AreMarked Q xs ms → slice_get xs i ≡ Some x → is_marked ms i ≡ false → Q x
   unmarked_at [] [] i x h at no_mark = absurd (none-some x at)
@@ -69,63 +43,6 @@ module _ {X : Type 0} (Q : X → Type 0) where
   unmarked_at (z ∷ xs) [] i x h at no_mark = absurd h
   unmarked_at (z ∷ xs) (m ∷ ms) zero x h at no_mark = subst Q (same_Some z x at) (h.0 no_mark)
   unmarked_at (z ∷ xs) (m ∷ ms) (suc i) x h at no_mark = unmarked_at xs ms i x h.1 at no_mark
-
-  pub look_again : (xs : List X) (ms now : List Bool) (i : ℕ) (y : X) (m : Bool) → (m ≡ false → Q y) → now ≡ set ms i m → AreMarked Q xs ms → AreMarked Q (set xs i y) now
-  look_again xs ms now i y m q is h = subst (AreMarked Q (set xs i y)) (sym is) (marked_set xs ms i y m q h)
-
-  pub mark_there : (xs : List X) (ms : List Bool) (i : ℕ) → AreMarked Q xs ms → i < length xs → i < length ms
-  mark_there xs ms i h there = omega (arith, marked_len xs ms h, there)
-
-  -- a search jumps over parts that aren't marked
-  pub quiet_between : (xs : List X) (ms : List Bool) (from : ℕ) (answer : Option ℕ) → AreMarked Q xs ms → IsNextMark ms from answer → (i : ℕ) (x : X) → from ≤ i → IsBefore i answer → slice_get xs i ≡ Some x → Q x
-  quiet_between xs ms from answer h next i x le before at = unmarked_at xs ms i x h at (next.unmarked i le before)
-
-  pub found_from : (xs : List X) (ms : List Bool) (from : ℕ) (answer : Option ℕ) → AreMarked Q xs ms → IsNextMark ms from answer → IfSome answer (λ n. from ≤ n)
-  found_from xs ms from None h next = tt
-  found_from xs ms from (Some n) h next = (next.found n refl).0
-
-  pub found_there : (xs : List X) (ms : List Bool) (from : ℕ) (answer : Option ℕ) → AreMarked Q xs ms → IsNextMark ms from answer → IfSome answer (λ n. n < length xs)
-  found_there xs ms from None h next = tt
-  found_there xs ms from (Some n) h next =
-      elim (cases_lt n (length xs)) [ inl lt ↦ lt | inr ge ↦ absurd (both_ways (is_marked ms n) (mark_past ms n (omega (arith, ge, marked_len xs ms h))) (next.found n refl).1) ]
-
-  pub found_small : (xs : List X) (ms : List Bool) (from : ℕ) (answer : Option ℕ) → (length xs ≤ 2 ^ 60) × AreMarked Q xs ms → IsNextMark ms from answer → IfSome answer (λ n. n < 2 ^ 60)
-  found_small xs ms from None h next = tt
-  found_small xs ms from (Some n) h next = omega (arith, found_there xs ms from (Some n) h.1 next, h.0)
-
-  pub fewer : (xs now : List X) (ms now_ms : List Bool) (n : ℕ) → now ≡ take n xs → now_ms ≡ take n ms → (length xs ≤ 2 ^ 60) × AreMarked Q xs ms → (length now ≤ 2 ^ 60) × AreMarked Q now now_ms
-  fewer xs now ms now_ms n is are h = rw (is, are) (omega (arith, h.0, length-take n xs), marked_take n xs ms h.1)
-
-  pub undone : (xs now : List X) (ms now_ms : List Bool) → now ≡ xs → now_ms ≡ ms → (length xs ≤ 2 ^ 60) × AreMarked Q xs ms → (length now ≤ 2 ^ 60) × AreMarked Q now now_ms
-  undone xs now ms now_ms is are h = rw (is, are) h
-
-  -- parts were opened that have the property
-  pub more_opened : (begin : ℕ → X) → ((i : ℕ) → Q (begin i)) → (xs now : List X) (ms now_ms : List Bool) (count n m : ℕ) → count ≤ 2 ^ 60 → now ≡ xs ++ map begin (range_with_len (length xs) n) → n ≤ m → m ≤ n → m ≡ count - length xs
-      → now_ms ≡ ms ++ replicate (count - length ms) false → (length xs ≤ 2 ^ 60) × AreMarked Q xs ms → (length now ≤ 2 ^ 60) × AreMarked Q now now_ms
-  more_opened begin q xs now ms now_ms count n m small is le ge missing are h =
-      let same : count - length ms ≡ n = omega (arith, le, ge, missing, marked_len xs ms h.1) in
-      let few : length (xs ++ map begin (range_with_len (length xs) n)) ≤ 2 ^ 60 = omega (arith, h.0, small, le, ge, missing, length-append xs (map begin (range_with_len (length xs) n)), length-map-range_with_len begin (length xs) n) in
-      rw (is, are, same) (few, marked_opened begin q xs ms (length xs) n h.1)
-
--- parts were opened, each with a mark, or each without one and with the property
-module _ {X : Type 0} (Q : X → Type 0) where
-  begun_marked : (begin : ℕ → X) (lo n : ℕ) → AreMarked Q (map begin (range_with_len lo n)) (replicate n true)
-  begun_marked begin lo zero = tt
-  begun_marked begin lo (suc n) = (λ is. absurd (true≢false is), begun_marked begin (lo + 1) n)
-
-  all_marked : (begin : ℕ → X) (xs : List X) (ms : List Bool) (lo n : ℕ) → AreMarked Q xs ms → AreMarked Q (xs ++ map begin (range_with_len lo n)) (ms ++ replicate n true)
-  all_marked begin [] [] lo n h = begun_marked begin lo n
-  all_marked begin [] (m ∷ ms) lo n h = absurd h
-  all_marked begin (x ∷ xs) [] lo n h = absurd h
-  all_marked begin (x ∷ xs) (m ∷ ms) lo n h = (h.0, all_marked begin xs ms lo n h.1)
-
-  pub more_begun : (b : Bool) (begin : ℕ → X) → (b ≡ false → (i : ℕ) → Q (begin i)) → (xs now : List X) (ms now_ms : List Bool) (count n m : ℕ) → count ≤ 2 ^ 60 → now ≡ xs ++ map begin (range_with_len (length xs) n) → n ≤ m → m ≤ n → m ≡ count - length xs
-      → now_ms ≡ ms ++ replicate (count - length ms) b → (length xs ≤ 2 ^ 60) × AreMarked Q xs ms → (length now ≤ 2 ^ 60) × AreMarked Q now now_ms
-  more_begun false begin q xs now ms now_ms count n m small is le ge missing are h = more_opened Q begin (q refl) xs now ms now_ms count n m small is le ge missing are h
-  more_begun true begin q xs now ms now_ms count n m small is le ge missing are h =
-      let same : count - length ms ≡ n = omega (arith, le, ge, missing, marked_len Q xs ms h.1) in
-      let few : length (xs ++ map begin (range_with_len (length xs) n)) ≤ 2 ^ 60 = omega (arith, h.0, small, le, ge, missing, length-append xs (map begin (range_with_len (length xs) n)), length-map-range_with_len begin (length xs) n) in
-      rw (is, are, same) (few, all_marked begin xs ms (length xs) n h.1)
 
 -- the next one of the new marks is set
 pub mark_more : (ms now : List Bool) (k n : ℕ) → k < n → now ≡ ms ++ (replicate k true ++ replicate (n - k) false) → set now (length ms + k) true ≡ ms ++ (replicate (k + 1) true ++ replicate (n - (k + 1)) false)
@@ -239,11 +156,3 @@ small_four = four_have (λ n. n < 2 ^ 62)
 pub id_is : (id r : Option ℕ) (number : ℕ) → r ≡ Some number → IfSome r (λ n. n < 2 ^ 62) → IfSome id (λ m. (m ≡ number) × (number < 2 ^ 62)) → IfNone id (2 ^ 62 ≤ number) → id ≡ r
 id_is (Some m) r number is small some none = ap Some some.0 ∙ sym is
 id_is None r number is small some none = (let few : IfSome (Some number) (λ n. n < 2 ^ 62) = subst (λ x. IfSome x (λ n. n < 2 ^ 62)) is small in absurd (omega (arith, few, none)))
-
--- a place in a table is one of a stream
-pub open_at : {X : Type 0} (ls : List (List X)) (k i : ℕ) (d : List X) → length ls ≡ 4 → k < 4 → i < length (get_or ls k d) → IsOpen (tables_of ls) (i * 4 + k)
-open_at ls k i d len small there =
-    let kind : k ≡ (i * 4 + k) % 4 = omega (arith, small) in
-    let index : i ≡ (i * 4 + k) / 4 = omega (arith, small) in
-    let within : nat_lt i (length (get_or ls k d)) ≡ true = grind (arith, nat_tests, there) in
-    ap is_some (lookup_is ls (i * 4 + k) k i d len kind index) ∙ sym (some_tested (get_or ls k d) i _ refl) ∙ within

@@ -1,5 +1,5 @@
 -- A stream whose half is quiet has nothing to send or to tell.
-use Rattle.std.proofs.Common.{if◌then◌else◌, ◌%◌, ◌==◌, nat_le, ◌≡◌, ℕ, ◌<◌, ◌≤◌, ◌+◌, Option, Some, None, option_map, refl, sym, ap, ◌∙◌, subst, arith, inl, inr}
+use Rattle.std.proofs.Common.{if◌then◌else◌, ◌%◌, ◌==◌, nat_le, ◌≡◌, ℕ, ◌<◌, ◌≤◌, ◌+◌, Bool, true, false, is_some, Option, Some, None, option_map, refl, sym, ap, ◌∙◌, subst, arith, inl, inr}
 use Rattle.std.proofs.lemmas.Bool.{both_ways, cases_lt}
 use Rattle.std.proofs.lemmas.Option.{none-some, same_Some}
 use Rattle.std.specs.FinSet as set
@@ -17,7 +17,11 @@ use Rattle.qs_machine.specs.Outgoing.{Outgoing, IsTied, HasSending, IsBlockedAt,
 use Rattle.qs_conn.specs.Filling.{end_by, AnyWantsMore}
 use Rattle.qs_conn.specs.declared.send_marks.Task.{Task}
 use Rattle.qs_conn.specs.declared.send_marks.Task.TheVariants as tasks
-use Rattle.qs_conn.specs.Tasks.{IsQuiet, IsQuietAt, IsDoneAfter, IsFree}
+use Rattle.std.specs.Option.{IfSome}
+use Rattle.qs_machine.specs.News.{IsLeast, IsHeld}
+use Rattle.qs_conn.specs.Marks.{IsBefore}
+use Rattle.qs_conn.specs.Tasks.{HasTask, IsOpen, IsQuiet, IsQuietAt, IsDoneAfter, IsFree, has}
+use Rattle.qs_conn.proofs.Least.{none_before}
 use Rattle.qs_conn.proofs.DueTied.{is_due, is_end_due}
 use Rattle.qs_conn.proofs.Tasks.{all_sent, no_byte, no_fin, no_fin_again, none_again}
 use Rattle.qs_machine.proofs.LaneTables.{lookup_lanes}
@@ -34,6 +38,25 @@ quiet_at task v o t n is lanes tied quiet = subst (λ x. IsQuietAt task x n) is 
 
     there : IsQuietAt task v n
     there l h = go (lookup t n) refl l (sym (lookup_lanes t n) ∙ ap (λ x. lookup x n) lanes ∙ h)
+
+-- what the least stream with a task says of itself, and of those below it
+module _ (task : Task) (t : Tables Sending) (from : ℕ) (r : Option ℕ) (h : IsLeast (IsHeld (HasTask task) t) from r) where
+  pub quiet_before : (n : ℕ) → from ≤ n → IsBefore n r → (s : Sending) → lookup t n ≡ Some s → IsQuiet task s
+  quiet_before n le before s at = go (has task s) refl
+    where
+      go : (b : Bool) → has task s ≡ b → b ≡ false
+      go true is = absurd (none_before (IsHeld (HasTask task) t) from r h n le before (s, at, is))
+      go false is = refl
+
+  held : (P : ℕ → Type 0) (x : Option ℕ) → ((n : ℕ) → x ≡ Some n → P n) → IfSome x P
+  held P None is = tt
+  held P (Some n) is = is n refl
+
+  pub held_from : IfSome r (λ n. from ≤ n)
+  held_from = held (λ n. from ≤ n) r (λ n is. (h.found n is).0)
+
+  pub held_open : IfSome r (IsOpen t)
+  held_open = held (IsOpen t) r (λ n is. ap is_some (h.found n is).1.1)
 
 -- no bytes and no end
 module _ (o : Outgoing) (n : ℕ) (q : IsQuietAt tasks.Bytes o n) where

@@ -14,7 +14,7 @@ ghost use Rattle.std.specs.Fn.{FnOnceTakesAtMut, FnOnceReturnsAtMut};
 ghost use Rattle.qs_send.specs.Halves.{IsOver, half_at};
 ghost use Rattle.qs_conn.specs.Edits.{IsEdited};
 ghost use Rattle.qs_conn.specs.Promised.{promised_on};
-ghost use Rattle.qs_conn.specs.Marks.{AreMarked, IsBefore, IsAt};
+ghost use Rattle.qs_conn.specs.Marks.{AreMarked, IsAt};
 ghost use Rattle.qs_conn.specs.declared.send_marks.Task.TheVariants as tasks;
 ghost use Rattle.qs_conn.specs.Tasks.{AreMarksOf, HasTask, IsQuiet, IsSoughtAt, Stays, counted, has, marks_of};
 
@@ -363,18 +363,6 @@ impl SendLanes {
         ensures { result ≡ false → (i : ℕ) (s : Sending) → slice_get self.now i ≡ Some s → IsQuiet task s }
     {
         self.marks.may_have(task)
-    }
-
-    pub(crate) fn next_marked(&self, task: Task, from: usize) -> Option<usize>
-        ensures from { IfSome result (λ n. from ≤ n) }
-        ensures small { IfSome result (λ n. n < 2 ^ 60) }
-        ensures open { IfSome result (λ n. n < length self.now) }
-        ensures quiet { (i : ℕ) (s : Sending) → from ≤ i → IsBefore i result → slice_get self.now i ≡ Some s → IsQuiet task s }
-    {
-        if from >= self.halves.len() {
-            return None;
-        }
-        self.marks.next(task, from)
     }
 
     /// The marks of the halves that came to their end.

@@ -1,7 +1,7 @@
 ghost use Rattle.std.specs.Prelude.{◌≡◌, ◌++◌, ◌-◌, ◌<◌, [], false, length, take, slice_set, replicate, OnOk, OnErr};
 ghost use Rattle.qs_machine.specs.Credit.{send_ended};
 ghost use Rattle.qs_conn.specs.Marks.{is_marked, IsNextMark};
-ghost use Rattle.qs_conn.specs.Tasks.{AreMarkedBefore, begins, has, is_due_below, is_funded, marks_of, sought_of};
+ghost use Rattle.qs_conn.specs.Tasks.{AreMarkedBefore, begins, has, is_due_below, marks_of, sought_of};
 ghost use Rattle.qs_conn.specs.Untold.{IsClear};
 ghost use Rattle.qs_conn.specs.declared.send_marks.Task.TheVariants as tasks;
 
@@ -151,8 +151,10 @@ impl SendMarks {
         requires funded { index < length self.old.funded }
         ensures { self.new ≡ record self.old { writable = slice_set self.old.writable index (has tasks.Writable half.now); funded = slice_set self.old.funded index (has tasks.Funded half.now) } }
     {
-        self.writable.set(index, half.is_writable());
-        self.funded.set(index, is_funded(half));
+        let is_writable = half.is_writable();
+        self.writable.set(index, is_writable);
+        self.funded
+            .set(index, is_writable && half.written() < half.limit());
     }
 
     /// Whether a half has a task.
@@ -253,12 +255,6 @@ fn look_end(ended: &mut Marks, index: usize, half: &SendHalf)
         return;
     }
     ended.set(index, has_ended(half));
-}
-
-fn is_funded(half: &SendHalf) -> bool
-    ensures { result ≡ is_funded half.now.lane }
-{
-    half.is_writable() && half.written() < half.limit()
 }
 
 // Whether bytes or the end may go.

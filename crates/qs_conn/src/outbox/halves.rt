@@ -5,8 +5,8 @@ ghost use Rattle.qs_send.specs.Sound.{IsLawful};
 ghost use Rattle.qs_machine.specs.Tables.{lookup};
 ghost use Rattle.qs_machine.specs.Sums.{or_no_sending, tables_of};
 ghost use Rattle.qs_machine.specs.News.{IsLeast, IsHeld};
-ghost use Rattle.qs_conn.specs.Marks.{IsBefore, HaveTo, IsHeldOf};
-ghost use Rattle.qs_conn.specs.Tasks.{IsOpen, IsQuiet, HasTask, IsSought, IsSoughtOf};
+ghost use Rattle.qs_conn.specs.Marks.{IsHeldOf};
+ghost use Rattle.qs_conn.specs.Tasks.{IsQuiet, HasTask, IsSought, IsSoughtOf};
 
 use crate::places::{index_from, index_of, least_stream, type_of};
 use crate::send_lanes::SendLanes;
@@ -61,14 +61,13 @@ pub(super) fn may_have(types: &[SendLanes; 4], task: Task) -> bool
     types[3].may_have(task)
 }
 
-/// The halves of the streams between have nothing for it. Apart, so that a caller pays for one look if no half has a mark.
+/// The least number from one on of a stream whose half has a task. It stands apart, so that where no half has it a caller pays for the
+/// look at that alone.
 #[inline(never)]
-pub(super) fn least_marked(types: &[SendLanes; 4], task: Task, from: u64) -> Option<StreamId>
+pub(super) fn next_with(types: &[SendLanes; 4], task: Task, from: u64) -> Option<StreamId>
     requires len { length types.now ≡ 4 }
     requires from { from ≤ 2 ^ 62 }
-    ensures from { IfSome result (λ n. from ≤ n) }
-    ensures open { IfSome result (IsOpen (tables_of types.now)) }
-    ensures quiet { (n : ℕ) (s : Sending) → from ≤ n → IsBefore n result → lookup (tables_of types.now) n ≡ Some s → IsQuiet task s }
+    ensures { IsLeast (IsHeld (HasTask task) (tables_of types.now)) from result }
 {
     least_stream(
         next_of(types, task, 0, from),
@@ -83,40 +82,13 @@ fn next_of(types: &[SendLanes; 4], task: Task, stream_type: usize, from: u64) ->
     requires len { length types.now ≡ 4 }
     requires stream_type { stream_type < 4 }
     requires from { from ≤ 2 ^ 62 }
-    ensures from { IfSome result (λ n. from ≤ n) }
+    ensures least { IsLeast (IsHeldOf (HasTask task) (tables_of types.now) stream_type) from result }
     ensures small { IfSome result (λ n. n < 2 ^ 62) }
-    ensures open { IfSome result (IsOpen (tables_of types.now)) }
-    ensures quiet { HaveTo (IsQuiet task) (tables_of types.now) from result stream_type }
 {
     let lanes = &types[stream_type];
     if !lanes.may_have(task) {
         return None;
     }
-    let index = lanes.next_marked(task, index_from(stream_type, from))?;
-    Some((index * 4 + stream_type) as u64)
-}
-
-pub(super) fn next_with(types: &[SendLanes; 4], task: Task, from: u64) -> Option<StreamId>
-    requires len { length types.now ≡ 4 }
-    requires from { from ≤ 2 ^ 62 }
-    ensures { IsLeast (IsHeld (HasTask task) (tables_of types.now)) from result }
-{
-    least_stream(
-        next_with_of(types, task, 0, from),
-        next_with_of(types, task, 1, from),
-        next_with_of(types, task, 2, from),
-        next_with_of(types, task, 3, from),
-    )
-}
-
-fn next_with_of(types: &[SendLanes; 4], task: Task, stream_type: usize, from: u64) -> Option<u64>
-    requires len { length types.now ≡ 4 }
-    requires stream_type { stream_type < 4 }
-    requires from { from ≤ 2 ^ 62 }
-    ensures least { IsLeast (IsHeldOf (HasTask task) (tables_of types.now) stream_type) from result }
-    ensures small { IfSome result (λ n. n < 2 ^ 62) }
-{
-    let lanes = &types[stream_type];
     match lanes.next_with(task, index_from(stream_type, from)) {
         Some(index) => Some((index * 4 + stream_type) as u64),
         None => None,

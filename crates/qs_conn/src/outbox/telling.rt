@@ -15,7 +15,7 @@ ghost use Rattle.qs_conn.specs.Tasks.{IsOpen, IsQuietAt};
 ghost use Rattle.qs_machine.specs.Outgoing.{IsCarried, IsAckedOut, IsAckedReset, IsBlockedAt, WantsMore, reset_by, with_outgoing};
 
 use super::Outbox;
-use super::halves::{half_of, least_marked, may_have, next_sought, next_with};
+use super::halves::{half_of, may_have, next_sought, next_with};
 use crate::marks::Marks;
 use crate::send_marks::{Search, Task};
 use crate::told_streams::ToldStreams;
@@ -169,6 +169,7 @@ impl Outbox {
         may_have(&self.types, task)
     }
 
+    /// The least number from one on of a stream that has a task. The streams between have none of it.
     pub(crate) fn next_marked(&self, task: Task, from: u64) -> Option<StreamId>
         requires { from ≤ 2 ^ 62 }
         ensures from { IfSome result (λ n. from ≤ n) }
@@ -178,7 +179,7 @@ impl Outbox {
         if !may_have(&self.types, task) {
             return None;
         }
-        least_marked(&self.types, task, from)
+        next_with(&self.types, task, from)
     }
 
     pub(crate) fn next_writable(&self, from: u64) -> Option<StreamId>

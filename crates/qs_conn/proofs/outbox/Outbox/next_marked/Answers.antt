@@ -1,7 +1,8 @@
 use Rattle.std.proofs.Common.{◌≡◌, false, refl, arith}
 use Rattle.qs_machine.specs.Sums.{tables_of}
+use Rattle.qs_conn.specs.Tasks.{has}
 use Rattle.qs_conn.proofs.Outboxes.{some_open}
-use Rattle.qs_conn.proofs.Quiets.{quiet_at}
+use Rattle.qs_conn.proofs.Quiets.{quiet_at, quiet_before, held_from, held_open}
 use Rattle.qs_conn.proofs.outbox.Outbox.next_marked.Goals as goal
 
 pub returns-then-not-may_have-clause-quiet : goal.returns-then-not-may_have-clause-quiet
@@ -10,7 +11,10 @@ returns-then-not-may_have-clause-quiet c =
     λ n le before. quiet_at c.args.task _ c.args.self.now (tables_of c.self.inside.types) n c.self.view_is refl (c.self.invariant.0.tied.lanes n) (λ s. c.may_have.ensures none n s)
 
 pub returns-clause-quiet : goal.returns-clause-quiet
-returns-clause-quiet c = λ n le before. quiet_at c.args.task _ c.args.self.now (tables_of c.self.inside.types) n c.self.view_is refl (c.self.invariant.0.tied.lanes n) (λ s. c.least_marked.ensures.quiet n s le before)
+returns-clause-quiet c = λ n le before. quiet_at c.args.task _ c.args.self.now (tables_of c.self.inside.types) n c.self.view_is refl (c.self.invariant.0.tied.lanes n) (quiet_before c.args.task (tables_of c.self.inside.types) c.args.from c.next_with.result c.next_with.ensures n le before)
+
+pub returns-clause-from : goal.returns-clause-from
+returns-clause-from c = held_from c.args.task (tables_of c.self.inside.types) c.args.from c.next_with.result c.next_with.ensures
 
 pub returns-clause-open : goal.returns-clause-open
-returns-clause-open c = some_open _ c.args.self.now (tables_of c.self.inside.types) c.least_marked.result c.self.view_is refl c.least_marked.ensures.open
+returns-clause-open c = some_open _ c.args.self.now (tables_of c.self.inside.types) c.next_with.result c.self.view_is refl (held_open c.args.task (tables_of c.self.inside.types) c.args.from c.next_with.result c.next_with.ensures)

@@ -1,9 +1,0 @@
-use Rattle.qs_conn.specs.Tasks.{HasTask}
-use Rattle.qs_conn.proofs.Least.{kind_some, kind_none}
-use Rattle.qs_conn.proofs.outbox.halves.next_with_of.Goals as goal
-
-pub returns-in-Some-clause-least : goal.returns-in-Some-clause-least
-returns-in-Some-clause-least c = (kind_some (HasTask c.args.task) c.args.types.now c.args.stream_type c.args.from _ c.in-Some.index c.index-types-stream_type.result c.requires.len c.requires.stream_type c.index_from.ensures c.in-Some.ensures.least)
-
-pub returns-in-None-clause-least : goal.returns-in-None-clause-least
-returns-in-None-clause-least c = (kind_none (HasTask c.args.task) c.args.types.now c.args.stream_type c.args.from _ c.index-types-stream_type.result c.requires.len c.requires.stream_type c.index_from.ensures c.in-None.ensures.least)
