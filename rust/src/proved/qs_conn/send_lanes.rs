@@ -245,14 +245,6 @@ impl SendLanes {
         self.marks.may_have(task)
     }
 
-    #[inline]
-    pub(crate) fn next_marked(&self, task: Task, from: usize) -> Option<usize> {
-        if from >= self.halves.len() {
-            return None;
-        }
-        self.marks.next(task, from)
-    }
-
     /// The marks of the halves that came to their end.
     #[inline]
     pub(crate) fn ended_marks(&self) -> &Marks {

@@ -132,8 +132,10 @@ impl SendMarks {
     // Looks again at the room of a half.
     #[inline(always)]
     fn look_room(&mut self, index: usize, half: &SendHalf) {
-        self.writable.set(index, half.is_writable());
-        self.funded.set(index, is_funded(half));
+        let is_writable = half.is_writable();
+        self.writable.set(index, is_writable);
+        self.funded
+            .set(index, is_writable && half.written() < half.limit());
     }
 
     /// Whether a half has a task.
@@ -210,10 +212,6 @@ fn look_end(ended: &mut Marks, index: usize, half: &SendHalf) {
         return;
     }
     ended.set(index, has_ended(half));
-}
-
-fn is_funded(half: &SendHalf) -> bool {
-    half.is_writable() && half.written() < half.limit()
 }
 
 // Whether bytes or the end may go.

@@ -34,9 +34,10 @@ pub(super) fn may_have(types: &[SendLanes; 4], task: Task) -> bool {
     types[3].may_have(task)
 }
 
-/// The halves of the streams between have nothing for it. Apart, so that a caller pays for one look if no half has a mark.
+/// The least number from one on of a stream whose half has a task. It stands apart, so that where no half has it a caller pays for the
+/// look at that alone.
 #[inline(never)]
-pub(super) fn least_marked(types: &[SendLanes; 4], task: Task, from: u64) -> Option<StreamId> {
+pub(super) fn next_with(types: &[SendLanes; 4], task: Task, from: u64) -> Option<StreamId> {
     debug_assert!(from <= 1 << 62);
     least_stream(
         next_of(types, task, 0, from),
@@ -54,25 +55,6 @@ fn next_of(types: &[SendLanes; 4], task: Task, stream_type: usize, from: u64) ->
     if !lanes.may_have(task) {
         return None;
     }
-    let index = lanes.next_marked(task, index_from(stream_type, from))?;
-    Some((index * 4 + stream_type) as u64)
-}
-
-#[inline]
-pub(super) fn next_with(types: &[SendLanes; 4], task: Task, from: u64) -> Option<StreamId> {
-    debug_assert!(from <= 1 << 62);
-    least_stream(
-        next_with_of(types, task, 0, from),
-        next_with_of(types, task, 1, from),
-        next_with_of(types, task, 2, from),
-        next_with_of(types, task, 3, from),
-    )
-}
-
-fn next_with_of(types: &[SendLanes; 4], task: Task, stream_type: usize, from: u64) -> Option<u64> {
-    debug_assert!(stream_type < 4);
-    debug_assert!(from <= 1 << 62);
-    let lanes = &types[stream_type];
     match lanes.next_with(task, index_from(stream_type, from)) {
         Some(index) => Some((index * 4 + stream_type) as u64),
         None => None,

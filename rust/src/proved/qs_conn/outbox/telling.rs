@@ -1,6 +1,6 @@
 // Made from crates/qs_conn/src/outbox/telling.rt by rust/erase; not edited by hand.
 use super::Outbox;
-use super::halves::{half_of, least_marked, may_have, next_sought, next_with};
+use super::halves::{half_of, may_have, next_sought, next_with};
 use crate::proved::qs_conn::marks::Marks;
 use crate::proved::qs_conn::send_marks::{Search, Task};
 use crate::proved::qs_conn::told_streams::ToldStreams;
@@ -137,13 +137,14 @@ impl Outbox {
         may_have(&self.types, task)
     }
 
+    /// The least number from one on of a stream that has a task. The streams between have none of it.
     #[inline]
     pub(crate) fn next_marked(&self, task: Task, from: u64) -> Option<StreamId> {
         debug_assert!(from <= 1 << 62);
         if !may_have(&self.types, task) {
             return None;
         }
-        least_marked(&self.types, task, from)
+        next_with(&self.types, task, from)
     }
 
     #[inline]
