@@ -4,12 +4,11 @@ use crate::shim::Vec;
 
 use crate::proved::qs_conn::marks::Marks;
 use crate::proved::qs_conn::recv_marks::{RecvMarks, RecvTask};
-use crate::proved::qs_conn::told_marks::ToldMarks;
 use crate::proved::qs_conn::touches::Touches;
 use crate::proved::qs_conn::untold::Untold;
 use crate::proved::qs_machine::Tally;
 use crate::proved::qs_ranges::NoMemory;
-use crate::proved::qs_recv::{Highest, RecvFault, RecvHalf, RingAssembly, Share};
+use crate::proved::qs_recv::{RecvHalf, RingAssembly, Share};
 use crate::proved::qs_wire::StreamId;
 use crate::shim::alloc::Global;
 
@@ -66,23 +65,6 @@ impl RecvLanes {
     #[inline]
     pub(crate) fn held(&self) -> u64 {
         held_of(&self.halves)
-    }
-
-    /// Whether a reset may be taken at an index, whose lane may have yet to be opened.
-    #[inline]
-    pub(crate) fn check_reset(
-        &self,
-        window: u64,
-        index: usize,
-        size: u64,
-    ) -> Result<Highest, RecvFault> {
-        debug_assert!(size <= 0x3fff_ffff_ffff_ffff);
-        debug_assert!(1 <= window);
-        debug_assert!(window <= 1 << 30);
-        match self.halves.get(index) {
-            Some(half) => half.check_reset(size),
-            None => Half::check_first_reset(self.alloc, window, size),
-        }
     }
 
     /// Opens the lanes of all indexes below a count.
@@ -151,12 +133,6 @@ impl RecvLanes {
         answer
     }
 
-    /// Whether a reader of an open lane may be told something. It looks at marks alone.
-    #[inline]
-    pub(crate) fn may_tell(&self, index: usize) -> bool {
-        self.news.may_tell(index)
-    }
-
     /// Each limit becomes the next one, and a stream whose limit rises is marked: the new one is untold, and none that is outstanding is
     /// the present one. Only lanes that were touched are looked at.
     #[inline]
@@ -179,30 +155,10 @@ impl RecvLanes {
         );
     }
 
-    /// The marks of the lanes that may have come to their end. One without a mark hasn't.
-    #[inline]
-    pub(crate) fn ended_marks(&self) -> &Marks {
-        self.news.ended()
-    }
-
-    /// The least index from one on whose lane has an answer for its owner.
-    #[inline]
-    pub(crate) fn next_with(&self, task: RecvTask, from: usize) -> Option<usize> {
-        self.news.next(task, from)
-    }
-}
-
-impl RecvLanes {
-    /// Whether any lane may have an answer for its owner.
+    /// The marks of the lanes that have such an answer for their owner.
     #[inline(always)]
-    pub(crate) fn may_have(&self, task: RecvTask) -> bool {
-        self.news.may_have(task)
-    }
-
-    /// The least index whose lane has an answer for its owner that wasn't told.
-    #[inline(never)]
-    pub(crate) fn next_untold(&self, task: RecvTask, told: &ToldMarks) -> Option<usize> {
-        self.news.next_untold(task, told, 0)
+    pub(crate) fn marks(&self, task: RecvTask) -> &Marks {
+        self.news.marks(task)
     }
 }
 

@@ -2,7 +2,6 @@
 //! Which receiving halves of one type wait for their owner, and which are over.
 
 use crate::proved::qs_conn::marks::Marks;
-use crate::proved::qs_conn::told_marks::ToldMarks;
 use crate::proved::qs_ranges::NoMemory;
 use crate::proved::qs_recv::{RecvHalf, RingAssembly};
 use crate::shim::alloc::Global;
@@ -58,42 +57,12 @@ impl RecvMarks {
         self.ended.set(index, standing.has_ended);
     }
 
-    /// Whether a half may have an answer of any kind.
-    #[inline]
-    pub(crate) fn may_tell(&self, index: usize) -> bool {
-        self.readable.has(index) || self.ended.has(index)
-    }
-
-    /// The marks of those that came to their end.
-    #[inline]
-    pub(crate) fn ended(&self) -> &Marks {
-        &self.ended
-    }
-
-    /// Whether any index may be marked.
+    /// The marks for a task.
     #[inline(always)]
-    pub(crate) fn may_have(&self, task: RecvTask) -> bool {
+    pub(crate) fn marks(&self, task: RecvTask) -> &Marks {
         match task {
-            RecvTask::Readable => self.readable.may_have(),
-            RecvTask::Ended => self.ended.may_have(),
-        }
-    }
-
-    /// The least marked index from one on.
-    #[inline]
-    pub(crate) fn next(&self, task: RecvTask, from: usize) -> Option<usize> {
-        match task {
-            RecvTask::Readable => self.readable.next(from),
-            RecvTask::Ended => self.ended.next(from),
-        }
-    }
-
-    /// The least marked index from one on that wasn't told.
-    #[inline]
-    pub(crate) fn next_untold(&self, task: RecvTask, told: &ToldMarks, from: usize) -> Option<usize> {
-        match task {
-            RecvTask::Readable => self.readable.next_untold(&self.readable, told, from),
-            RecvTask::Ended => self.ended.next_untold(&self.ended, told, from),
+            RecvTask::Readable => &self.readable,
+            RecvTask::Ended => &self.ended,
         }
     }
 }

@@ -10,7 +10,7 @@ use crate::proved::qs_conn::untold::Untold;
 use crate::proved::qs_calls::RecvReport;
 use crate::proved::qs_machine::Tally;
 use crate::proved::qs_ranges::NoMemory;
-use crate::proved::qs_recv::{Highest, Peek, Read, RecvFault, RecvState, Share};
+use crate::proved::qs_recv::{Peek, Read, RecvState, Share};
 use crate::proved::qs_wire::StreamId;
 use crate::shim::alloc::Global;
 
@@ -36,8 +36,7 @@ impl RecvTables {
     /// Whether the stream has a receiving half.
     #[inline]
     pub(crate) fn is_open(&self, stream: StreamId) -> bool {
-        let lanes = &self.types[type_of(stream)];
-        index_of(stream) < lanes.len()
+        self.half(Place::of(stream)).is_some()
     }
 
     /// The receiving half of a stream, where it is open.
@@ -45,21 +44,6 @@ impl RecvTables {
     pub(crate) fn half(&self, stream: Place) -> Option<&Half> {
         let lanes = &self.types[stream.stream_type];
         lanes.half(stream.index)
-    }
-
-    /// Whether a reset may be taken, at a stream that may have yet to be opened with that window.
-    #[inline]
-    pub(crate) fn check_reset(
-        &self,
-        window: u64,
-        stream: StreamId,
-        size: u64,
-    ) -> Result<Highest, RecvFault> {
-        debug_assert!(size <= 0x3fff_ffff_ffff_ffff);
-        debug_assert!(1 <= window);
-        debug_assert!(window <= 1 << 30);
-        let lanes = &self.types[type_of(stream)];
-        lanes.check_reset(window, index_of(stream), size)
     }
 
     /// Whether a frame that passed both checks would change an open stream.
@@ -163,8 +147,11 @@ impl RecvTables {
     /// Whether a reader of an open stream may be told something. It looks at marks alone.
     #[inline]
     pub(crate) fn may_tell(&self, stream: StreamId) -> bool {
-        let lanes = &self.types[type_of(stream)];
-        lanes.may_tell(index_of(stream))
+        let stream_type = type_of(stream);
+        let index = index_of(stream);
+        let readable = self.marks(RecvTask::Readable, stream_type);
+        let ended = self.marks(RecvTask::Ended, stream_type);
+        readable.has(index) || ended.has(index)
     }
 
     /// Whether a read of one byte of a stream tells something new.
@@ -295,8 +282,8 @@ impl RecvTables {
     fn next_with_of(&self, task: RecvTask, stream_type: usize, from: u64) -> Option<u64> {
         debug_assert!(stream_type < 4);
         debug_assert!(from <= 1 << 62);
-        let lanes = &self.types[stream_type];
-        match lanes.next_with(task, index_from(stream_type, from)) {
+        let marks = self.marks(task, stream_type);
+        match marks.next(index_from(stream_type, from)) {
             Some(index) => Some((index * 4 + stream_type) as u64),
             None => None,
         }
@@ -317,22 +304,19 @@ impl RecvTables {
     #[inline(always)]
     fn next_untold_of(&self, task: RecvTask, stream_type: usize, told: &ToldStreams) -> Option<u64> {
         debug_assert!(stream_type < 4);
-        let lanes = &self.types[stream_type];
-        if !lanes.may_have(task) {
-            return None;
-        }
-        match lanes.next_untold(task, told.of_type(stream_type)) {
+        let marks = self.marks(task, stream_type);
+        match marks.next_untold(marks, told.of_type(stream_type), 0) {
             Some(index) => Some((index * 4 + stream_type) as u64),
             None => None,
         }
     }
 
-    /// The marks of the streams of a type, by index, whose receiving half may have come to its end. One without a mark hasn't.
-    #[inline]
-    pub(crate) fn ended_marks(&self, stream_type: usize) -> &Marks {
+    /// The marks of the streams of a type, by index, whose receiving half has such an answer for its owner.
+    #[inline(always)]
+    pub(crate) fn marks(&self, task: RecvTask, stream_type: usize) -> &Marks {
         debug_assert!(stream_type < 4);
         let lanes = &self.types[stream_type];
-        lanes.ended_marks()
+        lanes.marks(task)
     }
 
     /// The sums over all streams.
