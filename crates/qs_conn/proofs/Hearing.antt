@@ -21,7 +21,7 @@ use Rattle.qs_recv.specs.News.{is_readable}
 use Rattle.qs_send.specs.Lane.{SendLane, refusal, free_room, accepted}
 use Rattle.qs_send.specs.Writable.{is_writable}
 use Rattle.qs_send.specs.declared.parts.SendFault.{SendFault}
-use Rattle.qs_conn.specs.RecvTasks.{has_news}
+use Rattle.qs_conn.specs.RecvTasks.{has_one}
 use Rattle.qs_conn.specs.Sending.{WasStopped, TakesAlone}
 use Rattle.qs_conn.specs.Tasks.{is_funded}
 use Rattle.qs_machine.specs.Heard.{Hearing, IsNextOpened, heard_opened, WasResetAcked, is_told}
@@ -143,14 +143,14 @@ stopped_back t n is = go (lookup t n) refl is
     go (Some l) at some = (l, at, some)
     go None at some = absurd (true≢false (sym some))
 
-pub readable_there : (t : Tables RecvLane) (n : ℕ) → has_news (lookup t n) ≡ true → IsHeld (λ l. is_readable l ≡ true) t n
+pub readable_there : (t : Tables RecvLane) (n : ℕ) → has_one recv_tasks.Readable (lookup t n) ≡ true → IsHeld (λ l. is_readable l ≡ true) t n
 readable_there t n is = go (lookup t n) refl is
   where
-    go : (x : Option RecvLane) → lookup t n ≡ x → has_news x ≡ true → IsHeld (λ l. is_readable l ≡ true) t n
+    go : (x : Option RecvLane) → lookup t n ≡ x → has_one recv_tasks.Readable x ≡ true → IsHeld (λ l. is_readable l ≡ true) t n
     go (Some l) at some = (l, at, some)
     go None at some = absurd (true≢false (sym some))
 
-pub readable_back : (t : Tables RecvLane) (n : ℕ) → IsHeld (λ l. is_readable l ≡ true) t n → has_news (lookup t n) ≡ true
+pub readable_back : (t : Tables RecvLane) (n : ℕ) → IsHeld (λ l. is_readable l ≡ true) t n → has_one recv_tasks.Readable (lookup t n) ≡ true
 readable_back t n (l, at, is) = rw at is
 
 pub acked_there : (t : Tables SendLane) (n : ℕ) → IsAckedReset (lookup t n) → IsHeld WasResetAcked t n
@@ -190,9 +190,9 @@ room_few e n = go (is_some e.closed) (send_lane e n)
 pub cut_past : (e : End) (n len : ℕ) → MAX_VARINT < len → nat_lt (room e n) len ≡ true
 cut_past e n len past = (let few = room_few e n in grind (arith, nat_tests, few, past))
 
-pub readable_at : (v old : End) (b r : Bool) (n : ℕ) → v ≡ old → b ≡ is_read_no_more old → b ≡ false → r ≡ has_news (lookup v.recvs n) → (IsTrue r → IsReadable old n) × (IsReadable old n → IsTrue r)
+pub readable_at : (v old : End) (b r : Bool) (n : ℕ) → v ≡ old → b ≡ is_read_no_more old → b ≡ false → r ≡ has_one recv_tasks.Readable (lookup v.recvs n) → (IsTrue r → IsReadable old n) × (IsReadable old n → IsTrue r)
 readable_at v old b r n same is none found =
-    let at : r ≡ has_news (lookup old.recvs n) = found ∙ ap (λ (x : End). has_news (lookup x.recvs n)) same in
+    let at : r ≡ has_one recv_tasks.Readable (lookup old.recvs n) = found ∙ ap (λ (x : End). has_one recv_tasks.Readable (lookup x.recvs n)) same in
     (λ yes. (sym is ∙ none, readable_there old.recvs n (sym at ∙ yes)), λ held. at ∙ readable_back old.recvs n held.1)
 
 pub readable_untold : (v old : End) (b : Bool) (told : Tables Bool) (r : Option ℕ) → v ≡ old → b ≡ is_read_no_more old → b ≡ false → IsLeast (IsUntold (IsHeld (HasOne recv_tasks.Readable) v.recvs) told) 0 r → IsLeast (λ n. IsReadable old n × (is_told told n ≡ false)) 0 r

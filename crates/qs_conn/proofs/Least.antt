@@ -1,6 +1,7 @@
 -- Searches for the least number with a property.
-use Rattle.std.proofs.Common.{◌≡◌, ℕ, zero, suc, ◌+◌, ◌-◌, ◌*◌, ◌/◌, ◌%◌, ◌<◌, ◌≤◌, ◌^◌, ◌⊎◌, min, Bool, false, List, length, get_or, Option, None, Some, slice_get, refl, sym, ◌∙◌, subst, arith, inl, inr}
+use Rattle.std.proofs.Common.{◌≡◌, ℕ, zero, suc, ◌+◌, ◌-◌, ◌*◌, ◌/◌, ◌%◌, ◌<◌, ◌≤◌, ◌^◌, ◌⊎◌, min, Bool, true, false, List, length, get_or, Option, None, Some, slice_get, refl, sym, ◌∙◌, subst, arith, inl, inr}
 use Rattle.std.specs.Option.{IfSome, IfNone}
+use Rattle.std.specs.Prelude.{option_map}
 use Rattle.std.proofs.lemmas.Bool.{cases_lt, both_ways}
 use Rattle.std.proofs.lemmas.Option.{none-some, same_Some, slice_get_read}
 use Rattle.qs_machine.specs.News.{IsLeast, IsHeld}
@@ -87,6 +88,18 @@ module _ (P Row : ℕ → Type 0) (k from first : ℕ) (small : k < 4) (begin : 
       let index : i ≡ (i * 4 + k) / 4 = omega (arith, small) in
       least_by (OfKind P k) from (Some (i * 4 + k)) (λ n is. (let at = same_Some (i * 4 + k) n is in (omega (arith, at, ge, begin, small), subst (OfKind P k) at (kind, back (i * 4 + k) kind index here))))
       (λ n on before p. none_before Row first (Some i) h (n / 4) (index_from n p.0 on) (let kind = p.0 in omega (arith, before, kind, small)) (there n p.0 p.1))
+
+-- where a mark tells which streams have the property, the next mark is the least of them
+pub next_of : (P : ℕ → Type 0) (ms : List Bool) (k from first : ℕ) → k < 4 → first ≡ (from + 3 - k) / 4 → ((n : ℕ) → type_of n ≡ k → P n → is_marked ms (n / 4) ≡ true) → ((n : ℕ) → type_of n ≡ k → is_marked ms (n / 4) ≡ true → P n)
+    → (r : Option ℕ) → IsNextMark ms first r → IsLeast (OfKind P k) from (option_map (λ i. i * 4 + k) r)
+next_of P ms k from first small begin there back r next = go r (least_by Row first r next.found (λ i ge before is. both_ways (is_marked ms i) (next.unmarked i ge before) is))
+  where
+    Row : ℕ → Type 0
+    Row i = is_marked ms i ≡ true
+
+    go : (o : Option ℕ) → IsLeast Row first o → IsLeast (OfKind P k) from (option_map (λ i. i * 4 + k) o)
+    go None h = row_none P Row k from first small begin there h
+    go (Some i) h = row_some P Row k from first small begin there i (λ n kind index is. back n kind (subst Row index is)) h
 
 part_of : {X : Type 0} (R : X → Type 0) (ls : List (List X)) (k : ℕ) (d : List X) → length ls ≡ 4 → (n : ℕ) → type_of n ≡ k → IsHeld R (tables_of ls) n → IsAt R (get_or ls k d) (n / 4)
 part_of R ls k d len n kind (x, at, r) = (x, sym (lookup_is ls n k (n / 4) d len (sym kind) refl) ∙ at, r)

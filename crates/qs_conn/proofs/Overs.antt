@@ -4,22 +4,14 @@ use Rattle.std.proofs.lemmas.Bool.{both_ways}
 use Rattle.qs_send.specs.Lane.{Sending}
 use Rattle.qs_machine.specs.Outgoing.{lanes_of}
 use Rattle.qs_conn.specs.Marks.{AreMarked, AreEndsMarked}
-use Rattle.qs_machine.specs.Credit.{recv_ended, send_ended}
+use Rattle.qs_machine.specs.Credit.{send_ended}
 use Rattle.qs_machine.specs.Sums.{tables_of}
 use Rattle.qs_machine.proofs.TableEdits.{lookup_is}
-use Rattle.qs_recv.specs.Lane.{RecvLane}
-use Rattle.qs_conn.specs.RecvTasks.{HasOne, HasNone}
-use Rattle.qs_conn.specs.declared.recv_marks.RecvTask.TheVariants as recv_tasks
 use Rattle.qs_conn.specs.Sending.{HasSent}
 use Rattle.qs_conn.specs.Tasks.{IsQuiet}
 use Rattle.qs_conn.specs.declared.send_marks.Task.TheVariants as tasks
 use Rattle.qs_conn.proofs.Marked.{unmarked_at}
 use Rattle.qs_conn.proofs.Sought.{half_of_lane}
-
-pub recv_ends_marked : (ls : List (List RecvLane)) (k : ℕ) (d : List RecvLane) (ms : List Bool) → length ls ≡ 4 → AreMarked (HasNone recv_tasks.Ended) (get_or ls k d) ms → AreEndsMarked (HasOne recv_tasks.Ended) (tables_of ls) k ms
-recv_ends_marked ls k d ms len marked n kind none (l, there, is) =
-    let same = lookup_is ls n k (n / 4) d len (sym kind) refl in
-    both_ways (recv_ended l) (unmarked_at (HasNone recv_tasks.Ended) (get_or ls k d) ms (n / 4) l marked (sym same ∙ there) none) is
 
 pub send_ends_marked : (ls : List (List Sending)) (k : ℕ) (d : List Sending) (ms : List Bool) → length ls ≡ 4 → AreMarked (IsQuiet tasks.Ended) (get_or ls k d) ms → AreEndsMarked HasSent (lanes_of (tables_of ls)) k ms
 send_ends_marked ls k d ms len marked n kind none (l, there, is) =

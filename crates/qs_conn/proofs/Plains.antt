@@ -5,7 +5,6 @@ use Rattle.std.proofs.lemmas.Bool.Decides.{nat_tests}
 use Rattle.std.proofs.lemmas.Option.{none-some, same_Some}
 use Rattle.qs_wire.specs.declared.stream_id.Role.{Role}
 use Rattle.qs_recv.specs.Lane.{RecvLane, taken, raise, take_stream, check_stream, next_limit, is_whole}
-use Rattle.qs_recv.specs.Lawful.{IsLawful}
 use Rattle.qs_recv.specs.declared.credit.Share.TheVariants.{Half}
 use Rattle.qs_send.specs.Lane.{SendLane}
 use Rattle.qs_calls.specs.declared.settings.Settings.{Settings}
@@ -69,14 +68,14 @@ module _ (recvs now : Tables RecvLane) (n offset : ℕ) (bytes : List ℕ) (fin 
   there : now ≡ update recvs n (take_stream l offset bytes fin)
   there = after ∙ ap (updated recvs n (λ x. take_stream x offset bytes fin)) at
 
-  pub plain_next : (s : Settings) (t : Tuning) (pr : Present) (e : ByDir ℕ) (is : Bool) (g b u : ℕ) → IsLawful l → AreNextWhere is s t pr recvs e g b u → AreNextWhere is s t pr now e g b u
-  plain_next s t pr e is g b u lawful next on =
+  pub plain_next : (s : Settings) (t : Tuning) (pr : Present) (e : ByDir ℕ) (is : Bool) (g b u : ℕ) → AreNextWhere is s t pr recvs e g b u → AreNextWhere is s t pr now e g b u
+  plain_next s t pr e is g b u next on =
       let was = next on in
       let moved = total_update taken recvs n l (take_stream l offset bytes fin) at in
       let stays = plain_taken l offset bytes fin p in
       let same : total taken now ≡ total taken recvs = ap (total taken) there ∙ omega (arith, moved, stays) in
       record {
-        streams = subst (λ (x : Tables RecvLane). each raise x ≡ x) (sym there) (raised_still recvs n l _ at was.streams (stream_settled l offset bytes fin lawful (ap is_some p.going)));
+        streams = subst (λ (x : Tables RecvLane). each raise x ≡ x) (sym there) (raised_still recvs n l _ at was.streams (stream_settled l offset bytes fin stays));
         connection = ap (λ k. next_limit g k pr.conn_window t.credit_step) same ∙ was.connection;
         bidi = was.bidi;
         uni = was.uni;

@@ -1,10 +1,10 @@
 -- Marks of receiving halves that have an answer for their owner.
-use Rattle.std.proofs.Common.{◌≡◌, ℕ, zero, suc, ◌+◌, ◌-◌, ◌≤◌, ◌<◌, ◌^◌, Bool, true, false, not, cond, ◌&&◌, ◌||◌, ◌⊎◌, inl, inr, List, [], ◌∷◌, ◌++◌, length, map, take, replicate, Option, None, Some, is_some, refl, sym, ap, ◌∙◌, subst, arith}
+use Rattle.std.proofs.Common.{◌≡◌, ℕ, zero, suc, ◌+◌, ◌-◌, ◌*◌, ◌/◌, ◌%◌, ◌≤◌, ◌<◌, Bool, true, false, not, cond, ◌&&◌, ◌||◌, ◌⊎◌, inl, inr, List, [], ◌∷◌, ◌++◌, length, map, take, replicate, Option, None, Some, is_some, refl, sym, ap, ◌∙◌, subst, arith}
 use Rattle.std.proofs.lemmas.List.{length-map, map-append, map-set, take-map}
 use Rattle.std.proofs.lemmas.Bool.{true≢false, both_ways}
+use Rattle.std.proofs.lemmas.Option.{slice_get_within}
 use Rattle.std.specs.List.{range_with_len}
-use Rattle.std.specs.Option.{IfSome}
-use Rattle.std.specs.Prelude.{if◌then◌else◌, slice_set, slice_index_or}
+use Rattle.std.specs.Prelude.{if◌then◌else◌, slice_get, slice_set, option_map}
 use Rattle.std.specs.FinSet as set
 use Rattle.std.specs.Ordering.{nat_cmp}
 use Rattle.std.proofs.Math.ListN as list
@@ -16,64 +16,66 @@ use Rattle.qs_recv.specs.declared.credit.Share.{Share}
 use Rattle.qs_recv.specs.declared.credit.Share.TheVariants.{Half}
 use Rattle.qs_machine.specs.Credit.{recv_ended}
 use Rattle.qs_machine.proofs.EveryCall.{not_chosen}
-use Rattle.qs_conn.specs.Marks.{is_marked, untold, AreMarked, IsAt, IsUntoldAt, IsNextMark}
-use Rattle.qs_conn.specs.RecvTasks.{has, marks_of, HasNone, HasOne, AreNoted}
+use Rattle.qs_machine.specs.Tables.{Tables, table, type_of, lookup}
+use Rattle.qs_machine.specs.News.{IsLeast, IsHeld}
+use Rattle.qs_machine.specs.Verdicts.{or_new}
+use Rattle.qs_conn.specs.Marks.{is_marked, both, untold, AreEndsMarked, IsNextMark, IsHeldOf, IsUntold, IsUntoldOf}
+use Rattle.qs_conn.specs.RecvTasks.{has, has_one, marks_of, HasNone, HasOne, AreNoted}
 use Rattle.qs_conn.specs.declared.recv_marks.RecvTask.{RecvTask}
 use Rattle.qs_conn.specs.declared.recv_marks.RecvTask.TheVariants as tasks
 use Rattle.qs_conn.specs.declared.recv_marks.RecvMarks.{RecvMarks}
-use Rattle.qs_conn.proofs.Marked.{mark_past, unmarked_at}
-use Rattle.qs_conn.proofs.Least.{least_by}
+use Rattle.qs_conn.proofs.Marked.{mark_past}
+use Rattle.qs_conn.proofs.Least.{next_of}
+use Rattle.qs_conn.proofs.Boths.{untold_is}
+use Rattle.qs_conn.proofs.UntoldSearch.{both_self, left_at, next_self, told_of}
 use Rattle.qs_conn.proofs.Words.{marked_below}
-use Rattle.qs_conn.proofs.UntoldSearch.{left_at, one_told}
-use Rattle.qs_machine.specs.News.{IsLeast}
-use Rattle.std.proofs.lemmas.Option.{slice_get-get_or}
 
--- an index has a mark for each task
-pub noted_there : (xs : List RecvLane) (marks : RecvMarks) (i : ℕ) → AreNoted xs marks → i < length xs → (t : RecvTask) → i < length (marks_of marks t)
-noted_there xs marks i h there t = rw (h t, length-map) there
+-- the mark of an index tells whether the lane there has an answer
+pub mark_is : (t : RecvTask) (xs : List RecvLane) (i : ℕ) → is_marked (map (has t) xs) i ≡ has_one t (slice_get xs i)
+mark_is t [] i = mark_past [] i (omega arith)
+mark_is t (x ∷ xs) zero = refl
+mark_is t (x ∷ xs) (suc i) = mark_is t xs i
 
--- a lane without a mark has no answer
-marked_by : (t : RecvTask) (xs : List RecvLane) → AreMarked (HasNone t) xs (map (has t) xs)
-marked_by t [] = tt
-marked_by t (x ∷ xs) = (λ is. is, marked_by t xs)
+held_at : (t : RecvTask) (recvs : Tables RecvLane) (n : ℕ) (o : Option RecvLane) → lookup recvs n ≡ o → has_one t o ≡ true → IsHeld (HasOne t) recvs n
+held_at t recvs n None at is = absurd (true≢false (sym is))
+held_at t recvs n (Some l) at is = (l, at, is)
 
-pub noted_marked : (xs : List RecvLane) (marks : RecvMarks) → AreNoted xs marks → (t : RecvTask) → AreMarked (HasNone t) xs (marks_of marks t)
-noted_marked xs marks h t = subst (AreMarked (HasNone t) xs) (sym (h t)) (marked_by t xs)
+-- the marks of the streams of a type
+module _ (t : RecvTask) (recvs : Tables RecvLane) (ms : List Bool) (k : ℕ) (small : k < 4) (marks : (n : ℕ) → type_of n ≡ k → is_marked ms (n / 4) ≡ has_one t (lookup recvs n)) where
+  marked_held : (n : ℕ) → type_of n ≡ k → is_marked ms (n / 4) ≡ true → IsHeld (HasOne t) recvs n
+  marked_held n kind is = held_at t recvs n (lookup recvs n) refl (sym (marks n kind) ∙ is)
 
--- one with a mark has one
-mark_at : (t : RecvTask) (xs : List RecvLane) (i : ℕ) → is_marked (map (has t) xs) i ≡ true → IsAt (HasOne t) xs i
-mark_at t [] i is = absurd (both_ways (is_marked [] i) (mark_past [] i (omega arith)) is)
-mark_at t (x ∷ xs) zero is = (x, refl, is)
-mark_at t (x ∷ xs) (suc i) is = mark_at t xs i is
+  held_marked : (n : ℕ) → type_of n ≡ k → IsHeld (HasOne t) recvs n → is_marked ms (n / 4) ≡ true
+  held_marked n kind (l, at, is) = marks n kind ∙ ap (has_one t) at ∙ is
 
-module _ (t : RecvTask) (xs : List RecvLane) (marks : RecvMarks) (h : AreNoted xs marks) where
-  none_at : (i : ℕ) → is_marked (marks_of marks t) i ≡ false → IsAt (HasOne t) xs i → ⊥
-  none_at i none (x, at, one) = both_ways (has t x) (unmarked_at (HasNone t) xs (marks_of marks t) i x (noted_marked xs marks h t) at none) one
+  pub none_marked : AreEndsMarked (HasOne t) recvs k ms
+  none_marked n kind none held = both_ways (is_marked ms (n / 4)) none (held_marked n kind held)
 
-  some_at : (i : ℕ) → is_marked (marks_of marks t) i ≡ true → IsAt (HasOne t) xs i
-  some_at i is = mark_at t xs i (ap (λ ms. is_marked ms i) (sym (h t)) ∙ is)
+  -- a search over them is one over the streams
+  pub next_held : (from first : ℕ) (r : Option ℕ) → first ≡ (from + 3 - k) / 4 → IsNextMark ms first r → IsLeast (IsHeldOf (HasOne t) recvs k) from (option_map (λ i. i * 4 + k) r)
+  next_held from first r begin = next_of (IsHeld (HasOne t) recvs) ms k from first small begin held_marked marked_held r
 
-  -- a search over the marks is one over the lanes
-  pub noted_least : (from : ℕ) (r : Option ℕ) → IsNextMark (marks_of marks t) from r → IsLeast (IsAt (HasOne t) xs) from r
-  noted_least from r next =
-      least_by (IsAt (HasOne t) xs) from r (λ n found. ((next.found n found).0, some_at n (next.found n found).1)) (λ i ge before. none_at i (next.unmarked i ge before))
+  pub next_untold : (told : Tables Bool) (r : Option ℕ) → IsNextMark (untold (both ms ms) (table told k)) 0 r → IsLeast (IsUntoldOf (IsHeld (HasOne t) recvs) told k) 0 (option_map (λ i. i * 4 + k) r)
+  next_untold told r next =
+      next_of (IsUntold (IsHeld (HasOne t) recvs) told) (untold ms (table told k)) k 0 0 small (omega (arith, small))
+      (λ n kind (held, free). untold_is ms (table told k) (n / 4) ∙ ap (λ b. b && not (is_marked (table told k) (n / 4))) (held_marked n kind held) ∙ ap not (sym (told_of told n k kind) ∙ free))
+      (λ n kind is. (let left = left_at ms (table told k) (n / 4) is in (marked_held n kind left.0, told_of told n k kind ∙ left.1)))
+      r (next_self ms (table told k) 0 r next)
 
-  pub untold_least : (told : List Bool) (from : ℕ) (r : Option ℕ) → IsNextMark (untold (marks_of marks t) told) from r → IsLeast (IsUntoldAt (HasOne t) xs told) from r
-  untold_least told from r next =
-      least_by (IsUntoldAt (HasOne t) xs told) from r
-      (λ n found. (let left = left_at (marks_of marks t) told n (next.found n found).1 in ((next.found n found).0, (some_at n left.0, left.1))))
-      (λ i ge before (at, free). none_at i (one_told (marks_of marks t) told i (next.unmarked i ge before) free) at)
+-- a mark that is left is one
+pub untold_within : (ms ts : List Bool) (i : ℕ) → is_marked (untold (both ms ms) ts) i ≡ true → i < length ms
+untold_within ms ts i is = marked_below ms i (ap (λ xs. is_marked xs i) (sym (both_self ms)) ∙ (left_at (both ms ms) ts i is).0)
 
-  noted_small : length xs ≤ 2 ^ 60 → (i : ℕ) → is_marked (marks_of marks t) i ≡ true → i < 2 ^ 60
-  noted_small few i is = (let there = marked_below (marks_of marks t) i is in let len = ap length (h t) ∙ length-map xs (has t) in omega (arith, there, len, few))
+-- an open stream has a mark
+pub open_within : (recvs : Tables RecvLane) (n : ℕ) (o : Option RecvLane) → lookup recvs n ≡ o → is_some o ≡ true → n / 4 < length (table recvs (n % 4))
+unfolding lookup
+open_within recvs n None at is = absurd (true≢false (sym is))
+open_within recvs n (Some l) at is = slice_get_within (table recvs (n % 4)) (n / 4) l at
 
-  pub noted_found : length xs ≤ 2 ^ 60 → (r : Option ℕ) → ((n : ℕ) → r ≡ Some n → is_marked (marks_of marks t) n ≡ true) → IfSome r (λ n. n < 2 ^ 60)
-  noted_found few None marked = tt
-  noted_found few (Some n) marked = noted_small few n (marked n refl)
-
--- a lane without a mark for any task has no answer
-pub quiet_there : (xs : List RecvLane) (marks : RecvMarks) (i : ℕ) → AreNoted xs marks → i < length xs → ((t : RecvTask) → is_marked (marks_of marks t) i ≡ false) → (t : RecvTask) → HasNone t (slice_index_or xs i (new_lane 0 Half))
-quiet_there xs marks i h there none t = unmarked_at (HasNone t) xs (marks_of marks t) i (slice_index_or xs i (new_lane 0 Half)) (noted_marked xs marks h t) (slice_get-get_or xs i (new_lane 0 Half) there) (none t)
+-- a stream without a mark for any task has no answer
+pub quiet_there : (t : RecvTask) (o : Option RecvLane) → is_some o ≡ true → has_one t o ≡ false → HasNone t (or_new o 0 Half)
+quiet_there t None some none = absurd (true≢false (sym some))
+quiet_there t (Some l) some none = none
 
 -- A reader of such a lane waits, where what was told was an end or a reset (RFC 9000, sections 2.2 and 3.2)
 

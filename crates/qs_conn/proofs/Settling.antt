@@ -2,13 +2,12 @@
 use Rattle.std.proofs.Common.{◌≡◌, ◌≢◌, ℕ, zero, suc, ◌+◌, ◌<◌, ◌≤◌, ◌⊎◌, inl, inr, Bool, true, false, ◌&&◌, ◌||◌, List, [], ◌∷◌, ◌++◌, length, map, take, replicate, Option, Some, None, is_some, refl, ap, sym, ◌∙◌, arith, subst, max, min, nat_le, nat_lt, cond, eqb, get_or}
 use Rattle.std.proofs.lemmas.Option.{none-some, same_Some, slice_get_read, slice_get_within}
 use Rattle.std.proofs.lemmas.Bool.Decides.{nat_tests}
-use Rattle.std.proofs.lemmas.Bool.{both_ways, cases_eq, true≢false}
+use Rattle.std.proofs.lemmas.Bool.{cases_eq, true≢false}
 use Rattle.std.proofs.Math.ListN.{set, length-set}
 use Rattle.std.proofs.Math.Seq.{take-append_seam}
 use Rattle.std.specs.List.{slice_get}
 use Rattle.qs_ranges.specs.Numbers.{MAX_VARINT}
 use Rattle.qs_recv.specs.Lane.{MAX_WINDOW, RecvLane, new_lane, step, raise, taken, take_stream, next_limit, limit_with, set_window}
-use Rattle.qs_recv.specs.Lawful.{IsLawful}
 use Rattle.qs_recv.specs.declared.credit.Share.{Share}
 use Rattle.qs_recv.specs.declared.credit.Share.TheVariants.{Half, Quarter, Eighth, Sixteenth}
 use Rattle.qs_conn.specs.declared.touches.Touches.{Touches}
@@ -40,17 +39,10 @@ new_settled w share some small =
     let stays : moves w 0 w share ≡ false = grind (arith, nat_tests) in
     ap (λ c. cond c (most 0 w) w) stays
 
--- a frame on a lane that wasn't stopped raises no limit: it moves what was taken only after a reset
-pub stream_settled : (l : RecvLane) (offset : ℕ) (bytes : List ℕ) (fin : Bool) → IsLawful l → is_some l.stop_code ≡ false → IsSettled l → IsSettled (take_stream l offset bytes fin)
-stream_settled l offset bytes fin h no_stop was = by_case l.reset_code l.stop_code l.final_size fin no_stop (h.reset_sized) was
-  where
-    by_case : (r s f : Option ℕ) (b : Bool) → is_some s ≡ false → (is_some r ≡ true → is_some f ≡ true) → IsSettled (record l { reset_code = r; stop_code = s; final_size = f })
-        → IsSettled (take_stream (record l { reset_code = r; stop_code = s; final_size = f }) offset bytes b)
-    by_case r s f true no_stop sized was = refl
-    by_case None None f false no_stop sized was = was
-    by_case (Some c) s (Some n) false no_stop sized was = refl
-    by_case (Some c) s None false no_stop sized was = absurd (both_ways false refl (sized refl))
-    by_case None (Some c) f false no_stop sized was = absurd (both_ways true no_stop refl)
+-- a frame that moves nothing that was taken raises no limit
+pub stream_settled : (l : RecvLane) (offset : ℕ) (bytes : List ℕ) (fin : Bool) → taken (take_stream l offset bytes fin) ≡ taken l → IsSettled l → IsSettled (take_stream l offset bytes fin)
+stream_settled l offset bytes true took was = refl
+stream_settled l offset bytes false took was = ap (λ k. cond (is_some l.final_size) l.limit (next_limit l.limit k l.window l.share)) took ∙ was
 
 -- by how much a limit moves falls by no more than the window
 steps_near : (w w' : ℕ) (share : Share) → w' ≤ w → step share w + w' ≤ step share w' + w

@@ -61,10 +61,6 @@ pub record IsNextMark (marks : List Bool) (from : ℕ) (answer : Option ℕ) : T
 abbrev pub IsAt : {X : Type 0} → (X → Type 0) → List X → ℕ → Type 0
 IsAt {X} P xs i = (x : X) × (slice_get xs i ≡ Some x) × P x
 
--- there is such a part at an index, of which an owner wasn't told
-abbrev pub IsUntoldAt : {X : Type 0} → (X → Type 0) → List X → List Bool → ℕ → Type 0
-IsUntoldAt {X} P xs told i = IsAt P xs i × (is_marked told i ≡ false)
-
 -- a stream has the property, and an owner wasn't told of it
 abbrev pub IsUntold : (ℕ → Type 0) → Tables Bool → ℕ → Type 0
 IsUntold P told n = P n × (is_told told n ≡ false)

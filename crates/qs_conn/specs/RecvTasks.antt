@@ -29,7 +29,7 @@ HasOne t l = has t l ≡ true
 abbrev pub AreNoted : List RecvLane → RecvMarks → Type 0
 AreNoted lanes marks = (t : RecvTask) → marks_of marks t ≡ map (has t) lanes
 
--- whether a read of one byte of a stream tells something new (RFC 9000, section 2.2)
-abbrev pub has_news : Option RecvLane → Bool
-has_news None = false
-has_news (Some l) = is_readable l
+-- whether there is a lane that has an answer of a kind
+abbrev pub has_one : RecvTask → Option RecvLane → Bool
+has_one t None = false
+has_one t (Some l) = has t l

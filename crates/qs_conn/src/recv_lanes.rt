@@ -1,29 +1,24 @@
 ghost use Rattle.std.specs.Prelude.{◌≡◌, ◌+◌, ◌-◌, ◌≤◌, ◌<◌, ◌^◌, ◌++◌, ◌∷◌, [], length, map, min, take, slice_get, slice_index_or, ℕ, false, None, Some, IfSome, IfNone, OnOk, OnErr};
 ghost use Rattle.std.specs.List.{sum_by};
 ghost use Rattle.qs_ranges.specs.Numbers.{MAX_VARINT};
-ghost use Rattle.qs_recv.specs.Lane.{MAX_WINDOW, RecvLane, new_lane, check_reset, raise};
+ghost use Rattle.qs_recv.specs.Lane.{MAX_WINDOW, RecvLane, new_lane, raise};
 ghost use Rattle.qs_recv.specs.Lawful.{IsLawful};
 ghost use Rattle.qs_machine.specs.Tables.{widened};
-ghost use Rattle.qs_machine.specs.Verdicts.{or_new};
 ghost use Rattle.qs_machine.specs.Sums.{changed, tally_of, tally_on, stored_on, IsPaid, EachLawful};
 ghost use Rattle.qs_conn.specs.Held.{least_held, most_held};
 ghost use Rattle.qs_conn.specs.Touches.{AreSettled};
 ghost use Rattle.qs_conn.specs.RecvEdits.{OnceInto, OnceTakesInto, LeavesCalm, IsEdited, wrapped, with_parts};
-ghost use Rattle.qs_machine.specs.News.{IsLeast};
-ghost use Rattle.qs_conn.specs.Marks.{AreMarked, IsAt, IsUntoldAt};
-ghost use Rattle.qs_conn.specs.declared.recv_marks.RecvTask.TheVariants as tasks;
 ghost use Rattle.qs_conn.specs.Untold.{HasMore, IsRaisedMarked, AreRaisedMarked};
-ghost use Rattle.qs_conn.specs.RecvTasks.{HasOne, HasNone};
+ghost use Rattle.qs_conn.specs.RecvTasks.{has};
 ghost use Rattle.qs_conn.specs.Carried.{StayExactOf};
 
 use crate::marks::Marks;
 use crate::recv_marks::{RecvMarks, RecvTask};
-use crate::told_marks::ToldMarks;
 use crate::touches::Touches;
 use crate::untold::Untold;
 use qs_machine::Tally;
 use qs_ranges::NoMemory;
-use qs_recv::{Highest, RecvFault, RecvHalf, RingAssembly, Share};
+use qs_recv::{RecvHalf, RingAssembly, Share};
 use qs_wire::StreamId;
 use std::alloc::Global;
 use std::marker::Model;
@@ -110,23 +105,6 @@ impl RecvLanes {
         held_of(&self.halves)
     }
 
-    pub(crate) fn check_reset(
-        &self,
-        window: u64,
-        index: usize,
-        size: u64,
-    ) -> Result<Highest, RecvFault>
-        requires in_range { size ≤ MAX_VARINT }
-        requires some { 1 ≤ window }
-        requires small { window ≤ MAX_WINDOW }
-        ensures { (share : Share) → result ≡ check_reset (or_new (slice_get self.now index) window share) size }
-    {
-        match self.halves.get(index) {
-            Some(half) => half.check_reset(size),
-            None => Half::check_first_reset(self.alloc, window, size),
-        }
-    }
-
     pub(crate) fn open_to(
         &mut self,
         window: u64,
@@ -201,14 +179,6 @@ impl RecvLanes {
         answer
     }
 
-    /// By marks alone, so that a read of a stream without news costs no more.
-    pub(crate) fn may_tell(&self, index: usize) -> bool
-        requires { index < length self.now }
-        ensures { result ≡ false → (t : RecvTask) → HasNone t (slice_index_or self.now index (new_lane 0 Share.Half)) }
-    {
-        self.news.may_tell(index)
-    }
-
     /// Only lanes that were touched are looked at. A stream whose limit rises is marked: the new one is in no packet yet.
     #[inline]
     pub(crate) fn raise_all(
@@ -235,36 +205,13 @@ impl RecvLanes {
         );
     }
 
-    /// One without a mark isn't over, so a search passes it.
-    pub(crate) fn ended_marks(&self) -> &Marks
-        ensures none { AreMarked (HasNone tasks.Ended) self.now result.now }
+    /// The marks of the lanes that have such an answer for their owner.
+    #[inline(always)]
+    pub(crate) fn marks(&self, task: RecvTask) -> &Marks
+        ensures value { result.now ≡ map (has task) self.now }
         ensures few { length result.now ≤ 2 ^ 60 }
     {
-        self.news.ended()
-    }
-
-    pub(crate) fn next_with(&self, task: RecvTask, from: usize) -> Option<usize>
-        ensures least { IsLeast (IsAt (HasOne task) self.now) from result }
-        ensures small { IfSome result (λ n. n < 2 ^ 60) }
-    {
-        self.news.next(task, from)
-    }
-}
-
-impl RecvLanes {
-    #[inline(always)]
-    pub(crate) fn may_have(&self, task: RecvTask) -> bool
-        ensures { result ≡ false → (i : ℕ) → IsAt (HasOne task) self.now i → ⊥ }
-    {
-        self.news.may_have(task)
-    }
-
-    #[inline(never)]
-    pub(crate) fn next_untold(&self, task: RecvTask, told: &ToldMarks) -> Option<usize>
-        ensures least { IsLeast (IsUntoldAt (HasOne task) self.now told.now) 0 result }
-        ensures small { IfSome result (λ n. n < 2 ^ 60) }
-    {
-        self.news.next_untold(task, told, 0)
+        self.news.marks(task)
     }
 }
 

@@ -1,11 +1,7 @@
 ghost use Rattle.std.specs.Prelude.{◌≡◌, ◌++◌, ◌-◌, ◌<◌, [], false, length, take, slice_set, replicate, OnOk, OnErr};
-ghost use Rattle.qs_recv.specs.News.{is_readable};
-ghost use Rattle.qs_conn.specs.Marks.{is_marked, untold, IsNextMark};
 ghost use Rattle.qs_conn.specs.RecvTasks.{has, marks_of};
-ghost use Rattle.qs_conn.specs.Untold.{IsClear};
 
 use crate::marks::Marks;
-use crate::told_marks::ToldMarks;
 use qs_ranges::NoMemory;
 use qs_recv::{RecvHalf, RingAssembly};
 use std::alloc::Global;
@@ -61,44 +57,13 @@ impl RecvMarks {
         self.ended.set(index, standing.has_ended);
     }
 
-    pub(crate) fn may_tell(&self, index: usize) -> bool
-        requires { (t : RecvTask) → index < length (marks_of self.now t) }
-        ensures { result ≡ false → (t : RecvTask) → is_marked (marks_of self.now t) index ≡ false }
-    {
-        self.readable.has(index) || self.ended.has(index)
-    }
-
-    pub(crate) fn ended(&self) -> &Marks
-        ensures { result.now ≡ self.now.ended }
-    {
-        &self.ended
-    }
-
     #[inline(always)]
-    pub(crate) fn may_have(&self, task: RecvTask) -> bool
-        ensures { result ≡ false → IsClear (marks_of self.now task) }
+    pub(crate) fn marks(&self, task: RecvTask) -> &Marks
+        ensures { result.now ≡ marks_of self.now task }
     {
         match task {
-            RecvTask::Readable => self.readable.may_have(),
-            RecvTask::Ended => self.ended.may_have(),
-        }
-    }
-
-    pub(crate) fn next(&self, task: RecvTask, from: usize) -> Option<usize>
-        ensures { IsNextMark (marks_of self.now task) from result }
-    {
-        match task {
-            RecvTask::Readable => self.readable.next(from),
-            RecvTask::Ended => self.ended.next(from),
-        }
-    }
-
-    pub(crate) fn next_untold(&self, task: RecvTask, told: &ToldMarks, from: usize) -> Option<usize>
-        ensures { IsNextMark (untold (marks_of self.now task) told.now) from result }
-    {
-        match task {
-            RecvTask::Readable => self.readable.next_untold(&self.readable, told, from),
-            RecvTask::Ended => self.ended.next_untold(&self.ended, told, from),
+            RecvTask::Readable => &self.readable,
+            RecvTask::Ended => &self.ended,
         }
     }
 }

@@ -1,4 +1,4 @@
-ghost use Rattle.std.specs.Prelude.{◌≡◌, ◌+◌, ◌≤◌, ◌<◌, ◌^◌, ◌%◌, ◌++◌, ℕ, length, drop, take, is_some, option_map, true, false, Some, None, OnOk, OnErr, IsOk, IfSome, IfNone, min, ◌-◌};
+ghost use Rattle.std.specs.Prelude.{◌≡◌, ◌+◌, ◌≤◌, ◌<◌, ◌^◌, ◌/◌, ◌%◌, ◌++◌, ℕ, length, drop, take, is_some, option_map, true, false, Some, None, OnOk, OnErr, IsOk, IfSome, IfNone, min, ◌-◌};
 ghost use Rattle.qs_ranges.specs.Numbers.{MAX_VARINT};
 ghost use Rattle.qs_recv.specs.Lane.{RecvLane, new_lane, check_stream, check_reset, check_bytes, highest, taken, take_stream, take_reset, read_answer, bytes_read, after_read, raise, stop, stop_and_forget, MAX_WINDOW, set_window};
 ghost use Rattle.qs_machine.specs.Tables.{no_streams, table, with_table, lookup, updated, open_to, each, total, type_of};
@@ -13,12 +13,12 @@ ghost use Rattle.qs_conn.specs.Ended.{recv_over};
 ghost use Rattle.qs_conn.specs.Held.{least_held, most_held};
 ghost use Rattle.qs_conn.specs.Layers.{limit_to_tell, stop_to_tell};
 ghost use Rattle.qs_machine.specs.News.{IsLeast, IsHeld};
-ghost use Rattle.qs_conn.specs.Marks.{IsHeldOf, AreEndsMarked, IsUntold, IsUntoldOf};
+ghost use Rattle.qs_conn.specs.Marks.{is_marked, IsHeldOf, IsUntold, IsUntoldOf};
 ghost use Rattle.qs_conn.specs.declared.recv_marks.RecvTask.TheVariants as tasks;
 ghost use Rattle.qs_conn.specs.Untold.{HasMore};
 ghost use Rattle.qs_conn.specs.Carried.{StayExact};
 ghost use Rattle.qs_conn.specs.RecvEdits.{OnceInto, OnceTakesInto, LeavesCalm, IsEditedIn, IsTallyOf, added};
-ghost use Rattle.qs_conn.specs.RecvTasks.{HasOne, HasNone, has_news};
+ghost use Rattle.qs_conn.specs.RecvTasks.{HasOne, HasNone, has_one};
 
 use crate::marks::Marks;
 use crate::places::{Place, index_from, index_of, least_stream, type_of};
@@ -29,7 +29,7 @@ use crate::untold::Untold;
 use qs_calls::RecvReport;
 use qs_machine::Tally;
 use qs_ranges::NoMemory;
-use qs_recv::{Highest, Peek, Read, RecvFault, RecvState, Share};
+use qs_recv::{Peek, Read, RecvState, Share};
 use qs_wire::StreamId;
 use std::alloc::Global;
 use std::marker::Model;
@@ -75,8 +75,7 @@ impl RecvTables {
     pub(crate) fn is_open(&self, stream: StreamId) -> bool
         ensures { result ≡ is_some (lookup self.now stream) }
     {
-        let lanes = &self.types[type_of(stream)];
-        index_of(stream) < lanes.len()
+        self.half(Place::of(stream)).is_some()
     }
 
     pub(crate) fn half(&self, stream: Place) -> Option<&Half>
@@ -85,21 +84,6 @@ impl RecvTables {
     {
         let lanes = &self.types[stream.stream_type];
         lanes.half(stream.index)
-    }
-
-    pub(crate) fn check_reset(
-        &self,
-        window: u64,
-        stream: StreamId,
-        size: u64,
-    ) -> Result<Highest, RecvFault>
-        requires in_range { size ≤ MAX_VARINT }
-        requires some { 1 ≤ window }
-        requires small { window ≤ MAX_WINDOW }
-        ensures { (share : Share) → result ≡ check_reset (or_new (lookup self.now stream) window share) size }
-    {
-        let lanes = &self.types[type_of(stream)];
-        lanes.check_reset(window, index_of(stream), size)
     }
 
     pub(crate) fn stream_changes(&self, stream: StreamId, offset: u64, len: u64, fin: bool) -> bool
@@ -221,12 +205,15 @@ impl RecvTables {
         requires { is_some (lookup self.now stream) ≡ true }
         ensures { result ≡ false → (t : RecvTask) → HasNone t (or_new (lookup self.now stream) 0 Share.Half) }
     {
-        let lanes = &self.types[type_of(stream)];
-        lanes.may_tell(index_of(stream))
+        let stream_type = type_of(stream);
+        let index = index_of(stream);
+        let readable = self.marks(RecvTask::Readable, stream_type);
+        let ended = self.marks(RecvTask::Ended, stream_type);
+        readable.has(index) || ended.has(index)
     }
 
     pub(crate) fn is_readable(&self, stream: StreamId) -> bool
-        ensures { result ≡ has_news (lookup self.now stream) }
+        ensures { result ≡ has_one tasks.Readable (lookup self.now stream) }
     {
         match self.half(Place::of(stream)) {
             Some(half) => half.is_readable(),
@@ -379,8 +366,8 @@ impl RecvTables {
         ensures least { IsLeast (IsHeldOf (HasOne task) self.now stream_type) from result }
         ensures small { IfSome result (λ n. n < 2 ^ 62) }
     {
-        let lanes = &self.types[stream_type];
-        match lanes.next_with(task, index_from(stream_type, from)) {
+        let marks = self.marks(task, stream_type);
+        match marks.next(index_from(stream_type, from)) {
             Some(index) => Some((index * 4 + stream_type) as u64),
             None => None,
         }
@@ -404,24 +391,23 @@ impl RecvTables {
         ensures least { IsLeast (IsUntoldOf (IsHeld (HasOne task) self.now) told.now stream_type) 0 result }
         ensures small { IfSome result (λ n. n < 2 ^ 62) }
     {
-        let lanes = &self.types[stream_type];
-        if !lanes.may_have(task) {
-            return None;
-        }
-        match lanes.next_untold(task, told.of_type(stream_type)) {
+        let marks = self.marks(task, stream_type);
+        match marks.next_untold(marks, told.of_type(stream_type), 0) {
             Some(index) => Some((index * 4 + stream_type) as u64),
             None => None,
         }
     }
 
-    /// One without a mark isn't over, so a search passes it.
-    pub(crate) fn ended_marks(&self, stream_type: usize) -> &Marks
+    /// The marks of the streams of a type, by index, whose receiving half has such an answer for its owner.
+    #[inline(always)]
+    pub(crate) fn marks(&self, task: RecvTask, stream_type: usize) -> &Marks
         requires { stream_type < 4 }
-        ensures none { AreEndsMarked (HasOne tasks.Ended) self.now stream_type result.now }
+        ensures value { (n : ℕ) → type_of n ≡ stream_type → is_marked result.now (n / 4) ≡ has_one task (lookup self.now n) }
+        ensures len { length result.now ≡ length (table self.now stream_type) }
         ensures few { length result.now ≤ 2 ^ 60 }
     {
         let lanes = &self.types[stream_type];
-        lanes.ended_marks()
+        lanes.marks(task)
     }
 
     pub(crate) fn tally(&self) -> Tally

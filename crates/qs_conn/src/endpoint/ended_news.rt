@@ -7,6 +7,7 @@ ghost use Rattle.qs_conn.specs.Marks.{IsBefore, IsUntold, IsUntoldOf, is_marked,
 use super::{Endpoint, is_uni, role_bit};
 use crate::marks::Marks;
 use crate::places::{index_from, lesser};
+use crate::recv_marks::RecvTask;
 use crate::told_streams::ToldStreams;
 use qs_wire::StreamId;
 
@@ -86,7 +87,7 @@ impl Endpoint {
         ensures none { (n : ℕ) → type_of n ≡ stream_type → is_marked (both result.0.now result.1.now) (n / 4) ≡ false → IsEnded self.now n → ⊥ }
         ensures few { length result.0.now ≤ 2 ^ 60 }
     {
-        let receiving = self.core.recvs.ended_marks(stream_type);
+        let receiving = self.core.recvs.marks(RecvTask::Ended, stream_type);
         let sending = self.core.outbox.ended_marks(stream_type);
         if stream_type < 2 {
             (receiving, sending)

@@ -152,9 +152,11 @@ impl Endpoint {
         if let Some(code) = self.state_fault_in(Place::of(stream)) {
             return Some(code);
         }
-        let window = self.window(stream);
-        let check = self.core.recvs.check_reset(window, stream, size);
-        self.credit_fault(check)
+        let Some(half) = self.core.recvs.half(Place::of(stream)) else {
+            let window = self.window(stream);
+            return self.credit_fault(Half::check_first_reset(self.alloc, window, size));
+        };
+        self.credit_fault(half.check_reset(size))
     }
 
     fn state_fault_in(&self, stream: Place) -> Option<u64>

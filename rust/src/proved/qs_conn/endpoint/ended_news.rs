@@ -2,6 +2,7 @@
 use super::{Endpoint, is_uni, role_bit};
 use crate::proved::qs_conn::marks::Marks;
 use crate::proved::qs_conn::places::{index_from, lesser};
+use crate::proved::qs_conn::recv_marks::RecvTask;
 use crate::proved::qs_conn::told_streams::ToldStreams;
 use crate::proved::qs_wire::StreamId;
 
@@ -70,7 +71,7 @@ impl Endpoint {
     #[inline(always)]
     fn ended_marks(&self, stream_type: usize) -> (&Marks, &Marks) {
         debug_assert!(stream_type < 4);
-        let receiving = self.core.recvs.ended_marks(stream_type);
+        let receiving = self.core.recvs.marks(RecvTask::Ended, stream_type);
         let sending = self.core.outbox.ended_marks(stream_type);
         if stream_type < 2 {
             (receiving, sending)

@@ -2,7 +2,7 @@ use Rattle.std.proofs.Common.{refl, ap, sym, ◌∙◌, is_some, subst}
 use Rattle.qs_recv.specs.Lane.{take_stream}
 use Rattle.qs_machine.specs.Tables.{lookup}
 use Rattle.qs_machine.specs.Ends.{End}
-use Rattle.qs_machine.specs.Standing.{IsInCredit, HasLawfulLane}
+use Rattle.qs_machine.specs.Standing.{IsInCredit}
 use Rattle.qs_machine.proofs.Taken.{in_there, stream_in, stream_checked, stream_unchanged, stream_sound}
 use Rattle.qs_conn.proofs.Calm.{told_streamed}
 use Rattle.qs_conn.proofs.CarriedSteps.{carried_recv}
@@ -37,7 +37,6 @@ invariant_of-self-then-is_plain c =
     let lane = plain.lane _ (ap (λ (e : End). lookup e.recvs c.args.stream) (sym c.self.view_is) ∙ found) in
     let sound : IsInCredit c.args.self.now = subst (λ (e : End). IsInCredit e) c.self.view_is h.core.sound in
     let checked = stream_checked c.args.self.now _ c.args.stream c.args.offset c.args.bytes.now c.args.fin c.requires.passed opened in
-    let lawful = (subst (HasLawfulLane core.limits.role core.limits.settings c.args.stream) found (h.core.sound.lanes c.args.stream)).0 in
     record {
       rest =
           rest_recvs core h c.take_stream.new.self core.untold_recvs core.ended
@@ -49,5 +48,5 @@ invariant_of-self-then-is_plain c =
       closing_fits = k.closing_fits;
       few = k.few;
       acks = k.acks;
-      settled = plain_next core.recvs c.take_stream.new.self c.args.stream c.args.offset c.args.bytes.now c.args.fin _ found lane after _ _ _ _ _ _ _ _ lawful k.settled;
+      settled = plain_next core.recvs c.take_stream.new.self c.args.stream c.args.offset c.args.bytes.now c.args.fin _ found lane after _ _ _ _ _ _ _ _ k.settled;
     }

@@ -1,7 +1,6 @@
 use Rattle.std.proofs.Common.{◌≤◌, Bool, false, cond, sym, subst}
 use Rattle.std.specs.Prelude.{Result, Ok, Err, IfOk}
 use Rattle.qs_ranges.specs.Numbers.{MAX_VARINT}
-use Rattle.qs_recv.specs.declared.credit.Share.TheVariants.{Half}
 use Rattle.qs_recv.specs.declared.half.Highest.{Highest}
 use Rattle.qs_recv.specs.declared.half.RecvFault.{RecvFault}
 use Rattle.qs_recv.specs.declared.half.RecvFault.TheVariants.{FinalSize, StreamCredit}
@@ -13,5 +12,7 @@ in_range false false h fits = fits
 in_range _ _ _ _ = tt
 
 pub credit_fault-requires : goal.credit_fault-requires
-credit_fault-requires c =
-    subst (λ (r : Result Highest RecvFault). IfOk r (λ (k : Highest). k.after ≤ MAX_VARINT)) (sym (c.check_reset-check.ensures Half)) (in_range _ _ _ c.requires)
+credit_fault-requires c = subst (λ (r : Result Highest RecvFault). IfOk r (λ (k : Highest). k.after ≤ MAX_VARINT)) (sym c.check_first_reset.ensures) (in_range _ _ _ c.requires)
+
+pub credit_fault-requires-2 : goal.credit_fault-requires-2
+credit_fault-requires-2 c = subst (λ (r : Result Highest RecvFault). IfOk r (λ (k : Highest). k.after ≤ MAX_VARINT)) (sym c.check_reset.ensures) (in_range _ _ _ c.requires)

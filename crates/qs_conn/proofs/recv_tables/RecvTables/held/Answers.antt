@@ -6,27 +6,17 @@ use Rattle.qs_conn.proofs.recv_tables.RecvTables.held.Goals as goal
 
 pub returns-clause-stored : goal.returns-clause-stored
 returns-clause-stored c =
-    let stored = total_four stored_on c.self.inside.types c.index-self-0.result c.index-self-1.result c.index-self-2.result c.index-self-3.result c.self.invariant in
     let small = rw (← c.self.view_is) at c.requires in
-    let spent = rw (← c.self.view_is) at c.tally-tally.ensures.spent in
-    let is = rw (← c.self.view_is) at c.tally-tally.ensures.stored in
-    let bidi = c.saturating_add-bidi.ensures in
-    let uni = c.saturating_add-uni.ensures in
-    let sum = c.saturating_add.ensures in
-    rw (← c.self.view_is) (omega (arith, stored, small, spent, is, c.tally-tally.ensures.paid.moved, bidi, uni, sum, c.held.ensures.stored, c.held-2.ensures.stored, c.held-3.ensures.stored, c.held-4.ensures.stored))
+    let tally = rw (← c.self.view_is) at c.tally-tally.ensures in
+    rw (← c.self.view_is)
+    (omega (arith, total_four stored_on c.self.inside.types c.index-self-0.result c.index-self-1.result c.index-self-2.result c.index-self-3.result c.self.invariant, small, tally.spent, tally.stored, tally.paid.moved, c.saturating_add-bidi.ensures, c.saturating_add-uni.ensures, c.saturating_add.ensures, c.held.ensures.stored, c.held-2.ensures.stored, c.held-3.ensures.stored, c.held-4.ensures.stored))
 
 pub returns-clause-least : goal.returns-clause-least
 returns-clause-least c =
-    let least = total_four least_held c.self.inside.types c.index-self-0.result c.index-self-1.result c.index-self-2.result c.index-self-3.result c.self.invariant in
-    let bidi = c.saturating_add-bidi.ensures in
-    let uni = c.saturating_add-uni.ensures in
-    let sum = c.saturating_add.ensures in
-    rw (← c.self.view_is) (omega (arith, least, bidi, uni, sum, c.held.ensures.least, c.held-2.ensures.least, c.held-3.ensures.least, c.held-4.ensures.least))
+    rw (← c.self.view_is)
+    (omega (arith, total_four least_held c.self.inside.types c.index-self-0.result c.index-self-1.result c.index-self-2.result c.index-self-3.result c.self.invariant, c.saturating_add-bidi.ensures, c.saturating_add-uni.ensures, c.saturating_add.ensures, c.held.ensures.least, c.held-2.ensures.least, c.held-3.ensures.least, c.held-4.ensures.least))
 
 pub returns-clause-most : goal.returns-clause-most
 returns-clause-most c =
-    let most = total_four most_held c.self.inside.types c.index-self-0.result c.index-self-1.result c.index-self-2.result c.index-self-3.result c.self.invariant in
-    let bidi = c.saturating_add-bidi.ensures in
-    let uni = c.saturating_add-uni.ensures in
-    let sum = c.saturating_add.ensures in
-    rw (← c.self.view_is) (omega (arith, most, bidi, uni, sum, c.held.ensures.most, c.held-2.ensures.most, c.held-3.ensures.most, c.held-4.ensures.most))
+    rw (← c.self.view_is)
+    (omega (arith, total_four most_held c.self.inside.types c.index-self-0.result c.index-self-1.result c.index-self-2.result c.index-self-3.result c.self.invariant, c.saturating_add-bidi.ensures, c.saturating_add-uni.ensures, c.saturating_add.ensures, c.held.ensures.most, c.held-2.ensures.most, c.held-3.ensures.most, c.held-4.ensures.most))

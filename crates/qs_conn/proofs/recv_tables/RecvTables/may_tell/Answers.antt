@@ -1,14 +1,10 @@
-use Rattle.std.proofs.Common.{sym, subst}
-use Rattle.qs_recv.specs.declared.credit.Share.TheVariants.{Half}
-use Rattle.qs_machine.proofs.TableEdits.{open_there, lane_is}
-use Rattle.qs_conn.specs.RecvTasks.{HasNone}
+use Rattle.std.proofs.Common.{ap, refl, length, arith}
+use Rattle.qs_machine.specs.Tables.{table}
+use Rattle.qs_conn.proofs.RecvNews.{open_within}
 use Rattle.qs_conn.proofs.recv_tables.RecvTables.may_tell.Goals as goal
 
-pub may_tell-requires : goal.may_tell-requires
-may_tell-requires c =
-    open_there c.self.inside.types c.args.stream c.type_of.result c.index_of.result c.index-self-type_of.result c.self.invariant c.type_of.ensures.value c.index_of.ensures.value (rw (← c.self.view_is) at c.requires)
+pub has-requires : goal.has-requires
+has-requires c = omega (arith, c.index_of-index.ensures.value, c.marks-readable.ensures.len, ap (λ k. length (table c.args.self.now k)) c.type_of-stream_type.ensures.value, open_within c.args.self.now c.args.stream _ refl c.requires)
 
-pub returns : goal.returns
-returns c none t =
-    rw (← c.self.view_is)
-    (subst (HasNone t) (sym (lane_is c.self.inside.types c.args.stream c.type_of.result c.index_of.result c.index-self-type_of.result 0 Half c.self.invariant c.type_of.ensures.value c.index_of.ensures.value)) (c.may_tell.ensures none t))
+pub has-requires-else-has : goal.has-requires-else-has
+has-requires-else-has c = omega (arith, c.index_of-index.ensures.value, c.marks-ended.ensures.len, ap (λ k. length (table c.args.self.now k)) c.type_of-stream_type.ensures.value, open_within c.args.self.now c.args.stream _ refl c.requires)

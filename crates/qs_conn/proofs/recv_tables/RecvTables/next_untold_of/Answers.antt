@@ -1,19 +1,19 @@
-use Rattle.std.proofs.Common.{◌≡◌, false, get_or, arith}
+use Rattle.std.proofs.Common.{refl, arith}
 use Rattle.qs_machine.specs.Tables.{table}
-use Rattle.qs_conn.specs.Marks.{IsUntoldAt}
-use Rattle.qs_conn.specs.RecvTasks.{HasOne}
-use Rattle.qs_conn.proofs.Least.{clear_at}
-use Rattle.qs_conn.proofs.UntoldSearch.{kind_some, kind_none, none_on}
+use Rattle.qs_conn.proofs.RecvNews.{next_untold, untold_within}
 use Rattle.qs_conn.proofs.recv_tables.RecvTables.next_untold_of.Goals as goal
 
+pub overflow_mul-result : goal.overflow_mul-result
+overflow_mul-result c = omega (arith, c.marks-marks.ensures.few, untold_within c.marks-marks.result.now c.of_type.result.now c.in-Some.index (c.in-Some.ensures.found c.in-Some.index refl).1)
+
+pub overflow_add-result : goal.overflow_add-result
+overflow_add-result c = omega (arith, c.marks-marks.ensures.few, c.requires, untold_within c.marks-marks.result.now c.of_type.result.now c.in-Some.index (c.in-Some.ensures.found c.in-Some.index refl).1)
+
+pub returns-in-Some-clause-small : goal.returns-in-Some-clause-small
+returns-in-Some-clause-small c = omega (arith, c.marks-marks.ensures.few, c.requires, untold_within c.marks-marks.result.now c.of_type.result.now c.in-Some.index (c.in-Some.ensures.found c.in-Some.index refl).1)
+
 pub returns-in-Some-clause-least : goal.returns-in-Some-clause-least
-returns-in-Some-clause-least c = rw (← c.self.view_is) (kind_some (HasOne c.args.task) c.self.inside.types c.args.told.now c.args.stream_type c.index-self-stream_type.result c.self.invariant c.requires c.in-Some.index (rw c.of_type.ensures at c.in-Some.ensures.least))
+returns-in-Some-clause-least c = next_untold c.args.task c.args.self.now c.marks-marks.result.now c.args.stream_type c.requires c.marks-marks.ensures.value c.args.told.now _ (rw c.of_type.ensures at c.in-Some.ensures)
 
 pub returns-in-None-clause-least : goal.returns-in-None-clause-least
-returns-in-None-clause-least c = rw (← c.self.view_is) (kind_none (HasOne c.args.task) c.self.inside.types c.args.told.now c.args.stream_type c.index-self-stream_type.result c.self.invariant c.requires (rw c.of_type.ensures at c.in-None.ensures.least))
-
-pub returns-then-not-may_have-clause-least : goal.returns-then-not-may_have-clause-least
-returns-then-not-may_have-clause-least c =
-    let none : c.may_have.result ≡ false = grind (arith, c.if-not-may_have.true) in
-    let at = IsUntoldAt (HasOne c.args.task) (get_or c.self.inside.types c.args.stream_type c.index-self-stream_type.result) (table c.args.told.now c.args.stream_type) in
-    rw (← c.self.view_is) (kind_none (HasOne c.args.task) c.self.inside.types c.args.told.now c.args.stream_type c.index-self-stream_type.result c.self.invariant c.requires (none_on at 0 0 (clear_at at 0) (λ i ge p. c.may_have.ensures none i p.0)))
+returns-in-None-clause-least c = next_untold c.args.task c.args.self.now c.marks-marks.result.now c.args.stream_type c.requires c.marks-marks.ensures.value c.args.told.now _ (rw c.of_type.ensures at c.in-None.ensures)

@@ -1,9 +1,19 @@
-use Rattle.qs_conn.specs.RecvTasks.{HasOne}
-use Rattle.qs_conn.proofs.Least.{kind_some, kind_none}
+use Rattle.std.proofs.Common.{refl, arith}
+use Rattle.qs_conn.proofs.RecvNews.{next_held}
+use Rattle.qs_conn.proofs.Summed.{marked_below}
 use Rattle.qs_conn.proofs.recv_tables.RecvTables.next_with_of.Goals as goal
 
+pub overflow_mul-result : goal.overflow_mul-result
+overflow_mul-result c = omega (arith, c.marks-marks.ensures.few, marked_below c.marks-marks.result.now c.in-Some.index (c.in-Some.ensures.found c.in-Some.index refl).1)
+
+pub overflow_add-result : goal.overflow_add-result
+overflow_add-result c = omega (arith, c.marks-marks.ensures.few, c.requires.stream_type, marked_below c.marks-marks.result.now c.in-Some.index (c.in-Some.ensures.found c.in-Some.index refl).1)
+
+pub returns-in-Some-clause-small : goal.returns-in-Some-clause-small
+returns-in-Some-clause-small c = omega (arith, c.marks-marks.ensures.few, c.requires.stream_type, marked_below c.marks-marks.result.now c.in-Some.index (c.in-Some.ensures.found c.in-Some.index refl).1)
+
 pub returns-in-Some-clause-least : goal.returns-in-Some-clause-least
-returns-in-Some-clause-least c = rw (← c.self.view_is) (kind_some (HasOne c.args.task) c.self.inside.types c.args.stream_type c.args.from _ c.in-Some.index c.index-self-stream_type.result c.self.invariant c.requires.stream_type c.index_from.ensures c.in-Some.ensures.least)
+returns-in-Some-clause-least c = next_held c.args.task c.args.self.now c.marks-marks.result.now c.args.stream_type c.requires.stream_type c.marks-marks.ensures.value c.args.from _ _ c.index_from.ensures c.in-Some.ensures
 
 pub returns-in-None-clause-least : goal.returns-in-None-clause-least
-returns-in-None-clause-least c = rw (← c.self.view_is) (kind_none (HasOne c.args.task) c.self.inside.types c.args.stream_type c.args.from _ c.index-self-stream_type.result c.self.invariant c.requires.stream_type c.index_from.ensures c.in-None.ensures.least)
+returns-in-None-clause-least c = next_held c.args.task c.args.self.now c.marks-marks.result.now c.args.stream_type c.requires.stream_type c.marks-marks.ensures.value c.args.from _ _ c.index_from.ensures c.in-None.ensures

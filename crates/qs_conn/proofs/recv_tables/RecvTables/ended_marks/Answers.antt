@@ -1,5 +1,0 @@
-use Rattle.qs_conn.proofs.Overs.{recv_ends_marked}
-use Rattle.qs_conn.proofs.recv_tables.RecvTables.ended_marks.Goals as goal
-
-pub returns-clause-none : goal.returns-clause-none
-returns-clause-none c = rw (← c.self.view_is) (recv_ends_marked c.self.inside.types c.args.stream_type c.index-self-stream_type.result c.ended_marks.result.now c.self.invariant c.ended_marks.ensures.none)
