@@ -3,12 +3,11 @@ use crate::shim::Vec;
 
 use crate::proved::qs_conn::marks::Marks;
 use crate::proved::qs_conn::recv_marks::{RecvMarks, RecvTask};
-use crate::proved::qs_conn::told_marks::ToldMarks;
 use crate::proved::qs_conn::touches::Touches;
 use crate::proved::qs_conn::untold::Untold;
 use crate::proved::qs_machine::Tally;
 use crate::proved::qs_ranges::NoMemory;
-use crate::proved::qs_recv::{Highest, RecvFault, RecvHalf, RingAssembly, Share};
+use crate::proved::qs_recv::{RecvHalf, RingAssembly, Share};
 use crate::proved::qs_wire::StreamId;
 use crate::shim::alloc::Global;
 
@@ -63,22 +62,6 @@ impl RecvLanes {
     #[inline]
     pub(crate) fn held(&self) -> u64 {
         held_of(&self.halves)
-    }
-
-    #[inline]
-    pub(crate) fn check_reset(
-        &self,
-        window: u64,
-        index: usize,
-        size: u64,
-    ) -> Result<Highest, RecvFault> {
-        debug_assert!(size <= 0x3fff_ffff_ffff_ffff);
-        debug_assert!(1 <= window);
-        debug_assert!(window <= 1 << 30);
-        match self.halves.get(index) {
-            Some(half) => half.check_reset(size),
-            None => Half::check_first_reset(self.alloc, window, size),
-        }
     }
 
     #[inline]
@@ -145,12 +128,6 @@ impl RecvLanes {
         answer
     }
 
-    /// By marks alone, so that a read of a stream without news costs no more.
-    #[inline]
-    pub(crate) fn may_tell(&self, index: usize) -> bool {
-        self.news.may_tell(index)
-    }
-
     /// Only lanes that were touched are looked at. A stream whose limit rises is marked: the new one is in no packet yet.
     #[inline]
     pub(crate) fn raise_all(
@@ -172,27 +149,10 @@ impl RecvLanes {
         );
     }
 
-    /// One without a mark isn't over, so a search passes it.
-    #[inline]
-    pub(crate) fn ended_marks(&self) -> &Marks {
-        self.news.ended()
-    }
-
-    #[inline]
-    pub(crate) fn next_with(&self, task: RecvTask, from: usize) -> Option<usize> {
-        self.news.next(task, from)
-    }
-}
-
-impl RecvLanes {
+    /// The marks of the lanes that have such an answer for their owner.
     #[inline(always)]
-    pub(crate) fn may_have(&self, task: RecvTask) -> bool {
-        self.news.may_have(task)
-    }
-
-    #[inline(never)]
-    pub(crate) fn next_untold(&self, task: RecvTask, told: &ToldMarks) -> Option<usize> {
-        self.news.next_untold(task, told, 0)
+    pub(crate) fn marks(&self, task: RecvTask) -> &Marks {
+        self.news.marks(task)
     }
 }
 

@@ -1,6 +1,5 @@
 // Made from crates/qs_conn/src/recv_marks.rt by rust/erase; not edited by hand.
 use crate::proved::qs_conn::marks::Marks;
-use crate::proved::qs_conn::told_marks::ToldMarks;
 use crate::proved::qs_ranges::NoMemory;
 use crate::proved::qs_recv::{RecvHalf, RingAssembly};
 use crate::shim::alloc::Global;
@@ -49,37 +48,11 @@ impl RecvMarks {
         self.ended.set(index, standing.has_ended);
     }
 
-    #[inline]
-    pub(crate) fn may_tell(&self, index: usize) -> bool {
-        self.readable.has(index) || self.ended.has(index)
-    }
-
-    #[inline]
-    pub(crate) fn ended(&self) -> &Marks {
-        &self.ended
-    }
-
     #[inline(always)]
-    pub(crate) fn may_have(&self, task: RecvTask) -> bool {
+    pub(crate) fn marks(&self, task: RecvTask) -> &Marks {
         match task {
-            RecvTask::Readable => self.readable.may_have(),
-            RecvTask::Ended => self.ended.may_have(),
-        }
-    }
-
-    #[inline]
-    pub(crate) fn next(&self, task: RecvTask, from: usize) -> Option<usize> {
-        match task {
-            RecvTask::Readable => self.readable.next(from),
-            RecvTask::Ended => self.ended.next(from),
-        }
-    }
-
-    #[inline]
-    pub(crate) fn next_untold(&self, task: RecvTask, told: &ToldMarks, from: usize) -> Option<usize> {
-        match task {
-            RecvTask::Readable => self.readable.next_untold(&self.readable, told, from),
-            RecvTask::Ended => self.ended.next_untold(&self.ended, told, from),
+            RecvTask::Readable => &self.readable,
+            RecvTask::Ended => &self.ended,
         }
     }
 }

@@ -8,7 +8,7 @@ use crate::proved::qs_conn::untold::Untold;
 use crate::proved::qs_calls::RecvReport;
 use crate::proved::qs_machine::Tally;
 use crate::proved::qs_ranges::NoMemory;
-use crate::proved::qs_recv::{Highest, Peek, Read, RecvFault, RecvState, Share};
+use crate::proved::qs_recv::{Peek, Read, RecvState, Share};
 use crate::proved::qs_wire::StreamId;
 use crate::shim::alloc::Global;
 
@@ -33,28 +33,13 @@ impl RecvTables {
 
     #[inline]
     pub(crate) fn is_open(&self, stream: StreamId) -> bool {
-        let lanes = &self.types[type_of(stream)];
-        index_of(stream) < lanes.len()
+        self.half(Place::of(stream)).is_some()
     }
 
     #[inline]
     pub(crate) fn half(&self, stream: Place) -> Option<&Half> {
         let lanes = &self.types[stream.stream_type];
         lanes.half(stream.index)
-    }
-
-    #[inline]
-    pub(crate) fn check_reset(
-        &self,
-        window: u64,
-        stream: StreamId,
-        size: u64,
-    ) -> Result<Highest, RecvFault> {
-        debug_assert!(size <= 0x3fff_ffff_ffff_ffff);
-        debug_assert!(1 <= window);
-        debug_assert!(window <= 1 << 30);
-        let lanes = &self.types[type_of(stream)];
-        lanes.check_reset(window, index_of(stream), size)
     }
 
     #[inline]
@@ -148,8 +133,11 @@ impl RecvTables {
 
     #[inline]
     pub(crate) fn may_tell(&self, stream: StreamId) -> bool {
-        let lanes = &self.types[type_of(stream)];
-        lanes.may_tell(index_of(stream))
+        let stream_type = type_of(stream);
+        let index = index_of(stream);
+        let readable = self.marks(RecvTask::Readable, stream_type);
+        let ended = self.marks(RecvTask::Ended, stream_type);
+        readable.has(index) || ended.has(index)
     }
 
     #[inline]
@@ -267,8 +255,8 @@ impl RecvTables {
     fn next_with_of(&self, task: RecvTask, stream_type: usize, from: u64) -> Option<u64> {
         debug_assert!(stream_type < 4);
         debug_assert!(from <= 1 << 62);
-        let lanes = &self.types[stream_type];
-        match lanes.next_with(task, index_from(stream_type, from)) {
+        let marks = self.marks(task, stream_type);
+        match marks.next(index_from(stream_type, from)) {
             Some(index) => Some((index * 4 + stream_type) as u64),
             None => None,
         }
@@ -287,22 +275,19 @@ impl RecvTables {
     #[inline(always)]
     fn next_untold_of(&self, task: RecvTask, stream_type: usize, told: &ToldStreams) -> Option<u64> {
         debug_assert!(stream_type < 4);
-        let lanes = &self.types[stream_type];
-        if !lanes.may_have(task) {
-            return None;
-        }
-        match lanes.next_untold(task, told.of_type(stream_type)) {
+        let marks = self.marks(task, stream_type);
+        match marks.next_untold(marks, told.of_type(stream_type), 0) {
             Some(index) => Some((index * 4 + stream_type) as u64),
             None => None,
         }
     }
 
-    /// One without a mark isn't over, so a search passes it.
-    #[inline]
-    pub(crate) fn ended_marks(&self, stream_type: usize) -> &Marks {
+    /// The marks of the streams of a type, by index, whose receiving half has such an answer for its owner.
+    #[inline(always)]
+    pub(crate) fn marks(&self, task: RecvTask, stream_type: usize) -> &Marks {
         debug_assert!(stream_type < 4);
         let lanes = &self.types[stream_type];
-        lanes.ended_marks()
+        lanes.marks(task)
     }
 
     #[inline]
