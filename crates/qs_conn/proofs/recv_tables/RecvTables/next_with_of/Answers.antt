@@ -1,6 +1,6 @@
 use Rattle.std.proofs.Common.{refl, arith}
 use Rattle.qs_conn.proofs.RecvNews.{next_held}
-use Rattle.qs_conn.proofs.Summed.{marked_below}
+use Rattle.qs_conn.proofs.Words.{marked_below}
 use Rattle.qs_conn.proofs.recv_tables.RecvTables.next_with_of.Goals as goal
 
 pub overflow_mul-result : goal.overflow_mul-result
