@@ -44,15 +44,12 @@ fn place(stream: StreamId) -> usize {
 }
 
 impl Notes {
-    // A write to a stream was cut short.
-    #[inline]
+    // Apart, as mostly it is noted already.
+    #[inline(never)]
     fn note_short(&mut self, end: &conn::Endpoint, stream: StreamId) -> Result<(), NoMemory> {
-        let short = &mut self.short[place(stream)];
-        if *short != stream.value() {
-            // The application is about to write the rest: more than any buffer has room for, because some may be free again by now.
-            self.heard.will_write(end, stream.inner(), usize::MAX)?;
-            *short = stream.value();
-        }
+        // The application is about to write the rest: more than any buffer has room for, because some may be free again by now.
+        self.heard.will_write(end, stream.inner(), usize::MAX)?;
+        self.short[place(stream)] = stream.value();
         Ok(())
     }
 }
@@ -91,9 +88,9 @@ impl Hearing {
     /// vain.
     #[inline]
     pub(super) fn was_cut_short(&mut self, end: &conn::Endpoint, stream: StreamId) {
-        // Once notes stand the mark is set here, as a call costs as much as the mark does.
         if let Some(notes) = &mut self.notes {
-            if notes.note_short(end, stream).is_ok() {
+            if notes.short[place(stream)] == stream.value() || notes.note_short(end, stream).is_ok()
+            {
                 return;
             }
         }
