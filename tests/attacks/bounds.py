@@ -34,7 +34,9 @@ BESIDE = {
     # and two pages take more than four times what their bytes span, which is proved to be the most.
     "edges-apart": Beside(count=3.2, pages=2.2),
     "drawn-up": Beside(count=3.2),
-    "said-beside-limits": Beside(count=4),
+    # 3.91 while a search asked by one look whether a row has a mark at all. Since one search serves all rows it is a call for each: it is to
+    # fall below 4 again.
+    "said-beside-limits": Beside(count=4.4),
     "stops-beside-limits": Beside(count=4),
 }
 
