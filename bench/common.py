@@ -9,7 +9,7 @@ import sys
 
 HERE = pathlib.Path(__file__).resolve().parent
 RESULTS = HERE / "RESULTS.md"
-# The builds: cargo's own flags, which a user has, and one codegen unit beside.
+# The builds: with cargo's default flags, as a user has them, and with one codegen unit.
 BUILDS = {"release": "default", "one": "one unit"}
 MISSING = 4
 

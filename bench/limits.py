@@ -11,7 +11,7 @@ import subprocess
 import common
 
 PATH = common.HERE / "instructions"
-# How far a limit stands above what was counted, by the build, in the order in which they stand.
+# How far a limit is above what was counted, for each build in their order.
 ROOM = {"one": 1.01, "release": 1.03}
 _LINE = re.compile(r"(\S+)((?: \d+)+)((?: # raised \d+ \d+: [^#]*[^#\s])*)")
 _RAISED = re.compile(r"# raised (\d+) (\d+): ")

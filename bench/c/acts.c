@@ -7,7 +7,7 @@
 
 enum { BYTES = 1000, ROOM = 1200, TIMES = 1000 };
 
-/* Two ends and a stream between them, and the packet that is under way. */
+/* Two endpoints, a stream between them, and the packet in flight. */
 struct scene {
   gv_endpoint *client;
   gv_endpoint *server;
@@ -66,7 +66,7 @@ static const struct {
     {"write", act_write}, {"fill", act_fill}, {"take", act_take}, {"consume", act_consume}, {"ack", act_ack}, {"no-event", act_no_event},
 };
 
-/* What each of the others tells meanwhile isn't counted: the server's credit comes back, and its news is heard. */
+/* Not counted: the server's credit goes back to the client, and its events are taken. */
 static void settle(struct scene *scene) {
   gv_event event = {.size = sizeof event};
   while (gv_next_event(scene->server, &event) == GV_OK) {
@@ -81,7 +81,7 @@ static void settle(struct scene *scene) {
 void gotsavena_counted(void (*play)(struct scene *), struct scene *scene);
 __attribute__((noinline)) void gotsavena_counted(void (*play)(struct scene *), struct scene *scene) {
   play(scene);
-  /* So that it returns here, and isn't jumped to. */
+  /* Keeps the call above from becoming a tail call, so that callgrind sees a return. */
   look_at(scene);
 }
 

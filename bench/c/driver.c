@@ -26,7 +26,7 @@ static struct run transfer(struct load load) {
   return run;
 }
 
-/* Frames, read by the one call that reads them without an end: STREAM frames of so many bytes, or the common ones where it is 0. */
+/* Frames, read by the one call that needs no endpoint: STREAM frames of this many bytes, or with 0 the common ones. */
 static struct run decode(size_t each) {
   struct payload payload = each == 0 ? mixed() : streams(each);
   uint64_t stream = 0, wanted = each == 0 ? 12 : 5;
@@ -42,7 +42,7 @@ static struct run decode(size_t each) {
 
 enum { HOSTILE_WINDOW = 1 << 16, HOSTILE_PACKETS = 1024 };
 
-/* Packets of frames of one byte at the even offsets of a window, and then at the odd ones; answers how many. */
+/* Payloads of one-byte frames at the even offsets of a window, then at the odd ones. Returns the number of packets. */
 static size_t hostile_packets(struct payload *packets) {
   size_t last = 0;
   for (uint64_t i = 0; i < HOSTILE_WINDOW; ++i) {
@@ -105,7 +105,7 @@ static struct load of_active(size_t streams) {
 
 static struct run active(size_t streams) { return transfer(of_active(streams)); }
 
-/* The same, timed without the owner's calls: packets made, received and acknowledged. */
+/* The same without the application's calls: only packets made, received and acknowledged are timed. */
 static struct run carried(size_t streams) {
   struct pair *pair = pair_new(of_active(streams));
   uint64_t read = 0;
@@ -125,7 +125,7 @@ static struct run carried(size_t streams) {
   return run;
 }
 
-/* So many streams were used until their limits rose, and the news of it came; then one of them goes on alone. */
+/* This many streams were used until their limits rose and the MAX_STREAM_DATA frames arrived. Then only one of them goes on. */
 static struct run raised(size_t streams) {
   struct pair *pair = pair_new(of_active(streams));
   uint64_t read = 0;
@@ -160,7 +160,7 @@ static struct run outstanding(size_t packets) {
   return transfer(load);
 }
 
-/* Threads, each with two ends of its own */
+/* Threads, each with two endpoints of its own */
 
 struct thread {
   pthread_t id;
@@ -177,7 +177,7 @@ static void *runs(void *at) {
   return NULL;
 }
 
-/* The time of the clock on the wall for a packet of any of them. */
+/* Wall-clock time for a packet of any of them. */
 static struct run threads(size_t count) {
   struct thread *all = room_of(count, sizeof *all);
   pthread_barrier_t start;
@@ -199,7 +199,7 @@ static struct run threads(size_t count) {
   return run;
 }
 
-/* How many bytes of the heap an idle end takes */
+/* The heap of an idle endpoint */
 
 static double held(void) {
   struct mallinfo2 told = mallinfo2();
@@ -219,7 +219,7 @@ static struct run idle(size_t count) {
 
 /* Packets with one ACK, again and again */
 
-/* Makes so many packets; all but each 300th of the last ones come, so that the runs that are kept number 32. */
+/* Makes this many packets. Of the last ones each 300th is lost, so that an ACK has 32 ranges. */
 static void carry_with_holes(struct pair *pair, uint64_t packets) {
   uint8_t payload[1200];
   for (uint64_t i = 0; i < packets; ++i) {
@@ -248,11 +248,11 @@ static struct run same_ack(size_t packets) {
   return run;
 }
 
-/* Requests of one byte and answers of 1 KiB, one stream after the other: what the last thousand cost of so many */
+/* Requests of one byte and responses of 1 KiB, one stream after the other: the cost of each of the last thousand */
 
 enum { ANSWER = 1024 };
 
-/* Reads so many bytes, and then the end. */
+/* Reads this many bytes, then the FIN. */
 static void read_to_end(gv_endpoint *end, uint64_t stream, uint64_t len) {
   uint8_t bytes[2048];
   size_t count = 0;

@@ -2,7 +2,7 @@
 
 #include <stdlib.h>
 
-/* There are at most 4,096 streams of a direction: half of more than that are bidirectional. */
+/* An endpoint may open 4,096 streams of a direction, so above that count half of them are bidirectional. */
 enum { MOST_OF_A_DIRECTION = 4096, OUT = 1 << 16 };
 
 struct load plain(void) {
@@ -66,7 +66,7 @@ void pair_free(struct pair *pair) {
   free(pair);
 }
 
-/* Fills the sending buffers of the active streams, up to what the load says. */
+/* Fills the send buffers of the active streams, up to what the load asks for. */
 void pair_write(struct pair *pair) {
   size_t each = pair->load.write, times = pair->load.fill / each / pair->load.active + 1;
   for (size_t i = 0; i < pair->load.active; ++i) {
@@ -103,7 +103,7 @@ void pair_carry(struct pair *pair) {
   }
 }
 
-/* Reads what came on each active stream, and answers how many bytes. */
+/* Reads what arrived on each active stream and returns the number of bytes. */
 uint64_t pair_read(struct pair *pair) {
   uint64_t stream = 0, count = 0;
   while (gv_accept(pair->reader, &stream) == GV_OK) {
@@ -119,13 +119,13 @@ uint64_t pair_read(struct pair *pair) {
   return count;
 }
 
-/* The reader's next packet comes to the sender, and then the losses are declared. */
+/* Delivers the reader's next packet to the sender, then declares the losses. */
 void pair_answer(struct pair *pair) {
   gv_made made = {.size = sizeof made};
   if (gv_make_packet(pair->reader, pair->payloads, pair->load.room, &made) == GV_OK) {
     receive(pair->sender, made.number, pair->payloads, made.len);
   }
-  /* An ACK may have come first where the packet was made again. */
+  /* If the packet was sent again, an ACK of it may have arrived already. */
   for (size_t i = 0; i < pair->lost_count; ++i) gv_declare_lost(pair->sender, pair->lost[i]);
   pair->lost_count = 0;
 }

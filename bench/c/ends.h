@@ -1,4 +1,4 @@
-/* Two ends in one process, and what the rows do with them. */
+/* Two endpoints in one process, and what the rows do with them. */
 #ifndef BENCH_ENDS_H
 #define BENCH_ENDS_H
 
@@ -6,7 +6,7 @@
 
 #include "rows.h"
 
-/* What a row of the whole loop asks for. */
+/* The parameters of a row of the whole loop. */
 struct load {
   size_t active;   /* how many streams carry bytes */
   size_t open;     /* how many are open: those above the active ones carry nothing */
@@ -54,10 +54,10 @@ void pair_carry(struct pair *pair);
 uint64_t pair_read(struct pair *pair);
 void pair_answer(struct pair *pair);
 
-/* Takes a payload in, which has to be honest. */
+/* Receives a payload that must break no rule. */
 void receive(gv_endpoint *end, uint64_t number, const uint8_t *payload, size_t len);
 
-/* All that an end has for packets comes to the other one. */
+/* Delivers all that one endpoint has pending to the other. */
 void hand_on(gv_endpoint *from, gv_endpoint *to);
 
 #endif

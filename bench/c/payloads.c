@@ -17,7 +17,7 @@ static void put_numbers(struct payload *payload, const uint64_t *values, size_t 
   for (size_t i = 0; i < count; ++i) put_number(payload, values[i]);
 }
 
-/* A STREAM frame (section 19.8), with an offset where it isn't 0. */
+/* A STREAM frame (section 19.8). It has an OFF field unless the offset is 0. */
 static void put_stream(struct payload *payload, uint64_t stream, uint64_t offset, size_t len, bool fin, bool has_len) {
   put_byte(payload, 0x08U | (offset > 0 ? 4U : 0U) | (has_len ? 2U : 0U) | (fin ? 1U : 0U));
   put_number(payload, stream);
@@ -29,7 +29,7 @@ static void put_stream(struct payload *payload, uint64_t stream, uint64_t offset
 }
 
 struct payload mixed(void) {
-  /* An ACK of 1 to 3, 7 to 8, 20 to 22 and 30; and seven frames of control. */
+  /* An ACK of 1 to 3, 7 to 8, 20 to 22 and 30, and seven control frames. */
   static const uint64_t ack[] = {2, 30, 0, 3, 0, 6, 2, 10, 1, 2, 2};
   static const uint64_t control[] = {0x10, 1 << 24, 0x11, 4, 70000, 4, 8, 7, 5000, 5, 12, 7, 0x12, 128, 0x15, 4, 70000, 1};
   struct payload payload = {.len = 0};

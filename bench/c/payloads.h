@@ -1,4 +1,4 @@
-/* Payloads of packets, put together by the standard's layouts (RFC 9000, section 19). */
+/* Payloads of packets, written by hand from RFC 9000, section 19. */
 #ifndef BENCH_PAYLOADS_H
 #define BENCH_PAYLOADS_H
 
@@ -12,13 +12,13 @@ struct payload {
   size_t frames;
 };
 
-/* Packets of the common frames, some 1,100 bytes in all. */
+/* Payloads of the common frames, about 1,100 bytes in all. */
 struct payload mixed(void);
 
-/* A packet of STREAM frames of so many bytes, all with a length but where one fills the packet. */
+/* A payload of STREAM frames of this many bytes. Each has a LEN field, unless one frame fills the packet. */
 struct payload streams(size_t each);
 
-/* Puts a STREAM frame of one byte behind the others, if the packet has room for it. */
+/* Appends a STREAM frame of one byte, if the packet has room for it. */
 bool put_byte_of(struct payload *payload, uint64_t stream, uint64_t offset);
 
 #endif

@@ -1,4 +1,4 @@
-/* What the drivers in C share: the clock, the bytes that they move, and how a row is run. */
+/* Shared by the drivers in C: the clock, the bytes that they transfer, and how a row is run. */
 #ifndef BENCH_ROWS_H
 #define BENCH_ROWS_H
 
@@ -6,41 +6,41 @@
 #include <stddef.h>
 #include <stdint.h>
 
-/* What a run took, in nanoseconds or bytes, and of how many units it was. */
+/* The time or memory of a run, in nanoseconds or bytes, and its number of units. */
 struct run {
   double amount;
   double units;
 };
 
-/* A row, and what tells it from others of its kind. */
+/* A row, and the parameter that distinguishes it from others of its kind. */
 struct row {
   const char *name;
   struct run (*run)(size_t which);
   size_t which;
 };
 
-/* `PROGRAM ROW` runs the row once to warm up, where each byte that came out is compared, and once to time it, and prints what a
- * unit took; `PROGRAM` alone lists the rows. */
+/* `PROGRAM ROW` runs the row once to warm up, with each byte that is read compared, and once timed, and prints the cost of a unit.
+ * `PROGRAM` alone lists the rows. */
 int run_rows(int argc, char **argv, const struct row *rows, size_t count);
 
-/* The processor's time of this thread, and the time of the clock on the wall, in nanoseconds. */
+/* Processor time of this thread and wall-clock time, in nanoseconds. */
 double now(void);
 double wall(void);
 
-/* Ends the program, with this reason, where it isn't so. */
+/* Ends the program with this reason unless the condition holds. */
 void want(bool is_so, const char *reason);
 
-/* Memory of so many bytes, all of them 0. */
+/* Allocates this many zero bytes, or ends the program. */
 void *room_of(size_t count, size_t each);
 
-/* The byte at an offset of a stream is the offset's rest by 251: where so many of them from an offset on stand, at most 65,536. */
+/* The byte at an offset of a stream is the offset modulo 251. Returns where this many of them begin, at most 65,536. */
 enum { MOST_AT_ONCE = 65536 };
 const uint8_t *source_at(uint64_t offset);
 
-/* Where the run is checked, that these are the bytes at this offset of a stream. */
+/* Compares the bytes with those of a stream at this offset, in the first run alone. */
 void check(uint64_t offset, const uint8_t *bytes, size_t len);
 
-/* Tells the compiler that the bytes are looked at. */
+/* Keeps the compiler from optimizing the bytes away. */
 void look_at(const void *bytes);
 
 #endif

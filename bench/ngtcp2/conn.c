@@ -2,12 +2,12 @@
 
 #include <string.h>
 
-/* Lengths of what stands around a payload: an identifier, a number and a tag. */
+/* Lengths of the fields around a payload: connection ID, packet number and tag. */
 enum { ID = 8, TAG = 16, IV = 12, LONGEST = 65536 };
 
 static uint8_t no_iv[IV], no_secret[32];
 
-/* What is said in the handshake means nothing. */
+/* The handshake's messages have no meaning. */
 static const uint8_t said[] = {0x67, 0x6f};
 
 static int encrypt(uint8_t *to, const ngtcp2_crypto_aead *aead, const ngtcp2_crypto_aead_ctx *key, const uint8_t *from, size_t len,
@@ -55,7 +55,7 @@ static int next_id(ngtcp2_conn *at, ngtcp2_cid *id, uint8_t *token, size_t len, 
   return 0;
 }
 
-/* It asks for the keys that come next as the handshake ends. Something that isn't null, since a key has to be. */
+/* At the end of the handshake ngtcp2 asks for the next keys, and refuses a null. */
 static int next_keys(ngtcp2_conn *at, uint8_t *rx, uint8_t *tx, ngtcp2_crypto_aead_ctx *rx_key, uint8_t *rx_iv,
                      ngtcp2_crypto_aead_ctx *tx_key, uint8_t *tx_iv, const uint8_t *old_rx, const uint8_t *old_tx, size_t len,
                      void *self) {
@@ -81,7 +81,7 @@ static ngtcp2_crypto_ctx protection(void) {
   return context;
 }
 
-/* Something that isn't null, since a key has to be. */
+/* A key that isn't null, which ngtcp2 would refuse. */
 static ngtcp2_crypto_aead_ctx key(void) {
   ngtcp2_crypto_aead_ctx context = {no_secret};
   return context;
@@ -120,7 +120,7 @@ static void say(ngtcp2_conn *at, ngtcp2_crypto_level level) {
   want(ngtcp2_conn_submit_crypto_data(at, level, said, sizeof said) == 0, "nothing can be said in the handshake");
 }
 
-/* Takes the peer's parameters as they stand at the peer. */
+/* There is no TLS that would bring the peer's transport parameters, so they are copied from the peer's connection. */
 static void take_terms(struct conn *conn) {
   uint8_t terms[1024];
   ngtcp2_ssize len = ngtcp2_conn_encode_local_transport_params(conn->peer->at, terms, sizeof terms);
@@ -140,7 +140,7 @@ static int server_begins(ngtcp2_conn *at, const ngtcp2_cid *id, void *self) {
   return install_initial(at);
 }
 
-/* The server answers the first word with both of its own; the client answers these. */
+/* The server replies to the client's first message with two of its own, and the client replies to these. */
 static int hear(ngtcp2_conn *at, ngtcp2_crypto_level level, uint64_t offset, const uint8_t *bytes, size_t len, void *self) {
   struct conn *conn = self;
   (void)offset, (void)bytes, (void)len;
@@ -246,7 +246,7 @@ void take_packet(struct conns *conns, struct conn *conn, const uint8_t *packet, 
   want(ngtcp2_conn_read_pkt(conn->at, path(), &info, packet, len, conns->time) == 0, "an honest packet is refused");
 }
 
-/* All that an end has to send comes to the other one; answers how many packets. */
+/* Delivers all that one endpoint has to send to the other, and returns the number of packets. */
 static size_t hand_on(struct conns *conns, struct conn *from) {
   uint8_t packet[LONGEST];
   size_t count = 0, taken = 0, len;

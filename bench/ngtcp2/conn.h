@@ -1,5 +1,4 @@
-/* Two connections of ngtcp2 in one process, by its public calls, with a handshake that is none and a protection that changes
- * nothing. */
+/* Two connections of ngtcp2 in one process, by its public calls, with an empty handshake and a packet protection that changes nothing. */
 #ifndef BENCH_NGTCP2_CONN_H
 #define BENCH_NGTCP2_CONN_H
 
@@ -7,7 +6,7 @@
 
 #include "../c/rows.h"
 
-/* What a connection calls when bytes came, and when bytes were acknowledged up to an offset. */
+/* Called when bytes arrived, and when bytes were acknowledged up to an offset. */
 struct owner {
   void (*came)(void *self, int64_t stream, uint64_t offset, const uint8_t *bytes, size_t len);
   void (*acked)(void *self, int64_t stream, uint64_t end);
@@ -27,7 +26,7 @@ struct conns {
   ngtcp2_tstamp time; /* in nanoseconds */
 };
 
-/* The windows of the connection and of a stream, the longest packet, and how many packets may come before they are acknowledged. */
+/* The windows of the connection and of a stream, the longest packet, and how many packets arrive before an ACK. */
 struct terms {
   uint64_t conn_window;
   uint64_t window;
@@ -35,12 +34,12 @@ struct terms {
   size_t ack_after;
 };
 
-/* Makes both, and hands packets on until the handshake is over and nothing is left to send. */
+/* Makes both, and delivers packets until the handshake is over and nothing is left to send. */
 void conns_new(struct conns *conns, const struct terms *terms);
 void conns_free(struct conns *conns);
 
-/* Makes a packet, with bytes of a stream where it isn't -1, and answers its length: 0 where there is nothing to send. *taken is how
- * many of the bytes are in it. */
+/* Makes a packet, with bytes of a stream unless that is -1, and returns its length, or 0 if there is nothing to send. *taken is the
+ * number of those bytes in it. */
 size_t make_packet(struct conns *conns, struct conn *conn, uint8_t *packet, size_t room, int64_t stream, const uint8_t *bytes,
                    size_t len, size_t *taken);
 

@@ -1,6 +1,6 @@
-/* The rows over ngtcp2. Those of parts are over its decoder of frames, its buffer that puts bytes in order, and its tracker of gaps.
- * They are symbols of libngtcp2.a without a public header, so what is used of them is declared here, in our words: `build` asks for
- * the version that was looked at. The structures are rooms larger than they are, and what lies behind them has to stay as it was. */
+/* The rows over ngtcp2. The rows of parts use its frame decoder, its reorder buffer and its gap tracker. These are symbols of
+ * libngtcp2.a without a public header, so they are declared here: `build` checks for the version that this was written for. Each
+ * structure gets more memory than it needs, and the bytes behind it must stay unchanged. */
 #include <string.h>
 
 #include <ngtcp2/ngtcp2.h>
@@ -11,7 +11,7 @@
 
 enum { ROOM = 1024, KEPT = 0x5a };
 
-/* A structure of theirs, at the room's front. */
+/* Memory for one of ngtcp2's structures, which begins at its front. */
 union theirs {
   max_align_t align;
   uint8_t bytes[ROOM];
@@ -53,7 +53,7 @@ static size_t read_once(union theirs *frame, const struct payload *payload) {
   return at == payload->len ? read : 0;
 }
 
-/* STREAM frames of so many bytes, or the common frames where it is 0. */
+/* STREAM frames of this many bytes, or with 0 the common frames. */
 static struct run decode(size_t each) {
   static union theirs frame;
   struct payload payload = each == 0 ? mixed() : streams(each);
@@ -75,7 +75,7 @@ static void put(union theirs *buffer, uint64_t offset, size_t len) {
   want(ngtcp2_rob_push(buffer, offset, source_at(offset), len) == 0, "bytes can't be put");
 }
 
-/* Reads so many bytes from this offset on. */
+/* Reads this many bytes from this offset on. */
 static void read_all(union theirs *buffer, uint64_t from, size_t len) {
   size_t read = 0;
   while (read < len) {
@@ -92,7 +92,7 @@ static void read_all(union theirs *buffer, uint64_t from, size_t len) {
 
 enum order { IN_ORDER, IN_REVERSE, BYTES_IN_ORDER, BYTES_EVEN_THEN_ODD };
 
-/* Puts a window's bytes from this offset on, and answers how many. */
+/* Puts in the bytes of a window from this offset on, and returns how many. */
 static size_t put_window(union theirs *buffer, uint64_t from, size_t order) {
   switch (order) {
   case IN_REVERSE:

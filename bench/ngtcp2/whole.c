@@ -5,7 +5,7 @@
 
 #include "conn.h"
 
-/* What a packet has beside its payload: a first byte, an identifier of 8, a number of up to 4 and a tag of 16. */
+/* The bytes of a packet around its payload: a first byte, a connection ID of 8, a number of up to 4 and a tag of 16. */
 enum { AROUND = 29, KEPT = 1 << 20, LONGEST = 65536 };
 
 struct load {
@@ -16,7 +16,7 @@ struct load {
   size_t room;
 };
 
-/* A stream's bytes at its sender, which has to keep them until they are acknowledged, and at its reader. */
+/* A stream's bytes at its sender, which ngtcp2 lets keep them until they are acknowledged, and at its reader. */
 struct transfer {
   struct conns conns;
   struct load load;
@@ -47,7 +47,7 @@ static void acked(void *self, int64_t stream, uint64_t end) {
   if (end > transfer->acked) transfer->acked = end;
 }
 
-/* Keeps what is written, up to 256 KiB and as long as there is room, as an end of ours does. */
+/* Buffers up to 256 KiB of what is written, as our endpoint does. */
 static void fill(struct transfer *transfer) {
   size_t each = transfer->load.write, most = transfer->load.window < KEPT ? (size_t)transfer->load.window : KEPT;
   for (size_t times = (256 << 10) / each + 1; times > 0; --times) {
@@ -79,7 +79,7 @@ static void carry(struct transfer *transfer) {
   transfer->made += count;
 }
 
-/* What the reader has to tell comes to the sender. */
+/* Delivers the reader's ACKs and limits to the sender. */
 static void answer(struct transfer *transfer) {
   struct conns *conns = &transfer->conns;
   size_t room = transfer->load.room + AROUND, taken = 0, len;

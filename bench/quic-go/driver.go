@@ -1,5 +1,5 @@
-// Rows of parts over quic-go's own: its reader of frames, and its sorter that puts bytes in order. `build` puts this file into a scratch
-// copy of the installed package, so that it reaches what has no public name. Nothing of the peer's source stands here.
+// Rows of parts over quic-go's frame parser and frame sorter. `build` puts this file into a scratch copy of the installed package, so that
+// it reaches what has no public name. Nothing of the peer's source stands here.
 
 package quic
 
@@ -20,7 +20,7 @@ const (
 	driverPeriod = 251
 )
 
-// What a run took, and of how many units it was.
+// The time of a run, and its number of units.
 type driverRun struct {
 	time  time.Duration
 	units int
@@ -31,10 +31,10 @@ type driverRow struct {
 	run  func() driverRun
 }
 
-// The first run, which warms up, compares each byte that came out.
+// The first run warms up and compares each byte that is read.
 var driverIsChecked = true
 
-// The bytes that are moved: the one at an offset is the offset's rest by 251.
+// The bytes: the one at an offset is the offset modulo 251.
 var driverSource = func() []byte {
 	source := make([]byte, driverChunk+driverPeriod)
 	for i := range source {
@@ -64,7 +64,7 @@ func driverWant(isSo bool, reason string) {
 	}
 }
 
-// The processor's time of the process, which collects its garbage beside: that is a part of what the row costs.
+// Processor time of the process, not of the thread: collecting garbage is a part of the row's cost.
 func driverNow() time.Duration {
 	var usage syscall.Rusage
 	driverWant(syscall.Getrusage(syscall.RUSAGE_SELF, &usage) == nil, "the clock can't be read")
@@ -120,7 +120,7 @@ func driverStreams(each int) (*bytes.Buffer, int) {
 	return payload, frames
 }
 
-// Reads the frames, and answers how many. Those of STREAM hold a copy of their bytes, in a buffer that goes back.
+// Reads the frames and returns how many. A STREAM frame holds a copy of its bytes, in a buffer that goes back to a pool.
 func driverRead(payload []byte, parser wire.FrameParser) int {
 	frames, rest := 0, bytes.NewReader(payload)
 	for rest.Len() > 0 {
@@ -147,14 +147,14 @@ func driverDecode(make func() (*bytes.Buffer, int)) driverRun {
 	return driverRun{driverNow() - before, times * frames}
 }
 
-// Bytes put in order: the sorter alone, without the stream's checks
+// The frame sorter alone, without the stream's checks
 
 func driverPut(sorter *frameSorter, offset, size int) {
 	err := sorter.Push(driverAt(offset, size), protocol.ByteCount(offset), nil)
 	driverWant(err == nil, "bytes can't be put")
 }
 
-// Reads what came: the bytes from this offset on, so many.
+// Reads this many bytes and checks that they are those at this offset.
 func driverReadAll(sorter *frameSorter, out []byte, from, size int) {
 	read := 0
 	for {
@@ -168,7 +168,7 @@ func driverReadAll(sorter *frameSorter, out []byte, from, size int) {
 	driverCheck(from, out[:read])
 }
 
-// Pieces of a window of so many bytes, put in by turns: forwards or backwards.
+// Pieces of a window of this many bytes, put in forwards or backwards.
 func driverHalf(rounds, window, each int, forwards bool) driverRun {
 	sorter, out := newFrameSorter(), make([]byte, window)
 	before := driverNow()
@@ -201,7 +201,7 @@ func driverRows() []driverRow {
 	}
 }
 
-// DriverMain prints the nanoseconds that a unit of the row took, or lists the rows.
+// DriverMain prints the nanoseconds of a unit of the row, or lists the rows.
 func DriverMain() {
 	for _, row := range driverRows() {
 		if len(os.Args) < 2 {

@@ -1,8 +1,8 @@
-// The same rows over quinn-proto's stream layer, by row name: `driver ROW` prints the nanoseconds that a unit took, `driver` alone
+// The same rows over quinn-proto's stream layer: `driver ROW` prints the nanoseconds of a unit, `driver` alone
 // lists the rows. `build` puts this file as a private module's child into a scratch copy of the installed package, so that it reaches
 // the parts that have no public name. Nothing of the peer's source stands here.
 
-// Of this file and those below it, whatever is allowed of the package's own.
+// The lints that the package allows its own files are allowed here too.
 #![deny(warnings)]
 
 use std::sync::OnceLock;
@@ -61,7 +61,7 @@ fn time(work: impl FnOnce()) -> Duration {
     now() - before
 }
 
-// What is moved: the byte at an offset is its rest by 251. The first run, which warms up, compares each byte that came out.
+// The bytes: the one at an offset is the offset modulo 251. The first run warms up and compares each byte that is read.
 
 const PERIOD: u64 = 251;
 
@@ -73,7 +73,7 @@ fn pattern(len: usize) -> Vec<u8> {
         .collect()
 }
 
-// Where the piece of a stream's offset stands in the pattern.
+// Where the bytes at an offset of a stream begin in the pattern.
 fn place(offset: u64) -> usize {
     (offset % PERIOD) as usize
 }
@@ -96,7 +96,7 @@ fn compare(offset: u64, bytes: &[u8]) {
     }
 }
 
-// A row's name, and what runs it once.
+// A row's name, and the function that runs it once.
 type Row<T> = (&'static str, fn() -> T);
 
 const ROWS: &[Row<Run>] = &[
@@ -127,7 +127,7 @@ const ROWS: &[Row<Run>] = &[
     }),
     ("hostile-bytes-64k", hostile),
     ("loop", || transfer(PLAIN)),
-    // What is timed in both: each end is asked for its events as it reads.
+    // Ours asks for events here too, so both are timed alike.
     ("loop-events", || transfer(PLAIN)),
     ("loop-ack-each-2", || transfer(Load { burst: 2, ..PLAIN })),
     ("loop-lost-each-100th", || {
@@ -196,7 +196,7 @@ const ROWS: &[Row<Run>] = &[
     ("steps", || request_after(0, Manner::Steps)),
 ];
 
-// The rows that tell bytes, not nanoseconds. A million ends would take 57 GB.
+// The rows that measure bytes. A million endpoints would take 57 GB.
 const SIZES: &[Row<f64>] = &[
     ("idle-1", || idle(1)),
     ("idle-100", || idle(100)),

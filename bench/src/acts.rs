@@ -1,9 +1,9 @@
-//! One act each of an end's day, a frame of 100 bytes on an open stream: `bench/calls` counts the functions that it calls.
+//! Single calls of an endpoint, with frames of 100 bytes on an open stream. `bench/calls` counts the functions that each one calls.
 
 use crate::counting::gotsavena_counted;
 use gotsavena::{Dir, Endpoint, Made, Read, Received, Role, Settings, StreamId};
 
-/// What is done, in this order.
+/// The acts, in the order in which they are done.
 #[derive(Clone, Copy, PartialEq, Eq)]
 pub enum Act {
     Write,
@@ -23,7 +23,7 @@ const ORDER: [Act; 6] = [
     Act::AckLate,
 ];
 
-/// Two ends with an open stream, the packet between them, and the ACK of that packet.
+/// Two endpoints with an open stream, the packet between them, and the ACK of that packet.
 struct Scene {
     client: Endpoint,
     server: Endpoint,
@@ -45,7 +45,7 @@ fn ack_of(number: u64) -> Vec<u8> {
 }
 
 impl Scene {
-    /// The stream carried a frame already, and that was read and acknowledged.
+    /// A stream on which one frame was sent, read and acknowledged before.
     fn new() -> Scene {
         let settings = Settings::small();
         let end = |role| {
@@ -97,7 +97,7 @@ impl Scene {
     }
 }
 
-/// Plays all acts, of which this one is counted.
+/// Plays all acts and counts this one.
 pub fn played(counted: Act) -> u64 {
     let mut scene = Scene::new();
     for act in ORDER {

@@ -1,4 +1,4 @@
-//! The processor's time of this thread: what else the machine does shows only through its caches and its clock.
+//! Processor time of this thread. Other work on the machine changes it only through caches and clock speed.
 
 use std::time::Duration;
 
@@ -25,7 +25,7 @@ fn now() -> Duration {
     Duration::new(time.seconds as u64, time.nanoseconds as u32)
 }
 
-/// The time that the work took.
+/// How long the work took.
 pub fn time(work: impl FnOnce()) -> Duration {
     let before = now();
     work();

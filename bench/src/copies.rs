@@ -1,19 +1,18 @@
-//! The bytes of a packet copied and nothing else, through as much memory as in `loop`: a stream layer that makes so many copies of them
-//! takes no less.
+//! Bare copies of a packet's bytes, through as much memory as `loop` uses. A stream layer that copies each byte as often can't be faster.
 
 use crate::clock::time;
 use crate::{Row, Run};
 use std::hint::black_box;
 
-// What the owner writes, the sending half's ring, and where the reader reads to.
+// The sizes of the bytes that the application writes, of the send buffer, and of the buffer that it reads into.
 const SOURCE: usize = 16 << 10;
 const SENDING: usize = 1 << 20;
 const OUT: usize = 64 << 10;
 
-/// How many packets are under way.
+/// How many packets are in flight.
 const BURST: usize = 10;
 
-/// Memory that pieces are put in and taken from in turn, and around.
+/// A ring into which pieces are put and from which they are taken.
 struct Place {
     bytes: Vec<u8>,
     put: usize,
@@ -40,14 +39,14 @@ impl Place {
     }
 }
 
-// Where the next piece stands.
+// Where the next piece is.
 fn next(at: &mut usize, each: usize, size: usize) -> usize {
     let from = if *at + each > size { 0 } else { *at };
     *at = from + each;
     from
 }
 
-// The pieces go from each place to the next one, a burst at a time.
+// Copies the pieces of a burst from each buffer to the next.
 fn copies(count: usize, each: usize) -> Run {
     let packets = BURST * each;
     let receiving = packets.next_power_of_two();

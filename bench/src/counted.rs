@@ -1,4 +1,4 @@
-//! Work whose instructions `bench/count` counts, and whose calls `bench/calls` does: small, and the same at each run.
+//! Small deterministic pieces of work. `bench/count` counts their instructions, `bench/calls` their function calls.
 
 use crate::acts::{Act, played};
 use crate::counting::gotsavena_counted;
@@ -7,14 +7,14 @@ use crate::growth::{fills, lossy, outstanding, requests};
 use crate::parts::{IN_REVERSE, half_takes_in_order, half_takes_in_reverse, mixed, read_once};
 use crate::requests::{Manner, Requests};
 
-/// Work, by a name of its own.
+/// A named piece of work.
 pub struct Counted {
     pub name: &'static str,
-    /// Does it once, after a warm-up, and answers of how many units it was.
+    /// Does it once after a warm-up, and returns the number of units.
     pub run: fn() -> u64,
 }
 
-// So many calls are counted, once as many were made before.
+// Makes this many calls uncounted, then as many counted.
 fn calls(mut call: impl FnMut(), count: u64) {
     for _ in 0..count {
         call();
@@ -47,7 +47,7 @@ fn reverse() -> u64 {
     40 * IN_REVERSE
 }
 
-/// Packets that go across, are read from and acknowledged, for so many bursts after others.
+/// Packets are sent, read and acknowledged. The first bursts warm up, the others are counted.
 pub fn turns_of(load: Load, before: u64, counted: u64) -> u64 {
     let mut pair = Pair::new(load);
     pair.play(before);
@@ -56,7 +56,7 @@ pub fn turns_of(load: Load, before: u64, counted: u64) -> u64 {
     pair.made - made
 }
 
-// Beside so many active streams.
+// The same with this many active streams.
 fn small(active: u64, way: Way) -> u64 {
     let load = Load {
         way,
@@ -75,7 +75,7 @@ fn request(manner: Manner) -> u64 {
     1_000
 }
 
-/// The works that have limits, those whose growth is told, and the acts of `bench/calls`.
+/// The works that have limits, those of which `bench/count --growth` shows the growth, and the acts of `bench/calls`.
 pub fn all() -> Vec<Counted> {
     let counted = |name, run| Counted { name, run };
     vec![

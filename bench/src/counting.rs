@@ -1,20 +1,20 @@
-//! What callgrind counts.
+//! Marks for callgrind: what it has to count.
 
-/// Calls the work: the instructions of what it calls are counted, since callgrind finds this function by its name.
+/// Calls the work. Callgrind finds this function by its name and counts what it calls.
 #[unsafe(no_mangle)]
 #[inline(never)]
 pub fn gotsavena_counted(work: &mut dyn FnMut()) {
     work();
 }
 
-/// The same, where callgrind was told to look at nothing before: what came before it then takes a fifth of the time.
+/// The same, for a callgrind that counts nothing until this call: all before it then runs five times as fast.
 #[allow(dead_code)]
 pub fn counted_late(work: &mut dyn FnMut()) {
     look_from_here();
     gotsavena_counted(work);
 }
 
-// What valgrind's header has as CALLGRIND_START_INSTRUMENTATION; without valgrind it does nothing.
+// CALLGRIND_START_INSTRUMENTATION of valgrind's header. Without valgrind it does nothing.
 #[cfg(target_arch = "x86_64")]
 fn look_from_here() {
     let request: [u64; 6] = [0x4354_0004, 0, 0, 0, 0, 0];

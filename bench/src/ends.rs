@@ -1,43 +1,43 @@
-//! Two ends in one process, and what the rows do with them.
+//! Two endpoints in one process, and what the rows do with them.
 
 use crate::pattern::{self, Source};
 use crate::requests::poll;
 use gotsavena::{Dir, Endpoint, Fill, Read, Role, Settings, StreamId, Token, frames};
 
-/// How packets go across.
+/// How packets reach the other endpoint.
 #[derive(Clone, Copy, PartialEq)]
 pub enum Way {
-    /// Made, received, and acknowledged by ACK frames.
+    /// `make_packet`, `receive`, and ACK frames.
     Made,
-    /// Filled, as of a stack that owns its packets, and received.
+    /// `fill`, as in a stack that has its own packets, and `receive`.
     Filled,
-    /// Filled, taken in frame by frame, and acknowledged by their tokens.
+    /// `fill`, `take_frame` for each frame, and acknowledged by token.
     Taken,
 }
 
-/// What a row of the whole loop asks for.
+/// The parameters of a row of the whole loop.
 #[derive(Clone, Copy)]
 pub struct Load {
     /// How many streams carry bytes.
     pub active: u64,
-    /// How many are open: those above the active ones carry nothing.
+    /// How many are open. The others send nothing.
     pub open: u64,
     /// The window of each stream, in bytes.
     pub window: u64,
     /// How many bytes a call of `write` is given.
     pub write: usize,
-    /// How many packets are made before the other end acknowledges.
+    /// How many packets are made before the other endpoint acknowledges.
     pub burst: usize,
-    /// Each so manyth packet is lost; none where it is 0.
+    /// Each packet whose number is a multiple of this is lost; with 0 none is.
     pub lose: u64,
     /// How many bytes are read in all.
     pub total: u64,
     /// The room of a packet, in bytes.
     pub room: usize,
     pub way: Way,
-    /// Whether each end is asked for its events.
+    /// Whether each endpoint is asked for events.
     pub polls: bool,
-    /// How many bytes are written in all before each burst, about.
+    /// About how many bytes are written before each burst.
     pub fill: usize,
 }
 
@@ -55,7 +55,7 @@ pub const PLAIN: Load = Load {
     fill: 256 << 10,
 };
 
-/// The connection's window of every row, in bytes.
+/// The connection's window in every row, in bytes.
 const CONN_WINDOW: u64 = 16 << 20;
 
 pub struct Pair {
@@ -64,7 +64,7 @@ pub struct Pair {
     pub streams: Vec<StreamId>,
     load: Load,
     source: Source,
-    // How many bytes each active stream was given, and how many were read of it.
+    // How many bytes were written to each active stream, and how many were read.
     given: Vec<u64>,
     taken: Vec<u64>,
     out: Vec<u8>,
@@ -72,7 +72,7 @@ pub struct Pair {
     packets: Vec<(Token, usize, Vec<u8>)>,
     spare: Vec<Vec<u8>>,
     lost: Vec<u64>,
-    // Those that came, joined, where packets are told by their tokens.
+    // The tokens of packets that arrived, joined.
     came: Option<Token>,
     pub made: u64,
     /// How many bytes were written in all.
@@ -90,7 +90,7 @@ impl Pair {
             .expect("the settings are in range");
         let reader = Endpoint::new(Role::Server, settings, settings.limits())
             .expect("the settings are in range");
-        // There are at most 4,096 streams of a direction: half of more than that are bidirectional.
+        // An endpoint may open 4,096 streams of a direction, so above that count half of them are bidirectional.
         let mut ids: Vec<StreamId> = Vec::new();
         for number in 0..load.open.max(load.active) {
             let dir = if number < 4096 { Dir::Uni } else { Dir::Bidi };
@@ -115,7 +115,7 @@ impl Pair {
         }
     }
 
-    /// Fills the sending buffers of the active streams, up to what the load says.
+    /// Fills the send buffers of the active streams, up to what the load asks for.
     pub fn write(&mut self) {
         let times = self.load.fill / self.source.each() / self.streams.len() + 1;
         for (&stream, given) in self.streams.iter().zip(&mut self.given) {
@@ -158,7 +158,7 @@ impl Pair {
         }
     }
 
-    // The next packet: its token and its length.
+    // Makes the next packet and returns its token and length.
     fn make(&mut self, payload: &mut [u8]) -> Option<(Token, usize)> {
         if self.load.way == Way::Made {
             let made = self.sender.make_packet(payload).ok()??;
@@ -168,7 +168,7 @@ impl Pair {
         Some((filled.token, filled.len))
     }
 
-    /// Reads what came on each active stream, and answers how many bytes.
+    /// Reads what arrived on each active stream and returns the number of bytes.
     pub fn read(&mut self) -> u64 {
         if self.load.polls {
             poll(&mut self.reader);
@@ -185,7 +185,7 @@ impl Pair {
         count
     }
 
-    /// The reader's next packet comes to the sender, and then the losses are declared.
+    /// Delivers the reader's next packet to the sender, then declares the losses.
     pub fn answer(&mut self) {
         let mut payload = self.spare.pop().unwrap_or_default();
         payload.resize(self.load.room, 0);
@@ -202,14 +202,14 @@ impl Pair {
                 .receive(made.number, &payload[..made.len])
                 .expect("an honest packet");
             if self.load.way == Way::Filled {
-                // What is filled in carries no ACK.
+                // `fill` writes no ACK.
                 let token = self.reader.token_of(made.number);
                 self.reader.acked(token).expect("it was given");
             }
         }
         self.spare.push(payload);
         for number in self.lost.drain(..) {
-            // An ACK may have come first where the packet was made again.
+            // If the packet was sent again, an ACK of it may have arrived already.
             let _ = self.sender.declare_lost(number);
         }
         if self.load.polls {
@@ -217,7 +217,7 @@ impl Pair {
         }
     }
 
-    /// So many bursts, each read and acknowledged.
+    /// Plays this many bursts. Each is read and acknowledged.
     pub fn play(&mut self, turns: u64) {
         for _ in 0..turns {
             self.write();

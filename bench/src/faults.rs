@@ -1,4 +1,4 @@
-//! How many pages the kernel gave a process.
+//! The minor page faults of the process.
 
 #[repr(C)]
 struct Usage {
@@ -14,7 +14,7 @@ unsafe extern "C" {
 
 const RUSAGE_SELF: i32 = 0;
 
-/// How many pages the kernel gave this process so far.
+/// Minor page faults of this process so far.
 pub fn minor_faults() -> i64 {
     let mut usage = Usage {
         times: [0; 4],

@@ -1,4 +1,4 @@
-//! What is counted to see how work grows: with the window, with packets under way, with streams that ended, and with those that wait.
+//! Works that show growth: with the window, with packets in flight, with streams that are over, and with streams that wait.
 
 use crate::counted::turns_of;
 use crate::counting::{counted_late, gotsavena_counted};
@@ -8,15 +8,15 @@ use crate::requests::{Manner, Requests};
 use gotsavena::{Dir, Endpoint, Fill, Read, Role, Settings, StreamId};
 use std::hint::black_box;
 
-/// Packets come shuffled within so many.
+/// Packets arrive shuffled in groups of this many.
 const BLOCK: usize = 64;
 
-/// How many packets come for each that acknowledges.
+/// How many packets arrive before an ACK is sent.
 const ACK_EACH: usize = 10;
 
 const ROOM: usize = 1200;
 
-/// Two ends and a stream with such a window, and what is under way.
+/// Two endpoints, a stream, and the packets in flight.
 struct Lossy {
     sender: Endpoint,
     reader: Endpoint,
@@ -53,7 +53,7 @@ impl Lossy {
         }
     }
 
-    /// So many packets are made before the first of them comes; a tenth is lost, the others come shuffled.
+    /// Makes this many packets before the first one arrives. A tenth is lost, the others arrive shuffled.
     fn turn(&mut self, under_way: usize) {
         self.make(under_way);
         let mut packets = std::mem::take(&mut self.packets);
@@ -100,7 +100,7 @@ impl Lossy {
         self.made += count as u64;
     }
 
-    // The numbers of Knuth's MMIX, so that it is the same at each run.
+    // The constants of Knuth's MMIX generator, so that each run is the same.
     fn shuffle<T>(&mut self, block: &mut [T]) {
         for at in (1..block.len()).rev() {
             self.random = self
@@ -127,7 +127,7 @@ impl Lossy {
     }
 }
 
-/// Packets over a stream with such a window, so many of them under way, a tenth lost and the others shuffled.
+/// Packets on a stream with this window, this many in flight, a tenth lost and the others shuffled.
 pub fn lossy(window: u64, under_way: usize, turns: u64) -> u64 {
     let mut ends = Lossy::new(window);
     for _ in 0..turns {
@@ -142,7 +142,7 @@ pub fn lossy(window: u64, under_way: usize, turns: u64) -> u64 {
     ends.made - before
 }
 
-/// Packets of 128 bytes over 16 streams, so many of which are under way.
+/// Packets of 128 bytes on 16 streams, this many in flight.
 pub fn outstanding(packets: usize, turns: u64) -> u64 {
     let load = Load {
         active: 16,
@@ -156,7 +156,7 @@ pub fn outstanding(packets: usize, turns: u64) -> u64 {
     turns_of(load, turns, turns)
 }
 
-/// Requests after so many of the same connection.
+/// Requests on a connection that had this many before.
 pub fn requests(ended: u64) -> u64 {
     let units = 64;
     let mut requests = Requests::new(Manner::Packets, ended + 1000);
@@ -171,7 +171,7 @@ pub fn requests(ended: u64) -> u64 {
     units
 }
 
-/// Packets that are filled while so many streams have bytes that wait.
+/// Packets are filled while this many streams have pending bytes.
 pub fn fills(streams: u64) -> u64 {
     let settings = Settings::small()
         .conn_window(16 << 20)

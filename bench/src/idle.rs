@@ -1,23 +1,23 @@
-//! How many bytes of the heap an idle endpoint takes, beside so many others.
+//! The heap of one idle endpoint, in a process with many of them.
 
 use gotsavena::{Endpoint, Role, Settings};
 
-/// A row whose measure isn't time.
+/// A row that measures bytes, not time.
 pub struct Size {
     pub name: &'static str,
     pub unit: &'static str,
-    /// The bytes of a unit.
+    /// Bytes for each unit.
     pub run: fn() -> f64,
 }
 
-/// What glibc tells of the heap, in bytes.
+/// glibc's `mallinfo2`: figures of the heap, in bytes.
 #[repr(C)]
 struct Mallinfo2 {
     before: [usize; 4],
-    /// How much is mapped for large pieces.
+    /// Large allocations, which are mapped apart from the heap.
     mapped: usize,
     between: [usize; 2],
-    /// How much is given out.
+    /// Allocated bytes.
     in_use: usize,
     after: [usize; 2],
 }
@@ -32,7 +32,7 @@ fn held() -> usize {
     told.mapped + told.in_use
 }
 
-// Ends that grant 100 streams of each direction, with windows of 1 MiB and of 64 KiB.
+// Endpoints that grant 100 streams of each direction, with windows of 1 MiB for the connection and 64 KiB for a stream.
 fn idle(count: usize) -> f64 {
     let settings = Settings::small()
         .conn_window(1 << 20)

@@ -1,7 +1,7 @@
-//! Times one row: `gotsavena-bench ROW` runs it once to warm up, where it compares each byte that it moved, and once to time it, and
-//! prints the nanoseconds that a unit took.
-//! `gotsavena-bench` alone lists the rows, each with its unit and its measure: `ns`, or `B` where the row tells bytes of memory. `bench/run` alternates it with the peers' drivers.
-//! `gotsavena-bench --count WORK` does a small piece of work once and prints its units, for a counter of instructions.
+//! Times one row: `gotsavena-bench ROW` runs it once to warm up, with each byte compared, and once timed, and prints the nanoseconds of a
+//! unit. `gotsavena-bench` alone lists the rows, each with its unit and its measure: `ns`, or `B` if the row measures memory. `bench/run`
+//! alternates it with the peers' drivers.
+//! `gotsavena-bench --count WORK` does a small piece of work once and prints its units, under a counter of instructions.
 
 mod acts;
 mod clock;
@@ -18,7 +18,7 @@ mod scaling;
 mod searches;
 mod whole;
 
-// The parts are private modules of the crate: here its own text is compiled once more. It is made, so it isn't formatted.
+// The parts are private modules of the crate, so their source is compiled into this program too. That source is made, so rustfmt skips it.
 #[path = "../../rust/src/proved/mod.rs"]
 #[rustfmt::skip]
 mod proved;
@@ -28,7 +28,7 @@ mod shim;
 use std::process::ExitCode;
 use std::time::Duration;
 
-/// What a run took, and of how many units it was.
+/// The time of a run, and its number of units.
 pub struct Run {
     pub time: Duration,
     pub units: u64,
@@ -80,7 +80,7 @@ fn main() -> ExitCode {
     ExitCode::SUCCESS
 }
 
-// Does the work of that name, and prints its units.
+// Does the named work and prints its units.
 fn count(name: Option<String>) -> ExitCode {
     let all = counted::all();
     let Some(work) = all.iter().find(|work| Some(work.name) == name.as_deref()) else {
@@ -88,7 +88,7 @@ fn count(name: Option<String>) -> ExitCode {
         eprintln!("gotsavena-bench: --count wants one of {}", names.join(", "));
         return ExitCode::from(2);
     };
-    // No comparing is counted.
+    // So that comparing isn't counted.
     pattern::check_no_more();
     println!("{}", (work.run)());
     ExitCode::SUCCESS

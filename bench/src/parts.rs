@@ -1,4 +1,4 @@
-//! The parts by themselves: frames read, bytes put in order, bytes sent and acknowledged, sets of numbers.
+//! Each part alone: the frame reader, the receive buffer, the send buffer, and the set of numbers.
 
 use crate::clock::time;
 use crate::pattern::{self, Source};
@@ -13,7 +13,7 @@ use std::hint::black_box;
 
 const CHUNK: usize = 1200;
 
-// Packets of the common frames, some 1,100 bytes in all, and how many frames.
+// Payloads of the common frames, about 1,100 bytes in all, and the number of frames.
 pub fn mixed() -> (Vec<u8>, u64) {
     let mut payload = vec![0; 1500];
     let (mut len, mut frames) = (0, 0);
@@ -73,7 +73,7 @@ fn id(value: u64) -> wire::StreamId {
     wire::StreamId::new(value).expect("it is below 2^62")
 }
 
-/// Reads the frames of the payload, one after the other, and answers how many.
+/// Reads all frames of the payload and returns how many there were.
 pub fn read_once(payload: &[u8]) -> u64 {
     let (mut rest, mut count) = (Frames::new(black_box(payload)), 0);
     while let Ok(Some(placed)) = rest.next() {
@@ -101,7 +101,7 @@ fn decode_mixed() -> Run {
     read_frames(&payload, frames, 200_000)
 }
 
-// A packet of STREAM frames of so many bytes, all with a length but where one fills the packet.
+// A payload of STREAM frames of `each` bytes. Each has a LEN field, unless one frame fills the packet.
 fn decode_stream(each: usize) -> Run {
     let bytes = vec![5; each];
     let mut payload = vec![0; CHUNK];
@@ -131,7 +131,7 @@ fn put(half: &mut RecvHalf<RingAssembly>, offset: u64, bytes: &[u8]) {
         .expect("there is memory");
 }
 
-// Reads what came: the bytes from this offset on, so many.
+// Reads `len` bytes and checks that they are those at this offset.
 fn read_all(half: &mut RecvHalf<RingAssembly>, out: &mut [u8], from: u64, len: usize) {
     let mut read = 0;
     while let Read::Bytes(count) = half.read(out) {
@@ -143,7 +143,7 @@ fn read_all(half: &mut RecvHalf<RingAssembly>, out: &mut [u8], from: u64, len: u
     half.raise();
 }
 
-/// Takes the next chunk of a stream and reads it, at each call.
+/// Each call receives the next chunk of a stream and reads it.
 pub fn half_takes_in_order() -> impl FnMut() {
     let source = Source::new(CHUNK);
     let mut out = vec![0; 64 << 10];
@@ -167,10 +167,10 @@ fn half_in_order() -> Run {
     Run { time, units }
 }
 
-/// How many chunks come in reverse before they are read.
+/// How many chunks arrive in reverse order before they are read.
 pub const IN_REVERSE: u64 = 54;
 
-/// Takes the next 54 chunks of a stream, the last one first, and reads them, at each call.
+/// Each call receives the next 54 chunks of a stream in reverse order, and reads them.
 pub fn half_takes_in_reverse() -> impl FnMut() {
     let source = Source::new(CHUNK);
     let mut out = vec![0; 64 << 10];
@@ -200,7 +200,7 @@ fn half_in_reverse() -> Run {
     }
 }
 
-// 64 KiB that come byte by byte, in this order.
+// 64 KiB arrive byte by byte, in this order.
 fn half_by_bytes(order: impl Fn() -> Vec<u64>) -> Run {
     let source = Source::new(1);
     let mut out = vec![0; 64 << 10];
@@ -250,7 +250,7 @@ fn even_then_odd() -> Vec<u64> {
         .collect()
 }
 
-// Bytes are written, sent chunk by chunk, and acknowledged, with so many chunks under way.
+// Bytes are written, sent chunk by chunk, and acknowledged, with `flight` chunks in flight.
 fn send(flight: u64) -> Run {
     let source = Source::new(CHUNK);
     let mut written = 0;
@@ -282,7 +282,7 @@ fn send(flight: u64) -> Run {
     }
 }
 
-// So many numbers go in, and stand as so many runs.
+// Inserts numbers that end up as this many runs.
 fn insert(numbers: impl Iterator<Item = u64>, runs: usize) -> Run {
     let mut set = RangeSet::new(Global);
     let mut units = 0;
@@ -300,7 +300,7 @@ fn insert(numbers: impl Iterator<Item = u64>, runs: usize) -> Run {
     Run { time, units }
 }
 
-// Packets of frames of one byte at the even offsets of a window of 64 KiB, and then at the odd ones; nothing is read.
+// Payloads of one-byte frames at the even offsets of a window of 64 KiB, then at the odd ones. Nothing is read.
 fn hostile() -> Run {
     let settings = Settings::small()
         .conn_window(1 << 20)

@@ -1,5 +1,5 @@
-//! What the rows move: the byte at an offset of a stream is the offset's rest by 251. A row's first run, which warms up, compares each
-//! byte that came out; the second one is timed, and compares none.
+//! The bytes that all rows transfer: the byte at an offset is the offset modulo 251. A row's first run warms up and compares each byte
+//! that is read. The second run is timed and compares nothing.
 
 use std::sync::LazyLock;
 use std::sync::atomic::{AtomicBool, Ordering};
@@ -11,12 +11,12 @@ const AT_ONCE: usize = 1 << 16;
 
 static IS_CHECKED: AtomicBool = AtomicBool::new(true);
 
-/// From here on nothing is compared.
+/// Turns comparing off.
 pub fn check_no_more() {
     IS_CHECKED.store(false, Ordering::Relaxed);
 }
 
-/// Bytes of which a piece of so many begins at each offset.
+/// A buffer that holds, for each offset modulo 251, a piece of up to this length.
 pub struct Source {
     bytes: Vec<u8>,
     each: usize,
@@ -35,14 +35,14 @@ impl Source {
         self.each
     }
 
-    /// The piece that stands at this offset of a stream.
+    /// The bytes of a stream at this offset.
     pub fn at(&self, offset: u64) -> &[u8] {
         let from = (offset % PERIOD) as usize;
         &self.bytes[from..from + self.each]
     }
 }
 
-/// Where the run is checked, that these are the bytes at this offset of a stream.
+/// Compares the bytes with those of a stream at this offset, if comparing is on.
 #[inline]
 pub fn check(offset: u64, bytes: &[u8]) {
     if IS_CHECKED.load(Ordering::Relaxed) {

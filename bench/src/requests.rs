@@ -1,4 +1,4 @@
-//! A request of one byte and an answer of 1 KiB on a stream of their own, one stream after the other.
+//! A request of one byte and a response of 1 KiB on a new stream each time, one after the other.
 
 use crate::clock::time;
 use crate::ends::take;
@@ -9,14 +9,14 @@ use gotsavena::{Dir, Endpoint, Fill, Read, Role, Settings, StreamId, Token};
 use std::hint::black_box;
 use std::time::Duration;
 
-/// How the ends' owners go about it.
+/// How the applications use the endpoints.
 #[derive(Clone, Copy, PartialEq, Eq)]
 pub enum Manner {
-    /// Packets are made and received, and nobody asks for news.
+    /// By packets, without events.
     Packets,
-    /// The same, and each end is asked for its events once packets came to it.
+    /// By packets. Each endpoint is asked for events after it received packets.
     Events,
-    /// Packets are filled, their frames taken one by one, and acknowledged by their tokens; each end is asked for its events.
+    /// By frames, as a stack does that has its own packets: `fill`, `take_frame`, tokens and events.
     Steps,
 }
 
@@ -30,7 +30,7 @@ pub struct Requests {
 }
 
 impl Requests {
-    /// Two ends for so many requests at most.
+    /// Two endpoints for at most this many requests.
     pub fn new(manner: Manner, in_all: u64) -> Requests {
         let settings = Settings::small()
             .conn_window(1 << 20)
@@ -96,7 +96,7 @@ impl Requests {
         server.acked(filled.token).expect("it was given");
         poll(server);
         poll(client);
-        // The peer is told that it may open one more.
+        // Sends MAX_STREAMS, so that the peer may open one more.
         if server.is_sendable()
             && let Some(token) = fill_and_take(server, client)
         {
@@ -106,7 +106,7 @@ impl Requests {
     }
 }
 
-// What an end has for a packet comes to the other one: its token.
+// Fills a packet and hands its frames to the other endpoint. Returns the packet's token.
 fn fill_and_take(from: &mut Endpoint, to: &mut Endpoint) -> Option<Token> {
     let mut payload = [0; 1200];
     let filled = from.fill(&mut payload, &Fill::all());
@@ -115,7 +115,7 @@ fn fill_and_take(from: &mut Endpoint, to: &mut Endpoint) -> Option<Token> {
     Some(filled.token)
 }
 
-/// Hears all that an end has to tell.
+/// Takes all events of an endpoint.
 pub fn poll(end: &mut Endpoint) {
     while let Some(event) = end.next_event().expect("there is memory") {
         black_box(event);
@@ -133,7 +133,7 @@ fn write_and_finish(end: &mut Endpoint, stream: StreamId, bytes: &[u8]) {
     end.finish(stream).expect("it is open");
 }
 
-// The client's byte isn't one of the pattern.
+// The request's byte isn't one of the pattern.
 fn read_to_end(end: &mut Endpoint, stream: StreamId, len: usize) {
     let mut bytes = [0; 2048];
     let mut count = 0;
@@ -150,7 +150,7 @@ fn read_to_end(end: &mut Endpoint, stream: StreamId, len: usize) {
     assert_eq!(end.read(stream, &mut bytes), Ok(Read::End));
 }
 
-/// What the last thousand cost of so many.
+/// Of this many requests, the cost of each of the last thousand.
 fn after(ended: u64, manner: Manner) -> Run {
     let mut requests = Requests::new(manner, 1 << 16);
     let mut spent = Duration::ZERO;

@@ -1,4 +1,4 @@
-//! What a packet costs as there are more streams, packets under way, and streams that ended.
+//! The cost of a packet with more streams, more packets in flight, and more streams that are over.
 
 use crate::clock::time;
 use crate::ends::{Load, PLAIN, Pair};
@@ -29,7 +29,7 @@ fn active(streams: u64) -> Run {
     })
 }
 
-// The same, timed without the owner's calls: packets made, received and acknowledged.
+// The same without the application's calls: only packets made, received and acknowledged are timed.
 fn carried(streams: u64) -> Run {
     let load = Load {
         active: streams,
@@ -53,7 +53,7 @@ fn carried(streams: u64) -> Run {
     }
 }
 
-// The two copies of `carried` by themselves: out of as many sending buffers, and into as many rings, each in turn.
+// Only the two copies that `carried` makes: out of each send buffer and into each receive buffer in turn.
 fn copied(streams: usize) -> Run {
     const EACH: usize = 1200;
     const BURST: usize = 10;
@@ -76,7 +76,7 @@ fn copied(streams: usize) -> Run {
                 rings[stream][to..to + EACH].copy_from_slice(payload);
             }
         });
-        // What was sent is read, and its room written to again.
+        // The application reads what was sent, and writes as much again.
         for (stream, copies) in burst {
             let (from, to) = (place(copies, 2 << 10), place(copies, 16 << 10));
             out.copy_from_slice(&rings[stream][from..from + EACH]);
@@ -91,7 +91,7 @@ fn copied(streams: usize) -> Run {
     }
 }
 
-// So many streams were used until their limits rose, and the news of it came; then one of them goes on alone.
+// This many streams were used until their limits rose and the MAX_STREAM_DATA frames arrived. Then only one of them goes on.
 fn raised(streams: u64) -> Run {
     let mut pair = Pair::new(Load {
         active: streams,
@@ -128,7 +128,7 @@ fn raised(streams: u64) -> Run {
     }
 }
 
-// So many packets of 128 bytes are under way before any of them comes and is acknowledged.
+// This many packets of 128 bytes are in flight before the first one arrives and is acknowledged.
 fn outstanding(packets: usize) -> Run {
     transfer(Load {
         active: 16,
@@ -142,7 +142,7 @@ fn outstanding(packets: usize) -> Run {
     })
 }
 
-// So many threads, each with two ends of its own: the time of the clock on the wall for a packet of any of them.
+// This many threads, each with two endpoints of its own. The measure is wall-clock time for a packet of any thread.
 fn threads(count: usize) -> Run {
     let load = Load {
         total: 256 << 20,
@@ -166,7 +166,7 @@ fn threads(count: usize) -> Run {
     })
 }
 
-/// So many packets are under way; then an ACK of 32 ranges comes again and again, which names nothing new.
+/// With this many packets in flight, the same ACK of 32 ranges arrives again and again, and acknowledges nothing new.
 fn same_ack(packets: u64) -> Run {
     let mut pair = Pair::new(Load {
         active: 16,
@@ -179,7 +179,7 @@ fn same_ack(packets: u64) -> Run {
         pair.write();
         match pair.sender.make_packet(&mut payload) {
             Ok(Some(made)) => {
-                // All but each 300th of the last ones come: the runs that are kept number 32.
+                // Of the last packets each 300th is lost, so that the ACK has 32 ranges.
                 if number + 9_600 < packets || number % 300 != 0 {
                     let _ = pair.reader.receive(made.number, &payload[..made.len]);
                 }
@@ -204,7 +204,7 @@ fn same_ack(packets: u64) -> Run {
     Run { time, units: times }
 }
 
-/// All that an end has for packets comes to the other one.
+/// Delivers all that one endpoint has pending to the other.
 pub fn hand_on(from: &mut Endpoint, to: &mut Endpoint) {
     let mut payload = [0; 1200];
     while let Ok(Some(made)) = from.make_packet(&mut payload) {

@@ -1,4 +1,4 @@
-//! What it costs to find the one stream among ten thousand open ones that waits for its owner, has something for a packet, or is over.
+//! The cost of finding one stream among 10,000 open ones: the one that is readable or writable, has something to send, or is over.
 
 use crate::clock::time;
 use crate::scaling::hand_on;
@@ -6,10 +6,10 @@ use crate::{Row, Run};
 use gotsavena::{Dir, Endpoint, Read, Role, Settings, StreamId};
 use std::hint::black_box;
 
-/// How many streams of each direction the client opens, and how many bidirectional ones the server does.
+/// How many streams of each direction the client opens, and how many bidirectional ones the server opens.
 const OPENED: [u64; 3] = [4096, 4096, 1808];
 
-/// Two ends with 10,000 open streams, of which each was begun with its first byte, and that byte read.
+/// Two endpoints with 10,000 open streams. One byte was sent and read on each.
 struct Crowd {
     client: Endpoint,
     server: Endpoint,
@@ -39,7 +39,7 @@ impl Crowd {
         crowd
     }
 
-    /// Each end hands on what it has, and reads all, until nothing is left.
+    /// Each endpoint sends what is pending and reads all, until nothing is left.
     fn settle(&mut self) {
         for _ in 0..3 {
             hand_on(&mut self.client, &mut self.server);
@@ -51,13 +51,13 @@ impl Crowd {
         }
     }
 
-    /// The last of the client's streams that only it sends on.
+    /// The client's last unidirectional stream.
     fn last(&self) -> StreamId {
         StreamId::from_parts(Role::Client, Dir::Uni, OPENED[0] - 1).expect("it is below 2^62")
     }
 }
 
-// So many streams, each with its first byte.
+// Opens this many streams and writes one byte to each.
 fn begun(end: &mut Endpoint, dir: Dir, count: u64) -> Vec<StreamId> {
     let mut begin = || {
         let stream = end.open(dir).expect("the peer grants as many");
@@ -72,7 +72,7 @@ fn read_all(end: &mut Endpoint, stream: StreamId) {
     while let Ok(Read::Bytes(_)) = end.read(stream, &mut bytes) {}
 }
 
-// Times the search from the least stream on, which finds this one.
+// Times a search that begins at the lowest stream and has to find this one.
 fn timed(
     end: &Endpoint,
     stream: StreamId,
@@ -108,7 +108,7 @@ fn writable() -> Run {
     let mut crowd = Crowd::new();
     let last = crowd.last();
     for &stream in crowd.streams.iter().filter(|&&stream| stream != last) {
-        // Of those that only the server sends on there is none.
+        // (The server opened no unidirectional stream, so the client can finish each.)
         crowd.client.finish(stream).expect("it is open");
     }
     timed(&crowd.client, last, Endpoint::next_writable)
@@ -122,7 +122,7 @@ fn ended() -> Run {
     timed(&crowd.server, last, Endpoint::next_ended)
 }
 
-// Whether anything is due: bytes of the last stream are.
+// Whether anything is pending; here bytes of the last stream are.
 fn due() -> Run {
     let mut crowd = Crowd::new();
     crowd.client.write(crowd.last(), b"!").expect("it is open");

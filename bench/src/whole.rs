@@ -1,4 +1,4 @@
-//! The whole loop: written, put in packets, read from them, read by the owner, acknowledged, with the credit told back.
+//! The whole loop: write, make packets, receive, read, acknowledge, and send back credit.
 
 use crate::clock::time;
 use crate::ends::{Load, PLAIN, Pair, Way};

@@ -1,5 +1,5 @@
-// The same attacks on quinn-proto's stream layer: `attacks` lists them, `attacks NAME SIZE` plays one. What the peer does stands in files
-// beside this one, which `build` copies from bench/src.
+// The same attacks on quinn-proto's stream layer: `attacks` lists them, `attacks NAME SIZE` plays one. The peer's side is in files that
+// `build` copies here from bench/src.
 use std::hint::black_box;
 use std::process::ExitCode;
 
@@ -49,7 +49,7 @@ impl Theirs {
         }
     }
 
-    // What its owner does as news comes: it answers a STOP_SENDING by a reset, as ours does by itself, and writes on where it may.
+    // On events the application resets a stream that was stopped, which our endpoint does itself, and writes where there is room.
     fn hear(&mut self) {
         while let Some(event) = self.0.streams.poll() {
             match event {
@@ -78,7 +78,7 @@ fn limit(value: u64) -> VarInt {
 
 impl Target for Theirs {
     fn new(setup: Setup) -> Self {
-        // Its writes keep within credit, so that no buffer of a stream is bounded beside it.
+        // Writes are bounded by credit, so a stream's send buffer needs no bound of its own.
         let _ours = (setup.send_buffer, setup.within_credit);
         let streams = limit(setup.streams);
         let (conn_window, window) = (limit(16 * setup.window), limit(setup.window));
@@ -121,7 +121,7 @@ impl Target for Theirs {
         gotsavena::StreamId::new(self.streams().open(dir).unwrap().0).unwrap()
     }
 
-    // As far as the peer's credit goes: what it holds back the owner keeps.
+    // As far as the peer's credit goes. The application keeps the rest.
     fn write(&mut self, stream: gotsavena::StreamId, bytes: &[u8]) {
         let mut rest = bytes;
         while let Ok(count) = self.sending(theirs(stream)).write(rest) {
@@ -152,7 +152,7 @@ impl Target for Theirs {
         self.receiving(theirs(stream)).stop(limit(0)).unwrap();
     }
 
-    // It hears as payloads come.
+    // Events are taken as payloads arrive.
     fn hear(&mut self) {}
 
     fn settle(&mut self, _came: u64) {}

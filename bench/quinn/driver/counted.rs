@@ -92,7 +92,7 @@ const ALL: &[Row<u64>] = &[
     ("fill-of-10000", || fills(10_000)),
 ];
 
-// Does the work of that name, and prints its units; without a name it lists the works.
+// Does the named work and prints its units. Without a name it lists the works.
 pub fn count(name: Option<String>) {
     IS_CHECKED.store(false, Ordering::Relaxed);
     match name {

@@ -1,4 +1,4 @@
-// Two ends in one process, and what the rows do with them.
+// Two endpoints in one process, and what the rows do with them.
 use std::collections::BTreeMap;
 use std::hint::black_box;
 use std::time::Instant;
@@ -33,7 +33,7 @@ impl End {
         Self::with(side, 8192, to_send, 16 << 20, load.window)
     }
 
-    // An end that grants so many streams of each direction, keeps so many bytes to send, and has these windows.
+    // An endpoint with these limits on streams, this send window and these receive windows.
     pub fn with(side: Side, streams: u32, to_send: u64, conn_window: u32, window: u32) -> Self {
         let streams = streams.into();
         let mut state = StreamsState::new(
@@ -115,7 +115,7 @@ impl End {
         self.tell_of_counts();
     }
 
-    // Takes a payload's frames, and answers whether one of them asks for an ACK.
+    // Processes a payload's frames and returns whether one of them asks for an ACK.
     pub fn take(&mut self, payload: Bytes) -> bool {
         let len = payload.len();
         let mut asks = false;
@@ -143,7 +143,7 @@ impl End {
                 Frame::StopSending(frame) => self
                     .streams
                     .received_stop_sending(frame.id, frame.error_code),
-                // Its connection only writes to its log that the peer is blocked.
+                // quinn's connection only logs that the peer is blocked.
                 Frame::Padding | Frame::Ping | Frame::StreamDataBlocked { .. } => {}
                 other => panic!("{:?}", other),
             }
@@ -151,7 +151,7 @@ impl End {
         asks
     }
 
-    // As streams came to their end the peer may open more.
+    // Streams are over, so the peer may open more.
     pub fn tell_of_counts(&mut self) {
         for dir in Dir::iter() {
             if self.streams.take_max_streams_dirty(dir) {

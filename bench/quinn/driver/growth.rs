@@ -1,4 +1,4 @@
-// What is counted to see how work grows, as bench/src/growth.rs counts it.
+// The works of bench/src/growth.rs, which show how work grows.
 use std::hint::black_box;
 
 use bytes::Bytes;

@@ -1,4 +1,4 @@
-// The parts: frames read, bytes put in order, bytes sent and acknowledged, sets of numbers.
+// Each part alone: the frame reader, the receive buffer, the send buffer, and the set of numbers.
 use std::hint::black_box;
 
 use bytes::Bytes;
@@ -250,7 +250,7 @@ pub fn send(flight: u64) -> Run {
 
 // Sets of numbers: its tree
 
-// So many numbers go in, and stand as so many runs.
+// Inserts numbers that end up as this many runs.
 pub fn insert(numbers: impl Iterator<Item = u64>, runs: usize) -> Run {
     let mut set = RangeSet::new();
     let mut units = 0;

@@ -1,4 +1,4 @@
-// A request of one byte and an answer of 1 KiB on a stream of their own, one stream after the other.
+// A request of one byte and a response of 1 KiB on a new stream each time, one after the other.
 use std::hint::black_box;
 use std::time::Duration;
 
@@ -11,14 +11,14 @@ use super::{Run, check, pattern, time};
 use crate::frame::StreamMetaVec;
 use crate::{Dir, Side, StreamId};
 
-// How the ends' owners go about it.
+// How the applications use the endpoints.
 #[derive(Clone, Copy, PartialEq, Eq)]
 pub enum Manner {
-    // Packets are made and received. The events are polled where that is needed: as the request came, and at the end.
+    // By packets. Events are polled only where that is needed: when the request arrived, and at the end.
     Packets,
-    // The same, and each end's are polled once packets came to it.
+    // By packets. Each endpoint is polled for events after it received packets.
     Events,
-    // Frames are written, taken and acknowledged without packets' records, and the events are polled.
+    // By frames, without records of packets, and the events are polled.
     Steps,
 }
 
@@ -83,7 +83,7 @@ impl Requests {
         acked(server, answered);
         poll(server);
         poll(client);
-        // The peer is told that it may open one more.
+        // Sends MAX_STREAMS, so that the peer may open one more.
         let is_due = server.pending.max_data || server.pending.max_stream_id.iter().any(|&it| it);
         if is_due || server.streams.can_send_stream_data() {
             let (_, payload) = fill(server);
@@ -106,7 +106,7 @@ fn poll(end: &mut End) {
     }
 }
 
-// What an end has for a packet, without a record of the packet.
+// Writes the frames of a packet, without a record of the packet.
 pub fn fill(end: &mut End) -> (StreamMetaVec, Bytes) {
     let mut payload = Vec::with_capacity(1200);
     let mut retransmits = ThinRetransmits::default();
@@ -145,7 +145,7 @@ fn write_and_finish(end: &mut End, id: StreamId, bytes: &[u8]) {
     stream.finish().unwrap();
 }
 
-// Copies the bytes out, as the others do.
+// Copies the bytes out, as the other drivers do.
 fn read_to_end(end: &mut End, id: StreamId, len: usize) {
     let (mut out, mut count) = ([0; 2048], 0);
     let mut stream = RecvStream {
@@ -164,14 +164,14 @@ fn read_to_end(end: &mut End, id: StreamId, len: usize) {
     black_box(&out);
 }
 
-// All that an end has for packets comes to the other one.
+// Delivers all that one endpoint has pending to the other.
 fn hand_on(from: &mut End, to: &mut End) {
     while let Some((number, payload)) = from.make(1200) {
         to.receive(number, Bytes::from(payload));
     }
 }
 
-// What the last thousand cost of so many.
+// Of this many requests, the cost of each of the last thousand.
 pub fn request_after(ended: u64, manner: Manner) -> Run {
     let mut requests = Requests::new(manner);
     let (mut spent, timed) = (Duration::ZERO, 1_000);

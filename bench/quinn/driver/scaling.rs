@@ -1,5 +1,5 @@
-// The whole loop: written, put in packets, read from them, read by the owner, acknowledged, with the credit told back. And what it
-// costs as there are more streams, packets under way and ends.
+// The whole loop: write, make packets, receive, read, acknowledge, and send back credit. And its cost with more streams, more packets in
+// flight, and more endpoints.
 use std::sync::Barrier;
 use std::time::{Duration, Instant};
 
@@ -120,7 +120,7 @@ pub fn outstanding(packets: usize) -> Run {
     })
 }
 
-// The time of the clock on the wall for a packet of any of the threads.
+// Wall-clock time for a packet of any of the threads.
 pub fn threads(count: usize) -> Run {
     let load = Load {
         total: 256 << 20,
@@ -143,7 +143,7 @@ pub fn threads(count: usize) -> Run {
     })
 }
 
-// What glibc tells of the heap: ten numbers, of which the fifth is what is mapped for large pieces, and the eighth what is given out.
+// glibc's `mallinfo2`: ten numbers. The fifth is the bytes mapped for large allocations, the eighth the allocated bytes.
 #[repr(C)]
 struct Mallinfo2 {
     told: [usize; 10],
@@ -159,7 +159,7 @@ fn held() -> usize {
     told[4] + told[7]
 }
 
-// Ends that grant 100 streams of each direction, with windows of 1 MiB and of 64 KiB.
+// Endpoints that grant 100 streams of each direction, with windows of 1 MiB for the connection and 64 KiB for a stream.
 pub fn idle(count: usize) -> f64 {
     let mut ends: Vec<Box<End>> = Vec::with_capacity(count);
     let before = held();

@@ -1,5 +1,5 @@
-//! A hostile peer against our end: `gotsavena-attacks` lists the attacks, `gotsavena-attacks NAME SIZE` plays one. `bench/attacks` plays
-//! them all, beside quinn-proto.
+//! A hostile peer against our endpoint: `gotsavena-attacks` lists the attacks, `gotsavena-attacks NAME SIZE` plays one. `bench/attacks`
+//! plays them all, beside quinn-proto.
 
 #[path = "../clock.rs"]
 mod clock;
@@ -7,7 +7,7 @@ mod clock;
 mod counting;
 #[path = "../faults.rs"]
 mod faults;
-// It refuses memory, too, which no attack asks for.
+// That heap can also refuse memory, which no attack uses.
 #[allow(dead_code)]
 #[path = "../memory/heap.rs"]
 mod heap;

@@ -1,4 +1,4 @@
-//! Our end as a target.
+//! Our endpoint as the target of the attacks.
 
 use super::play::{Attack, Play, Setup, Target, own, theirs};
 use super::table::BUSY;
@@ -74,7 +74,7 @@ impl Target for Ours {
         while self.0.next_event().expect("there is memory").is_some() {}
     }
 
-    // Only a rule that is broken closes it: bytes on a stream that it alone sends on (RFC 9000, section 19.8).
+    // Only a broken rule closes it: here bytes on a stream on which only this endpoint may send (RFC 9000, section 19.8).
     fn settle(&mut self, came: u64) {
         assert_eq!(self.0.closing(), None);
         let (mut payload, stream) = ([0; 32], own(Dir::Uni, 0));
@@ -91,7 +91,7 @@ impl Target for Ours {
     }
 }
 
-/// So many bidirectional streams, of which one half is over: of every second one what it receives, of the others what it sends.
+/// Bidirectional streams of which one direction is over: the receiving one for every second stream, else the sending one.
 fn half_ended(play: &mut Play<Ours>, streams: u64) {
     for index in 0..streams {
         play.put(Frame::Stream {
@@ -119,7 +119,7 @@ fn ask_ended(play: &mut Play<Ours>, _streams: u64, _step: u64) {
     play.call(|ours| assert_eq!(ours.0.next_ended(least), None));
 }
 
-/// What the peers have no call for.
+/// Attacks on calls that quinn-proto doesn't have.
 pub const ALONE: &[Attack<Ours>] = &[Attack {
     name: "half-over",
     what: "the search for a stream that is over, among so many of which one half is, by turns",

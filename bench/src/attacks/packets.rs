@@ -1,11 +1,11 @@
-//! Attacks by ACKs, and by what makes an end look at much as it makes a packet.
+//! Attacks by ACK frames, and by what makes an endpoint search long while it makes a packet.
 
 use super::play::{Play, ROOM, Target, own, theirs};
 use gotsavena::{Dir, Frame};
 
 pub fn nothing<T>(_play: &mut Play<T>, _size: u64) {}
 
-// The end makes so many packets, each with a byte of one stream.
+// The endpoint makes packets, each with one byte of a stream.
 fn packets<T: Target>(play: &mut Play<T>, count: u64) {
     let stream = play.end.open(Dir::Uni);
     for _ in 0..count {
@@ -14,14 +14,14 @@ fn packets<T: Target>(play: &mut Play<T>, count: u64) {
     }
 }
 
-/// An ACK of so many ranges, of one packet each. The packets between are acknowledged aside.
+/// An ACK of many ranges of one packet each. Those between are acknowledged afterwards, untimed.
 pub fn many_ranges<T: Target>(play: &mut Play<T>, ranges: u64, _step: u64) {
     play.aside(|play| {
         packets(play, 2 * ranges);
         play.put(Frame::Ack {
             largest: play.made() - 1,
             delay: 0,
-            // The first range, and then a gap and a range each, all of one number.
+            // The first range, then a gap and a range each, all of length one.
             ranges: &vec![0; 2 * ranges as usize - 1],
             ecn: None,
         });
@@ -30,7 +30,7 @@ pub fn many_ranges<T: Target>(play: &mut Play<T>, ranges: u64, _step: u64) {
     play.aside(Play::ack_all);
 }
 
-/// An ACK of so many packets, and padding.
+/// An ACK of many packets, and padding.
 pub fn padded_ack<T: Target>(play: &mut Play<T>, count: u64, _step: u64) {
     play.aside(|play| {
         packets(play, count);
@@ -42,7 +42,7 @@ pub fn padded_ack<T: Target>(play: &mut Play<T>, count: u64, _step: u64) {
     play.deliver_telling(count);
 }
 
-/// A PING is answered in a packet of so much room.
+/// A PING, and a packet of this room in return.
 pub fn ping_in<T: Target>(play: &mut Play<T>, room: u64, _step: u64) {
     play.send(Frame::Ping);
     play.make_in(room as usize);
@@ -53,7 +53,7 @@ pub fn ping<T: Target>(play: &mut Play<T>, _streams: u64, _step: u64) {
     play.make();
 }
 
-// So many streams are written to, and what may go went.
+// Streams are written to, and all that the limits permit was sent.
 fn writers<T: Target>(play: &mut Play<T>, streams: u64) {
     for _ in 0..streams {
         let stream = play.end.open(Dir::Uni);
@@ -62,13 +62,13 @@ fn writers<T: Target>(play: &mut Play<T>, streams: u64) {
     play.drain();
 }
 
-/// They wait for credit, and the peer was told so.
+/// They wait for credit, and the peer got the blocked frames.
 pub fn blocked<T: Target>(play: &mut Play<T>, streams: u64) {
     writers(play, streams);
     play.ack_all();
 }
 
-/// So many, and 200 more, wait to write, and their owner heard all news. The peer says what holds it back.
+/// Many streams, and 200 more, wait for room to write, and the application took all events. The peer sends blocked frames.
 pub fn waiting<T: Target>(play: &mut Play<T>, streams: u64) {
     writers(play, streams + 200);
     play.ack_all();
@@ -82,7 +82,7 @@ pub fn ping_heard<T: Target>(play: &mut Play<T>, _streams: u64, _step: u64) {
     play.hear();
 }
 
-/// The peer says of 150 streams that their limits hold it back.
+/// The peer sends STREAM_DATA_BLOCKED for 150 streams.
 pub fn said_heard<T: Target>(play: &mut Play<T>, _streams: u64, _step: u64) {
     for index in 0..150 {
         play.put(Frame::StreamDataBlocked {
@@ -106,7 +106,7 @@ pub fn stops_heard<T: Target>(play: &mut Play<T>, streams: u64, step: u64) {
     play.hear();
 }
 
-/// They are reset, and the peer doesn't acknowledge it.
+/// They are reset, and the peer doesn't acknowledge the resets.
 pub fn resets<T: Target>(play: &mut Play<T>, streams: u64) {
     writers(play, streams);
     for index in 0..streams {
@@ -115,7 +115,7 @@ pub fn resets<T: Target>(play: &mut Play<T>, streams: u64) {
     play.drain();
 }
 
-// The peer lets one byte more of a stream go, which isn't all that was written: the byte goes, and then the end tells that it is blocked.
+// The peer grants one byte more on a stream, with more written. The byte is sent, and then a STREAM_DATA_BLOCKED.
 fn raise<T: Target>(play: &mut Play<T>, index: u64, maximum: u64) {
     play.send(Frame::MaxStreamData {
         stream: own(Dir::Uni, index),
@@ -124,7 +124,7 @@ fn raise<T: Target>(play: &mut Play<T>, index: u64, maximum: u64) {
     play.drain();
 }
 
-/// The second stream was blocked at so many limits, and the peer acknowledges nothing.
+/// The second stream was blocked at many limits one after the other, and the peer acknowledges nothing.
 pub fn blocked_often<T: Target>(play: &mut Play<T>, limits: u64) {
     for written in [1000, limits as usize + 2] {
         let stream = play.end.open(Dir::Uni);
@@ -134,7 +134,7 @@ pub fn blocked_often<T: Target>(play: &mut Play<T>, limits: u64) {
     (0..limits).for_each(|limit| raise(play, 1, limit + 2));
 }
 
-/// And now the first one is.
+/// Then the first one is blocked.
 pub fn blocked_below<T: Target>(play: &mut Play<T>, _limits: u64, step: u64) {
     raise(play, 0, step + 2);
 }
@@ -143,7 +143,7 @@ pub fn sending<T: Target>(play: &mut Play<T>, streams: u64) {
     writers(play, streams);
 }
 
-/// From the last stream on each is stopped, and the end tells its reset.
+/// Each stream is stopped, from the last one down, and the endpoint sends its RESET_STREAM.
 pub fn stop_downwards<T: Target>(play: &mut Play<T>, streams: u64, step: u64) {
     play.send(Frame::StopSending {
         stream: own(Dir::Uni, streams - 1 - step),
@@ -152,7 +152,7 @@ pub fn stop_downwards<T: Target>(play: &mut Play<T>, streams: u64, step: u64) {
     play.make();
 }
 
-/// So many streams have nothing to send, and a lower one has to tell that it is blocked.
+/// Many streams have nothing to send, and a lower one is blocked.
 pub fn one_blocked<T: Target>(play: &mut Play<T>, streams: u64) {
     let blocked = play.end.open(Dir::Uni);
     for _ in 0..streams {
@@ -165,7 +165,7 @@ pub fn one_blocked<T: Target>(play: &mut Play<T>, streams: u64) {
     play.make();
 }
 
-/// The next hundred of them are stopped, more than there is room to answer for: so the lower one doesn't come to tell.
+/// The next hundred are stopped. Their resets don't fit a packet, so the STREAM_DATA_BLOCKED of the lower stream waits.
 pub fn stop_hundred<T: Target>(play: &mut Play<T>, _streams: u64, step: u64) {
     for index in 100 * step..100 * (step + 1) {
         play.put(Frame::StopSending {
@@ -177,7 +177,7 @@ pub fn stop_hundred<T: Target>(play: &mut Play<T>, _streams: u64, step: u64) {
     play.make_in(400);
 }
 
-/// So many times in one payload a stream is stopped with another code.
+/// One payload stops a stream many times, each time with another code.
 pub fn stop_again<T: Target>(play: &mut Play<T>, frames: u64, step: u64) {
     for code in frames * step..frames * (step + 1) {
         play.put(Frame::StopSending {
@@ -192,7 +192,7 @@ pub fn one_sending<T: Target>(play: &mut Play<T>, _frames: u64) {
     writers(play, 1);
 }
 
-/// All of so many packets are acknowledged, but the first one.
+/// All packets are acknowledged but the first one.
 pub fn all_but_first<T: Target>(play: &mut Play<T>, count: u64) {
     packets(play, count);
     play.put_ack(1, count - 1);
@@ -207,14 +207,14 @@ pub fn next_packet<T: Target>(play: &mut Play<T>, _count: u64, _step: u64) {
     play.deliver();
 }
 
-/// All of so many packets are acknowledged, but the first and the last one.
+/// All packets are acknowledged but the first and the last one.
 pub fn all_between<T: Target>(play: &mut Play<T>, count: u64) {
     packets(play, count);
     play.put_ack(1, count - 2);
     play.deliver();
 }
 
-/// That ACK comes again, a hundred times in one payload.
+/// That ACK arrives again, a hundred times in one payload.
 pub fn ack_again<T: Target>(play: &mut Play<T>, count: u64, _step: u64) {
     for _ in 0..100 {
         play.put_ack(1, count - 2);

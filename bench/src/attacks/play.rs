@@ -1,5 +1,5 @@
-//! A hostile peer plays against an end: it puts payloads together, the end takes them in and answers, and the last tenth is timed. The
-//! driver over quinn-proto is built of this file, too.
+//! A hostile peer against an endpoint: it puts payloads together, the endpoint receives them and sends packets, and the last tenth is
+//! timed. The driver over quinn-proto is built from this file too.
 
 use super::gotsavena_counted;
 use super::minor_faults;
@@ -8,60 +8,60 @@ use gotsavena::{Dir, Frame, Role, StreamId};
 use std::process::ExitCode;
 use std::time::Duration;
 
-/// What an end is set to.
+/// The settings of an endpoint and of its peer.
 #[derive(Clone, Copy)]
 pub struct Setup {
-    /// Its window of a stream; that of the connection is 16 times as wide.
+    /// The window of a stream. The connection's is 16 times as wide.
     pub window: u64,
     /// How many streams of each direction the peer may open at once, of 65,536 in all.
     pub streams: u64,
-    /// What the peer grants: bytes on all streams together.
+    /// The peer's limit for all streams together, in bytes.
     pub max_data: u64,
-    /// And on each stream.
+    /// The peer's limit for each stream, in bytes.
     pub max_stream_data: u64,
-    /// How many bytes of a stream it keeps to send, where writes don't keep within credit.
+    /// The size of a send buffer, if writes aren't bounded by credit.
     pub send_buffer: usize,
-    /// Its writes keep within the peer's credit, and its owner asks what holds the peer back.
+    /// Whether writes are bounded by the peer's credit, and the application asks for blocked events.
     pub within_credit: bool,
 }
 
-/// An end that is attacked, with its owner. It is a server; what it opens, the peer grants.
+/// An endpoint under attack, with its application. It is a server, and the peer grants the streams that it opens.
 pub trait Target {
     fn new(setup: Setup) -> Self;
-    /// Takes a payload in, which breaks no rule.
+    /// Receives a payload that breaks no rule.
     fn receive(&mut self, number: u64, payload: &[u8]);
-    /// Makes the next packet, and answers its number.
+    /// Makes the next packet and returns its number.
     fn make(&mut self, out: &mut [u8]) -> Option<u64>;
-    /// The same, and answers how many of its packets the payload newly acknowledges.
+    /// Receives a payload and returns how many packets it newly acknowledges.
     fn receive_telling(&mut self, number: u64, payload: &[u8]) -> u64;
     fn open(&mut self, dir: Dir) -> StreamId;
-    /// Writes these bytes, as far as they are taken.
+    /// Writes these bytes, as many as are accepted.
     fn write(&mut self, stream: StreamId, bytes: &[u8]);
-    /// Reads all that there is, an end or a reset too.
+    /// Reads all that there is, up to the FIN or the reset.
     fn read(&mut self, stream: StreamId);
     fn reset(&mut self, stream: StreamId);
     fn stop(&mut self, stream: StreamId);
-    /// Asks for all its news, where taking payloads in doesn't.
+    /// Takes all events, if `receive` doesn't do so.
     fn hear(&mut self);
-    /// The attack is over, and so many packets came.
+    /// Called after the attack, with the number of packets received.
     fn settle(&mut self, came: u64);
 }
 
-/// An attack: how it is made ready, and then a step for each payload.
+/// An attack: its preparation, and a step for each payload.
 pub struct Attack<T> {
     pub name: &'static str,
     pub what: &'static str,
     pub sizes: [u64; 3],
     pub setup: Setup,
-    /// Of this size.
+    /// Prepares the attack at this size.
     pub ready: fn(&mut Play<T>, u64),
     /// How many steps there are at this size.
     pub steps: fn(u64) -> u64,
-    /// Of this size, the step of this number.
+    /// Plays the step of this number, at this size.
     pub step: fn(&mut Play<T>, u64, u64),
 }
 
-/// An end, the payload that is put together for it, and what its answers took.
+/// An endpoint, the payload that is being put together for it, and the cost of its calls so far.
 pub struct Play<T> {
     pub end: T,
     payload: Vec<u8>,
@@ -69,7 +69,7 @@ pub struct Play<T> {
     out: Vec<u8>,
     next: u64,
     sent: usize,
-    /// How many packets the end made.
+    /// How many packets the endpoint made.
     made: u64,
     is_timed: bool,
     spent: Duration,
@@ -77,7 +77,7 @@ pub struct Play<T> {
     faults: i64,
 }
 
-/// What a run told.
+/// The results of a run.
 struct Told {
     time: f64,
     heap: usize,
@@ -90,7 +90,7 @@ struct Told {
 pub const ROOM: usize = 1200;
 
 impl<T: Target> Play<T> {
-    /// Calls the end. In the last tenth the call is timed and counted.
+    /// Calls the endpoint. In the last tenth the call is timed and counted.
     pub fn call(&mut self, mut call: impl FnMut(&mut T)) {
         let (end, before) = (&mut self.end, minor_faults());
         if self.is_timed {
@@ -102,17 +102,17 @@ impl<T: Target> Play<T> {
         self.faults += minor_faults() - before;
     }
 
-    /// How long the payload is so far.
+    /// The length of the payload so far.
     pub fn len(&self) -> usize {
         self.len
     }
 
-    /// Puts a frame at the payload's end.
+    /// Appends a frame to the payload.
     pub fn put(&mut self, frame: Frame<'_>) {
         self.len += gotsavena::put(&frame, &mut self.payload[self.len..]).expect("it fits");
     }
 
-    /// Puts an ACK of these packets at the payload's end.
+    /// Appends an ACK of these packets to the payload.
     pub fn put_ack(&mut self, first: u64, last: u64) {
         let packets = first..last + 1;
         let packets = std::slice::from_ref(&packets);
@@ -120,7 +120,7 @@ impl<T: Target> Play<T> {
         self.len += len;
     }
 
-    /// The payload comes to the end.
+    /// Delivers the payload.
     pub fn deliver(&mut self) {
         let (payload, number, len) = (std::mem::take(&mut self.payload), self.next, self.len);
         self.call(|end| end.receive(number, &payload[..len]));
@@ -130,13 +130,13 @@ impl<T: Target> Play<T> {
         self.len = 0;
     }
 
-    /// A payload of one frame comes.
+    /// Delivers a payload of one frame.
     pub fn send(&mut self, frame: Frame<'_>) {
         self.put(frame);
         self.deliver();
     }
 
-    /// The end makes a packet in a room of so many bytes.
+    /// Lets the endpoint make a packet of at most this many bytes.
     pub fn make_in(&mut self, room: usize) -> Option<u64> {
         let (mut out, mut made) = (std::mem::take(&mut self.out), None);
         self.call(|end| made = end.make(&mut out[..room]));
@@ -149,23 +149,23 @@ impl<T: Target> Play<T> {
         self.make_in(ROOM)
     }
 
-    /// The end's owner asks for all its news.
+    /// Lets the application take all events.
     pub fn hear(&mut self) {
         self.call(T::hear);
     }
 
-    /// The end makes all packets that it has something for.
+    /// Lets the endpoint make packets until nothing is pending.
     pub fn drain(&mut self) {
         while self.make().is_some() {}
     }
 
-    /// All that the end made is acknowledged.
+    /// Acknowledges all packets of the endpoint.
     pub fn ack_all(&mut self) {
         self.put_ack(0, self.made - 1);
         self.deliver();
     }
 
-    /// The payload comes to the end, which tells what it newly acknowledges.
+    /// Delivers the payload, and checks how many packets it newly acknowledges.
     pub fn deliver_telling(&mut self, acked: u64) {
         let (payload, number, len) = (std::mem::take(&mut self.payload), self.next, self.len);
         self.call(|end| assert_eq!(end.receive_telling(number, &payload[..len]), acked));
@@ -175,12 +175,12 @@ impl<T: Target> Play<T> {
         self.len = 0;
     }
 
-    /// How many packets the end made.
+    /// How many packets the endpoint made.
     pub fn made(&self) -> u64 {
         self.made
     }
 
-    /// What isn't timed, within a step.
+    /// Does something within a step that isn't timed.
     pub fn aside(&mut self, what: impl FnOnce(&mut Self)) {
         let was = std::mem::replace(&mut self.is_timed, false);
         what(self);
@@ -193,19 +193,19 @@ pub fn theirs(dir: Dir, index: u64) -> StreamId {
     StreamId::from_parts(Role::Client, dir, index).expect("it is below 2^62")
 }
 
-/// A stream that the end opened.
+/// A stream that the endpoint opened.
 pub fn own(dir: Dir, index: u64) -> StreamId {
     StreamId::from_parts(Role::Server, dir, index).expect("it is below 2^62")
 }
 
-// What a look at the clock takes by itself.
+// How long reading the clock takes.
 fn clock() -> Duration {
     const LOOKS: u32 = 10_000;
     let spent: Duration = (0..LOOKS).map(|_| time(|| ())).sum();
     spent / LOOKS
 }
 
-// Plays the attack at this size. The heap is what the end holds behind the last step.
+// Plays the attack at this size. The heap is what the endpoint holds after the last step.
 fn play<T: Target>(attack: &Attack<T>, size: u64, live: fn() -> usize) -> Told {
     let (payload, out) = (vec![0; 1 << 16], vec![0; 1 << 14]);
     let before = live();
@@ -242,7 +242,7 @@ fn play<T: Target>(attack: &Attack<T>, size: u64, live: fn() -> usize) -> Told {
 }
 
 /// Lists the attacks, each with its sizes and in words, or plays one: `NAME SIZE` prints the nanoseconds that a payload of the last tenth
-/// took, the bytes of heap that the end holds, and the bytes of the payloads that it got; `--count NAME SIZE` prints how many payloads
+/// took, the bytes of heap that the endpoint holds, and the bytes of the payloads that it got; `--count NAME SIZE` prints how many payloads
 /// the last tenth had, for a counter of instructions.
 pub fn main<T: Target>(groups: &[&[Attack<T>]], live: fn() -> usize) -> ExitCode {
     let words: Vec<String> = std::env::args().skip(1).collect();

@@ -1,15 +1,15 @@
-//! Attacks by bytes of streams, where they lie, and by resets.
+//! Attacks by STREAM frames at chosen offsets, and by resets.
 
 use super::play::{Play, Target, own, theirs};
 use gotsavena::{Dir, Frame, StreamId};
 
 /// How many frames of one byte a payload has.
 const MANY: u64 = 128;
-/// How many streams are begun by one payload.
+/// How many streams one payload opens.
 const SOME: u64 = 16;
-/// The runs of a stream that is reset over holes.
+/// How many runs of received bytes a stream has as it is reset.
 const RUNS: u64 = 4096;
-/// The bytes of a page, and how many pages lie nearer than those that stand apart from a ring.
+/// The size of a page, and how many pages from the read offset on are stored in the ring. Pages further off are stored by themselves.
 const PAGE: u64 = 1 << 11;
 const APART: u64 = 1;
 /// The window of a stream, in bytes.
@@ -30,7 +30,7 @@ fn byte(stream: StreamId, offset: u64) -> Frame<'static> {
     }
 }
 
-/// So many streams were opened, of which all but two are over, and these two are stopped.
+/// Of many streams all but two are over, and these two are stopped.
 pub fn two_stopped<T: Target>(play: &mut Play<T>, opened: u64) {
     for index in 0..opened - 2 {
         play.put(Frame::Stream {
@@ -56,7 +56,7 @@ pub fn repeat_both<T: Target>(play: &mut Play<T>, opened: u64, _step: u64) {
     play.deliver();
 }
 
-/// On each stream every second byte comes, and then a reset, which its reader is told.
+/// On each stream every second byte arrives, then a reset, which is read.
 pub fn reset_over_holes<T: Target>(play: &mut Play<T>, _streams: u64, step: u64) {
     let payloads = RUNS / MANY + 1;
     let (stream, part) = (uni(step / payloads), step % payloads);
@@ -89,7 +89,7 @@ pub fn stopped<T: Target>(play: &mut Play<T>, _bytes: u64) {
     play.end.stop(uni(0));
 }
 
-/// The peer of a stopped stream goes on with every second byte.
+/// The peer sends every second byte of a stream that was stopped.
 pub fn stopped_holes<T: Target>(play: &mut Play<T>, _bytes: u64, step: u64) {
     holes(play, uni(0), 2 * MANY * step + 2);
 }
@@ -98,7 +98,7 @@ pub fn by_many(frames: u64) -> u64 {
     frames / MANY
 }
 
-/// The first byte of each stream lies so far off. All are reset then.
+/// The first byte of each stream arrives at this offset. Then all are reset.
 pub fn far_byte<T: Target>(play: &mut Play<T>, offset: u64, step: u64) {
     let streams = SOME * step..SOME * (step + 1);
     for index in streams.clone() {
@@ -108,7 +108,7 @@ pub fn far_byte<T: Target>(play: &mut Play<T>, offset: u64, step: u64) {
     play.aside(|play| abandon(play, streams, offset + 1));
 }
 
-/// On each stream a byte beside its begin and one that lies so far off.
+/// On each stream a byte at its beginning and one at this offset.
 pub fn near_and_far_byte<T: Target>(play: &mut Play<T>, offset: u64, step: u64) {
     let streams = SOME * step..SOME * (step + 1);
     for index in streams.clone() {
@@ -119,7 +119,7 @@ pub fn near_and_far_byte<T: Target>(play: &mut Play<T>, offset: u64, step: u64) 
     play.aside(|play| abandon(play, streams, offset + 1));
 }
 
-/// On each of four streams 16 bytes come, each so far behind the one before it, and then a reset, which is read.
+/// On each of four streams 16 bytes arrive, each at this distance from the one before, then a reset, which is read.
 pub fn bytes_apart<T: Target>(play: &mut Play<T>, distance: u64, step: u64) {
     sparse(play, step, [4, 16], |place| (place * distance, b"x"));
 }
@@ -129,19 +129,19 @@ pub fn many_apart<T: Target>(play: &mut Play<T>, distance: u64, step: u64) {
     sparse(play, step, [1, 64], |place| (place * distance, b"x"));
 }
 
-/// The same, with two bytes each, over a multiple of the distance.
+/// The same with two bytes on each stream, at a multiple of the distance.
 pub fn edges_apart<T: Target>(play: &mut Play<T>, distance: u64, step: u64) {
     sparse(play, step, [1, 64], |place| {
         ((place + 1) * distance - 1, b"xx")
     });
 }
 
-/// On each of 32 streams a byte comes at this distance, and then the one before it.
+/// On each of 32 streams a byte arrives at this distance, then the one before it.
 pub fn drawn_up<T: Target>(play: &mut Play<T>, distance: u64, step: u64) {
     sparse(play, step, [32, 2], |place| (distance - place, b"x"));
 }
 
-// On so many streams so many frames come, and then a reset, which is read.
+// On each of these streams this many frames arrive, then a reset, which is read.
 fn sparse<T: Target>(
     play: &mut Play<T>,
     step: u64,
@@ -176,7 +176,7 @@ fn sparse<T: Target>(
     streams.for_each(|index| play.end.read(uni(index)));
 }
 
-/// A byte in each page that stands apart from the ring, and at last one before them all, which lets the ring reach to their end.
+/// A byte in each page that is stored outside the ring, then one before them all, after which the ring has to grow over them.
 pub fn page_or_gap<T: Target>(play: &mut Play<T>, pages: u64, step: u64) {
     let page = if step < pages {
         APART + step
@@ -186,7 +186,7 @@ pub fn page_or_gap<T: Target>(play: &mut Play<T>, pages: u64, step: u64) {
     play.send(byte(uni(0), PAGE * page));
 }
 
-// The streams are reset, and their readers told.
+// The streams are reset, and the resets are read.
 fn abandon<T: Target>(play: &mut Play<T>, streams: std::ops::Range<u64>, final_size: u64) {
     for index in streams.clone() {
         play.put(Frame::ResetStream {
@@ -199,7 +199,7 @@ fn abandon<T: Target>(play: &mut Play<T>, streams: std::ops::Range<u64>, final_s
     streams.for_each(|index| play.end.read(uni(index)));
 }
 
-/// Every second byte of so many of the connection's credit, the last one first.
+/// Every second byte of a part of the connection's credit, the last one first.
 pub fn window_downwards<T: Target>(play: &mut Play<T>, credit: u64, step: u64) {
     window(play, step, |place| credit / 2 - 1 - place);
 }
@@ -224,7 +224,7 @@ pub fn by_twice_many(credit: u64) -> u64 {
     credit / (2 * MANY)
 }
 
-// Each place below a count, a power of two, has another one: both steps can be undone.
+// A permutation of the numbers below a power of two: each of its two steps can be undone.
 fn scattered(place: u64, count: u64) -> u64 {
     let mut at = place;
     for _ in 0..2 {
@@ -234,7 +234,7 @@ fn scattered(place: u64, count: u64) -> u64 {
     at
 }
 
-/// The end opens so many streams.
+/// The endpoint opens this many streams.
 pub fn own_streams<T: Target>(play: &mut Play<T>, streams: u64) {
     for _ in 0..streams {
         play.end.open(Dir::Bidi);
@@ -248,7 +248,7 @@ pub fn byte_on_each<T: Target>(play: &mut Play<T>, _streams: u64, step: u64) {
     play.deliver();
 }
 
-/// The last byte of a window comes first, then three quarters of it, which are read.
+/// The last byte of a window arrives first, then three quarters of the window, which are read.
 pub fn three_quarters<T: Target>(play: &mut Play<T>, _streams: u64, step: u64) {
     let (stream, piece) = (uni(step / (PIECES + 1)), step % (PIECES + 1));
     if piece == 0 {

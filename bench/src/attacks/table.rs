@@ -12,17 +12,17 @@ const SERVER: Setup = Setup {
     send_buffer: 1 << 20,
     within_credit: false,
 };
-/// Its windows hold a long fat path.
+/// Windows for a path of high bandwidth and long delay.
 const WIDE: Setup = Setup {
     window: 1 << 28,
     ..SERVER
 };
-/// It lets the peer open 4,096 streams at once.
+/// The peer may open 4,096 streams at once.
 pub const BUSY: Setup = Setup {
     streams: 4096,
     ..SERVER
 };
-/// The peer grants so many bytes of each stream, or of all together.
+/// The peer's limits: for each stream, or for all together.
 const TIGHT: Setup = Setup {
     max_stream_data: 10,
     ..BUSY
@@ -31,7 +31,7 @@ const POOR: Setup = Setup {
     max_data: 10,
     ..BUSY
 };
-/// The same, with an owner that writes within credit, or one whose buffers are as small.
+/// The same, with writes bounded by credit, or by send buffers of that size.
 const TIGHT_WITHIN: Setup = Setup {
     within_credit: true,
     ..TIGHT

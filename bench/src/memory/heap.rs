@@ -1,4 +1,4 @@
-//! The heap, watched: how many bytes are given out, and, while it is asked to, one refusal.
+//! An allocator that counts allocated bytes, and can refuse one allocation.
 
 use std::alloc::{GlobalAlloc, Layout, System};
 use std::sync::atomic::{AtomicU64, AtomicUsize, Ordering};
@@ -8,27 +8,27 @@ pub struct Watched;
 const NEVER: u64 = u64::MAX;
 
 static LIVE: AtomicUsize = AtomicUsize::new(0);
-// How many more are granted before one is refused.
+// How many allocations succeed before one is refused.
 static LEFT: AtomicU64 = AtomicU64::new(NEVER);
 static WAS_REFUSED: AtomicU64 = AtomicU64::new(0);
 
-/// The bytes that are given out.
+/// The allocated bytes.
 pub fn live() -> usize {
     LIVE.load(Ordering::Relaxed)
 }
 
-/// Refuses the allocation behind so many more of those that `watch` sees.
+/// Refuses one allocation, after this many more of those that `watch` sees.
 pub fn refuse_after(granted: u64) {
     WAS_REFUSED.store(0, Ordering::Relaxed);
     LEFT.store(granted, Ordering::Relaxed);
 }
 
-/// Whether that one came.
+/// Whether that allocation was asked for.
 pub fn was_refused() -> bool {
     WAS_REFUSED.load(Ordering::Relaxed) > 0
 }
 
-/// Calls an end, whose allocations are those that count.
+/// Makes a call of an endpoint. Only allocations within it can be refused.
 pub fn watch<T>(call: impl FnOnce() -> T) -> T {
     IS_WATCHED.store(1, Ordering::Relaxed);
     let answer = call();
@@ -55,7 +55,7 @@ fn is_refused() -> bool {
     true
 }
 
-// SAFETY: each call is handed on to the system's allocator, or refused.
+// SAFETY: each call goes to the system's allocator or is refused.
 unsafe impl GlobalAlloc for Watched {
     unsafe fn alloc(&self, layout: Layout) -> *mut u8 {
         if is_refused() {

@@ -1,5 +1,5 @@
-//! How much memory ends take, by a measure's name: `gotsavena-memory MEASURE` prints it, `gotsavena-memory` alone lists the measures,
-//! each with its unit. Each byte that comes out is compared. `bench/memory` runs them all.
+//! The memory of endpoints: `gotsavena-memory MEASURE` prints one measure, `gotsavena-memory` alone lists them with their units. Each byte
+//! that is read is compared. `bench/memory` runs them all.
 
 mod heap;
 #[path = "../pattern.rs"]
@@ -18,7 +18,7 @@ static ALLOCATOR: heap::Watched = heap::Watched;
 const KIB: u64 = 1 << 10;
 const MIB: u64 = 1 << 20;
 
-/// Two ends, and where what one hands on is kept meanwhile.
+/// Two endpoints of one process.
 struct Two {
     client: Endpoint,
     server: Endpoint,
@@ -37,7 +37,7 @@ impl Two {
     }
 }
 
-/// All that an end has for packets comes to the other one.
+/// Delivers all that one endpoint has pending to the other.
 fn hand_on(from: &mut Endpoint, to: &mut Endpoint) {
     let mut payload = [0; 1200];
     while let Ok(Some(made)) = from.make_packet(&mut payload) {
@@ -50,7 +50,7 @@ fn stream_of(dir: Dir, index: u64) -> StreamId {
     StreamId::from_parts(Role::Client, dir, index).expect("it is below 2^62")
 }
 
-// What the kernel tells of this process, in bytes.
+// A field of /proc/self/status, in bytes.
 fn told(field: &str) -> f64 {
     let status = std::fs::read_to_string("/proc/self/status").expect("Linux tells it");
     let line = status.lines().find(|line| line.starts_with(field));
@@ -68,7 +68,7 @@ fn resident() -> f64 {
     told("VmRSS:")
 }
 
-// So many streams get one byte each, at this offset; what the process holds then, in MiB.
+// One byte arrives at this offset of each stream. Returns the memory of the process afterwards, in MiB.
 fn far_bytes(streams: u64, offset: u64) -> f64 {
     let settings = Settings::small()
         .conn_window(16 * MIB)
@@ -92,7 +92,7 @@ fn far_bytes(streams: u64, offset: u64) -> f64 {
     resident() / MIB as f64
 }
 
-// Reads so many bytes and then the end.
+// Reads this many bytes, then the FIN.
 fn read_to_end(end: &mut Endpoint, stream: StreamId, len: usize) {
     let mut bytes = [0; 2048];
     assert_eq!(end.read(stream, &mut bytes), Ok(Read::Bytes(len)));
@@ -100,7 +100,7 @@ fn read_to_end(end: &mut Endpoint, stream: StreamId, len: usize) {
     assert_eq!(end.read(stream, &mut bytes), Ok(Read::End));
 }
 
-// Opens a stream, and sends so many bytes there and so many back, with the end behind.
+// Opens a stream, and sends this many bytes and a FIN in each direction.
 fn ask(two: &mut Two, there: &Source, back: &Source) {
     let stream = two.client.open(Dir::Bidi).expect("others ended");
     for (source, forwards) in [(there, true), (back, false)] {
@@ -128,13 +128,13 @@ fn asking(window: u64) -> Two {
     Two::new(settings)
 }
 
-/// Which of two ends: the one that opens streams, or the one where they are opened.
+/// Which of the two endpoints: the one that opens streams, or its peer.
 enum Side {
     Opener,
     Other,
 }
 
-// What 65,536 streams that were opened, used for 1 KiB each way and ended leave at an end, in bytes of the heap each.
+// The heap that is left for each of 65,536 streams, after each was opened, used for 1 KiB in each direction, and ended.
 fn ended(side: Side) -> f64 {
     let (streams, source) = (1 << 16, Source::new(1024));
     let empty = live();
@@ -149,7 +149,7 @@ fn ended(side: Side) -> f64 {
         Side::Opener => (client, server),
         Side::Other => (server, client),
     };
-    // What goes as the one is dropped is its own: both were as large before.
+    // What dropping one endpoint frees is its own: both were equally large before.
     let with = live();
     drop(one);
     before /= 2;
@@ -157,7 +157,7 @@ fn ended(side: Side) -> f64 {
     ((with - live()) - before) as f64 / streams as f64
 }
 
-// The most that a server's process ever held over so many requests of one byte and answers of 1 KiB, in MB. The client is payloads alone.
+// The peak memory of a server's process over this many requests of one byte and responses of 1 KiB, in MB. The client is payloads alone.
 fn requests() -> f64 {
     let (count, there, back) = (65_500, Source::new(1), Source::new(1024));
     let settings = Settings::small()
@@ -182,7 +182,7 @@ fn requests() -> f64 {
     told("VmHWM:") / 1e6
 }
 
-// A payload that acknowledges all that the server made, lets it send on, and asks on this stream.
+// A payload that acknowledges all packets of the server, raises its limits, and has a request on this stream.
 fn request(stream: StreamId, source: &Source, made_next: u64, payload: &mut [u8]) -> usize {
     let mut len = 0;
     if made_next > 0 {
@@ -202,7 +202,7 @@ fn request(stream: StreamId, source: &Source, made_next: u64, payload: &mut [u8]
     len
 }
 
-// The first byte of a stream with such a window: the nanoseconds that taking it in costs, the least of ten rounds of 400 streams.
+// How long it takes to receive the first byte of a stream with this window, in nanoseconds: the least of ten rounds of 400 streams.
 fn first_byte(window: u64) -> f64 {
     let settings = Settings::small()
         .conn_window(16 * MIB)
@@ -237,7 +237,7 @@ fn first_byte(window: u64) -> f64 {
     least
 }
 
-// 10,000 open streams that never carried a byte, 8,192 of its own and 1,808 of the peer's: the bytes of the heap that an end takes for each.
+// The heap for each of 10,000 open streams without a byte: 8,192 of its own and 1,808 of the peer's.
 fn idle() -> f64 {
     let settings = Settings::small()
         .conn_window(16 * MIB)
@@ -250,7 +250,7 @@ fn idle() -> f64 {
             end.open(dir).expect("the peer grants as many");
         }
     }
-    // A frame of the last one opens all below it too (RFC 9000, section 3.2).
+    // A frame of the last stream opens all lower ones too (RFC 9000, section 3.2).
     let frame = Frame::StreamDataBlocked {
         stream: stream_of(Dir::Bidi, 1807),
         limit: 0,

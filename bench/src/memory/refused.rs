@@ -1,4 +1,5 @@
-//! A short run, once for each of its allocations, which is refused: the call that answers so is made again, and nothing is lost.
+//! A short transfer, repeated once for each of its allocations, which is refused. The call that returns `NoMemory` is made again, and no
+//! byte is lost.
 
 use crate::Two;
 use crate::heap::{refuse_after, was_refused, watch};
@@ -7,10 +8,10 @@ use gotsavena::{
     Dir, Endpoint, MakeFault, OpenFault, Read, Received, Settings, StreamId, UseFault,
 };
 
-/// How many bytes go on each stream.
+/// How many bytes are sent on each stream.
 const BYTES: u64 = 3_000;
 
-/// The streams of a run, two of each direction, and what each end has of them.
+/// The streams of a run, two of each direction, and how far each endpoint is with them.
 struct Transfer {
     two: Two,
     streams: Vec<StreamId>,
@@ -68,7 +69,7 @@ impl Transfer {
         }
     }
 
-    /// Whether each stream was read to its end.
+    /// Whether each stream was read up to its FIN.
     fn read(&mut self) -> bool {
         let (mut bytes, mut ends) = ([0; 512], 0);
         for (&stream, taken) in self.streams.iter().zip(&mut self.taken) {
@@ -93,7 +94,7 @@ impl Transfer {
     }
 }
 
-/// Hands all on, but each third packet of the first ones, which is declared lost; answers how often memory was missing.
+/// Delivers all packets, but declares each third of the first ones lost. Returns how often a call returned `NoMemory`.
 fn carry(from: &mut Endpoint, to: &mut Endpoint, drop_some: bool) -> u64 {
     let (mut payload, mut told) = ([0; 300], 0);
     loop {
@@ -121,7 +122,7 @@ fn carry(from: &mut Endpoint, to: &mut Endpoint, drop_some: bool) -> u64 {
     }
 }
 
-// Once, with this allocation refused; answers whether there is one of that number, and how often a call told of it.
+// One run with this allocation refused. Returns whether the run had so many allocations, and how often a call returned `NoMemory`.
 fn run(refused: u64) -> (bool, u64) {
     refuse_after(refused);
     let mut transfer = Transfer::new();
@@ -137,7 +138,7 @@ fn run(refused: u64) -> (bool, u64) {
     panic!("bytes are missing where allocation {refused} is refused");
 }
 
-/// How many allocations were refused, one in each run, and nothing was lost.
+/// Refuses each allocation in a run of its own, checks that nothing is lost, and returns how many there were.
 pub fn runs() -> f64 {
     let mut refused = 0;
     loop {
