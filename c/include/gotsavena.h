@@ -718,10 +718,10 @@ GV_API gv_status gv_acked_below(const gv_endpoint *end, uint64_t stream, uint64_
  * and none of the last three kinds, since none could be acted on, and ::GV_EVENT_READABLE only if reads_when_closed was chosen. */
 GV_API gv_status gv_next_event(gv_endpoint *end, gv_event *event);
 
-/** Chooses whether gv_receive() and gv_receive_telling() look through each payload for what holds the peer back (sections 19.12 to 19.14).
- * Not at first: it costs a second reading of each payload, and a third if there is such a frame. With it gv_take_frame() and
- * gv_take_frames() note them before an event was asked for, too. Memory for the notes is taken before the payload takes effect: if it is
- * refused, ::GV_NO_MEMORY, nothing changed, and the same payload may come again. */
+/** Chooses whether gv_receive() and gv_receive_telling() look through each payload for blocked frames of the peer (sections 19.12 to
+ * 19.14). Not by default: it costs a second reading of each payload, and a third if there is such a frame. If it is chosen, gv_take_frame()
+ * and gv_take_frames() note such frames before an event was asked for, too. Memory for the notes is taken before the payload takes effect:
+ * if it is refused, ::GV_NO_MEMORY, nothing changed, and the same payload may come again. */
 GV_API gv_status gv_hear_blocked(gv_endpoint *end, bool is_chosen);
 
 /** @}
@@ -796,7 +796,7 @@ GV_API gv_status gv_peer_closed(const gv_endpoint *end, uint64_t *code);
  * ::GV_CLOSED_BY_PEER, or ::GV_PROTOCOL_ERROR if this side closed. One that closed before stays as it is. */
 GV_API gv_status gv_tell_closed(gv_endpoint *end, gv_closer by, gv_close_kind kind, uint64_t code);
 
-/** The close that gv_tell_closed() noted: whose it was, its kind and its code. ::GV_NONE: the endpoint is open, or closed in another way. */
+/** The close that gv_tell_closed() noted: whose it was, its kind and its code. ::GV_NONE: it is open, or closed in another way. */
 GV_API gv_status gv_told_close(const gv_endpoint *end, gv_closer *by, gv_close_kind *kind, uint64_t *code);
 
 /** @}

@@ -62,7 +62,7 @@ pub enum Outcome {
     NoVersion,
 }
 
-// No colon stands there without a reason behind it.
+// A peer may close without a reason (section 19.19), and then no colon is printed.
 fn because(f: &mut fmt::Formatter<'_>, reason: &str) -> fmt::Result {
     match reason {
         "" => Ok(()),

@@ -155,7 +155,6 @@ impl DataKeys {
         self.updates += 1;
     }
 
-    /// Protects a packet in place.
     pub fn seal(&self, out: &mut [u8], draft: &Draft) {
         seal(&self.local_header, &self.local, out, draft);
     }

@@ -21,7 +21,7 @@ struct Stack {
     end: Endpoint,
     /// The number of the next packet.
     next: u64,
-    /// What the end put into packets that aren't acknowledged.
+    /// The tokens of packets in flight, by packet number.
     sent: BTreeMap<u64, Token>,
     /// The packets that came.
     came: BTreeSet<u64>,
@@ -153,7 +153,7 @@ pub fn main() -> Result<(), Box<dyn Error>> {
                 client.end.finish(stream)?;
             }
         }
-        // Some packets of the client's, of which the link drops a few, and an answer.
+        // The link drops each fifth packet, and four go before a reply, so that ACKs have gaps.
         for _turn in 0..4 {
             let Some(packet) = client.packet()? else {
                 break;

@@ -1,10 +1,10 @@
-//! `examples/stack.rs` is a stack that the theorem on two ends covers: of all calls that it makes none lies outside `May`
+//! The theorem on two endpoints covers the stack in `examples/stack.rs`: each call that it makes is one that `May` permits
 //! (`crates/qs_runs/specs/Worlds.antt`).
 //!
-//! The example is compiled in, over an end that writes down each call with its answer, and holds it against what its peer made: a frame of
-//! streams or of flow control that is handed in stood in what the peer filled in; a token is acknowledged only once each frame of its packets
-//! that has to land was taken by the peer; and the limits that an end is told are its peer's. The row of `receive` isn't met: the example
-//! calls `take_frame`.
+//! The example is compiled in, over an endpoint that logs each call and compares it with what the peer did. A frame of streams or of flow
+//! control that is passed in must be one that the peer filled in. A token may be acknowledged once the peer took each frame of its packets
+//! that changes something. The limits that an endpoint is given must be its peer's. The row of `receive` isn't tested: the example calls
+//! `take_frame`.
 
 extern crate gotsavena as layer;
 // The example's `use gotsavena::{..}` means this file.
@@ -23,14 +23,14 @@ use std::cell::RefCell;
 #[path = "../examples/stack.rs"]
 mod stack;
 
-/// What happened at one end: the frames of each packet that it filled in, by number, and those that it took.
+/// What one endpoint did: the frames of each packet that it filled, by number, and the frames that it took.
 #[derive(Default)]
 struct Past {
     made: Vec<Vec<Told>>,
     taken: Vec<Told>,
 }
 
-/// A frame by its canonical text, and whether it has to land.
+/// A frame by its canonical text, and whether the peer must have taken it before an acknowledgement.
 #[derive(Clone, PartialEq)]
 struct Told {
     text: Vec<u8>,
@@ -42,7 +42,7 @@ struct Log {
     client: Past,
     server: Past,
     calls: usize,
-    /// Frames that were handed in and aren't the end's own.
+    /// Frames of the transport that were passed in.
     foreign: usize,
     outside: usize,
 }
@@ -66,13 +66,13 @@ impl Log {
         }
     }
 
-    /// One call more, which is one of a run or isn't.
+    /// Counts a call, and apart those that `May` doesn't permit.
     fn count(&mut self, is_inside: bool) {
         self.calls += 1;
         self.outside += usize::from(!is_inside);
     }
 
-    /// Whether the frame stood in a payload of the peer's, where it is of streams or of flow control.
+    /// The premise on `take_frame`: a frame of streams or of flow control is one that the peer made.
     fn is_from_peer(&mut self, role: Role, frame: &Frame<'_>) -> bool {
         let told = told(frame);
         !is_ours(frame)
@@ -83,7 +83,7 @@ impl Log {
                 .any(|made| made.contains(&told))
     }
 
-    /// Whether each packet of the token landed at the peer.
+    /// The premise on `acked`: the peer took the frames of each packet of the token.
     fn has_landed(&mut self, role: Role, token: Token) -> bool {
         (token.first..=token.number).all(|number| {
             let made = self.of(role).made.get(number as usize).cloned();
@@ -126,7 +126,7 @@ fn told(frame: &Frame<'_>) -> Told {
     }
 }
 
-/// An end whose calls are written down and held against the premises.
+/// An endpoint whose calls are compared with the premises.
 pub struct Endpoint {
     role: Role,
     end: layer::Endpoint,
@@ -134,7 +134,7 @@ pub struct Endpoint {
 
 impl Endpoint {
     pub fn new(role: Role, settings: Settings, peer: PeerLimits) -> Result<Endpoint, SetupFault> {
-        // Both ends of the example have the same settings.
+        // Both endpoints of the example have the same settings.
         LOG.with_borrow_mut(|log| log.count(peer == settings.limits()));
         Ok(Endpoint {
             role,

@@ -118,7 +118,7 @@ impl ByNumber {
         Some(records[count - 1].number())
     }
 
-    // Without a search if the guess is right.
+    // An ACK names runs of numbers, so the next record mostly stands beside the last one, and a search is spared.
     fn count_near(&self, number: u64, near: usize) -> usize
         ensures cut { IsCut number self.now.records result }
         ensures within { result ≤ length self.now.records }

@@ -67,8 +67,6 @@ impl Records {
         ensures slots { self.new.slots ≡ self.old.slots }
         ensures ok { OnOk result (number < self.new.room) }
         ensures err { OnErr result ((self.new.base ≡ self.old.base) × (self.old.room ≤ self.new.room)) }
-
-        // Memory is taken only for a number beyond the room.
         ensures beyond { OnErr result (self.old.room ≤ number) }
     {
         if self.slots.is_empty() {

@@ -122,14 +122,14 @@ impl Connection {
         }
     }
 
-    fn tell_closed(&mut self, now: Instant) {
+    fn trace_closed(&mut self, now: Instant) {
         if let (Some(trace), Some(outcome)) = (&mut self.trace, &self.outcome) {
             trace.closed(outcome, now);
         }
     }
 
     fn begin_closing(&mut self, now: Instant) {
-        self.tell_closed(now);
+        self.trace_closed(now);
         self.state = State::Closing {
             until: self.linger(now),
             is_due: true,
@@ -140,7 +140,7 @@ impl Connection {
 
     pub(super) fn drain(&mut self, outcome: Outcome, now: Instant) {
         self.outcome = Some(outcome);
-        self.tell_closed(now);
+        self.trace_closed(now);
         self.state = State::Draining {
             until: self.linger(now),
         };

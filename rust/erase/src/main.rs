@@ -1,7 +1,8 @@
-//! Makes the Rust sources of gotsavena from the proved ones, with their ghosts erased.
+//! Makes the Rust sources of gotsavena from the proved ones, without their contracts and proofs.
 //!
 //! It reads `crates/*/src/**/*.rt`, and of the tests that aren't proved `tests/units/*/src/**/*.rattle`, and writes `rust/src/proved`,
-//! `rust/qstream/src/proved` and `rust/capi/src/proved`. With the word `--check` it writes nothing, and fails where a file isn't what it would write.
+//! `rust/qstream/src/proved` and `rust/capi/src/proved`. With the word `--check` it writes nothing, and fails if a file isn't what it would
+//! write.
 
 mod display;
 mod erase;
@@ -17,7 +18,7 @@ use std::path::{Path, PathBuf};
 use std::process::ExitCode;
 use std::{env, fs};
 
-/// The crates that the library is made of, and where they go.
+/// The crates of the library. Only in these do short functions become `#[inline]`, since a user's crate calls them.
 const LIBRARY: [&str; 7] = [
     "qs_wire",
     "qs_ranges",

@@ -71,8 +71,8 @@ impl Endpoint {
         }
     }
 
-    /// Chooses whether [`receive`](Endpoint::receive) and [`receive_telling`](Endpoint::receive_telling) look through each payload for what
-    /// holds the peer back (RFC 9000, sections 19.12 to 19.14): the events [`DataBlocked`](Event::DataBlocked),
+    /// Chooses whether [`receive`](Endpoint::receive) and [`receive_telling`](Endpoint::receive_telling) look through each payload for
+    /// blocked frames of the peer (RFC 9000, sections 19.12 to 19.14): the events [`DataBlocked`](Event::DataBlocked),
     /// [`StreamDataBlocked`](Event::StreamDataBlocked) and [`StreamsBlocked`](Event::StreamsBlocked). Not by default: it costs a second
     /// reading of each payload, and a third if there is such a frame. [`take_frame`](Endpoint::take_frame) and
     /// [`take_frames`](Endpoint::take_frames), which read nothing twice, note them once an event was asked for, and before that too if this

@@ -87,7 +87,7 @@ impl ByNumber {
         Some(records[count - 1].number())
     }
 
-    // Without a search if the guess is right.
+    // An ACK names runs of numbers, so the next record mostly stands beside the last one, and a search is spared.
     fn count_near(&self, number: u64, near: usize) -> usize {
         if self.parts_at(number, near) {
             return near;
