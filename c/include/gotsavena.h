@@ -4,6 +4,9 @@
  * Payloads of packets go in and come out. Handshake, packet protection, loss detection, congestion control and the clock lie
  * outside. Sections are those of RFC 9000.
  *
+ * Each group of calls begins with an example. There client and server are the handles of two endpoints, stream is the number of a stream,
+ * and payload is an array of 1,200 bytes, of which len are used. A function without gv_ is the application's.
+ *
  * What the caller owes. Nothing else that a caller passes can break an endpoint; a null pointer where one is wanted, and a number
  * out of its range, return ::GV_INVALID, and then nothing changes.
  * - Each pointer that isn't null points to what its type says: to a whole struct, or to as many bytes as the length beside it says.
@@ -412,6 +415,9 @@ typedef struct gv_acked {
 } gv_acked;
 
 /** @name The library
+ * @code
+ * printf("gotsavena %d, %s\n", gv_version(), gv_build());
+ * @endcode
  * @{ */
 
 /** The version of the library, as GV_VERSION is that of the header. */
@@ -426,6 +432,15 @@ GV_API const char *gv_strerror(gv_status status);
 
 /** @}
  * @name An endpoint
+ * @code
+ * gv_settings own;
+ * gv_limits peer = {.size = sizeof peer};
+ * gv_settings_init(&own, sizeof own);
+ * own.conn_window = 1 << 22;
+ * gv_limits_of(&own, &peer);    // here the peer has the same settings; else its limits come in the handshake
+ * if (gv_endpoint_new(GV_ROLE_CLIENT, &own, &peer, &client) != GV_OK) give_up();
+ * if (gv_endpoint_new(GV_ROLE_SERVER, &own, &peer, &server) != GV_OK) give_up();
+ * @endcode
  * @{ */
 
 /** Writes the size of the struct, and settings for a start. What a later version has beyond is 0, which means 'as before'. */
@@ -473,6 +488,19 @@ GV_API gv_status gv_set_grant(gv_endpoint *end, gv_dir dir, uint64_t streams);
 
 /** @}
  * @name Packets
+ * @code
+ * gv_made made = {.size = sizeof made};
+ * while (gv_make_packet(client, payload, sizeof payload, &made) == GV_OK) {
+ *   if (is_lost(made.number)) {
+ *     gv_declare_lost(client, made.number);    // what it contained goes in the next packet
+ *   } else {
+ *     gv_receive(server, made.number, payload, made.len);    // the network
+ *   }
+ * }
+ * if (gv_make_packet(server, payload, sizeof payload, &made) == GV_OK) {
+ *   gv_receive(client, made.number, payload, made.len);    // an ACK
+ * }
+ * @endcode
  * @{ */
 
 /** Processes the payload of a packet, all of its frames, under the packet's number, below 2^62 (sections 12.4 and 13.1). Only pass what
@@ -540,6 +568,21 @@ GV_API gv_status gv_next_newly_acked(const gv_endpoint *end, const uint8_t *payl
  * @name Frames and tokens
  * For a stack with packet numbers and ACKs of its own, instead of gv_receive() and gv_make_packet(): it passes frames in, and has
  * pending frames written.
+ * @code
+ * gv_fill_request all = {.size = sizeof all, .items = true, .streams = true};
+ * gv_filled filled = {.size = sizeof filled};
+ * if (gv_fill(client, &all, payload, sizeof payload, &filled) == GV_OK) {    // behind frames of the stack's own
+ *   gv_frames frames = {payload, filled.len, 0};
+ *   gv_frame frame = {.size = sizeof frame};
+ *   gv_fault fault = {.size = sizeof fault};
+ *   gv_taken taken;
+ *   while (gv_frames_next(&frames, &frame, &fault) == GV_OK) {    // at the peer
+ *     if (gv_take_frame(server, &frame, &taken) != GV_OK) give_up();
+ *     if (taken == GV_TAKEN_NOT_OURS) take_own(&frame);    // ACK, CRYPTO, PING ..
+ *   }
+ *   gv_token_acked(client, &filled.token);    // once the peer acknowledged the packet; gv_token_lost() if it is lost
+ * }
+ * @endcode
  * @{ */
 
 /** Processes one frame without its packet, as gv_frames_next() gave it, or a reader of the stack's own. One of streams or flow control
@@ -586,6 +629,12 @@ GV_API gv_status gv_token_lost(gv_endpoint *end, const gv_token *token);
 
 /** @}
  * @name Streams
+ * @code
+ * size_t count;
+ * if (gv_open(client, GV_DIR_BIDI, &stream, NULL) != GV_OK) give_up();
+ * gv_write(client, stream, (const uint8_t *)"hello", 5, &count);    // count is how many bytes were accepted
+ * gv_finish(client, stream);
+ * @endcode
  * @{ */
 
 /** Opens the next stream of a direction, and writes its number to *stream (section 2.1). Nothing is sent for it: the peer learns of it by
@@ -697,6 +746,15 @@ GV_API gv_status gv_acked_below(const gv_endpoint *end, uint64_t stream, uint64_
 /** @}
  * @name Events
  * What happened, so that an application needn't ask each stream. It may ask the questions above instead, or as well.
+ * @code
+ * gv_event event = {.size = sizeof event};
+ * uint8_t bytes[256];
+ * size_t count;
+ * while (gv_next_event(server, &event) == GV_OK) {
+ *   if (event.kind != GV_EVENT_READABLE) continue;
+ *   while (gv_read(server, event.stream, bytes, sizeof bytes, &count, NULL) == GV_OK) use(bytes, count);
+ * }
+ * @endcode
  * @{ */
 
 /** Writes the next event to *event, each once. ::GV_NONE: there is none; later calls may bring one. ::GV_NO_MEMORY: there is none for the
@@ -726,6 +784,11 @@ GV_API gv_status gv_hear_blocked(gv_endpoint *end, bool is_chosen);
 
 /** @}
  * @name Credit
+ * @code
+ * uint64_t left, taken;
+ * if (gv_credit_left(client, &left) == GV_OK && left == 0) wait_for_max_data();
+ * if (gv_taken_sum(server, &taken) == GV_OK && taken > 1 << 22) gv_set_conn_window(server, 1 << 23);    // read fast: widen it
+ * @endcode
  * @{ */
 
 /** How many bytes of all streams weren't sent yet (section 2.2). */
@@ -778,6 +841,12 @@ GV_API gv_status gv_spent(const gv_endpoint *end, uint64_t *count);
 
 /** @}
  * @name Closing
+ * @code
+ * gv_closing_info why = {.size = sizeof why};
+ * if (gv_closing(server, &why) == GV_OK) {    // the peer broke a rule, as gv_receive() returned GV_PROTOCOL_ERROR
+ *   if (gv_close_payload(server, payload, sizeof payload, &len) == GV_OK) send_packet(payload, len);
+ * }
+ * @endcode
  * @{ */
 
 /** Why this endpoint closed. ::GV_NONE: it is open, or the peer closed (section 10.2). */
@@ -802,6 +871,16 @@ GV_API gv_status gv_told_close(const gv_endpoint *end, gv_closer *by, gv_close_k
 /** @}
  * @name Frames
  * Frames without an endpoint: of the handshake's packets, say, or for a transport that reads a payload before the endpoint does.
+ * @code
+ * gv_frames frames = {payload, len, 0};
+ * gv_frame frame = {.size = sizeof frame};
+ * gv_fault fault = {.size = sizeof fault};
+ * gv_status status;
+ * while ((status = gv_frames_next(&frames, &frame, &fault)) == GV_OK) {
+ *   if (frame.kind == GV_FRAME_CONNECTION_CLOSE) was_closed(frame.code);
+ * }
+ * if (status == GV_BAD_FRAME) close_with(fault.code, fault.type);
+ * @endcode
  * @{ */
 
 /** The stream of the last STREAM frame in a payload, up to its end or its first fault. For round-robin, the next packet is

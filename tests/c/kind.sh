@@ -73,7 +73,15 @@ plain() {
   try "$name over the archive" "$C" "${strict[@]}" "$@" "$archive" -o "$room/$name-a"
   try "$name over the shared library" "$C" "${strict[@]}" "$@" "-L$libs" -lgotsavena "-Wl,-rpath,$libs" -o "$room/$name-so"
 }
-awk '/^```$/ { shown = 0 } shown; /^```c$/ && !count++ { shown = 1 }' "$root/docs/C.md" >"$room/hello.c"
+# The programs of docs/C.md, of which the first is whole; and the examples of the header, one for each group of calls.
+mkdir "$room/shown"
+awk -v into="$room/shown" '/^```$/ { shown = 0 } shown { print >(into "/page-" count ".inc") } /^```c$/ { count++; shown = 1 }' "$root/docs/C.md"
+awk -v into="$room/shown" '/ @endcode$/ { shown = 0 } shown { sub(/^ \* ?/, ""); print >(into "/" name ".inc") } / @code$/ { shown = 1 }
+  / @name / { sub(/.* @name /, ""); gsub(/ /, "-"); name = tolower($0) }' "$root/c/include/gotsavena.h"
+each_has_an_example() { [ "$(grep -c ' @name ' "$root/c/include/gotsavena.h")" = "$(find "$room/shown" -name '*.inc' ! -name 'page-*' | wc -l)" ]; }
+try 'each group of the header has an example' each_has_an_example
+cp "$room/shown/page-1.inc" "$room/hello.c"
+plain shown "$tests/shown/main.c" "-I$room/shown"
 plain hello "$room/hello.c"
 plain pipe "$root/c/examples/pipe.c"
 plain arguments "$tests/arguments.c"
@@ -86,7 +94,7 @@ plain allocators "$tests/allocators.c" -pthread -Wl,--wrap=malloc -Wl,--wrap=rea
 says_hello() { [ "$("$1")" = hello ]; }
 for form in a so; do
   try "what the program of docs/C.md prints ($form)" says_hello "$room/hello-$form"
-  for name in hello pipe stack arguments handed written lent refused allocators; do
+  for name in hello shown pipe stack arguments handed written lent refused allocators; do
     if has valgrind "$name under valgrind"; then
       try "$name under valgrind ($form)" timeout 600 valgrind -q --error-exitcode=1 --leak-check=full "$room/$name-$form"
     fi
