@@ -1,4 +1,4 @@
-//! Windows and grants that an owner sets anew while the connection lasts.
+//! Windows and grants that the application changes during a connection.
 
 use gotsavena::{
     Dir, Endpoint, Frame, OpenFault, Read, Received, SetFault, Settings, StreamId, frames,

@@ -1,4 +1,4 @@
-//! A STOP_SENDING that the owner answers, one that resets the stream at once, and one that comes too late for either.
+//! A STOP_SENDING that the application answers, one that resets the stream at once, and one that arrives too late for either.
 
 use gotsavena::{
     Dir, Endpoint, Event, Read, RecvState, Role, SendState, Settings, StreamId, Tuning,

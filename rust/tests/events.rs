@@ -263,7 +263,7 @@ fn an_event_that_is_not_noted_comes_again() {
     assert_eq!(news(&mut end), [Event::Available(Dir::Uni)]);
 }
 
-/// What was told of an end and what its owner waits for, as sets.
+/// What an endpoint reported and what the application waits for, as sets.
 #[derive(Default)]
 struct Told {
     opened: BTreeSet<StreamId>,
@@ -339,7 +339,7 @@ impl Told {
         assert!(is_new, "{event:?} was told before");
     }
 
-    /// The owner read the stream, or stopped it.
+    /// The application read the stream, or stopped it.
     fn was_read(&mut self, end: &Endpoint, stream: StreamId) {
         if !is_readable(end, stream) {
             self.readable.remove(&stream);

@@ -141,7 +141,7 @@ impl Run {
         }
     }
 
-    // Its owner finishes or resets a stream, or its reader stops it.
+    // The application finishes or resets a stream, or its reader stops it.
     fn end_stream(&mut self, side: usize) {
         let Some(stream) = self.a_lane(side) else {
             return;

@@ -1,4 +1,4 @@
-//! What an end's owner sets anew while the end runs.
+//! Settings that the application changes while the endpoint runs.
 
 use gotsavena::{Dir, Endpoint, Received, Role, SetFault, Settings, StreamId};
 

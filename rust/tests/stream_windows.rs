@@ -1,4 +1,4 @@
-//! Windows of streams that an owner sets anew while the connection lasts.
+//! Windows of streams that the application changes during a connection.
 
 use gotsavena::{
     Dir, Endpoint, Frame, Read, Received, RecvReport, SetFault, Settings, StreamId, frames,

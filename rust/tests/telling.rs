@@ -1,4 +1,4 @@
-//! An end is told that the connection closed.
+//! A close that the endpoint didn't see itself is noted there.
 
 use gotsavena::{
     CloseKind, Closer, Dir, Endpoint, Fill, Frame, MakeFault, OpenFault, Read, ReceiveFault,
