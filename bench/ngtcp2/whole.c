@@ -16,7 +16,7 @@ struct load {
   size_t room;
 };
 
-/* A stream's bytes at its sender, which ngtcp2 lets keep them until they are acknowledged, and at its reader. */
+/* A stream's bytes at its sender, which must keep them itself until they are acknowledged, and at its reader. */
 struct transfer {
   struct conns conns;
   struct load load;
