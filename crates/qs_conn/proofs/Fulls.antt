@@ -90,7 +90,7 @@ below_here marks full first w r are whole of fits lowest below le i lt =
       where
         within : (t : Option ℕ) → t ≡ r → j < unwrap_or t 64 → j < 64
         within None e lt = lt
-        within (Some n) e lt = let f = lowest.found n (sym e) in omega (arith, lt, f.1.0)
+        within (Some n) e lt = let f = lowest.found n (sym e) in omega (arith, lt, f.1)
 
         before : (t : Option ℕ) → t ≡ r → j < unwrap_or t 64 → IsBefore j r
         before None e lt = subst (IsBefore j) e tt

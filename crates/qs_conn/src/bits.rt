@@ -78,7 +78,8 @@ impl Bits {
         ensures ok { OnOk result (self.new ≡ self.old ++ replicate (count - length self.old) false) }
         ensures err { OnErr result (self.new ≡ self.old) }
     {
-        match self.words.resize(count.div_ceil(FLAGS_PER_WORD), 0) {
+        let words = count.div_ceil(FLAGS_PER_WORD).max(self.words.len());
+        match self.words.resize(words, 0) {
             Ok(()) => {
                 self.count = count;
                 Ok(())

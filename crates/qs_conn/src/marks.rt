@@ -18,12 +18,12 @@ pub(crate) struct Marks {
     words: Bits,
     // The least one with a mark.
     first: Option<usize>,
-    // No index from it on has a mark.
-    past: usize,
+    // No index past it has a mark.
+    last: usize,
 }
 
 impl Model for Marks {
-    ghost use Rattle.std.specs.Prelude.{List, Bool};
+    ghost use Rattle.std.specs.Prelude.{◌+◌, List, Bool};
     ghost use Rattle.std.specs.Coded.{coded_list, coded_bool};
     ghost use Rattle.qs_conn.specs.Marks.{AreSummed, AreUnmarkedFrom, IsNextMark};
 
@@ -33,7 +33,7 @@ impl Model for Marks {
 
     ghost view = { λ m. m.marks };
 
-    ghost invariant = { λ m. AreSummed m.marks m.words × AreUnmarkedFrom m.marks m.past × IsNextMark m.marks 0 m.first };
+    ghost invariant = { λ m. AreSummed m.marks m.words × AreUnmarkedFrom m.marks (m.last + 1) × IsNextMark m.marks 0 m.first };
 }
 
 impl Marks {
@@ -44,7 +44,7 @@ impl Marks {
             marks: Bits::new(alloc),
             words: Bits::new(alloc),
             first: None,
-            past: 0,
+            last: 0,
         }
     }
 
@@ -127,7 +127,7 @@ impl Marks {
         self.words.set(word, self.marks.word(word) != 0);
         if mark {
             self.first = least_index(self.first, index);
-            self.past = self.past.max(index + 1);
+            self.last = self.last.max(index);
         } else if self.first == Some(index) {
             self.first = least_from(index, &self.marks, &self.words);
         }
@@ -164,7 +164,7 @@ impl Marks {
         let first = self.first?;
         let below = told.first();
         // Mostly all with a mark were told.
-        if self.past <= below {
+        if self.last < below {
             return None;
         }
         self.least_untold(others, told, from.max(first).max(below))
