@@ -5,12 +5,12 @@ use Rattle.std.specs.Result.{OnOk, OnErr}
 use Rattle.std.proofs.lemmas.Bool.{cases_lt, cases_eq, eqb-false}
 use Rattle.std.proofs.Math.ListN.{set}
 use Rattle.std.proofs.lemmas.Grind.{get_or-set_at}
-use Rattle.std.proofs.lemmas.List.{length-append, length-replicate, length-set, get_or-set_other, get_or-set_same}
+use Rattle.std.proofs.lemmas.List.{length-append, length-replicate, length-set, get_or_past, get_or-set_other, get_or-set_same}
 use Rattle.std.proofs.lemmas.Option.{none-some, same_Some}
 use Rattle.qs_ranges.specs.Bits.{IsBefore}
 use Rattle.qs_conn.proofs.Words.{padded}
 use Rattle.qs_conn.proofs.Boths.{not_both, left_below, told_below}
-use Rattle.qs_conn.specs.Marks.{is_marked, both, untold, IsNextMark, HasNoMark, AreSummed, AreMarkedBelow, least_of}
+use Rattle.qs_conn.specs.Marks.{is_marked, both, untold, IsNextMark, HasNoMark, AreSummed, AreMarkedBelow, AreUnmarkedFrom, least_of}
 
 -- where none is marked between, a search may begin past them
 pub next_past : (marks : List Bool) (from past : ℕ) (r : Option ℕ) → from ≤ past → ((i : ℕ) → from ≤ i → i < past → is_marked marks i ≡ false) → IsNextMark marks past r → IsNextMark marks from r
@@ -25,6 +25,16 @@ module _ (marks others told : List Bool) (from : ℕ) where
   none_left next = record {
     found = λ n is. absurd (none-some n is);
     unmarked = λ i le before. left_below (both marks others) told i (not_both marks others i (next.unmarked i (omega arith) tt));
+  }
+
+  -- nor where all were told up to the last mark
+  pub none_past : (past below : ℕ) → past ≤ below → AreUnmarkedFrom marks past → AreMarkedBelow told below → IsNextMark (untold (both marks others) told) from None
+  none_past past below few clear full = record {
+    found = λ n is. absurd (none-some n is);
+    unmarked = λ i le before. elim (cases_lt i below) [
+      | inl under ↦ told_below (both marks others) told i (full i under)
+      | inr over ↦ left_below (both marks others) told i (not_both marks others i (clear i (omega (arith, few, over))))
+    ];
   }
 
   -- nor below the first mark, nor below one where all were told
@@ -42,6 +52,19 @@ next_opened marks n from r next = record {
   found = λ m is. (let f = next.found m is in (f.0, padded marks n m false ∙ f.1));
   unmarked = λ i ge before. padded marks n i false ∙ next.unmarked i ge before;
 }
+
+-- none is marked past them
+pub unmarked_opened : {A E : Type 0} (r : Result A E) (marks now : List Bool) (n past : ℕ) → OnOk r (now ≡ marks ++ replicate n false) → OnErr r (now ≡ marks) → AreUnmarkedFrom marks past → AreUnmarkedFrom now past
+unmarked_opened (Ok a) marks now n past ok err clear = rw ok (λ i le. padded marks n i false ∙ clear i le)
+unmarked_opened (Err e) marks now n past ok err clear = rw err clear
+
+pub unmarked_set : (marks : List Bool) (k past now : ℕ) (b : Bool) → past ≤ now → (b ≡ true → k < now) → AreUnmarkedFrom marks past → AreUnmarkedFrom (set marks k b) now
+unmarked_set marks k past now true le under clear i ge = get_or-set_other marks k i true false (λ e. omega (arith, e, under refl, ge)) ∙ clear i (omega (arith, le, ge))
+unmarked_set marks k past now false le under clear i ge =
+    elim (cases_lt k (length marks)) [
+      | inl there ↦ elim (cases_eq i k) [ inl same ↦ get_or-set_at marks k i false false same there | inr apart ↦ get_or-set_other marks k i false false apart ∙ clear i (omega (arith, le, ge)) ]
+      | inr gone ↦ elim (cases_eq i k) [ inl same ↦ get_or_past (set marks k false) i false (omega (arith, same, gone, length-set marks k false)) | inr apart ↦ get_or-set_other marks k i false false apart ∙ clear i (omega (arith, le, ge)) ]
+    ]
 
 module _ (marks : List Bool) (k : ℕ) (there : k < length marks) (r : Option ℕ) (next : IsNextMark marks 0 r) where
   before_both : (i : ℕ) → (s : Option ℕ) → IsBefore i (least_of s (Some k)) → IsBefore i s × (i < k)

@@ -1,6 +1,10 @@
 -- Words of which each index is marked: one changes, or more are opened.
-use Rattle.std.proofs.Common.{◌≡◌, ℕ, ◌+◌, ◌-◌, ◌*◌, ◌/◌, ◌^◌, ◌<◌, ◌≤◌, ◌==◌, ◌⊎◌, Bool, true, false, List, ◌++◌, Result, Ok, Err, length, replicate, sym, ap, ◌∙◌, subst, inl, inr, arith}
+use Rattle.std.proofs.Common.{◌≡◌, ℕ, ◌+◌, ◌-◌, ◌*◌, ◌/◌, ◌^◌, ◌<◌, ◌≤◌, ◌==◌, ◌⊎◌, Bool, true, false, List, ◌++◌, Option, None, Some, w64, refl, Result, Ok, Err, length, replicate, sym, ap, ◌∙◌, subst, inl, inr, arith}
 use Rattle.std.specs.Result.{OnOk, OnErr}
+use Rattle.std.specs.Option.{unwrap_or}
+use Rattle.std.specs.Int.{bit_at, bit_not}
+use Rattle.qs_ranges.specs.Bits.{IsBefore, IsLowestBit}
+use Rattle.std.proofs.lemmas.Nat.Bits.{bit_at-lt, bit_at_not}
 use Rattle.std.proofs.Math.ListN.{set}
 use Rattle.std.proofs.lemmas.Bool.{cases_lt, cases_eq, eq-eqb}
 use Rattle.std.proofs.lemmas.Grind.{get_or-set_at}
@@ -72,3 +76,22 @@ module _ (full : List Bool) (word : ℕ) (there : word < length full) where
   -- and the next one has one now
   pub below_next : AreMarkedBelow full word → AreMarkedBelow (set full word true) (word + 1)
   below_next below i lt = flagged i (elim (cases_eq i word) [ inl same ↦ inr same | inr other ↦ inl other ]) (λ other. below i (elim (cases_lt i word) [ inl under ↦ under | inr over ↦ absurd (other (omega (arith, lt, over))) ]))
+
+-- below the first bit that isn't set in the first word without a flag, each is marked
+pub below_here : (marks full : List Bool) (first w : ℕ) (r : Option ℕ) → AreFull marks full → AreMarkedBelow full first → IsWordOf marks first w → w < 2 ^ 64 → IsLowestBit (bit_not w64 w) 0 r → (below : ℕ) → below ≤ first * 64 + unwrap_or r 64 → AreMarkedBelow marks below
+below_here marks full first w r are whole of fits lowest below le i lt =
+    elim (cases_lt i (first * 64)) [
+      | inl under ↦ are.all (i / 64) (whole (i / 64) (omega (arith, under))) i refl
+      | inr over ↦ (let j : ℕ = i - first * 64 in let at : i ≡ first * 64 + j = omega (arith, over) in subst (λ k. is_marked marks k ≡ true) (sym at) (here j r refl (omega (arith, lt, le, at))))
+    ]
+  where
+    here : (j : ℕ) → (s : Option ℕ) → s ≡ r → j < unwrap_or s 64 → is_marked marks (first * 64 + j) ≡ true
+    here j s is under = let small : j < 64 = within s is under in sym (of.bits j small) ∙ eq-eqb (bit_at w j) 1 (omega (arith, bit_at_not w64 w j fits small, lowest.clear j (omega arith) small (before s is under), bit_at-lt w j))
+      where
+        within : (t : Option ℕ) → t ≡ r → j < unwrap_or t 64 → j < 64
+        within None e lt = lt
+        within (Some n) e lt = let f = lowest.found n (sym e) in omega (arith, lt, f.1)
+
+        before : (t : Option ℕ) → t ≡ r → j < unwrap_or t 64 → IsBefore j r
+        before None e lt = subst (IsBefore j) e tt
+        before (Some n) e lt = subst (IsBefore j) e lt

@@ -86,6 +86,12 @@ module _ (ws now : List ℕ) (count to n len : ℕ) (are : AreFlags ws count) (m
       (omega (arith, more, flags_len ws count, length-append (flags ws count) (replicate (to - length (flags ws count)) false), length-replicate (to - length (flags ws count)) false))
       (λ i lt. padded (flags ws count) (to - length (flags ws count)) i false ∙ marked_is ws count i are ∙ sym (flag_opened i))
 
+  pub flags_grown : to < 2 ^ 64 → to ≤ 64 * n → 64 * n ≤ to + 64 → AreFlags now to
+  flags_grown fits room tight = record { room = omega (arith, room, size); tight = omega (arith, tight, size); fits = fits; unset = λ i ge. flag_opened i ∙ are.unset i (omega (arith, more, ge)) }
+    where
+      size : length now ≡ n
+      size = omega (arith, le, is_len, ap length is, length-append (take n ws) (replicate (n - len) 0), length-take n ws, length-replicate {A = ℕ} (n - len) 0)
+
 -- a word is cut, and those behind it leave
 module _ (ws : List ℕ) (count to last after : ℕ) (are : AreFlags ws count) (less : to < count) (read : last ≡ get_or (take (to / 64 + 1) ws) (to / 64) last) (cut : IsCutAt last (to % 64) after) where
   last_in : to / 64 < length (take (to / 64 + 1) ws)

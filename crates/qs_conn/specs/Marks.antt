@@ -81,6 +81,10 @@ AreEndsMarked {X} P t kind marks = (n : ℕ) → type_of n ≡ kind → is_marke
 abbrev pub HasNoMark : List Bool → ℕ → Type 0
 HasNoMark marks word = (i : ℕ) → i / 64 ≡ word → is_marked marks i ≡ false
 
+-- no index from one on is marked
+abbrev pub AreUnmarkedFrom : List Bool → ℕ → Type 0
+AreUnmarkedFrom marks past = (i : ℕ) → past ≤ i → is_marked marks i ≡ false
+
 -- each index below one is marked
 abbrev pub AreMarkedBelow : List Bool → ℕ → Type 0
 AreMarkedBelow marks first = (i : ℕ) → i < first → is_marked marks i ≡ true

@@ -56,6 +56,7 @@ impl Bits {
         self.words.len()
     }
 
+    #[inline(always)]
     pub(crate) fn open_to(&mut self, count: usize) -> Result<(), NoMemory>
         ensures ok { OnOk result (self.new ≡ self.old ++ replicate (count - length self.old) false) }
         ensures err { OnErr result (self.new ≡ self.old) }
@@ -63,11 +64,21 @@ impl Bits {
         if count <= self.count {
             return Ok(());
         }
-        let words = count.div_ceil(FLAGS_PER_WORD);
-        if words <= self.words.len() {
+        // Mostly the last word has room.
+        if (count - 1) / FLAGS_PER_WORD < self.words.len() {
             self.count = count;
             return Ok(());
         }
+        self.grow_to(count)
+    }
+
+    #[inline(never)]
+    fn grow_to(&mut self, count: usize) -> Result<(), NoMemory>
+        requires { length self.old < count }
+        ensures ok { OnOk result (self.new ≡ self.old ++ replicate (count - length self.old) false) }
+        ensures err { OnErr result (self.new ≡ self.old) }
+    {
+        let words = count.div_ceil(FLAGS_PER_WORD).max(self.words.len());
         match self.words.resize(words, 0) {
             Ok(()) => {
                 self.count = count;

@@ -18,12 +18,14 @@ pub(crate) struct Marks {
     words: Bits,
     // The least one with a mark.
     first: Option<usize>,
+    // No index past it has a mark.
+    last: usize,
 }
 
 impl Model for Marks {
-    ghost use Rattle.std.specs.Prelude.{List, Bool};
+    ghost use Rattle.std.specs.Prelude.{◌+◌, List, Bool};
     ghost use Rattle.std.specs.Coded.{coded_list, coded_bool};
-    ghost use Rattle.qs_conn.specs.Marks.{AreSummed, IsNextMark};
+    ghost use Rattle.qs_conn.specs.Marks.{AreSummed, AreUnmarkedFrom, IsNextMark};
 
     ghost Value = { List Bool };
 
@@ -31,7 +33,7 @@ impl Model for Marks {
 
     ghost view = { λ m. m.marks };
 
-    ghost invariant = { λ m. AreSummed m.marks m.words × IsNextMark m.marks 0 m.first };
+    ghost invariant = { λ m. AreSummed m.marks m.words × AreUnmarkedFrom m.marks (m.last + 1) × IsNextMark m.marks 0 m.first };
 }
 
 impl Marks {
@@ -42,6 +44,7 @@ impl Marks {
             marks: Bits::new(alloc),
             words: Bits::new(alloc),
             first: None,
+            last: 0,
         }
     }
 
@@ -124,6 +127,7 @@ impl Marks {
         self.words.set(word, self.marks.word(word) != 0);
         if mark {
             self.first = least_index(self.first, index);
+            self.last = self.last.max(index);
         } else if self.first == Some(index) {
             self.first = least_from(index, &self.marks, &self.words);
         }
@@ -153,10 +157,24 @@ impl Marks {
     }
 
     /// If only these marks count, they are both, so that one search serves all.
+    #[inline(always)]
     pub(crate) fn next_untold(&self, others: &Marks, told: &ToldMarks, from: usize) -> Option<usize>
         ensures { IsNextMark (untold (both self.now others.now) told.now) from result }
     {
         let first = self.first?;
+        let below = told.first();
+        // Mostly all with a mark were told.
+        if self.last < below {
+            return None;
+        }
+        self.least_untold(others, told, from.max(first).max(below))
+    }
+
+    // Apart, so that a caller pays for two looks if none is left.
+    #[inline(never)]
+    fn least_untold(&self, others: &Marks, told: &ToldMarks, from: usize) -> Option<usize>
+        ensures { IsNextMark (untold (both self.now others.now) told.now) from result }
+    {
         let words = Both {
             marks: &self.words,
             others: &others.words,
@@ -173,7 +191,6 @@ impl Marks {
             shared: marks,
             told: told.bits(),
         };
-        let from = from.max(first).max(told.first());
         search(from, self.marks.words(), &summary, &row)
     }
 }

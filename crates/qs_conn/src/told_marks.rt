@@ -4,7 +4,7 @@ ghost use Rattle.qs_conn.specs.Untold.{IsClear};
 
 use crate::bits::{Bits, FLAGS_PER_WORD, Row};
 use crate::marks::Marks;
-use qs_ranges::NoMemory;
+use qs_ranges::{NoMemory, lowest_bit};
 use std::alloc::Global;
 use std::marker::Model;
 
@@ -136,6 +136,10 @@ impl ToldMarks {
     pub(crate) fn first(&self) -> usize
         ensures { AreMarkedBelow self.now result }
     {
-        self.first.saturating_mul(FLAGS_PER_WORD)
+        let untold = !self.bits().word(self.first);
+        let below = lowest_bit(untold, 0).unwrap_or(FLAGS_PER_WORD);
+        self.first
+            .saturating_mul(FLAGS_PER_WORD)
+            .saturating_add(below)
     }
 }

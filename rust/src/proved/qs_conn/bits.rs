@@ -33,17 +33,22 @@ impl Bits {
         self.words.len()
     }
 
-    #[inline]
+    #[inline(always)]
     pub(crate) fn open_to(&mut self, count: usize) -> Result<(), NoMemory> {
         if count <= self.count {
             return Ok(());
         }
-        let words = count.div_ceil(FLAGS_PER_WORD);
-        if words <= self.words.len() {
+        // Mostly the last word has room.
+        if (count - 1) / FLAGS_PER_WORD < self.words.len() {
             self.count = count;
             return Ok(());
         }
-        match self.words.resize(words, 0) {
+        self.grow_to(count)
+    }
+
+    #[inline(never)]
+    fn grow_to(&mut self, count: usize) -> Result<(), NoMemory> {
+        match self.words.resize(count.div_ceil(FLAGS_PER_WORD), 0) {
             Ok(()) => {
                 self.count = count;
                 Ok(())

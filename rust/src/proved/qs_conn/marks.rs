@@ -14,6 +14,8 @@ pub(crate) struct Marks {
     words: Bits,
     // The least one with a mark.
     first: Option<usize>,
+    // No index from it on has a mark.
+    past: usize,
 }
 
 impl Marks {
@@ -23,6 +25,7 @@ impl Marks {
             marks: Bits::new(alloc),
             words: Bits::new(alloc),
             first: None,
+            past: 0,
         }
     }
 
@@ -88,6 +91,7 @@ impl Marks {
         self.words.set(word, self.marks.word(word) != 0);
         if mark {
             self.first = least_index(self.first, index);
+            self.past = self.past.max(index + 1);
         } else if self.first == Some(index) {
             self.first = least_from(index, &self.marks, &self.words);
         }
@@ -115,9 +119,20 @@ impl Marks {
     }
 
     /// If only these marks count, they are both, so that one search serves all.
-    #[inline]
+    #[inline(always)]
     pub(crate) fn next_untold(&self, others: &Marks, told: &ToldMarks, from: usize) -> Option<usize> {
         let first = self.first?;
+        let below = told.first();
+        // Mostly all with a mark were told.
+        if self.past <= below {
+            return None;
+        }
+        self.least_untold(others, told, from.max(first).max(below))
+    }
+
+    // Apart, so that a caller pays for two looks if none is left.
+    #[inline(never)]
+    fn least_untold(&self, others: &Marks, told: &ToldMarks, from: usize) -> Option<usize> {
         let words = Both {
             marks: &self.words,
             others: &others.words,
@@ -134,7 +149,6 @@ impl Marks {
             shared: marks,
             told: told.bits(),
         };
-        let from = from.max(first).max(told.first());
         search(from, self.marks.words(), &summary, &row)
     }
 }

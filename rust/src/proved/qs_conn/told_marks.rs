@@ -1,7 +1,7 @@
 // Made from crates/qs_conn/src/told_marks.rt by rust/erase; not edited by hand.
 use crate::proved::qs_conn::bits::{Bits, FLAGS_PER_WORD, Row};
 use crate::proved::qs_conn::marks::Marks;
-use crate::proved::qs_ranges::NoMemory;
+use crate::proved::qs_ranges::{NoMemory, lowest_bit};
 use crate::shim::alloc::Global;
 
 /// A mark for each index, and a flag for each word of marks of which every index has one: so a search for what wasn't reported passes 4,096
@@ -99,6 +99,8 @@ impl ToldMarks {
     /// An index below which each was told.
     #[inline]
     pub(crate) fn first(&self) -> usize {
-        self.first.saturating_mul(FLAGS_PER_WORD)
+        let untold = !self.bits().word(self.first);
+        let below = lowest_bit(untold, 0).unwrap_or(FLAGS_PER_WORD);
+        self.first.saturating_mul(FLAGS_PER_WORD).saturating_add(below)
     }
 }

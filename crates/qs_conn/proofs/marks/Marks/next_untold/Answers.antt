@@ -1,19 +1,12 @@
-use Rattle.std.proofs.Common.{arith}
-use Rattle.qs_conn.specs.Marks.{both, untold}
-use Rattle.qs_conn.proofs.Boths.{both_len, untold_len, summed_both, summed_untold}
-use Rattle.qs_conn.proofs.Firsts.{none_left, left_from}
+use Rattle.std.proofs.Common.{◌+◌, arith}
+use Rattle.qs_conn.proofs.Firsts.{none_left, none_past, left_from}
 use Rattle.qs_conn.proofs.marks.Marks.next_untold.Goals as goal
 
 pub returns-in_err-first : goal.returns-in_err-first
-returns-in_err-first c = rw (← c.self.view_is, c.from_residual.ensures) (none_left c.self.inside.marks c.args.others.now c.args.told.now c.args.from (rw c.in_err-first.was at c.self.invariant.1))
+returns-in_err-first c = rw (← c.self.view_is, c.from_residual.ensures) (none_left c.self.inside.marks c.args.others.now c.args.told.now c.args.from (rw c.in_err-first.was at c.self.invariant.2))
 
-pub search-requires-clause-within : goal.search-requires-clause-within
-search-requires-clause-within c = omega (arith, c.words.ensures.room, both_len c.self.inside.marks c.others.inside.marks, untold_len (both c.self.inside.marks c.others.inside.marks) c.bits.result.now)
-
-pub search-requires-clause-summed : goal.search-requires-clause-summed
-search-requires-clause-summed c = summed_untold _ _ _ _ (summed_both _ _ _ _ c.self.invariant.0 c.others.invariant.0) (rw c.bits.ensures c.full.ensures)
+pub returns-then-self-below : goal.returns-then-self-below
+returns-then-self-below c = rw (← c.self.view_is) (none_past c.self.inside.marks c.args.others.now c.args.told.now c.args.from (c.self.inside.last + 1) c.first-below.result (omega (arith, c.if-self-below.true)) c.self.invariant.1 c.first-below.ensures)
 
 pub returns : goal.returns
-returns c =
-    rw (← c.self.view_is, ← c.others.view_is)
-    (left_from c.self.inside.marks c.others.inside.marks c.args.told.now c.args.from c.in_ok-first.first c.first.result c.max-from.result c.search.result (omega arith) (rw c.in_ok-first.was at c.self.invariant.1) c.first.ensures (rw c.bits.ensures at c.search.ensures))
+returns c = rw (← c.self.view_is) (left_from c.self.inside.marks c.args.others.now c.args.told.now c.args.from c.in_ok-first.first c.first-below.result c.max-2.result c.least_untold.result (omega arith) (rw c.in_ok-first.was at c.self.invariant.2) c.first-below.ensures (rw (← c.self.view_is) at c.least_untold.ensures))

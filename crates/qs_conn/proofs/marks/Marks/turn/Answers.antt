@@ -1,14 +1,24 @@
-use Rattle.std.proofs.Common.{not, ◌==◌}
-use Rattle.std.proofs.lemmas.Bool.{eqb-true}
+use Rattle.std.proofs.Common.{not, ◌==◌, ◌+◌, sym, ◌∙◌, arith}
+use Rattle.std.proofs.lemmas.Bool.{eqb-true, true≢false}
 use Rattle.qs_conn.proofs.Words.{none_in}
 use Rattle.qs_conn.proofs.Boths.{not_false}
-use Rattle.qs_conn.proofs.Firsts.{summed_set, next_cleared}
+use Rattle.qs_conn.proofs.Firsts.{summed_set, next_marked, next_cleared, unmarked_set}
 use Rattle.qs_conn.proofs.marks.Marks.turn.Goals as goal
+
+pub invariant_of-self : goal.invariant_of-self
+invariant_of-self c =
+    let there = rw (← c.self.view_is) at c.requires in (
+      summed_set c.self.inside.marks c.self.inside.words c.set.new.self c.set-2.new.self c.args.index c.args.mark (not (c.word.result == 0)) c.self.invariant.0 there c.set.ensures
+          (λ none. none_in _ _ _ c.word.ensures (eqb-true c.word.result 0 (not_false _ none))) c.set-2.ensures,
+      rw c.set.ensures (unmarked_set c.self.inside.marks c.args.index (c.self.inside.last + 1) _ c.args.mark (omega arith) (λ is. omega arith) c.self.invariant.1),
+      rw (c.set.ensures, c.least_index-self-inside.ensures) (rw c.if-mark.true (next_marked c.self.inside.marks c.args.index there c.self.inside.first c.self.invariant.2)),
+    )
 
 pub invariant_of-self-else-eq : goal.invariant_of-self-else-eq
 invariant_of-self-else-eq c =
     let there = rw (← c.self.view_is) at c.requires in (
       summed_set c.self.inside.marks c.self.inside.words c.set.new.self c.set-2.new.self c.args.index c.args.mark (not (c.word.result == 0)) c.self.invariant.0 there c.set.ensures
           (λ none. none_in _ _ _ c.word.ensures (eqb-true c.word.result 0 (not_false _ none))) c.set-2.ensures,
-      rw c.set.ensures (rw c.if-mark.false (next_cleared c.self.inside.marks c.args.index there c.self.inside.first c.self.invariant.1 c.if-eq.ensures)),
+      rw c.set.ensures (unmarked_set c.self.inside.marks c.args.index (c.self.inside.last + 1) (c.self.inside.last + 1) c.args.mark (omega arith) (λ is. absurd (true≢false (sym is ∙ c.if-mark.false))) c.self.invariant.1),
+      rw c.set.ensures (rw c.if-mark.false (next_cleared c.self.inside.marks c.args.index there c.self.inside.first c.self.invariant.2 c.if-eq.ensures)),
     )
