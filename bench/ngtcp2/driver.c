@@ -7,6 +7,7 @@
 
 #include "../c/payloads.h"
 #include "../c/rows.h"
+#include "acts.h"
 #include "whole.h"
 
 enum { ROOM = 1024, KEPT = 0x5a };
@@ -173,5 +174,6 @@ int main(int argc, char **argv) {
       {"loop-writes-1200", loop, LOOP_WRITES_1200},
       {"loop-packets-16383", loop, LOOP_PACKETS_16383},
   };
+  if (argc == 3 && strcmp(argv[1], "--count") == 0) return count_act(argv[2]);
   return run_rows(argc, argv, rows, sizeof rows / sizeof *rows);
 }
