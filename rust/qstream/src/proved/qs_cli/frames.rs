@@ -36,7 +36,8 @@ fn status_of(fault: bool) -> Status {
     }
 }
 
-/// Why a word spells no payload in hex, of at most 65,535 bytes, where it doesn't.
+/// Why a word spells no payload of at most 65,535 bytes in hex, if it doesn't. It is judged before memory is asked for, so that such a word is
+/// bad usage whatever memory there is.
 pub fn payload_fault(word: &[u8]) -> Option<&'static str> {
     if word.len() % 2 != 0 {
         return Some("an odd number of hex digits");

@@ -12,7 +12,7 @@ use crate::shim::alloc::{AllocError, Global};
 /// The most events of a random script.
 const MAX_EVENTS: u64 = 10_000;
 
-/// How many streams of each direction an end grants at first, at most and where nothing else is asked for.
+/// How many streams of each direction an endpoint grants at first, at most and if nothing else is asked for.
 const MAX_GRANT: u64 = 4096;
 
 const USUAL_GRANT: u64 = 8;
@@ -34,15 +34,15 @@ pub enum Refusal {
 pub enum Request<'a> {
     /// Show the frames of the payload that the word spells in hex.
     Frames(&'a str),
-    /// Play the script in the file of that name, between two ends of these settings, and lead them to rest where that is asked for. The
-    /// traces of both ends go to files, where a name is given for these.
+    /// Play the script in the file of that name, between two endpoints of these settings, and lead them to rest if that is asked for. The
+    /// traces of both go to files, if a name is given for these.
     Play {
         file: &'a str,
         settings: Settings,
         drain: bool,
         qlog: Option<&'a str>,
     },
-    /// Play the script in the file of that name, with its packets over UDP. The traces of both ends go to files, as above.
+    /// Play the script in the file of that name, with its packets over UDP. The traces of both go to files, as above.
     Udp {
         file: &'a str,
         qlog: Option<&'a str>,
@@ -55,8 +55,8 @@ pub enum Request<'a> {
 }
 
 impl<'a> Request<'a> {
-    /// What the words ask for, the program's name first. `BadUsage` where they make no sense, as a request for help does not
-    /// either, and `NoMemory` where memory was refused.
+    /// What the words ask for, the program's name first. `BadUsage` if they make no sense or ask for help, `NoMemory` if memory was
+    /// refused.
     pub fn parse(alloc: Global, words: &'a [String]) -> Result<Request<'a>, Refusal> {
         let Ok(command) = command(alloc) else {
             return Err(Refusal::NoMemory);
@@ -108,8 +108,8 @@ fn word<'a>(alloc: Global, found: &ArgMatches<'a>, name: &str) -> Result<&'a str
     }
 }
 
-/// Those of ends that grant so many streams of each direction at first, and so many in all. Where these aren't named, 8 at first, and 8 in
-/// all or as many as at first.
+/// Those of endpoints that grant so many streams of each direction at first, and so many in all. If these aren't named, 8 at first, and 8
+/// in all or as many as at first.
 fn settings(alloc: Global, grant: Option<&str>, lifetime: Option<&str>) -> Result<Settings, Refusal> {
     let first = match grant {
         Some(word) => number(alloc, "--grant", word, MAX_GRANT)?,

@@ -1,6 +1,6 @@
 // Made from crates/qs_request/src/usage.rt by rust/erase; not edited by hand.
-//! What is told of words that ask for nothing: usage, or the word and what is wrong with it. Its texts are the program's help, which
-//! ./qstream prints from this file where no program stands.
+//! What is told of words that ask for nothing: the usage, or the word and what is wrong with it. ./qstream prints the usage from this
+//! file if no program stands.
 
 use crate::shim::{String, format};
 use crate::proved::qs_request::command_line::Refusal;
@@ -54,7 +54,7 @@ writes a script of random events, as play reads it
   SEED    the number that determines them: 0 to 18446744073709551615
   N       how many: 0 to 10000";
 
-/// What is told of words that clap refused: usage where they ask for help or for nothing, and else what clap says.
+/// What is told of words that clap refused: the usage if they ask for help or for nothing, else what clap says.
 pub(crate) fn refusal_of(alloc: Global, error: &Error, words: &[String]) -> Refusal {
     let told = match error.kind() {
         ErrorKind::OutOfMemory => return Refusal::NoMemory,

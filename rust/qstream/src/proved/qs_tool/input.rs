@@ -12,8 +12,8 @@ use crate::shim::io::Read;
 /// More is no script, and would only fill memory.
 const MAX_SCRIPT: usize = 16_777_216;
 
-/// The bytes of the file of that name, or of standard input where it is `-`. `Failed` where they can't be read, as a line tells that
-/// begins with the command.
+/// The bytes of the file of that name, or of standard input if that is `-`. `Failed` if they can't be read: a line says why, which begins
+/// with the command.
 pub fn read_file(rt: &HostRuntime, command: &str, name: &str) -> Result<Vec<u8>, Status> {
     let read = if name == "-" {
         read_whole(rt.alloc(), &mut rt.reader())
@@ -32,7 +32,7 @@ pub fn read_file(rt: &HostRuntime, command: &str, name: &str) -> Result<Vec<u8>,
     }
 }
 
-/// All bytes that a reader has left; or why not, where these are more than 16,777,216, reading failed or memory was refused.
+/// All bytes that a reader has left; or why not, if these are more than 16,777,216, reading failed or memory was refused.
 pub fn read_whole<R: Read>(alloc: Global, reader: &mut R) -> Result<Vec<u8>, &'static str> {
     let mut bytes = Vec::new(alloc);
     match reader

@@ -126,7 +126,7 @@ fn traced(
     }
 }
 
-/// The status of a run, once it is told why: the fault of the script, or that what is printed couldn't be written.
+/// The status of a run, once a line says why: the fault of the script, or that standard output can't be written.
 fn explained(rt: &HostRuntime, script: &[u8], status: Status) -> Status {
     match status {
         Status::FaultShown => tell_fault(rt, script, status),

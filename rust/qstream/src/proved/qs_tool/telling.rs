@@ -8,7 +8,7 @@ use crate::proved::qs_world::parse_script;
 use crate::shim::alloc::AllocError;
 use crate::shim::io;
 
-/// Tells a text, and answers the status that goes with it. Where standard error can't be written nothing else can be done.
+/// Tells a text, and answers the status that goes with it. If standard error can't be written, nothing else can be done.
 pub fn tell(rt: &HostRuntime, text: &str, status: Status) -> Status {
     match rt.eprintln(text) {
         Ok(()) | Err(_) => status,
@@ -23,7 +23,7 @@ pub fn tell_made(rt: &HostRuntime, text: Result<String, AllocError>, status: Sta
     }
 }
 
-/// Tells the fault of a script in words, where it has one.
+/// Tells the fault of a script in words, if it has one.
 pub fn tell_fault(rt: &HostRuntime, script: &[u8], status: Status) -> Status {
     match parse_script(rt.alloc(), script) {
         Ok(_) => status,
