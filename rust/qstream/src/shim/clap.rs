@@ -301,31 +301,26 @@ impl<'a> Command<'a> {
             .iter()
             .find(|arg| arg.long.is_some() && arg.long == name.strip_prefix("--"));
         let takes_value = known.is_some_and(|arg| arg.action.is_none());
-        match value {
-            Some(value) if asked.is_some() || known.is_some() && !takes_value => Err(self.error(
+        if asked.is_none() && known.is_none() {
+            return Err(self.unexpected(name));
+        }
+        if let Some(value) = value.filter(|_| !takes_value) {
+            return Err(self.error(
                 ErrorKind::TooManyValues,
                 format_args!(
                     "unexpected value '{value}' for '{name}' found; no more were expected"
                 ),
-            )),
-            _ => match (asked, known) {
-                (Some(kind), _) => {
-                    self.settle(waiting, found)?;
-                    Err(self.asks(kind))
-                }
-                (None, Some(arg)) => {
-                    self.settle(waiting, found)?;
-                    match value {
-                        _ if !takes_value => self.put(found, arg, ""),
-                        Some(value) => self.put(found, arg, value),
-                        None => {
-                            *waiting = Some((arg, None));
-                            Ok(())
-                        }
-                    }
-                }
-                (None, None) => Err(self.unexpected(name)),
-            },
+            ));
+        }
+        self.settle(waiting, found)?;
+        match (asked, known, value) {
+            (Some(kind), ..) => Err(self.asks(kind)),
+            (None, Some(arg), None) if takes_value => {
+                *waiting = Some((arg, None));
+                Ok(())
+            }
+            (None, Some(arg), value) => self.put(found, arg, value.unwrap_or("")),
+            (None, None, _) => Ok(()),
         }
     }
 
