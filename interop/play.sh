@@ -51,7 +51,7 @@ check() {
 ends() {
   local wanted=$1 text=$2 status=0
   shift 2
-  timeout 20 "$@" >"$room/out" 2>"$room/err" || status=$?
+  timeout 60 "$@" >"$room/out" 2>"$room/err" || status=$?
   cat "$room/err"
   [ "$status" = "$wanted" ] && grep -qF -- "$text" "$room/err"
 }
