@@ -51,7 +51,7 @@ check() {
 ends() {
   local wanted=$1 text=$2 status=0
   shift 2
-  timeout 20 "$@" >"$room/out" 2>"$room/err" || status=$?
+  timeout 60 "$@" >"$room/out" 2>"$room/err" || status=$?
   cat "$room/err"
   [ "$status" = "$wanted" ] && grep -qF -- "$text" "$room/err"
 }
@@ -120,23 +120,34 @@ end() {
   wait "$1" 2>/dev/null || true
 }
 
-# A server that is asked to stop by a signal, as a client is served, ends within a second and without a fault. The client ends, too.
+# How long a thread of a process waited for a processor that others had, at most, in ns.
+starved() {
+  cat /proc/"$1"/task/*/schedstat 2>/dev/null | awk '$2 > most { most = $2 } END { printf "%d", most }'
+}
+
+# A server that is asked to stop by a signal, as a client is served, ends within a second, in which it isn't held up by others, and without
+# a fault. The client ends, too.
 stops() {
-  local signal=$1 begin client
+  local signal=$1 begin client before
   shift
   "$@" >"$room/said" 2>&1 &
   client=$!
   sleep 1
+  before=$(starved "$started")
   begin=$(date +%s%N)
   kill -"$signal" "$started"
-  while [ $(($(date +%s%N) - begin)) -lt 1000000000 ] && kill -0 "$started" 2>/dev/null; do
+  while [ $(($(date +%s%N) - begin - $(starved "$started") + before)) -lt 1000000000 ] && kill -0 "$started" 2>/dev/null; do
     sleep 0.02
   done
-  ! kill -0 "$started" 2>/dev/null && wait "$started" || return
+  if kill -0 "$started" 2>/dev/null; then
+    echo "the server goes on after $((($(date +%s%N) - begin) / 1000000)) ms"
+    return 1
+  fi
+  wait "$started" || return
   echo "the server ended after $((($(date +%s%N) - begin) / 1000000)) ms"
   wait "$client" || true
   echo "the client ended after $((($(date +%s%N) - begin) / 1000000)) ms"
-  [ $(($(date +%s%N) - begin)) -lt 3000000000 ]
+  [ $(($(date +%s%N) - begin)) -lt 10000000000 ]
 }
 
 # How much memory a process has, in KiB.

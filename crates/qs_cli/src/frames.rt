@@ -1,6 +1,6 @@
 //! Shows the frames of a payload.
 
-ghost use Rattle.std.specs.Prelude.{◌≡◌, true, false};
+ghost use Rattle.std.specs.Prelude.{◌≡◌, true, false, is_some};
 ghost use Rattle.std.specs.List.{list_all};
 ghost use Rattle.hex.specs.Hex.{is_hex_digit};
 ghost use Rattle.qs_cli.specs.declared.status.Status.TheVariants.{Success, FaultShown};
@@ -12,6 +12,7 @@ use qs_text::payload_text;
 use std::alloc::Global;
 use std::io;
 
+/// The most bytes that a payload has.
 const MAX_PAYLOAD: usize = 65_535;
 
 /// Writes the frames of the payload that the word spells in hex, a line for each, and then its
@@ -22,7 +23,7 @@ const MAX_PAYLOAD: usize = 65_535;
 pub fn run_frames<W: io::Write>(alloc: Global, word: &str, out: &mut W) -> Status
     ensures { AnswersFrames result word.now (W.contents out.old) (W.contents out.new) }
 {
-    if !is_payload(word.as_bytes()) {
+    if payload_fault(word.as_bytes()).is_some() {
         return Status::BadUsage;
     }
     let Ok(payload) = hex::decode(alloc, word) else {
@@ -45,18 +46,22 @@ fn status_of(fault: bool) -> Status
     }
 }
 
-/// Judged before memory is asked for, so that a word which spells no payload is bad usage whatever memory there is.
-fn is_payload(word: &[u8]) -> bool
-    ensures payload { result ≡ true → IsPayload word.now }
-    ensures none { result ≡ false → IsPayload word.now → ⊥ }
+/// Why a word spells no payload of at most 65,535 bytes in hex, if it doesn't. It is judged before memory is asked for, so that such a word is
+/// bad usage whatever memory there is.
+pub fn payload_fault(word: &[u8]) -> Option<&'static str>
+    ensures payload { is_some result ≡ false → IsPayload word.now }
+    ensures none { is_some result ≡ true → IsPayload word.now → ⊥ }
 {
     if word.len() % 2 != 0 {
-        return false;
+        return Some("an odd number of hex digits");
     }
     if word.len() / 2 > MAX_PAYLOAD {
-        return false;
+        return Some("more than 65535 bytes");
     }
-    are_hex(word)
+    if are_hex(word) {
+        return None;
+    }
+    Some("a character is no hex digit")
 }
 
 fn are_hex(word: &[u8]) -> bool

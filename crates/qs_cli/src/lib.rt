@@ -13,7 +13,7 @@ mod wire;
 
 pub use carrying::{report_carried, report_udp, run_udp, udp_events};
 pub use draining::report_drained;
-pub use frames::run_frames;
+pub use frames::{payload_fault, run_frames};
 pub use memory_wire::MemoryWire;
 pub use qs_ranges::NoMemory;
 pub use qs_text::script_text;

@@ -1,15 +1,16 @@
 //! What the command line asks for.
 
-ghost use Rattle.std.specs.Prelude.{◌≡◌, true, IfOk, IfSome};
+ghost use Rattle.std.specs.Prelude.{◌≡◌, ◌≤◌, true, IfOk};
 ghost use Rattle.qs_calls.specs.Settings.{are_in_range};
 ghost use Rattle.qs_request.specs.Requests.{IsPlayable};
 
-use clap::error::ErrorKind;
-use clap::{Arg, ArgAction, ArgMatches, Command, Error};
+use crate::usage::{VERSION, beyond, refusal_of, refused};
+use clap::{Arg, ArgAction, ArgMatches, Command};
 use qs_calls::Settings;
 use qs_script::standard_settings;
 use std::alloc::{AllocError, Global};
 
+/// The most events of a random script.
 const MAX_EVENTS: u64 = 10_000;
 
 /// How many streams of each direction an endpoint grants at first, at most and if nothing else is asked for.
@@ -20,12 +21,16 @@ const USUAL_GRANT: u64 = 8;
 /// How many it grants in all, at most.
 const MAX_LIFETIME: u64 = 65_536;
 
-#[derive(Clone, Copy, Debug, PartialEq, Eq)]
+/// Why the words ask for nothing.
+#[derive(Debug, Drop)]
 pub enum Refusal {
-    BadUsage,
+    /// They make no sense, or ask for help. The text, without its last line's end, is what helps.
+    BadUsage(String),
+    /// Memory was refused.
     NoMemory,
 }
 
+/// What the program is asked to do.
 #[derive(Clone, Copy)]
 pub enum Request<'a> {
     /// Show the frames of the payload that the word spells in hex.
@@ -51,8 +56,8 @@ pub enum Request<'a> {
 }
 
 impl<'a> Request<'a> {
-    /// What the words ask for, the program's name first. `BadUsage` if they make no sense, as a request for help doesn't either: the tool
-    /// has no text for it. `NoMemory` if memory was refused.
+    /// What the words ask for, the program's name first. `BadUsage` if they make no sense or ask for help, `NoMemory` if memory was
+    /// refused.
     pub fn parse(alloc: Global, words: &'a [String]) -> Result<Request<'a>, Refusal>
         ensures { IfOk result IsPlayable }
     {
@@ -61,100 +66,107 @@ impl<'a> Request<'a> {
         };
         let matches = match command.try_get_matches_from(words) {
             Ok(matches) => matches,
-            Err(error) => return Err(refusal_of(&error)),
+            Err(error) => return Err(refusal_of(alloc, &error, words)),
         };
         match matches.subcommand() {
-            Some((name, found)) => asked_for(name, found).ok_or(Refusal::BadUsage),
-            None => Err(Refusal::BadUsage),
+            Some((name, found)) => asked_for(alloc, name, found),
+            None => Err(refused(alloc, "COMMAND", "", "it is missing")),
         }
     }
 }
 
-fn asked_for<'a>(name: &str, found: &ArgMatches<'a>) -> Option<Request<'a>>
-    ensures { IfSome result IsPlayable }
+/// What a subcommand of that name asks for with these arguments.
+fn asked_for<'a>(alloc: Global, name: &str, found: &ArgMatches<'a>) -> Result<Request<'a>, Refusal>
+    ensures { IfOk result IsPlayable }
 {
     match name {
-        "frames" => Some(Request::Frames(found.get_str("hex")?)),
+        "frames" => Ok(Request::Frames(word(alloc, found, "HEX")?)),
         "play" => {
-            let settings = settings(found.get_str("grant"), found.get_str("lifetime"))?;
-            Some(Request::Play {
-                file: found.get_str("file")?,
+            let settings = settings(alloc, found.get_str("G"), found.get_str("L"))?;
+            Ok(Request::Play {
+                file: word(alloc, found, "FILE")?,
                 settings,
                 drain: found.get_flag("drain"),
-                qlog: found.get_str("qlog"),
+                qlog: found.get_str("OUT"),
             })
         }
-        "udp" => Some(Request::Udp {
-            file: found.get_str("file")?,
-            qlog: found.get_str("qlog"),
+        "udp" => Ok(Request::Udp {
+            file: word(alloc, found, "FILE")?,
+            qlog: found.get_str("OUT"),
         }),
-        "random" => random(found.get_str("seed")?, found.get_str("n")?),
-        _ => None,
+        _ => {
+            let seed = word(alloc, found, "SEED")?;
+            let n = word(alloc, found, "N")?;
+            Ok(Request::Random {
+                seed: number(alloc, "SEED", seed, u64::MAX)?,
+                n: number(alloc, "N", n, MAX_EVENTS)? as usize,
+            })
+        }
     }
 }
 
-/// Those of ends that grant so many streams of each direction at first, and so many in all. Where these aren't named, 8 at first, and 8 in
-/// all or as many as at first.
-fn settings(grant: Option<&str>, lifetime: Option<&str>) -> Option<Settings>
-    ensures { IfSome result (λ settings. are_in_range settings ≡ true) }
-{
-    let grant = number_or(grant, USUAL_GRANT)?;
-    let lifetime = number_or(lifetime, grant.max(USUAL_GRANT))?;
-    if grant > MAX_GRANT || lifetime < grant || lifetime > MAX_LIFETIME {
-        return None;
+/// The word of an argument that is required.
+fn word<'a>(alloc: Global, found: &ArgMatches<'a>, name: &str) -> Result<&'a str, Refusal> {
+    match found.get_str(name) {
+        Some(word) => Ok(word),
+        None => Err(refused(alloc, name, "", "it is missing")),
     }
-    Some(Settings {
-        grant_bidi: grant,
-        grant_uni: grant,
-        lifetime_bidi: lifetime,
-        lifetime_uni: lifetime,
+}
+
+/// Those of endpoints that grant so many streams of each direction at first, and so many in all. If these aren't named, 8 at first, and 8
+/// in all or as many as at first.
+fn settings(alloc: Global, grant: Option<&str>, lifetime: Option<&str>) -> Result<Settings, Refusal>
+    ensures { IfOk result (λ settings. are_in_range settings ≡ true) }
+{
+    let first = match grant {
+        Some(word) => number(alloc, "--grant", word, MAX_GRANT)?,
+        None => USUAL_GRANT,
+    };
+    let all = match lifetime {
+        Some(word) => number(alloc, "--lifetime", word, MAX_LIFETIME)?,
+        None => first.max(USUAL_GRANT),
+    };
+    if all < first {
+        let word = lifetime.unwrap_or("");
+        return Err(beyond(alloc, "--lifetime", word, "at least", first));
+    }
+    Ok(Settings {
+        grant_bidi: first,
+        grant_uni: first,
+        lifetime_bidi: all,
+        lifetime_uni: all,
         ..standard_settings()
     })
 }
 
-fn number_or(word: Option<&str>, usual: u64) -> Option<u64> {
-    match word {
-        Some(word) => number(word),
-        None => Some(usual),
-    }
-}
-
-fn random<'a>(seed: &str, n: &str) -> Option<Request<'a>>
-    ensures { IfSome result IsPlayable }
+/// The number that the word spells in decimal digits alone, at most `most`. Leading zeros are allowed, a sign isn't.
+fn number(alloc: Global, name: &str, word: &str, most: u64) -> Result<u64, Refusal>
+    ensures { IfOk result (λ number. number ≤ most) }
 {
-    let (seed, n) = (number(seed)?, number(n)?);
-    if n > MAX_EVENTS {
-        return None;
+    if word.is_empty() || !word.bytes().all(|byte| byte.is_ascii_digit()) {
+        return Err(refused(alloc, name, word, "no number"));
     }
-    Some(Request::Random {
-        seed,
-        n: n as usize,
-    })
-}
-
-/// Digits alone, so that a number has one spelling but for leading zeros.
-fn number(word: &str) -> Option<u64> {
-    if word.bytes().all(|byte| byte.is_ascii_digit()) {
-        word.parse().ok()
-    } else {
-        None
+    match word.parse() {
+        Ok(number) if number <= most => Ok(number),
+        _ => Err(beyond(alloc, name, word, "at most", most)),
     }
 }
 
 fn frames_command<'a>(alloc: Global) -> Result<Command<'a>, AllocError> {
-    Command::new(alloc, "frames").arg(Arg::new(alloc, "hex").required(true))
+    Command::new(alloc, "frames").arg(Arg::new(alloc, "HEX").required(true))
 }
 
+/// A subcommand that plays the script in a file.
 fn script_command<'a>(alloc: Global, name: &'a str) -> Result<Command<'a>, AllocError> {
     Command::new(alloc, name)
-        .arg(Arg::new(alloc, "file").required(true))?
-        .arg(Arg::new(alloc, "qlog").long("qlog"))
+        .arg(Arg::new(alloc, "FILE").required(true))?
+        .arg(Arg::new(alloc, "OUT").long("qlog"))
 }
 
 fn play_command<'a>(alloc: Global) -> Result<Command<'a>, AllocError> {
     script_command(alloc, "play")?
-        .arg(Arg::new(alloc, "grant").long("grant"))?
-        .arg(Arg::new(alloc, "lifetime").long("lifetime"))?
+        .arg(Arg::new(alloc, "G").long("grant"))?
+        .arg(Arg::new(alloc, "L").long("lifetime"))?
         .arg(
             Arg::new(alloc, "drain")
                 .long("drain")
@@ -164,23 +176,16 @@ fn play_command<'a>(alloc: Global) -> Result<Command<'a>, AllocError> {
 
 fn random_command<'a>(alloc: Global) -> Result<Command<'a>, AllocError> {
     Command::new(alloc, "random")
-        .arg(Arg::new(alloc, "seed").required(true))?
-        .arg(Arg::new(alloc, "n").required(true))
+        .arg(Arg::new(alloc, "SEED").required(true))?
+        .arg(Arg::new(alloc, "N").required(true))
 }
 
 fn command<'a>(alloc: Global) -> Result<Command<'a>, AllocError> {
     Command::new(alloc, "qstream")
+        .version(VERSION)
         .subcommand_required(true)
         .subcommand(frames_command(alloc)?)?
         .subcommand(play_command(alloc)?)?
         .subcommand(script_command(alloc, "udp")?)?
         .subcommand(random_command(alloc)?)
-}
-
-fn refusal_of(error: &Error) -> Refusal {
-    if error.kind() == ErrorKind::OutOfMemory {
-        Refusal::NoMemory
-    } else {
-        Refusal::BadUsage
-    }
 }

@@ -2,5 +2,6 @@
 #![tactic(auto)]
 
 mod command_line;
+mod usage;
 
 pub use command_line::{Refusal, Request};

@@ -1,5 +1,6 @@
 //! Writes the traces of both ends of a run to files.
 
+use crate::telling::{reason, tell_made};
 use qs_calls::{Answer, Event, Side};
 use qs_cli::Status;
 use qs_trace::{trace, vantage_name};
@@ -22,18 +23,13 @@ fn write_trace(rt: &HostRuntime, name: &str, side: Side, log: &[(Event, Answer)]
     let Ok(file) = format!(in rt.alloc(); "{name}.{}.sqlog", vantage_name(side)) else {
         return Status::NoMemory;
     };
-    match fs::write(rt, file.as_str(), text.as_str()) {
+    let file = file.as_str();
+    match fs::write(rt, file, text.as_str()) {
         Ok(()) => Status::Success,
-        Err(_) => name_unwritable(rt, file.as_str()),
-    }
-}
-
-/// Names a file that can't be written on standard error.
-fn name_unwritable(rt: &HostRuntime, file: &str) -> Status {
-    let Ok(line) = format!(in rt.alloc(); "qstream: can't write {file}") else {
-        return Status::NoMemory;
-    };
-    match rt.eprintln(line.as_str()) {
-        Ok(()) | Err(_) => Status::Failed,
+        Err(error) => {
+            let why = reason(&error);
+            let line = format!(in rt.alloc(); "qstream: can't write {file}: {why}");
+            tell_made(rt, line, Status::Failed)
+        }
     }
 }

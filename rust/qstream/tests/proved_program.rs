@@ -186,7 +186,7 @@ fn written_scripts_say_the_same() {
 }
 
 /// Command lines: their words parted by spaces, so that two spaces have an empty word between them.
-const LINES: [&str; 48] = [
+const LINES: [&str; 66] = [
     "",
     "help",
     "--help",
@@ -235,6 +235,24 @@ const LINES: [&str; 48] = [
     "random 18446744073709551615 3",
     "random 18446744073709551616 3",
     "random 1 2 3",
+    "help play",
+    "help hop",
+    "play --help",
+    "frames -h",
+    "-xh",
+    "-hx",
+    "--help=x",
+    "--hop",
+    "-- frames",
+    "-- hop",
+    "play script --grant --hop",
+    "play script --grant --drain",
+    "play script --grant 3 --grant 4 --hop",
+    "play script --drain=yes",
+    "play script --drain --drain",
+    "play -",
+    "udp -",
+    "play script --qlog none/x",
 ];
 
 #[test]
@@ -267,5 +285,5 @@ fn command_lines_say_the_same() {
             both.say(&["frames", &hex[..end]]);
         }
     }
-    both.tell([true, true, true, false]);
+    both.tell([true, true, true, true]);
 }

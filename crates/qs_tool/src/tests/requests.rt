@@ -51,7 +51,54 @@ fn other_command_lines_make_no_sense(rt: HostRuntime) -> Result<(), Fail> {
     ];
     for line in lines {
         let line = words(rt.alloc(), line)?;
-        assert!(rt; matches!(Request::parse(rt.alloc(), &line), Err(Refusal::BadUsage)));
+        assert!(rt; matches!(Request::parse(rt.alloc(), &line), Err(Refusal::BadUsage(_))));
+    }
+    Ok(())
+}
+
+/// Whether the words ask for nothing, and are told so by this text.
+fn is_told(alloc: Global, texts: &[&str], text: &str) -> Result<bool, Fail> {
+    let line = words(alloc, texts)?;
+    match Request::parse(alloc, &line) {
+        Err(Refusal::BadUsage(told)) => Ok(told.as_str() == text),
+        _ => Ok(false),
+    }
+}
+
+#[test]
+fn the_word_and_the_reason_are_told(rt: HostRuntime) -> Result<(), Fail> {
+    let lines: [(&[&str], &str); 7] = [
+        (
+            &["qstream", "hop"],
+            "qstream: unrecognized subcommand 'hop'",
+        ),
+        (
+            &["qstream", "play"],
+            "qstream: the following required arguments were not provided: <FILE>",
+        ),
+        (
+            &["qstream", "random", "1"],
+            "qstream: the following required arguments were not provided: <N>",
+        ),
+        (
+            &["qstream", "play", "one", "--grant", "4097"],
+            "qstream: --grant 4097: at most 4096",
+        ),
+        (
+            &["qstream", "play", "one", "--lifetime", "7"],
+            "qstream: --lifetime 7: at least 8",
+        ),
+        (
+            &["qstream", "random", "x", "1"],
+            "qstream: SEED x: no number",
+        ),
+        (
+            &["qstream", "udp", "one", "--grant", "1"],
+            "qstream: unexpected argument '--grant' found",
+        ),
+    ];
+    for (line, text) in lines {
+        assert!(rt; is_told(rt.alloc(), line, text)?, "{line:?}");
     }
     Ok(())
 }

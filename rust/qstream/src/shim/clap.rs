@@ -2,28 +2,53 @@
 
 use super::alloc::{AllocError, Global};
 use super::{String, Vec};
+use std::fmt;
 
 pub mod error {
-    /// What is wrong with a command line.
+    /// What is wrong with a command line, or what it asks for in place of a run.
     #[derive(Clone, Copy, Debug, PartialEq, Eq)]
     pub enum ErrorKind {
-        /// The words make no sense, as a request for help does not either.
-        BadUsage,
+        UnknownArgument,
+        InvalidSubcommand,
+        /// A value is wanting.
+        InvalidValue,
+        TooManyValues,
+        /// An argument stands twice.
+        ArgumentConflict,
+        MissingRequiredArgument,
+        MissingSubcommand,
+        DisplayHelp,
+        DisplayVersion,
         OutOfMemory,
     }
 }
 
 use error::ErrorKind;
 
-/// Why a command line was refused.
-#[derive(Clone, Copy, Debug, PartialEq, Eq)]
+/// Why a command line was refused. Its text says so in the words of `clap`, without the usage that stands there behind an empty line.
+#[derive(Debug)]
 pub struct Error {
     kind: ErrorKind,
+    text: String,
 }
 
 impl Error {
+    fn new(alloc: Global, kind: ErrorKind, text: fmt::Arguments<'_>) -> Self {
+        let mut made = String::new(alloc);
+        match made.write_fmt(text) {
+            Ok(()) => Error { kind, text: made },
+            Err(refused) => refused.into(),
+        }
+    }
+
     pub fn kind(&self) -> ErrorKind {
         self.kind
+    }
+}
+
+impl fmt::Display for Error {
+    fn fmt(&self, f: &mut fmt::Formatter<'_>) -> fmt::Result {
+        writeln!(f, "error: {}", &*self.text)
     }
 }
 
@@ -31,13 +56,10 @@ impl From<AllocError> for Error {
     fn from(_refused: AllocError) -> Self {
         Error {
             kind: ErrorKind::OutOfMemory,
+            text: String::new(Global),
         }
     }
 }
-
-const BAD_USAGE: Error = Error {
-    kind: ErrorKind::BadUsage,
-};
 
 /// What comes of an option: it takes no value, and tells that it is there.
 #[derive(Clone, Copy, PartialEq, Eq)]
@@ -80,10 +102,25 @@ impl<'a> Arg<'a> {
     }
 }
 
+/// As messages name it.
+impl fmt::Display for Arg<'_> {
+    fn fmt(&self, f: &mut fmt::Formatter<'_>) -> fmt::Result {
+        match (self.long, self.action) {
+            (None, _) => write!(f, "<{}>", self.id),
+            (Some(long), None) => write!(f, "--{long} <{}>", self.id),
+            (Some(long), Some(ArgAction::SetTrue)) => write!(f, "--{long}"),
+        }
+    }
+}
+
+/// An option whose value is waited for or has come. A fault of the option behind it comes before its own.
+type Waiting<'c, 'a> = Option<(&'c Arg<'a>, Option<&'a str>)>;
+
 /// A command with its arguments and its subcommands.
 pub struct Command<'a> {
     alloc: Global,
     name: &'a str,
+    version: Option<&'a str>,
     args: Vec<Arg<'a>>,
     subcommands: Vec<Command<'a>>,
     needs_subcommand: bool,
@@ -94,10 +131,17 @@ impl<'a> Command<'a> {
         Command {
             alloc,
             name,
+            version: None,
             args: Vec::new(alloc),
             subcommands: Vec::new(alloc),
             needs_subcommand: false,
         }
+    }
+
+    /// It then has an option that asks for it. The text itself is never asked for here.
+    pub fn version(mut self, version: &'a str) -> Self {
+        self.version = Some(version);
+        self
     }
 
     pub fn arg(mut self, arg: Arg<'a>) -> Result<Self, AllocError> {
@@ -125,76 +169,207 @@ impl<'a> Command<'a> {
             values: Vec::new(self.alloc),
             inner: None,
         };
-        let [first, rest @ ..] = words else {
-            return self.checked(found);
-        };
-        if let Some(command) = self.subcommands.iter().find(|it| it.name == first.as_str()) {
-            let mut inner = Vec::new(self.alloc);
-            let name = first.as_str();
-            match inner.push((name, command.matches(rest)?)) {
-                Ok(()) => found.inner = Some(inner),
-                Err(_) => return Err(AllocError.into()),
+        if let [first, rest @ ..] = words {
+            if let Some(command) = self.subcommand_named(first) {
+                let mut inner = Vec::new(self.alloc);
+                inner
+                    .push((command.name, command.matches(rest)?))
+                    .map_err(|_| AllocError)?;
+                found.inner = Some(inner);
+                return Ok(found);
             }
-            return Ok(found);
+            if !self.subcommands.is_empty() && first.as_str() == "help" {
+                return Err(self.help(rest));
+            }
         }
         self.take_words(words, &mut found)?;
         self.checked(found)
     }
 
-    /// Takes words at their places, and options. Behind a word `--` all are words.
-    fn take_words(&self, words: &'a [String], found: &mut ArgMatches<'a>) -> Result<(), Error> {
-        let mut places = self.args.iter().filter(|arg| arg.long.is_none());
-        let mut words = words.iter().map(String::as_str);
-        let mut are_words = false;
-        while let Some(word) = words.next() {
-            if !are_words && word == "--" {
-                are_words = true;
-            } else if let Some(option) = option_of(word).filter(|_| !are_words) {
-                self.take_option(option, &mut words, found)?;
-            } else {
-                let arg = places.next().ok_or(BAD_USAGE)?;
-                found.put(arg.id, word)?;
-            }
-        }
-        Ok(())
+    fn subcommand_named(&self, name: &str) -> Option<&Command<'a>> {
+        self.subcommands.iter().find(|it| it.name == name)
     }
 
-    /// An option with its value, which stands behind a sign `=` or is the next word.
-    fn take_option(
+    /// What the words behind `help` ask for.
+    fn help(&self, words: &[String]) -> Error {
+        match words {
+            [] => self.asks(ErrorKind::DisplayHelp),
+            [name, rest @ ..] => match self.subcommand_named(name) {
+                Some(command) => command.help(rest),
+                None => self.no_subcommand(name),
+            },
+        }
+    }
+
+    fn asks(&self, kind: ErrorKind) -> Error {
+        Error::new(self.alloc, kind, format_args!(""))
+    }
+
+    fn no_subcommand(&self, name: &str) -> Error {
+        self.error(
+            ErrorKind::InvalidSubcommand,
+            format_args!("unrecognized subcommand '{name}'"),
+        )
+    }
+
+    /// Nothing has that name. Of short options in one word the first is named.
+    fn unexpected(&self, name: &str) -> Error {
+        let end = match name.strip_prefix('-').and_then(|rest| rest.chars().next()) {
+            Some(first) if first != '-' => 1 + first.len_utf8(),
+            _ => name.len(),
+        };
+        self.error(
+            ErrorKind::UnknownArgument,
+            format_args!("unexpected argument '{}' found", &name[..end]),
+        )
+    }
+
+    fn error(&self, kind: ErrorKind, text: fmt::Arguments<'_>) -> Error {
+        Error::new(self.alloc, kind, text)
+    }
+
+    /// Takes words at their places, and options. Behind a word `--` all are words.
+    fn take_words<'c>(
+        &'c self,
+        words: &'a [String],
+        found: &mut ArgMatches<'a>,
+    ) -> Result<(), Error> {
+        let mut places = self.args.iter().filter(|arg| arg.long.is_none());
+        let mut waiting: Waiting<'c, 'a> = None;
+        let mut are_words = false;
+        for word in words.iter().map(String::as_str) {
+            if are_words || option_of(word).is_none() {
+                if let Some((_, value @ None)) = waiting.as_mut().filter(|_| !are_words) {
+                    *value = Some(word);
+                    continue;
+                }
+                let arg = places.next().ok_or_else(|| self.surplus(word, are_words))?;
+                self.settle(&mut waiting, found)?;
+                self.put(found, arg, word)?;
+            } else if word == "--" {
+                are_words = true;
+            } else {
+                self.take_option(word, &mut waiting, found)?;
+            }
+        }
+        self.settle(&mut waiting, found)
+    }
+
+    /// The option that waits, if one does, is done with.
+    fn settle(
         &self,
+        waiting: &mut Waiting<'_, 'a>,
+        found: &mut ArgMatches<'a>,
+    ) -> Result<(), Error> {
+        match waiting.take() {
+            Some((arg, Some(value))) => self.put(found, arg, value),
+            Some((arg, None)) => Err(self.error(
+                ErrorKind::InvalidValue,
+                format_args!("a value is required for '{arg}' but none was supplied"),
+            )),
+            None => Ok(()),
+        }
+    }
+
+    /// What is wrong with a word that there is no place for.
+    fn surplus(&self, word: &str, is_behind_dashes: bool) -> Error {
+        let is_known = self.subcommand_named(word).is_some();
+        if self.subcommands.is_empty() || is_behind_dashes && (is_known || word == "help") {
+            self.error(
+                ErrorKind::UnknownArgument,
+                format_args!("unexpected argument '{word}' found"),
+            )
+        } else {
+            self.no_subcommand(word)
+        }
+    }
+
+    /// An option, whose value stands behind a sign `=` or is waited for.
+    fn take_option<'c>(
+        &'c self,
         option: &'a str,
-        words: &mut impl Iterator<Item = &'a str>,
+        waiting: &mut Waiting<'c, 'a>,
         found: &mut ArgMatches<'a>,
     ) -> Result<(), Error> {
         let (name, value) = match option.split_once('=') {
-            Some((name, value)) => (name, Some(value)),
-            None => (option, None),
+            Some((name, value)) if name.starts_with("--") => (name, Some(value)),
+            _ => (option, None),
         };
-        let name = name.strip_prefix("--").ok_or(BAD_USAGE)?;
-        let arg = self.args.iter().find(|arg| arg.long == Some(name));
-        let arg = arg.ok_or(BAD_USAGE)?;
-        if arg.action == Some(ArgAction::SetTrue) {
-            return match value {
-                Some(_) => Err(BAD_USAGE),
-                None => found.put(arg.id, ""),
-            };
+        let asked = self.asked_by(name);
+        let known = self
+            .args
+            .iter()
+            .find(|arg| arg.long.is_some() && arg.long == name.strip_prefix("--"));
+        let takes_value = known.is_some_and(|arg| arg.action.is_none());
+        if asked.is_none() && known.is_none() {
+            return Err(self.unexpected(name));
         }
-        let value = match value {
-            Some(value) => value,
-            None => words
-                .next()
-                .filter(|word| option_of(word).is_none())
-                .ok_or(BAD_USAGE)?,
-        };
-        found.put(arg.id, value)
+        if let Some(value) = value.filter(|_| !takes_value) {
+            return Err(self.error(
+                ErrorKind::TooManyValues,
+                format_args!(
+                    "unexpected value '{value}' for '{name}' found; no more were expected"
+                ),
+            ));
+        }
+        self.settle(waiting, found)?;
+        match (asked, known, value) {
+            (Some(kind), ..) => Err(self.asks(kind)),
+            (None, Some(arg), None) if takes_value => {
+                *waiting = Some((arg, None));
+                Ok(())
+            }
+            (None, Some(arg), value) => self.put(found, arg, value.unwrap_or("")),
+            (None, None, _) => Ok(()),
+        }
+    }
+
+    /// What an option asks for in place of a run.
+    fn asked_by(&self, name: &str) -> Option<ErrorKind> {
+        match name {
+            "--help" => Some(ErrorKind::DisplayHelp),
+            "--version" if self.version.is_some() => Some(ErrorKind::DisplayVersion),
+            _ if name.starts_with("--") => None,
+            _ => match name.as_bytes().get(1) {
+                Some(b'h') => Some(ErrorKind::DisplayHelp),
+                Some(b'V') if self.version.is_some() => Some(ErrorKind::DisplayVersion),
+                _ => None,
+            },
+        }
+    }
+
+    /// An argument has one value at most.
+    fn put(&self, found: &mut ArgMatches<'a>, arg: &Arg<'a>, value: &'a str) -> Result<(), Error> {
+        if found.get_str(arg.id).is_some() {
+            return Err(self.error(
+                ErrorKind::ArgumentConflict,
+                format_args!("the argument '{arg}' cannot be used multiple times"),
+            ));
+        }
+        let pushed = found.values.push((arg.id, value));
+        Ok(pushed.map_err(|_| AllocError)?)
     }
 
     fn checked(&self, found: ArgMatches<'a>) -> Result<ArgMatches<'a>, Error> {
-        let is_missing = |arg: &Arg<'_>| arg.required && found.get_str(arg.id).is_none();
-        if self.needs_subcommand || self.args.iter().any(is_missing) {
-            return Err(BAD_USAGE);
+        if self.needs_subcommand {
+            return Err(self.asks(ErrorKind::MissingSubcommand));
         }
-        Ok(found)
+        let mut missing = String::new(self.alloc);
+        for arg in self.args.iter().filter(|arg| arg.required) {
+            if found.get_str(arg.id).is_none() {
+                write!(missing, "\n  {arg}")?;
+            }
+        }
+        if missing.is_empty() {
+            return Ok(found);
+        }
+        Err(self.error(
+            ErrorKind::MissingRequiredArgument,
+            format_args!(
+                "the following required arguments were not provided:{}",
+                &*missing
+            ),
+        ))
     }
 }
 
@@ -224,16 +399,5 @@ impl<'a> ArgMatches<'a> {
     pub fn subcommand(&self) -> Option<(&'a str, &ArgMatches<'a>)> {
         let (name, found) = self.inner.as_ref()?.first()?;
         Some((name, found))
-    }
-
-    /// An argument has one value at most.
-    fn put(&mut self, id: &'a str, value: &'a str) -> Result<(), Error> {
-        if self.get_str(id).is_some() {
-            return Err(BAD_USAGE);
-        }
-        match self.values.push((id, value)) {
-            Ok(()) => Ok(()),
-            Err(_) => Err(AllocError.into()),
-        }
     }
 }

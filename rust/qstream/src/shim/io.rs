@@ -33,6 +33,15 @@ impl Write for Writer {
     }
 }
 
+/// The standard input.
+pub struct Reader;
+
+impl Read for Reader {
+    fn read(&mut self, into: &mut [u8]) -> Result<usize> {
+        std::io::Read::read(&mut std::io::stdin().lock(), into)
+    }
+}
+
 impl Write for Vec<u8> {
     fn write(&mut self, bytes: &[u8]) -> Result<usize> {
         self.extend_from_slice(bytes)?;

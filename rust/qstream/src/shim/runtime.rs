@@ -19,6 +19,11 @@ impl HostRuntime {
         self.alloc
     }
 
+    /// A reader of the standard input.
+    pub const fn reader(&self) -> io::Reader {
+        io::Reader
+    }
+
     /// Writes a line to the standard error.
     pub fn eprintln(&self, line: &str) -> io::Result<()> {
         let mut err = std::io::stderr().lock();

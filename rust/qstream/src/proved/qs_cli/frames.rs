@@ -7,6 +7,7 @@ use crate::proved::qs_text::payload_text;
 use crate::shim::alloc::Global;
 use crate::shim::io;
 
+/// The most bytes that a payload has.
 const MAX_PAYLOAD: usize = 65_535;
 
 /// Writes the frames of the payload that the word spells in hex, a line for each, and then its
@@ -15,7 +16,7 @@ const MAX_PAYLOAD: usize = 65_535;
 /// It is written once the text stands whole: `NoMemory` where memory was refused, and then nothing was written, and `Failed` where
 /// writing failed.
 pub fn run_frames<W: io::Write>(alloc: Global, word: &str, out: &mut W) -> Status {
-    if !is_payload(word.as_bytes()) {
+    if payload_fault(word.as_bytes()).is_some() {
         return Status::BadUsage;
     }
     let Ok(payload) = crate::shim::hex::decode(alloc, word) else {
@@ -35,15 +36,19 @@ fn status_of(fault: bool) -> Status {
     }
 }
 
-/// Judged before memory is asked for, so that a word which spells no payload is bad usage whatever memory there is.
-fn is_payload(word: &[u8]) -> bool {
+/// Why a word spells no payload of at most 65,535 bytes in hex, if it doesn't. It is judged before memory is asked for, so that such a word is
+/// bad usage whatever memory there is.
+pub fn payload_fault(word: &[u8]) -> Option<&'static str> {
     if word.len() % 2 != 0 {
-        return false;
+        return Some("an odd number of hex digits");
     }
     if word.len() / 2 > MAX_PAYLOAD {
-        return false;
+        return Some("more than 65535 bytes");
     }
-    are_hex(word)
+    if are_hex(word) {
+        return None;
+    }
+    Some("a character is no hex digit")
 }
 
 fn are_hex(word: &[u8]) -> bool {

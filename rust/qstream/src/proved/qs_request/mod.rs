@@ -2,5 +2,6 @@
 //! The command line of the program.
 
 mod command_line;
+mod usage;
 
 pub use command_line::{Refusal, Request};

@@ -1,8 +1,9 @@
 // Made from crates/qs_tool/src/input.rt by rust/erase; not edited by hand.
 //! Reads a script whole.
 
-use crate::shim::{HostRuntime, Vec};
+use crate::shim::{HostRuntime, Vec, format};
 
+use crate::proved::qs_tool::telling::{reason, tell_made};
 use crate::proved::qs_cli::Status;
 use crate::shim::alloc::Global;
 use crate::shim::fs;
@@ -11,16 +12,28 @@ use crate::shim::io::Read;
 /// More is no script, and would only fill memory.
 const MAX_SCRIPT: usize = 16_777_216;
 
-/// The bytes of the file of that name. `Failed` as [`read_whole`], and where the file can't be opened.
-pub fn read_file(rt: &HostRuntime, name: &str) -> Result<Vec<u8>, Status> {
-    match fs::open(rt, name) {
-        Ok(mut file) => read_whole(rt.alloc(), &mut file),
-        Err(_) => Err(Status::Failed),
+/// The bytes of the file of that name, or of standard input if that is `-`. `Failed` if they can't be read: a line says why, which begins
+/// with the command.
+pub fn read_file(rt: &HostRuntime, command: &str, name: &str) -> Result<Vec<u8>, Status> {
+    let read = if name == "-" {
+        read_whole(rt.alloc(), &mut rt.reader())
+    } else {
+        match fs::open(rt, name) {
+            Ok(mut file) => read_whole(rt.alloc(), &mut file),
+            Err(error) => Err(reason(&error)),
+        }
+    };
+    match read {
+        Ok(bytes) => Ok(bytes),
+        Err(why) => {
+            let line = format!(in rt.alloc(); "qstream: {command} {name}: {why}");
+            Err(tell_made(rt, line, Status::Failed))
+        }
     }
 }
 
-/// All bytes that a reader has left. `Failed` where these are more than 16,777,216, reading failed or memory was refused.
-pub fn read_whole<R: Read>(alloc: Global, reader: &mut R) -> Result<Vec<u8>, Status> {
+/// All bytes that a reader has left; or why not, if these are more than 16,777,216, reading failed or memory was refused.
+pub fn read_whole<R: Read>(alloc: Global, reader: &mut R) -> Result<Vec<u8>, &'static str> {
     let mut bytes = Vec::new(alloc);
     match reader
         .by_ref()
@@ -28,6 +41,7 @@ pub fn read_whole<R: Read>(alloc: Global, reader: &mut R) -> Result<Vec<u8>, Sta
         .read_to_end(&mut bytes)
     {
         Ok(_) if bytes.len() <= MAX_SCRIPT => Ok(bytes),
-        _ => Err(Status::Failed),
+        Ok(_) => Err("more than 16777216 bytes"),
+        Err(error) => Err(reason(&error)),
     }
 }

@@ -2,6 +2,7 @@
 //! Writes the traces of both ends of a run to files.
 
 use crate::shim::{HostRuntime, format};
+use crate::proved::qs_tool::telling::{reason, tell_made};
 use crate::proved::qs_calls::{Answer, Event, Side};
 use crate::proved::qs_cli::Status;
 use crate::proved::qs_trace::{trace, vantage_name};
@@ -24,18 +25,13 @@ fn write_trace(rt: &HostRuntime, name: &str, side: Side, log: &[(Event, Answer)]
     let Ok(file) = format!(in rt.alloc(); "{name}.{}.sqlog", vantage_name(side)) else {
         return Status::NoMemory;
     };
-    match fs::write(rt, file.as_str(), text.as_str()) {
+    let file = file.as_str();
+    match fs::write(rt, file, text.as_str()) {
         Ok(()) => Status::Success,
-        Err(_) => name_unwritable(rt, file.as_str()),
-    }
-}
-
-/// Names a file that can't be written on standard error.
-fn name_unwritable(rt: &HostRuntime, file: &str) -> Status {
-    let Ok(line) = format!(in rt.alloc(); "qstream: can't write {file}") else {
-        return Status::NoMemory;
-    };
-    match rt.eprintln(line.as_str()) {
-        Ok(()) | Err(_) => Status::Failed,
+        Err(error) => {
+            let why = reason(&error);
+            let line = format!(in rt.alloc(); "qstream: can't write {file}: {why}");
+            tell_made(rt, line, Status::Failed)
+        }
     }
 }
