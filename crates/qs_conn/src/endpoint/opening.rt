@@ -1,4 +1,4 @@
-ghost use Rattle.std.specs.Prelude.{◌≡◌, ◌≤◌, ◌<◌, ◌^◌, length, max, not, ◌&&◌, if◌then◌else◌, true, false, OnOk, OnErr};
+ghost use Rattle.std.specs.Prelude.{◌≡◌, ◌≤◌, ◌<◌, ◌^◌, max, ◌&&◌, if◌then◌else◌, true, false, OnOk, OnErr};
 ghost use Rattle.qs_ranges.specs.Numbers.{MAX_VARINT};
 ghost use Rattle.qs_recv.specs.Lane.{MAX_WINDOW, new_lane as new_recv_lane};
 ghost use Rattle.qs_send.specs.Lane.{new_lane as new_send_lane};

@@ -1,8 +1,7 @@
-ghost use Rattle.std.specs.Prelude.{◌≡◌, ◌<◌, ◌≤◌, ◌↔◌, ℕ, length, is_some, true, None, Some, false, IfSome, IfNone, OnOk, OnErr};
+ghost use Rattle.std.specs.Prelude.{◌≡◌, ◌<◌, ◌≤◌, ℕ, length, is_some, true, None, Some, false, IfSome, IfNone, OnOk, OnErr};
 ghost use Rattle.std.specs.FinMap as fmap;
 ghost use Rattle.qs_send.specs.declared.piece.Item.{Item};
 ghost use Rattle.qs_send.specs.declared.piece.Piece.TheVariants as pieces;
-ghost use Rattle.qs_send.specs.Records.{Among};
 ghost use Rattle.qs_send.specs.AckPass.{Falls, IsNextNamed};
 ghost use Rattle.qs_send.specs.Chunks.{WasSent};
 ghost use Rattle.qs_send.specs.Lane.{Sending, after_reset_acked, after_acked, after_lost};
