@@ -137,15 +137,6 @@ impl RecvLanes {
         Ok(())
     }
 
-    /// Opens none, so that a refusal of several streams' memory changes nothing.
-    pub(crate) fn reserve_to(&mut self, count: usize) -> Result<(), NoMemory>
-        ensures { self.new ≡ self.old }
-    {
-        let missing = count.saturating_sub(self.halves.len());
-        self.halves.reserve(missing)?;
-        Ok(())
-    }
-
     pub(crate) fn close_to(&mut self, count: usize)
         requires { tally_on (take count self.old) ≡ tally_on self.old }
         ensures { self.new ≡ take count self.old }

@@ -45,11 +45,10 @@ impl Endpoint {
         if len == 0 {
             return Ok(None);
         }
-        let near = self.core.outbox.last_stream();
         let last_stream = self.core.outbox.last_stream();
         self.core.outbox.commit();
         self.settle();
-        let more = self.has_more(want, packet.quota, near);
+        let more = self.has_more(want, packet.quota, last_stream);
         Ok(Some(Filled {
             token,
             len,
