@@ -45,10 +45,11 @@ impl Endpoint {
         if len == 0 {
             return Ok(None);
         }
+        let near = self.core.outbox.last_stream();
         let last_stream = self.core.outbox.last_stream();
         self.core.outbox.commit();
         self.settle();
-        let more = self.has_more(want, packet.quota, last_stream);
+        let more = self.has_more(want, packet.quota, near);
         Ok(Some(Filled {
             token,
             len,
