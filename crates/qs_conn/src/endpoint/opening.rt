@@ -133,7 +133,6 @@ impl Endpoint {
         let buffer = self.send_buffer();
         self.core.outbox.learn_of_open();
         let before = self.core.outbox.count(stream);
-        self.core.outbox.learn_of_open();
         self.core.untold_recvs.open_to(stream)?;
         self.core.untold_sends.open_to(stream)?;
         self.core.carried.open_to(stream)?;
