@@ -13,7 +13,7 @@ use Rattle.qs_machine.proofs.TableLaws.{lookup_same}
 use Rattle.qs_machine.specs.Credit.{recv_ended, send_ended, both_ended}
 use Rattle.qs_machine.proofs.Counts.{recvs_raised}
 use Rattle.qs_conn.specs.declared.by_dir.ByDir.{ByDir}
-use Rattle.qs_conn.specs.Ended.{one_if, recv_over, send_over, over, is_over, recounted, AreAllCounted}
+use Rattle.qs_conn.specs.Ended.{one_if, recv_over, send_over, over, is_over, recounted, MayRecount, AreAllCounted}
 
 abbrev pairs : List RecvLane → List SendLane → ℕ
 pairs rs ss = length (filter both_ended (zip rs ss))
@@ -241,19 +241,21 @@ part_kind Server (suc (suc zero)) i recvs sends e lt h = part_le e.uni _ _ h.uni
 part_kind role (suc (suc (suc (suc k)))) i recvs sends e lt h = absurd (omega (arith, lt))
 part_kind _ _ _ _ _ _ _ _ = omega arith
 
-pub counted_part : (role : Role) (n : ℕ) (recvs : Tables RecvLane) (sends : Tables SendLane) (e : ByDir ℕ) (was : Bool) → AreAllCounted role recvs sends e → was ≡ is_over role recvs sends n → one_if was ≤ cond (is_uni n) e.uni e.bidi
+counted_part : (role : Role) (n : ℕ) (recvs : Tables RecvLane) (sends : Tables SendLane) (e : ByDir ℕ) (was : Bool) → AreAllCounted role recvs sends e → was ≡ is_over role recvs sends n → one_if was ≤ cond (is_uni n) e.uni e.bidi
 unfolding lookup
 counted_part role n recvs sends e was h is =
     let same : n % 4 % 4 ≡ n % 4 = omega arith in
     let over_is = is ∙ sym (over_by_kind role n (recv_over (lookup recvs n)) (send_over (lookup sends n))) in
     subst (λ k. one_if was ≤ cond (nat_le 2 k) e.uni e.bidi) same (subst (λ b. one_if b ≤ cond (is_uni (n % 4)) e.uni e.bidi) (sym over_is) (part_kind role (n % 4) (n / 4) recvs sends e (omega arith) h))
 
--- no more streams came to their end than are open
-pub counted_small : (role : Role) (recvs : Tables RecvLane) (sends : Tables SendLane) (e : ByDir ℕ) → AreAllCounted role recvs sends e → ((k : ℕ) → k < 4 → length (table recvs k) ≤ 2 ^ 60) → (e.bidi ≤ 2 ^ 60) × (e.uni ≤ 2 ^ 60)
-counted_small role recvs sends e h few = (
-  omega (arith, h.bidi, pairs_le (table recvs (1 - role_bit role)) (table sends (1 - role_bit role)), few (1 - role_bit role) (omega arith)),
-  omega (arith, h.uni, ended_le (table recvs (3 - role_bit role)), few (3 - role_bit role) (omega arith)),
-)
+-- no more streams came to their end than are open, so that one is counted anew
+pub may_recount : (role : Role) (n : ℕ) (recvs : Tables RecvLane) (sends : Tables SendLane) (e : ByDir ℕ) (was : Bool) → AreAllCounted role recvs sends e → was ≡ is_over role recvs sends n → ((k : ℕ) → k < 4 → length (table recvs k) ≤ 2 ^ 60) → MayRecount n was e
+may_recount role n recvs sends e was h is few =
+    record {
+      bidi = omega (arith, h.bidi, pairs_le (table recvs (1 - role_bit role)) (table sends (1 - role_bit role)), few (1 - role_bit role) (omega arith));
+      uni = omega (arith, h.uni, ended_le (table recvs (3 - role_bit role)), few (3 - role_bit role) (omega arith));
+      part = counted_part role n recvs sends e was h is;
+    }
   where
     ended_le : (rs : List RecvLane) → ended_in rs ≤ length rs
     ended_le [] = omega arith

@@ -5,7 +5,7 @@ use Rattle.std.proofs.lemmas.Bool.{both_ways, true≢false}
 use Rattle.std.proofs.lemmas.List.{length-map, get_or-map}
 use Rattle.std.proofs.lemmas.Option.{get_or_from_slice_get, none-some, slice_get_within}
 use Rattle.qs_machine.specs.News.{IsLeast}
-use Rattle.qs_conn.specs.Marks.{is_marked, AreMarked, IsAt, IsBefore, IsNextMark}
+use Rattle.qs_conn.specs.Marks.{is_marked, AreMarked, IsAt, IsNextMark}
 use Rattle.qs_conn.proofs.Least.{least_by}
 use Rattle.qs_conn.proofs.Words.{marked_below}
 

@@ -18,7 +18,7 @@ use Rattle.qs_machine.specs.Outgoing.{IsAckedReset}
 use Rattle.qs_machine.proofs.EveryCall.{accepted_few}
 use Rattle.qs_recv.specs.Lane.{RecvLane}
 use Rattle.qs_recv.specs.News.{is_readable}
-use Rattle.qs_send.specs.Lane.{SendLane, refusal, free_room, accepted}
+use Rattle.qs_send.specs.Lane.{SendLane, refusal, free_room}
 use Rattle.qs_send.specs.Writable.{is_writable}
 use Rattle.qs_send.specs.declared.parts.SendFault.{SendFault}
 use Rattle.qs_conn.specs.RecvTasks.{has_one}

@@ -1,15 +1,15 @@
 -- Searches for the least number with a property.
-use Rattle.std.proofs.Common.{◌≡◌, ℕ, zero, suc, ◌+◌, ◌-◌, ◌*◌, ◌/◌, ◌%◌, ◌<◌, ◌≤◌, ◌^◌, ◌⊎◌, min, Bool, true, false, List, length, get_or, Option, None, Some, slice_get, refl, sym, ◌∙◌, subst, arith, inl, inr}
+use Rattle.std.proofs.Common.{◌≡◌, ℕ, zero, suc, ◌+◌, ◌-◌, ◌*◌, ◌/◌, ◌%◌, ◌<◌, ◌≤◌, ◌^◌, ◌⊎◌, min, Bool, true, false, List, length, get_or, Option, None, Some, refl, sym, ◌∙◌, subst, arith, inl, inr}
 use Rattle.std.specs.Option.{IfSome, IfNone}
 use Rattle.std.specs.Prelude.{option_map}
 use Rattle.std.proofs.lemmas.Bool.{cases_lt, both_ways}
-use Rattle.std.proofs.lemmas.Option.{none-some, same_Some, slice_get_read}
+use Rattle.std.proofs.lemmas.Option.{none-some, same_Some}
 use Rattle.qs_machine.specs.News.{IsLeast, IsHeld}
 use Rattle.qs_machine.specs.Sums.{tables_of}
 use Rattle.qs_machine.specs.Tables.{type_of}
 use Rattle.qs_machine.proofs.TableEdits.{lookup_is}
-use Rattle.qs_conn.specs.Marks.{is_marked, AreMarked, IsBefore, IsNextMark, IsAt, IsHeldOf, least_of}
-use Rattle.qs_conn.proofs.Marked.{mark_past, marked_len, unmarked_at, before_least, id_is}
+use Rattle.qs_conn.specs.Marks.{is_marked, IsBefore, IsNextMark, IsAt, IsHeldOf, least_of}
+use Rattle.qs_conn.proofs.Marked.{before_least, id_is}
 
 -- none below the answer has the property
 pub least_by : (P : ℕ → Type 0) (from : ℕ) (answer : Option ℕ) → ((n : ℕ) → answer ≡ Some n → (from ≤ n) × P n) → ((n : ℕ) → from ≤ n → IsBefore n answer → P n → ⊥) → IsLeast P from answer

@@ -1,29 +1,21 @@
 -- Marks beside parts: each part that isn't marked has a property.
-use Rattle.std.proofs.Common.{◌≡◌, ℕ, zero, suc, ◌+◌, ◌-◌, ◌*◌, ◌/◌, ◌%◌, min, ◌<◌, ◌≤◌, ◌^◌, Bool, true, false, List, [], ◌∷◌, ◌++◌, map, length, get_or, take, replicate, Option, None, Some, is_some, nat_lt, slice_get, refl, sym, ap, ◌∙◌, subst, arith, inl, inr}
+use Rattle.std.proofs.Common.{◌≡◌, ℕ, zero, suc, ◌+◌, ◌-◌, ◌*◌, ◌/◌, ◌%◌, min, ◌<◌, ◌≤◌, ◌^◌, Bool, true, false, List, [], ◌∷◌, ◌++◌, map, length, get_or, replicate, Option, None, Some, slice_get, refl, sym, ap, ◌∙◌, subst, arith, inl, inr}
 use Rattle.std.specs.List.{range_with_len}
 use Rattle.std.specs.Option.{IfSome, IfNone}
 use Rattle.std.proofs.Math.ListN.{set}
-use Rattle.std.proofs.lemmas.Bool.{cases_lt, both_ways, true≢false}
-use Rattle.std.proofs.lemmas.List.{length-append, length-take, length-replicate, get_or_past, set-get_or, set-append_right}
-use Rattle.std.proofs.lemmas.List.FromFn.{length-map-range_with_len}
+use Rattle.std.proofs.lemmas.Bool.{cases_lt, both_ways}
+use Rattle.std.proofs.lemmas.List.{length-append, length-replicate, get_or_past, set-get_or, set-append_right}
 use Rattle.std.proofs.lemmas.Option.{none-some, same_Some, get_or_from_slice_get}
-use Rattle.std.proofs.lemmas.Bool.Decides.{nat_tests}
 use Rattle.std.specs.Prelude.{Result, Ok, Err}
 use Rattle.std.specs.Result.{OnOk, OnErr}
 use Rattle.qs_conn.specs.Untold.{IsClear}
 use Rattle.qs_conn.specs.Marks.{is_marked, AreMarked, IsBefore, IsNextMark, HaveTo, least_of}
-use Rattle.qs_conn.specs.Tasks.{IsOpen}
 use Rattle.qs_machine.specs.Sums.{tables_of}
 use Rattle.qs_machine.specs.Tables.{Tables, type_of, lookup, widened}
-use Rattle.qs_machine.proofs.TableEdits.{lookup_is, some_tested}
+use Rattle.qs_machine.proofs.TableEdits.{lookup_is}
 
 pub mark_past : (ms : List Bool) (i : ℕ) → length ms ≤ i → is_marked ms i ≡ false
 mark_past ms i le = get_or_past ms i false le
-
-pub is_marked_taken : (marks : List Bool) (n i : ℕ) → is_marked marks i ≡ false → is_marked (take n marks) i ≡ false
-is_marked_taken marks zero i none = mark_past [] i (omega arith)
-is_marked_taken (m ∷ marks) (suc n) (suc i) none = is_marked_taken marks n i none
-is_marked_taken _ _ _ none = none
 
 -- a mark that is put where it stands already
 pub mark_is : (ms : List Bool) (i : ℕ) (b : Bool) → is_marked ms i ≡ b → set ms i b ≡ ms

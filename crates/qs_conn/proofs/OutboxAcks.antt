@@ -17,12 +17,13 @@ use Rattle.qs_machine.specs.Tables.{Tables, lookup, update, updated}
 use Rattle.qs_send.specs.LostRecords.{without_number}
 use Rattle.qs_machine.specs.Ends.{Records, AckedItems, LostPackets, lost_with, lost_less}
 use Rattle.qs_machine.specs.FrameStep.{without_first}
-use Rattle.qs_machine.specs.Outgoing.{Outgoing, sent_sum, lanes_of, with_pending, AreBelow, AreTied, IsOutbox, IsSentPiece, IsOfReset, IsIdle, IsCarried, first_piece, acked_at, piece_acked_out, first_acked_out, first_lost_out, shorter, halves_acked, items_acked, halves_lost}
+use Rattle.qs_machine.specs.Outgoing.{Outgoing, sent_sum, lanes_of, with_pending, AreBelow, AreTied, AreSent, IsOutbox, IsSentPiece, IsOfReset, IsIdle, IsCarried, first_piece, acked_at, piece_acked_out, first_acked_out, first_lost_out, shorter, halves_acked, items_acked, halves_lost}
 use Rattle.qs_machine.proofs.TableLaws.{total_update}
 use Rattle.qs_machine.proofs.Carried.{none_some, some_is, IsShorter, shortened_is, first_carried, get_new}
 use Rattle.qs_machine.proofs.Tied.{tied_late, tied_reset_acked}
 use Rattle.qs_machine.proofs.LaneTables.{lookup_lanes, lane_there, half_of, lanes_updated, update_lanes}
 use Rattle.qs_machine.proofs.TablesAfter.{update_back, updated_back}
+use Rattle.qs_conn.specs.Runs.{held_out}
 use Rattle.qs_conn.proofs.Outboxes.{box_sends}
 use Rattle.qs_machine.proofs.Ties.{ties_updated, ties_acked, ties_lost, ties_item_gone}
 
@@ -232,6 +233,12 @@ first_at e now m ps k p is out idle first = ap (λ x. first_piece (fmap.get x k)
 
 pub tied_at : (t : Tables Sending) (m : Records) (r : Bool) (ps : List Piece) (next sent spare free : ℕ) → IsOutbox t m r ps next sent spare free → ps ≡ [] → AreTied t m
 tied_at t m r ps next sent spare free h none = subst (λ qs. AreTied t (with_pending m next qs)) none h.tied
+
+-- a piece that is kept was sent
+pub sent_kept : (late : Bool) (e now : Outgoing) (t : Tables Sending) (m : Records) (r : Bool) (ps : List Piece) (sent spare free k : ℕ) (p : Piece) → e ≡ now → e.outstanding ≡ with_pending m e.next ps
+    → IsIdle now → IsOutbox t m r ps e.next sent spare free → AreSent t e.lost.pieces → first_piece (fmap.get (held_out late now) k) ≡ Some p → IsSentPiece t p
+sent_kept true e now t m r ps sent spare free k p is out idle h lost first = lost p (first_in e.lost.pieces k p (subst (λ (o : Outgoing). first_piece (fmap.get o.lost.pieces k) ≡ Some p) (sym is) first))
+sent_kept false e now t m r ps sent spare free k p is out idle h lost first = sent_piece t m k p (tied_at t m r ps e.next sent spare free h (idle_none e now m ps is out idle)) (first_at e now m ps k p is out idle first)
 
 pub short_at : (m m' : Records) (k : ℕ) (p : Piece) → first_piece (fmap.get m k) ≡ Some p → m' ≡ without_first m k (fmap.get m k) → IsShorter m k p m'
 short_at m m' k p first is = subst (λ (x : Records). IsShorter m k p x) (sym is) (shortened_is m k p first)

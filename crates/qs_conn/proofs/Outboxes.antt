@@ -1,6 +1,6 @@
 -- An outbox: what each call is to its value, and that it keeps what holds of it.
 use Rattle.std.proofs.Common.{◌≡◌, ℕ, ◌<◌, ◌%◌, Bool, true, false, List, [], length, take, Option, Some, None, is_some, Result, Ok, Err, cond, unwrap_or, refl, sym, ap, ◌∙◌, subst, arith, nat_cmp}
-use Rattle.std.proofs.lemmas.Bool.{both_ways}
+use Rattle.std.proofs.lemmas.Bool.{both_ways, cond_both}
 use Rattle.std.specs.Option.{IfSome}
 use Rattle.qs_conn.specs.Tasks.{IsOpen}
 use Rattle.std.specs.FinMap as fmap
@@ -61,34 +61,18 @@ same_step e now x is sends = ap (λ y. with_sends y e) sends ∙ is
 
 -- What holds
 
-reset_marks : (code : ℕ) (s : Sending) (b : Bool) → is_some s.lane.was_reset ≡ true → is_some (cond b s.lane (record s.lane { kept = []; was_reset = Some (record { code = code; size = cond s.lane.fin_sent s.lane.written s.lane.sent_end }) })).was_reset ≡ true
-reset_marks code s true x = x
-reset_marks code s false x = refl
+-- that a half was reset stays, and so does what was sent of it
+record Keeps (l m : SendLane) : Type 0 where
+  reset : is_some l.was_reset ≡ true → is_some m.was_reset ≡ true
+  ends : m.sent_end ≡ l.sent_end
 
-reset_ends : (code : ℕ) (s : Sending) (b : Bool) → (cond b s.lane (record s.lane { kept = []; was_reset = Some (record { code = code; size = cond s.lane.fin_sent s.lane.written s.lane.sent_end }) })).sent_end ≡ s.lane.sent_end
-reset_ends code s true = refl
-reset_ends code s false = refl
+keeps_one : (l : SendLane) → Keeps l l
+keeps_one l = record { reset = λ x. x; ends = refl }
 
 -- what a STOP_SENDING leaves of a half is a half of what it leaves of the lane
 pub stop_lane : (answers : Bool) (s : Sending) (code : ℕ) → (after_stop answers s code).lane ≡ stop_taken answers s.lane code
 stop_lane true s code = refl
 stop_lane false s code = refl
-
-stopped_marks : (code : ℕ) (s : Sending) (b : Bool) → is_some s.lane.was_reset ≡ true → is_some (cond b s.lane (record (broken_off s.lane code) { stopped = first_code s.lane.stopped code })).was_reset ≡ true
-stopped_marks code s true x = x
-stopped_marks code s false x = refl
-
-stopped_ends : (code : ℕ) (s : Sending) (b : Bool) → (cond b s.lane (record (broken_off s.lane code) { stopped = first_code s.lane.stopped code })).sent_end ≡ s.lane.sent_end
-stopped_ends code s true = refl
-stopped_ends code s false = refl
-
-told_marks : (code : ℕ) (s : Sending) (b : Bool) → is_some s.lane.was_reset ≡ true → is_some (cond b s.lane (record s.lane { stopped = first_code s.lane.stopped code })).was_reset ≡ true
-told_marks code s true x = x
-told_marks code s false x = x
-
-told_ends : (code : ℕ) (s : Sending) (b : Bool) → (cond b s.lane (record s.lane { stopped = first_code s.lane.stopped code })).sent_end ≡ s.lane.sent_end
-told_ends code s true = refl
-told_ends code s false = refl
 
 module _ (t t' : Tables Sending) (m : Records) (r : Bool) (ps : List Piece) (k sent spare free : ℕ) (h : IsOutbox t m r ps k sent spare free) where
   pub box_same : t' ≡ t → IsOutbox t' m r ps k sent spare free
@@ -106,56 +90,45 @@ module _ (t t' : Tables Sending) (m : Records) (r : Bool) (ps : List Piece) (k s
       same_sum : sent_sum (update (lanes_of t) n s'.lane) ≡ sent_sum (lanes_of t)
       same_sum = (let e = total_update (λ (l : SendLane). l.sent_end) (lanes_of t) n s.lane s'.lane (lane_there t n s there) in omega (arith, e, same))
 
+  box_half : (n : ℕ) (f : Sending → Sending) (s : Sending) → s ≡ or_no_sending (lookup t n) → is_some (lookup t n) ≡ true → t' ≡ updated t n f (lookup t n)
+      → (IsTied (with_pending m k ps) n s → IsTied (with_pending m k ps) n (f s)) → Keeps s.lane (f s).lane → IsOutbox t' m r ps k sent spare free
+  box_half n f s same there is tied keeps =
+      let at : lookup t n ≡ Some s = half_found t n there ∙ ap Some (sym same) in
+      box_updated n s (f s) at (is ∙ ap (updated t n f) at) (tied (h.tied.lanes n s at)) keeps.reset keeps.ends
+
   pub box_allowed : (n limit : ℕ) → is_some (lookup t n) ≡ true → t' ≡ updated t n (λ s. after_allow s limit) (lookup t n) → IsOutbox t' m r ps k sent spare free
-  box_allowed n limit there is =
-      let s = or_no_sending (lookup t n) in
-      let at = half_found t n there in
-      box_updated n s (after_allow s limit) at (is ∙ ap (updated t n (λ s. after_allow s limit)) at) (tied_allow (with_pending m k ps) n s (h.tied.lanes n s at) limit) (λ x. x) refl
+  box_allowed n limit there is = box_half n (λ s. after_allow s limit) _ refl there is (λ tied. tied_allow _ n _ tied limit) (record { reset = λ x. x; ends = refl })
 
   pub box_buffered : (n size : ℕ) → is_some (lookup t n) ≡ true → t' ≡ updated t n (λ s. after_buffer s size) (lookup t n) → IsOutbox t' m r ps k sent spare free
-  box_buffered n size there is =
+  box_buffered n size there is = box_half n (λ s. after_buffer s size) _ refl there is (λ tied. tied_buffer _ n _ tied size) (record { reset = λ x. x; ends = refl })
+
+  pub box_finished : (n : ℕ) → is_some (lookup t n) ≡ true → IsLawful (or_no_sending (lookup t n)) → t' ≡ updated t n after_finish (lookup t n) → IsOutbox t' m r ps k sent spare free
+  box_finished n there law is =
       let s = or_no_sending (lookup t n) in
-      let at = half_found t n there in
-      box_updated n s (after_buffer s size) at (is ∙ ap (updated t n (λ s. after_buffer s size)) at) (tied_buffer (with_pending m k ps) n s (h.tied.lanes n s at) size) (λ x. x) refl
-
-  pub box_finished : (n : ℕ) (s : Sending) → lookup t n ≡ Some s → IsLawful s → t' ≡ updated t n after_finish (lookup t n) → IsOutbox t' m r ps k sent spare free
-  box_finished n s at law is =
-      box_updated n s (after_finish s) at (is ∙ ap (updated t n after_finish) at) (tied_finish (with_pending m k ps) n s (h.tied.lanes n s at) law)
-      (λ x. marks (is_some (refusal s.lane)) x) (ends (is_some (refusal s.lane)))
-    where
-      marks : (b : Bool) → is_some s.lane.was_reset ≡ true → is_some (cond b s (record { lane = finish_lane s.lane; due = record { offsets = s.due.offsets; fin = true } })).lane.was_reset ≡ true
-      marks true x = x
-      marks false x = x
-
-      ends : (b : Bool) → (cond b s (record { lane = finish_lane s.lane; due = record { offsets = s.due.offsets; fin = true } })).lane.sent_end ≡ s.lane.sent_end
-      ends true = refl
-      ends false = refl
+      box_half n after_finish s refl there is (λ tied. tied_finish _ n s tied law)
+      (cond_both (is_some (refusal s.lane)) s _ (λ x. Keeps s.lane x.lane) (λ _. keeps_one s.lane) (λ _. record { reset = λ x. x; ends = refl }))
 
   pub box_reset : (n code : ℕ) → is_some (lookup t n) ≡ true → t' ≡ updated t n (λ s. after_reset s code) (lookup t n) → IsOutbox t' m r ps k sent spare free
   box_reset n code there is =
       let s = or_no_sending (lookup t n) in
-      let at = half_found t n there in
-      box_updated n s (after_reset s code) at (is ∙ ap (updated t n (λ s. after_reset s code)) at) (tied_reset (with_pending m k ps) n s (h.tied.lanes n s at) code)
-      (λ x. reset_marks code s (is_some (reset_refusal s.lane)) x) (reset_ends code s (is_some (reset_refusal s.lane)))
+      box_half n (λ x. after_reset x code) s refl there is (λ tied. tied_reset _ n s tied code)
+      (cond_both (is_some (reset_refusal s.lane)) s.lane _ (Keeps s.lane) (λ _. keeps_one s.lane) (λ _. record { reset = λ x. refl; ends = refl }))
 
   pub box_stopped : (answers : Bool) (n code : ℕ) → is_some (lookup t n) ≡ true → t' ≡ updated t n (λ s. after_stop answers s code) (lookup t n) → IsOutbox t' m r ps k sent spare free
   box_stopped true n code there is =
       let s = or_no_sending (lookup t n) in
-      let at = half_found t n there in
-      box_updated n s (after_told s code) at (is ∙ ap (updated t n (λ s. after_told s code)) at) (tied_told_stop (with_pending m k ps) n s (h.tied.lanes n s at) code)
-      (λ x. told_marks code s (is_some (reset_refusal s.lane)) x) (told_ends code s (is_some (reset_refusal s.lane)))
+      box_half n (λ x. after_told x code) s refl there is (λ tied. tied_told_stop _ n s tied code)
+      (cond_both (is_some (reset_refusal s.lane)) s.lane _ (Keeps s.lane) (λ _. keeps_one s.lane) (λ _. record { reset = λ x. x; ends = refl }))
   box_stopped false n code there is =
       let s = or_no_sending (lookup t n) in
-      let at = half_found t n there in
-      box_updated n s (after_stopped s code) at (is ∙ ap (updated t n (λ s. after_stopped s code)) at) (tied_stopped (with_pending m k ps) n s (h.tied.lanes n s at) code)
-      (λ x. stopped_marks code s (is_some (reset_refusal s.lane)) x) (stopped_ends code s (is_some (reset_refusal s.lane)))
+      box_half n (λ x. after_stopped x code) s refl there is (λ tied. tied_stopped _ n s tied code)
+      (cond_both (is_some (reset_refusal s.lane)) s.lane _ (Keeps s.lane) (λ _. keeps_one s.lane) (λ _. record { reset = λ x. refl; ends = refl }))
 
-  pub box_written : (n : ℕ) (bytes : List ℕ) (s : Sending) (res : Result ℕ SendFault) → lookup t n ≡ Some s → IsLawful s
+  pub box_written : (n : ℕ) (bytes : List ℕ) (res : Result ℕ SendFault) → is_some (lookup t n) ≡ true → IsLawful (or_no_sending (lookup t n))
       → IfOk res (λ j. (refusal (or_no_sending (lookup t n)).lane ≡ None) × (j ≡ accepted (or_no_sending (lookup t n)).lane (length bytes)) × (t' ≡ updated t n (λ s. after_write s (take j bytes)) (lookup t n)))
       → IfErr res (λ f. (t' ≡ t) × (f ≡ unwrap_or (refusal (or_no_sending (lookup t n)).lane) NoMemory)) → IsOutbox t' m r ps k sent spare free
-  box_written n bytes s (Ok j) at law ok err =
-      box_updated n s (after_write s (take j bytes)) at (ok.2 ∙ ap (updated t n (λ s. after_write s (take j bytes))) at) (tied_write (with_pending m k ps) n s (h.tied.lanes n s at) law (take j bytes)) (λ x. x) refl
-  box_written n bytes s (Err f) at law ok err = box_same err.0
+  box_written n bytes (Ok j) there law ok err = box_half n (λ s. after_write s (take j bytes)) _ refl there ok.2 (λ tied. tied_write _ n _ tied law (take j bytes)) (record { reset = λ x. x; ends = refl })
+  box_written n bytes (Err f) there law ok err = box_same err.0
 
   pub box_opened : (n limit buffer : ℕ) → t' ≡ open_to t n (λ j. new_sending j limit buffer) → IsOutbox t' m r ps k sent spare free
   box_opened n limit buffer is =

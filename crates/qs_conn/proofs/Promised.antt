@@ -1,17 +1,11 @@
 -- How many bytes halves promise and keep: one half changes, some open, some leave.
-use Rattle.std.proofs.Common.{◌≡◌, ℕ, zero, suc, ◌+◌, ◌-◌, ◌*◌, ◌%◌, ◌^◌, ◌<◌, ◌≤◌, Bool, true, false, not, ◌&&◌, ◌||◌, List, [], ◌∷◌, ◌++◌, length, take, map, get_or, Option, Some, None, is_some, Result, Ok, Err, cond, unwrap_or, refl, sym, ap, ◌∙◌, subst, arith}
-use Rattle.std.specs.Result.{IfOk, IfErr, result_unwrap_or}
+use Rattle.std.proofs.Common.{◌≡◌, ℕ, zero, suc, ◌+◌, ◌-◌, ◌*◌, ◌%◌, ◌^◌, ◌<◌, ◌≤◌, Bool, true, false, not, ◌&&◌, ◌||◌, List, [], ◌∷◌, ◌++◌, length, take, map, get_or, is_some, cond, refl, sym, ap, ◌∙◌, subst, arith}
 use Rattle.std.specs.List.{sum_by}
-use Rattle.std.proofs.lemmas.List.{length-take, length-append}
 use Rattle.std.proofs.lemmas.List.Sums.{sum_by-cons, sum_by-append, sum_by-set, get_or-le-sum_by}
 use Rattle.std.proofs.Math.ListN.{set}
 use Rattle.qs_ranges.specs.Numbers.{MAX_VARINT}
 use Rattle.qs_send.specs.declared.parts.Chunk.{Chunk}
-use Rattle.qs_send.specs.declared.parts.SendFault.{SendFault}
-use Rattle.qs_send.specs.declared.parts.SendFault.TheVariants.{NoMemory, WasReset, Finished}
-use Rattle.qs_send.specs.declared.parts.Reset.{Reset}
-use Rattle.std.proofs.lemmas.Option.{none-some}
-use Rattle.qs_send.specs.Lane.{SendLane, Sending, new_sending, new_lane as new_send_lane, accepted, refusal, after_write, after_sent}
+use Rattle.qs_send.specs.Lane.{SendLane, Sending, new_sending, new_lane as new_send_lane, after_sent}
 use Rattle.qs_send.specs.Chunks.{IsDueChunk}
 use Rattle.qs_send.specs.Sound.{IsLawful}
 use Rattle.qs_send.proofs.Steps.{due_within, none_due}
@@ -104,12 +98,6 @@ sums_counted m xs n k i before after had has s now there at stays was is small k
       promised = sum_counted promised_of m xs n i before after s now there at was is small (λ e. (rw e at stays).promised) h.promised;
       kept = sum_counted kept_of m xs k i had has s now there at kept_was kept_is kept_small (λ e. (rw e at stays).kept) h.kept;
     }
-
--- what is taken away is part of a sum
-pub part_counted : (f : Sending → ℕ) (m : Moves) (xs : List Sending) (n i was : ℕ) (s : Sending) → i < length xs → s ≡ get_or xs i s → was ≡ counted m (f s) → IsSumOf f xs n → was ≤ n
-part_counted f moves.Sent xs n i was s there at is h = omega (arith, is)
-part_counted f moves.Room xs n i was s there at is h = (let part = sum_part f xs n i s there at h in omega (arith, part, is))
-part_counted f moves.All xs n i was s there at is h = (let part = sum_part f xs n i s there at h in omega (arith, part, is))
 
 -- The changes of a half
 

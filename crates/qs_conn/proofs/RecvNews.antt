@@ -1,5 +1,5 @@
 -- Marks of receiving halves that have an answer for their owner.
-use Rattle.std.proofs.Common.{◌≡◌, ℕ, zero, suc, ◌+◌, ◌-◌, ◌*◌, ◌/◌, ◌%◌, ◌≤◌, ◌<◌, Bool, true, false, not, cond, ◌&&◌, ◌||◌, ◌⊎◌, inl, inr, List, [], ◌∷◌, ◌++◌, length, map, take, replicate, Option, None, Some, is_some, refl, sym, ap, ◌∙◌, subst, arith}
+use Rattle.std.proofs.Common.{◌≡◌, ℕ, zero, suc, ◌+◌, ◌-◌, ◌*◌, ◌/◌, ◌%◌, ◌≤◌, ◌<◌, Bool, true, false, not, cond, ◌&&◌, ◌||◌, ◌⊎◌, inl, inr, List, [], ◌∷◌, ◌++◌, length, map, take, replicate, Option, None, Some, is_some, refl, sym, ap, ◌∙◌, arith}
 use Rattle.std.proofs.lemmas.List.{length-map, map-append, map-set, take-map}
 use Rattle.std.proofs.lemmas.Bool.{true≢false, both_ways}
 use Rattle.std.proofs.lemmas.Option.{slice_get_within}
@@ -13,12 +13,10 @@ use Rattle.qs_recv.specs.Assembled.{front_of}
 use Rattle.qs_recv.specs.declared.half.Read.TheVariants.{Bytes, End, Wait}
 use Rattle.qs_recv.specs.News.{tells_something}
 use Rattle.qs_recv.specs.declared.credit.Share.{Share}
-use Rattle.qs_recv.specs.declared.credit.Share.TheVariants.{Half}
 use Rattle.qs_machine.specs.Credit.{recv_ended}
 use Rattle.qs_machine.proofs.EveryCall.{not_chosen}
 use Rattle.qs_machine.specs.Tables.{Tables, table, type_of, lookup}
 use Rattle.qs_machine.specs.News.{IsLeast, IsHeld}
-use Rattle.qs_machine.specs.Verdicts.{or_new}
 use Rattle.qs_conn.specs.Marks.{is_marked, both, untold, AreEndsMarked, IsNextMark, IsHeldOf, IsUntold, IsUntoldOf}
 use Rattle.qs_conn.specs.RecvTasks.{has, has_one, marks_of, HasNone, HasOne, AreNoted}
 use Rattle.qs_conn.specs.declared.recv_marks.RecvTask.{RecvTask}
@@ -71,11 +69,6 @@ pub open_within : (recvs : Tables RecvLane) (n : ℕ) (o : Option RecvLane) → 
 unfolding lookup
 open_within recvs n None at is = absurd (true≢false (sym is))
 open_within recvs n (Some l) at is = slice_get_within (table recvs (n % 4)) (n / 4) l at
-
--- a stream without a mark for any task has no answer
-pub quiet_there : (t : RecvTask) (o : Option RecvLane) → is_some o ≡ true → has_one t o ≡ false → HasNone t (or_new o 0 Half)
-quiet_there t None some none = absurd (true≢false (sym some))
-quiet_there t (Some l) some none = none
 
 -- A reader of such a lane waits, where what was told was an end or a reset (RFC 9000, sections 2.2 and 3.2)
 

@@ -1,5 +1,5 @@
 -- Sending halves are opened and edited.
-use Rattle.std.proofs.Common.{◌≡◌, ℕ, nat_lt, Bool, true, false, ◌&&◌, ◌||◌, not, ◌==◌, max, inl, inr, ◌≤◌, cond, is_some, is_none, unwrap_or, ◌+◌, ◌-◌, subst, ◌<◌, ◌^◌, List, length, take, get_or, Option, Some, None, slice_get, Result, Ok, Err, refl, sym, ap, ◌∙◌, arith}
+use Rattle.std.proofs.Common.{◌≡◌, ℕ, nat_lt, Bool, true, false, ◌&&◌, ◌||◌, not, ◌==◌, max, inl, inr, is_none, unwrap_or, ◌+◌, ◌-◌, subst, ◌<◌, ◌^◌, List, length, take, Option, Some, None, slice_get, Result, Ok, Err, refl, sym, ap, ◌∙◌, arith}
 use Rattle.std.specs.Option.{IfSome}
 use Rattle.std.specs.Result.{OnOk, OnErr, IfOk, IfErr}
 use Rattle.std.specs.FinSet as set

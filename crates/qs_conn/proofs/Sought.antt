@@ -6,8 +6,6 @@ use Rattle.std.proofs.lemmas.Option.{none-some, same_Some}
 use Rattle.std.specs.FinSet as set
 use Rattle.qs_send.specs.Lane.{SendLane, Sending}
 use Rattle.qs_send.specs.Sound.{IsLawful}
-use Rattle.qs_send.specs.Writable.{is_writable}
-use Rattle.qs_machine.specs.Credit.{send_ended}
 use Rattle.qs_machine.specs.Tables.{Tables, lookup}
 use Rattle.qs_machine.specs.Ends.{End}
 use Rattle.qs_machine.specs.Owner.{is_read_no_more}
@@ -19,7 +17,7 @@ use Rattle.qs_conn.specs.RecvTasks.{HasOne}
 use Rattle.qs_conn.specs.declared.recv_marks.RecvTask.TheVariants as recv_tasks
 use Rattle.qs_conn.proofs.Least.{least_given}
 use Rattle.qs_send.specs.Chunks.{has_unsent}
-use Rattle.qs_conn.specs.Tasks.{HasTask, has, is_due_below, may_end}
+use Rattle.qs_conn.specs.Tasks.{HasTask, is_due_below, may_end}
 use Rattle.qs_conn.proofs.Tasks.{below_due, due_below, end_parts, parts_end, unsent_below}
 use Rattle.qs_conn.specs.declared.send_marks.Task.TheVariants as tasks
 use Rattle.qs_conn.proofs.DueTied.{due_is, is_due, end_due_is, is_end_due}

@@ -1,7 +1,6 @@
 -- Searches for the least stream whose sending half has something, of those that an owner was told of or of those that it wasn't.
-use Rattle.std.proofs.Common.{◌≡◌, ℕ, ◌+◌, ◌-◌, ◌*◌, ◌/◌, ◌<◌, ◌&&◌, not, if◌then◌else◌, Bool, true, false, List, length, map, get_or, Option, None, Some, slice_get, refl, sym, ap, ◌∙◌, subst, arith}
+use Rattle.std.proofs.Common.{◌≡◌, ℕ, ◌+◌, ◌-◌, ◌*◌, ◌/◌, ◌<◌, ◌&&◌, not, if◌then◌else◌, Bool, true, false, List, length, map, get_or, Option, None, Some, refl, sym, ap, ◌∙◌}
 use Rattle.std.proofs.lemmas.Bool.{both_ways, true≢false, and_right}
-use Rattle.std.proofs.lemmas.Option.{same_Some}
 use Rattle.qs_send.specs.Lane.{SendLane, Sending}
 use Rattle.qs_machine.specs.Heard.{is_told}
 use Rattle.qs_machine.specs.News.{IsLeast, IsHeld}

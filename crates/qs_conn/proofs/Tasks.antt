@@ -1,5 +1,5 @@
 -- What sending halves have, and their marks for each task.
-use Rattle.std.proofs.Common.{◌≡◌, ℕ, zero, suc, ◌+◌, ◌-◌, ◌*◌, ◌<◌, ◌≤◌, ◌^◌, ◌==◌, ◌&&◌, ◌||◌, nat_lt, not, Bool, true, false, List, ◌++◌, length, map, min, take, get_or, replicate, Option, None, Some, is_some, refl, ap, sym, subst, ◌∙◌, arith, inl, inr}
+use Rattle.std.proofs.Common.{◌≡◌, ℕ, zero, suc, ◌+◌, ◌-◌, ◌*◌, ◌<◌, ◌≤◌, ◌^◌, ◌==◌, ◌&&◌, ◌||◌, nat_lt, not, Bool, true, false, List, ◌++◌, length, map, min, take, get_or, replicate, None, is_some, refl, ap, sym, ◌∙◌, arith, inl, inr}
 use Rattle.std.specs.FinSet as sets
 use Rattle.std.specs.List.{list_any, range_with_len, sum_by}
 use Rattle.std.specs.Ordering.{nat_cmp}

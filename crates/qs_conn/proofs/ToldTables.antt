@@ -1,40 +1,15 @@
 -- What it is to a table of marks that one of them is set or taken away.
-use Rattle.std.proofs.Common.{◌≡◌, ℕ, ◌+◌, ◌-◌, ◌/◌, ◌%◌, ◌<◌, ◌≤◌, ◌==◌, ◌&&◌, ◌||◌, not, Bool, true, false, List, ◌++◌, replicate, length, get_or, slice_get, is_some, nat_lt, unwrap_or, refl, sym, ap, ◌∙◌, arith, inl, inr}
+use Rattle.std.proofs.Common.{◌≡◌, ℕ, ◌-◌, ◌/◌, ◌%◌, ◌≤◌, ◌==◌, Bool, true, false, List, length, get_or, slice_get, is_some, nat_lt, unwrap_or, refl, sym, ap, ◌∙◌, arith, inl, inr}
 use Rattle.std.proofs.Math.ListN.{set}
 use Rattle.std.proofs.lemmas.Bool.Decides.{nat_tests}
 use Rattle.std.proofs.lemmas.Bool.{cases_eq, eqb-true, eqb-false, eq-eqb}
 use Rattle.std.proofs.lemmas.Grind.{get_or-set_at}
-use Rattle.std.proofs.lemmas.List.{length-append, length-replicate, length-set, get_or_past, get_or-set_other}
+use Rattle.std.proofs.lemmas.List.{length-set, get_or-set_other}
 use Rattle.std.proofs.lemmas.Option.{unwrap_or-slice_get}
 use Rattle.qs_machine.specs.Heard.{is_told, StayPlaced}
 use Rattle.qs_machine.specs.Sums.{tables_of}
 use Rattle.qs_machine.proofs.TableEdits.{lookup_is, open_there, some_tested}
-use Rattle.qs_conn.specs.Marks.{is_marked, IsMarkedBeside, IsUnmarkedBeside}
-use Rattle.qs_conn.proofs.Words.{padded}
-
--- One row
-
-pub marked_beside : (old mid new : List Bool) (n : ℕ) → mid ≡ old ++ replicate (n + 1 - length old) false → new ≡ set mid n true → IsMarkedBeside n old new
-marked_beside old mid new n opened is = (λ i. go i (i == n) refl, omega (arith, ap length is, length-set mid n true, ap length opened, length-append old (replicate (n + 1 - length old) false)))
-  where
-    go : (i : ℕ) (b : Bool) → (i == n) ≡ b → is_marked new i ≡ (b || is_marked old i)
-    go i true e = ap (λ xs. is_marked xs i) is ∙ get_or-set_at mid n i true false (eqb-true i n e) (omega (arith, ap length opened, length-append old (replicate (n + 1 - length old) false), length-replicate (n + 1 - length old) false))
-    go i false e = ap (λ xs. is_marked xs i) is ∙ get_or-set_other mid n i true false (eqb-false i n e) ∙ ap (λ xs. is_marked xs i) opened ∙ padded old (n + 1 - length old) i false
-
-pub unmarked_beside : (old new : List Bool) (n : ℕ) → n < length old → new ≡ set old n false → IsUnmarkedBeside n old new
-unmarked_beside old new n there is = (λ i. go i (i == n) refl, omega (arith, ap length is, length-set old n false))
-  where
-    go : (i : ℕ) (b : Bool) → (i == n) ≡ b → is_marked new i ≡ (not b && is_marked old i)
-    go i true e = ap (λ xs. is_marked xs i) is ∙ get_or-set_at old n i false false (eqb-true i n e) there
-    go i false e = ap (λ xs. is_marked xs i) is ∙ get_or-set_other old n i false false (eqb-false i n e)
-
--- an index past the last has no mark
-pub none_unmarked : (old : List Bool) (n : ℕ) → length old ≤ n → IsUnmarkedBeside n old old
-none_unmarked old n past = (λ i. go i (i == n) refl, omega arith)
-  where
-    go : (i : ℕ) (b : Bool) → (i == n) ≡ b → is_marked old i ≡ (not b && is_marked old i)
-    go i true e = let at = eqb-true i n e in get_or_past old i false (omega (arith, past, at))
-    go i false e = refl
+use Rattle.qs_conn.specs.Marks.{is_marked}
 
 -- Four rows
 

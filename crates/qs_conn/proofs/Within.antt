@@ -1,6 +1,5 @@
 -- Writes that keep within credit, and within the window over all halves.
-use Rattle.std.proofs.Common.{◌≡◌, ℕ, ◌-◌, ◌^◌, ◌<◌, ◌≤◌, Bool, true, false, ◌&&◌, nat_lt, if◌then◌else◌, List, length, take, min, Option, Some, None, is_some, is_none, option_map, Result, Ok, Err, cond, unwrap_or, refl, sym, ap, ◌∙◌, subst, arith}
-use Rattle.std.proofs.lemmas.Bool.{and_parts, ltb-true, true≢false}
+use Rattle.std.proofs.Common.{◌≡◌, ℕ, ◌-◌, ◌^◌, ◌<◌, ◌≤◌, Bool, true, false, if◌then◌else◌, List, length, take, min, Option, Some, None, is_some, option_map, Result, Ok, Err, cond, unwrap_or, refl, sym, ap, ◌∙◌, subst, arith}
 use Rattle.std.proofs.lemmas.Bool.Decides.{nat_tests}
 use Rattle.std.proofs.lemmas.List.{length-take, take-take, take_all}
 use Rattle.qs_send.specs.Lane.{SendLane, accepted, refusal, write_lane, free_room}
@@ -8,14 +7,13 @@ use Rattle.qs_send.specs.declared.parts.SendFault.{SendFault}
 use Rattle.qs_send.specs.declared.parts.SendFault.TheVariants as sends
 use Rattle.qs_machine.specs.Tables.{Tables, updated}
 use Rattle.qs_machine.specs.Ends.{End, send_lane}
-use Rattle.qs_machine.specs.Credit.{settle, all_unsent, credit_for, credit_left, window_left}
-use Rattle.qs_machine.specs.News.{IsHeld}
+use Rattle.qs_machine.specs.Credit.{settle, credit_for, window_left}
 use Rattle.qs_machine.specs.Asking.{room, room_of}
 use Rattle.qs_machine.specs.Owner.{WriteStep, at_most, accepted_by, use_fault}
 use Rattle.qs_machine.specs.Sums.{or_none}
 use Rattle.qs_conn.specs.Layers.{no_sender}
 use Rattle.qs_send.specs.Writable.{is_writable}
-use Rattle.qs_conn.specs.Sending.{TakesAlone, offered, let_go, front_of, credit_room}
+use Rattle.qs_conn.specs.Sending.{offered, let_go, front_of, credit_room}
 use Rattle.qs_conn.specs.Tasks.{is_funded}
 use Rattle.qs_conn.proofs.OwnerSteps.{write_ok, write_err}
 
@@ -109,63 +107,11 @@ room_left e n left open_end is = rw open_end (ap (λ o. at_most o (credit_room e
 pub room_free : (e : End) (n : ℕ) → e.closed ≡ None → window_left e ≡ None → credit_room e (send_lane e n) ≡ room e n
 room_free e n open_end is = rw open_end (ap (λ o. at_most o (credit_room e (send_lane e n))) (sym is) ∙ room_at e (send_lane e n))
 
--- where the window over all halves is used up, no stream takes a byte
-pub full_takes_none : (e : End) (left : ℕ) → window_left e ≡ Some left → left ≡ 0 → (n : ℕ) → 0 < room e n → ⊥
-full_takes_none e left is none n some = go (is_some e.closed) some
-  where
-    go : (b : Bool) → 0 < cond b 0 (room_of e (send_lane e n)) → ⊥
-    go true more = omega (arith, more)
-    go false more =
-        let all = ap (λ o. at_most o (credit_room e (send_lane e n))) (sym is) ∙ room_at e (send_lane e n) in
-        omega (arith, more, all, none)
-
 at_most_few : (o : Option ℕ) (n : ℕ) → at_most o n ≤ n
 at_most_few None n = omega arith
 at_most_few (Some left) n = omega arith
 
--- where writes keep within credit and the connection's is used up, no stream takes a byte
-pub used_takes_none : (e : End) → e.tuning.within_credit ≡ true → credit_left e ≤ all_unsent e → (n : ℕ) → 0 < room e n → ⊥
-used_takes_none e within used n some = go (is_some e.closed) some
-  where
-    go : (b : Bool) → 0 < cond b 0 (room_of e (send_lane e n)) → ⊥
-    go true more = omega (arith, more)
-    go false more =
-        let none : credit_room e (send_lane e n) ≡ 0 = rw within (omega (arith, used)) in
-        omega (arith, more, room_at e (send_lane e n), none, at_most_few (window_left e) (credit_room e (send_lane e n)))
-
--- else one takes a byte that its own buffer and limit let go
-
-none_of : (o : Option SendFault) → is_none o ≡ true → o ≡ None
-none_of None is = refl
-none_of (Some fault) is = absurd (true≢false (sym is))
-
-writable_parts : (l : SendLane) → is_writable l ≡ true → (refusal l ≡ None) × (0 < accepted l (free_room l))
-writable_parts l is =
-    let p = and_parts (is_none (refusal l)) (nat_lt 0 (accepted l 1)) is in
-    let more = ltb-true 0 (accepted l 1) p.1 in
-    (none_of (refusal l) p.0, omega (arith, more))
-
-alone_some : (e : End) (l : SendLane) (b : Bool) → (b ≡ true → all_unsent e < credit_left e) → (if b then is_funded l else is_writable l) ≡ true
-    → (refusal l ≡ None) × (0 < cond b (min (accepted l (free_room l)) (credit_for e l)) (accepted l (free_room l)))
-alone_some e l true credit is =
-    let p = and_parts (is_writable l) (nat_lt l.written l.limit) is in
-    let w = writable_parts l p.0 in
-    let more = w.1 in
-    let below = ltb-true l.written l.limit p.1 in
-    let left = credit refl in
-    (w.0, omega (arith, more, below, left))
-alone_some e l false credit is = writable_parts l is
-
-at_most_some : (o : Option ℕ) (n : ℕ) → ((left : ℕ) → o ≡ Some left → 0 < left) → 0 < n → 0 < at_most o n
-at_most_some None n some more = more
-at_most_some (Some left) n some more = let left_more = some left refl in omega (arith, more, left_more)
-
-pub alone_takes : (e : End) → e.closed ≡ None → (e.tuning.within_credit ≡ true → all_unsent e < credit_left e) → ((left : ℕ) → window_left e ≡ Some left → 0 < left) → (n : ℕ) → IsHeld (TakesAlone e) e.sends n → 0 < room e n
-alone_takes e open_end credit left n (l, at, takes) =
-    let some = alone_some e l e.tuning.within_credit credit takes in
-    rw (open_end, at, some.0) (at_most_some (window_left e) _ left some.1)
-
--- and no other does
+-- a stream that takes a byte has room of its own
 pub takes_alone : (e : End) (l : SendLane) (b : Bool) → refusal l ≡ None → 0 < at_most (window_left e) (cond b (min (accepted l (free_room l)) (credit_for e l)) (accepted l (free_room l))) → (if b then is_funded l else is_writable l) ≡ true
 takes_alone e l true is some =
     let few = at_most_few (window_left e) (min (accepted l (free_room l)) (credit_for e l)) in

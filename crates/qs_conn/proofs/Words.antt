@@ -1,12 +1,11 @@
 -- Flags as bits of words: one word, and a list of them.
-use Rattle.std.proofs.Common.{◌≡◌, ◌≢◌, ℕ, ◌+◌, ◌-◌, ◌*◌, ◌/◌, ◌%◌, ◌^◌, ◌<◌, ◌≤◌, ◌==◌, Bool, true, false, List, [], ◌∷◌, ◌++◌, length, get_or, set, take, replicate, suc, Option, None, Some, bit_and, sym, ap, ◌∙◌, subst, refl, inl, inr, arith}
+use Rattle.std.proofs.Common.{◌≡◌, ◌≢◌, ℕ, ◌+◌, ◌-◌, ◌*◌, ◌/◌, ◌%◌, ◌^◌, ◌<◌, ◌≤◌, ◌==◌, Bool, true, false, List, [], ◌∷◌, ◌++◌, length, get_or, set, take, replicate, suc, bit_and, sym, ap, ◌∙◌, refl, inl, inr, arith}
 use Rattle.std.specs.Int.{bit_at}
 use Rattle.std.proofs.lemmas.Bool.{cases_lt, cases_eq, both_ways}
 use Rattle.std.proofs.lemmas.List.{length-append, length-replicate, length-set, length-take, get_or-set_same, get_or-set_other, get_or-take, get_or_past, get_or_read, take_all, append-nil, ext_get_or}
 use Rattle.std.proofs.lemmas.List.FromFn.{length-map-range_with_len, get_or-map-range_with_len}
 use Rattle.std.proofs.lemmas.Nat.{one_shl}
 use Rattle.std.proofs.lemmas.Nat.Bits.{bit_at-zero, bit_at_and, bit_at_ones, bit_at_ones_above, bit_at-lt}
-use Rattle.std.proofs.lemmas.Option.{none-some, same_Some}
 use Rattle.qs_ranges.specs.Bits.{HasBit}
 use Rattle.qs_conn.specs.Marks.{is_marked, HasNoMark, HasAllMarks}
 use Rattle.qs_conn.specs.Words.{flag, flags, AreFlags, IsCutAt, IsWordOf}

@@ -1,6 +1,6 @@
 -- Of private contracts.
 -- Which streams of the peer came to their end, and how many (RFC 9000, sections 3 and 4.6).
-use Rattle.std.specs.Prelude.{◌≡◌, ℕ, ◌+◌, ◌-◌, ◌≤◌, Bool, true, false, ◌&&◌, ◌||◌, ◌⊎◌, if◌then◌else◌, length, zip, Option, None, Some, is_some, ⊤}
+use Rattle.std.specs.Prelude.{◌≡◌, ℕ, ◌+◌, ◌-◌, ◌≤◌, ◌^◌, Bool, true, false, ◌&&◌, ◌||◌, ◌⊎◌, if◌then◌else◌, length, zip, Option, None, Some, is_some, ⊤}
 use Rattle.std.specs.List.{filter}
 use Rattle.qs_wire.specs.declared.stream_id.Role.{Role}
 use Rattle.qs_recv.specs.Lane.{RecvLane}
@@ -38,6 +38,12 @@ is_over role recvs sends n = over role n (recv_over (lookup recvs n)) (send_over
 abbrev pub recounted : ℕ → Bool → Bool → ByDir ℕ → ByDir ℕ
 recounted n was is e =
     if is_uni n then record e { uni = e.uni + one_if is - one_if was } else record e { bidi = e.bidi + one_if is - one_if was }
+
+-- the counts are small, and a stream that was counted is in them
+pub record MayRecount (n : ℕ) (was : Bool) (e : ByDir ℕ) : Type 0 where
+  pub bidi : e.bidi ≤ 2 ^ 60
+  pub uni : e.uni ≤ 2 ^ 60
+  pub part : one_if was ≤ (if is_uni n then e.uni else e.bidi)
 
 -- the counts of the peer's streams that came to their end are right (RFC 9000, sections 3 and 4.6)
 pub record AreAllCounted (role : Role) (recvs : Tables RecvLane) (sends : Tables SendLane) (e : ByDir ℕ) : Type 0 where

@@ -1,7 +1,6 @@
 //! Which streams of the peer came to their end.
-ghost use Rattle.std.specs.Prelude.{◌≡◌, ◌+◌, ◌-◌, ◌≤◌, ◌^◌, true, if◌then◌else◌};
-ghost use Rattle.qs_machine.specs.Ends.{is_uni};
-ghost use Rattle.qs_conn.specs.Ended.{one_if, recounted};
+ghost use Rattle.std.specs.Prelude.{◌≡◌, ◌+◌, ◌-◌, ◌≤◌, ◌^◌, true};
+ghost use Rattle.qs_conn.specs.Ended.{one_if, recounted, MayRecount};
 
 use crate::by_dir::ByDir;
 use crate::endpoint::is_uni;
@@ -15,11 +14,9 @@ impl ByDir<u64> {
         self.bidi == other.bidi && self.uni == other.uni
     }
 
-    /// What the stream added before goes first, so that it isn't counted twice.
+    /// What the stream added before goes, so that it isn't counted twice. Modulo 2^64: whoever asks knows that the counts fit.
     pub(crate) fn recount(&mut self, stream: StreamId, was: bool, is: bool)
-        requires small { (self.old.bidi ≤ 2 ^ 60) × (self.old.uni ≤ 2 ^ 60) }
-        requires part { one_if was ≤ (if is_uni stream then self.old.uni else self.old.bidi) }
-        ensures { self.new ≡ recounted stream was is self.old }
+        ensures { MayRecount stream was self.old → self.new ≡ recounted stream was is self.old }
     {
         if is_uni(stream) {
             self.uni = moved(self.uni, was, is);
@@ -30,9 +27,9 @@ impl ByDir<u64> {
 }
 
 fn moved(count: u64, was: bool, is: bool) -> u64
-    requires small { count ≤ 2 ^ 60 }
-    requires part { one_if was ≤ count }
-    ensures { result ≡ count + one_if is - one_if was }
+    ensures { count ≤ 2 ^ 60 → one_if was ≤ count → result ≡ count + one_if is - one_if was }
 {
-    count + u64::from(is) - u64::from(was)
+    count
+        .wrapping_add(u64::from(is))
+        .wrapping_sub(u64::from(was))
 }

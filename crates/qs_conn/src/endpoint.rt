@@ -1,5 +1,5 @@
 //! One endpoint of a connection.
-ghost use Rattle.std.specs.Prelude.{◌≡◌, ◌+◌, ◌≤◌, ◌<◌, length, max, min, Some, None};
+ghost use Rattle.std.specs.Prelude.{◌≡◌, ◌+◌, ◌≤◌, ◌<◌, max, min, Some, None};
 ghost use Rattle.qs_ranges.specs.Numbers.{MAX_VARINT};
 ghost use Rattle.qs_recv.specs.Lane.{MAX_WINDOW, next_limit};
 ghost use Rattle.qs_calls.specs.Settings.{wide_setup_fault};
@@ -8,7 +8,7 @@ ghost use Rattle.qs_machine.specs.Credit.{spent, all_stored, granted_streams, co
 ghost use Rattle.qs_machine.specs.Making.{ClosePayload, ClosePayloadBy, close_text_of};
 ghost use Rattle.qs_conn.specs.Layers.{ClosingFits};
 ghost use Rattle.qs_conn.specs.Held.{IsHeldBy};
-ghost use Rattle.qs_machine.specs.Standing.{IsSound, IsWithinCredit};
+ghost use Rattle.qs_machine.specs.Standing.{IsWithinCredit};
 
 use crate::by_dir::ByDir;
 use crate::carried::Carried;

@@ -1,6 +1,5 @@
 //! What goes into a packet: frames into a slice, behind the bytes that are there.
 ghost use Rattle.std.specs.Prelude.{Bool, ◌≡◌, ◌+◌, ◌-◌, ◌≤◌, ◌<◌, ◌++◌, ◌^◌, true, false, None, is_some, length, take, drop, IfSome, IfNone};
-ghost use Rattle.qs_recv.specs.Lane.{RecvLane};
 ghost use Rattle.std.specs.FinSet as set;
 ghost use Rattle.qs_ranges.specs.Numbers.{MAX_VARINT, run_starts};
 ghost use Rattle.qs_send.specs.declared.piece.Piece.{Piece};
@@ -10,13 +9,11 @@ ghost use Rattle.qs_send.specs.Lane.{sent_lane, bytes_of};
 ghost use Rattle.qs_send.specs.Chunks.{frame_len};
 ghost use Rattle.qs_wire.specs.Layout.{view, stream};
 ghost use Rattle.qs_wire.specs.Grammar.{Fits, canonical};
-ghost use Rattle.qs_conn.specs.declared.limits.Limits.{Limits};
-ghost use Rattle.qs_machine.specs.Tables.{Tables, lookup};
+ghost use Rattle.qs_machine.specs.Tables.{lookup};
 ghost use Rattle.qs_machine.specs.Ends.{End};
-ghost use Rattle.qs_machine.specs.Due.{IsCovered};
 ghost use Rattle.qs_machine.specs.Outgoing.{IsCarried, MayTell, sent_sum, on_lane, chunk_put};
 ghost use Rattle.qs_machine.specs.Sums.{or_none};
-ghost use Rattle.qs_conn.specs.Filling.{frame_of_item, end_by, HasSpare, HasOneSpare, LeavesRest, PutsItem, no_slot, InPacket, Begun, IsAckLeft, IsAckText, IsPassed, MayGo, stream_frame};
+ghost use Rattle.qs_conn.specs.Filling.{frame_of_item, HasSpare, HasOneSpare, LeavesRest, PutsItem, no_slot, InPacket, Begun, IsAckLeft, IsAckText, IsPassed, MayGo, stream_frame};
 ghost use Rattle.qs_conn.specs.Tasks.{IsDoneAfter, IsFree};
 
 use crate::outbox::Outbox;

@@ -1,5 +1,5 @@
 //! What was reported to the application, and what is next.
-ghost use Rattle.std.specs.Prelude.{◌≡◌, ◌<◌, ◌^◌, ◌⊎◌, ℕ, true, false, None, Some, Ok, OnOk, OnErr};
+ghost use Rattle.std.specs.Prelude.{◌≡◌, ◌<◌, ◌⊎◌, ℕ, true, false, None, Some, Ok, OnOk, OnErr};
 ghost use Rattle.qs_machine.specs.Heard.{heard_nothing, heard_opened, WasResetAcked, IsFirstNews, IsHeardBy, IsNextNews, IsNoted, IsReadOn, TakesMemory, WillWrite, with_opened, with_wants};
 ghost use Rattle.qs_machine.specs.News.{IsHeld};
 ghost use Rattle.qs_send.specs.Lane.{SendLane};

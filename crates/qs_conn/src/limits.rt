@@ -1,9 +1,9 @@
 //! Which control items an endpoint has to send.
-ghost use Rattle.std.specs.Prelude.{◌≡◌, ◌≤◌, ◌<◌, ◌↔◌, ◌^◌, IsTrue, ℕ, true, None, Some, IfSome};
+ghost use Rattle.std.specs.Prelude.{◌≡◌, ◌≤◌, ◌<◌, ◌↔◌, IsTrue, true, None, Some};
 ghost use Rattle.qs_ranges.specs.Numbers.{MAX_VARINT};
 ghost use Rattle.qs_recv.specs.Lane.{MAX_CONN_WINDOW, RecvLane};
 ghost use Rattle.qs_conn.specs.declared.slot.Slot.TheVariants as slots;
-ghost use Rattle.qs_machine.specs.Tables.{Tables, lookup};
+ghost use Rattle.qs_machine.specs.Tables.{Tables};
 ghost use Rattle.qs_machine.specs.Ends.{End, window_by};
 ghost use Rattle.qs_machine.specs.Setting.{count_with};
 ghost use Rattle.qs_conn.specs.declared.limits.Limits.{Limits};

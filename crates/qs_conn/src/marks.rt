@@ -1,5 +1,5 @@
 //! Which streams of one type may have something to send or to tell.
-ghost use Rattle.std.specs.Prelude.{◌≡◌, ◌++◌, ◌+◌, ◌*◌, ◌-◌, ◌<◌, ◌≤◌, ◌^◌, ◌⊎◌, ℕ, [], true, false, Some, length, take, slice_set, replicate, OnOk, OnErr};
+ghost use Rattle.std.specs.Prelude.{◌≡◌, ◌++◌, ◌+◌, ◌*◌, ◌-◌, ◌<◌, ◌≤◌, ◌^◌, ℕ, [], true, false, Some, length, take, slice_set, replicate, OnOk, OnErr};
 ghost use Rattle.qs_conn.specs.Marks.{is_marked, IsNextMark, AreSummed, least_of, both, untold};
 ghost use Rattle.qs_conn.specs.Untold.{IsClear};
 

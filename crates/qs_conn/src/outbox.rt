@@ -186,13 +186,6 @@ impl Outbox {
         self.next
     }
 
-    /// For how many pieces more the packet in the making has room.
-    pub(crate) fn spare(&self) -> usize
-        ensures { result ≡ self.now.spare }
-    {
-        self.spare
-    }
-
     pub(crate) fn sent_sum(&self) -> u64
         ensures value { result ≡ sent_sum self.now.sends }
         ensures small { result ≤ MAX_VARINT }
@@ -245,14 +238,6 @@ impl Outbox {
     {
         let lanes = &mut self.types[type_of(stream)];
         lanes.open_to(type_of(stream) as u64, limit, buffer, index_of(stream) + 1)
-    }
-
-    /// Opens none: several streams may open at once, and a refusal of any is to change nothing.
-    pub(crate) fn reserve(&mut self, stream: StreamId) -> Result<(), NoMemory>
-        ensures { self.new ≡ self.old }
-    {
-        let lanes = &mut self.types[type_of(stream)];
-        lanes.reserve_to(index_of(stream) + 1)
     }
 
     /// An opening is undone: nothing of these streams was sent or is to be sent, and they keep nothing.

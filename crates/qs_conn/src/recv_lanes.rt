@@ -1,4 +1,4 @@
-ghost use Rattle.std.specs.Prelude.{◌≡◌, ◌+◌, ◌-◌, ◌≤◌, ◌<◌, ◌^◌, ◌++◌, ◌∷◌, [], length, map, min, take, slice_get, slice_index_or, ℕ, false, None, Some, IfSome, IfNone, OnOk, OnErr};
+ghost use Rattle.std.specs.Prelude.{◌≡◌, ◌+◌, ◌-◌, ◌≤◌, ◌<◌, ◌^◌, ◌++◌, ◌∷◌, [], length, map, min, take, slice_get, slice_index_or, false, None, Some, IfSome, IfNone, OnOk, OnErr};
 ghost use Rattle.std.specs.List.{sum_by};
 ghost use Rattle.qs_ranges.specs.Numbers.{MAX_VARINT};
 ghost use Rattle.qs_recv.specs.Lane.{MAX_WINDOW, RecvLane, new_lane, raise};
@@ -134,15 +134,6 @@ impl RecvLanes {
             self.touched.close_to(before);
             return Err(NoMemory);
         }
-        Ok(())
-    }
-
-    /// Opens none, so that a refusal of several streams' memory changes nothing.
-    pub(crate) fn reserve_to(&mut self, count: usize) -> Result<(), NoMemory>
-        ensures { self.new ≡ self.old }
-    {
-        let missing = count.saturating_sub(self.halves.len());
-        self.halves.reserve(missing)?;
         Ok(())
     }
 

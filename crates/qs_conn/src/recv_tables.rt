@@ -120,13 +120,6 @@ impl RecvTables {
         lanes.len()
     }
 
-    pub(crate) fn reserve(&mut self, stream: StreamId) -> Result<(), NoMemory>
-        ensures { self.new ≡ self.old }
-    {
-        let lanes = &mut self.types[type_of(stream)];
-        lanes.reserve_to(index_of(stream) + 1)
-    }
-
     pub(crate) fn close_to(&mut self, stream: StreamId, count: usize)
         requires { let lanes = table self.old (type_of stream) in tally_on (take count lanes) ≡ tally_on lanes }
         ensures { self.new ≡ with_table self.old (type_of stream) (take count (table self.old (type_of stream))) }

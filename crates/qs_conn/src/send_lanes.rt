@@ -167,14 +167,6 @@ impl SendLanes {
         Ok(())
     }
 
-    /// Opens none, so that a refusal of several streams' memory changes nothing.
-    pub(crate) fn reserve_to(&mut self, count: usize) -> Result<(), NoMemory>
-        ensures { self.new ≡ self.old }
-    {
-        let missing = count.saturating_sub(self.halves.len());
-        self.halves.reserve(missing)
-    }
-
     pub(crate) fn close_to(&mut self, count: usize)
         requires unwritten { sum_by (λ s. promised_on s.lane) (take count self.old) ≡ sum_by (λ s. promised_on s.lane) self.old }
         requires unkept { sum_by (λ s. kept_on s.lane) (take count self.old) ≡ sum_by (λ s. kept_on s.lane) self.old }

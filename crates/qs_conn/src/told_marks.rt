@@ -1,4 +1,4 @@
-ghost use Rattle.std.specs.Prelude.{◌≡◌, ◌++◌, ◌+◌, ◌-◌, ◌*◌, ◌/◌, ◌<◌, ◌≤◌, ◌^◌, ◌⊎◌, [], true, false, length, slice_get, slice_set, replicate, None, OnOk, OnErr};
+ghost use Rattle.std.specs.Prelude.{◌≡◌, ◌++◌, ◌+◌, ◌-◌, ◌/◌, ◌<◌, ◌^◌, [], true, false, length, slice_get, slice_set, replicate, None, OnOk, OnErr};
 ghost use Rattle.qs_conn.specs.Marks.{is_marked, IsMarkedBeside, IsUnmarkedBeside, AreFull, AreMarkedBelow};
 ghost use Rattle.qs_conn.specs.Untold.{IsClear};
 

@@ -5,7 +5,6 @@ ghost use Rattle.qs_wire.specs.Layout as layout;
 ghost use Rattle.qs_machine.specs.Ends.{closes};
 ghost use Rattle.qs_machine.specs.Seen.{seen};
 ghost use Rattle.qs_machine.specs.Receiving.{closing_at};
-ghost use Rattle.qs_machine.specs.Verdicts.{verdict};
 ghost use Rattle.qs_machine.specs.Changes.{is_yet_to_open, item_changes, changes};
 ghost use Rattle.qs_conn.specs.Seen.{view_seen, SeenFits};
 ghost use Rattle.qs_machine.specs.Alone.{is_ours, alone, closed_fault, told_fault, of_both, TakesOne, TakesEach, TakeFrameStep, TakeFramesStep};

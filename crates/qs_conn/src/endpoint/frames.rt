@@ -1,5 +1,5 @@
 //! How frames are judged. Nothing changes here, so a frame that offends leaves everything as it was.
-ghost use Rattle.std.specs.Prelude.{◌≡◌, ◌+◌, ◌≤◌, ◌<◌, ◌^◌, true, length, None, Ok, IfOk};
+ghost use Rattle.std.specs.Prelude.{◌≡◌, ◌+◌, ◌≤◌, ◌<◌, true, length, None, Ok, IfOk};
 ghost use Rattle.qs_ranges.specs.Numbers.{MAX_VARINT};
 ghost use Rattle.qs_recv.specs.Lane.{check_stream, check_reset};
 ghost use Rattle.qs_recv.specs.declared.half.Highest.{Highest};

@@ -1,5 +1,4 @@
 //! Which packets a payload acknowledges.
-ghost use Rattle.std.specs.Prelude.{◌≡◌};
 ghost use Rattle.qs_machine.specs.News.{IsLeast};
 ghost use Rattle.qs_machine.specs.Newly.{IsNewlyAcked};
 

@@ -1,4 +1,4 @@
-ghost use Rattle.std.specs.Prelude.{◌≡◌, ◌≤◌, ◌<◌, ◌^◌, length, max, not, ◌&&◌, if◌then◌else◌, true, false, OnOk, OnErr};
+ghost use Rattle.std.specs.Prelude.{◌≡◌, ◌≤◌, ◌<◌, ◌^◌, max, ◌&&◌, if◌then◌else◌, true, false, OnOk, OnErr};
 ghost use Rattle.qs_ranges.specs.Numbers.{MAX_VARINT};
 ghost use Rattle.qs_recv.specs.Lane.{MAX_WINDOW, new_lane as new_recv_lane};
 ghost use Rattle.qs_send.specs.Lane.{new_lane as new_send_lane};
@@ -121,19 +121,8 @@ impl Endpoint {
         is_uni(stream) || self.core.outbox.is_open(stream)
     }
 
-    // The memory of the halves comes first, for all streams that open, so that a refusal there changes nothing. Their marks come behind: to
-    // take theirs in advance, too, cost a look at each row of marks for each stream.
-    fn open_stream(&mut self, stream: StreamId) -> Result<(), NoMemory>
-        ensures ok { OnOk result (self.new ≡ opens stream self.old) }
-        ensures err { OnErr result (self.new ≡ self.old) }
-    {
-        self.reserve(stream)?;
-        self.open_reserved(stream)
-    }
-
-    // No clause says that memory was taken, so a refusal is undone.
     #[tactic(auto, using(crate::proofs::Runs::idle_with))]
-    fn open_reserved(&mut self, stream: StreamId) -> Result<(), NoMemory>
+    fn open_stream(&mut self, stream: StreamId) -> Result<(), NoMemory>
         ensures ok { OnOk result (self.new ≡ opens stream self.old) }
         ensures err { OnErr result (self.new ≡ self.old) }
     {
@@ -144,7 +133,6 @@ impl Endpoint {
         let buffer = self.send_buffer();
         self.core.outbox.learn_of_open();
         let before = self.core.outbox.count(stream);
-        self.core.outbox.learn_of_open();
         self.core.untold_recvs.open_to(stream)?;
         self.core.untold_sends.open_to(stream)?;
         self.core.carried.open_to(stream)?;
@@ -168,20 +156,6 @@ impl Endpoint {
         }
         self.is_settled = false;
         Ok(())
-    }
-
-    fn reserve(&mut self, stream: StreamId) -> Result<(), NoMemory>
-        ensures { self.new ≡ self.old }
-    {
-        let (uni, own) = (is_uni(stream), self.is_own(stream));
-        let (sends, receives) = (!both(uni, !own), !both(uni, own));
-        reserve_halves(
-            &mut self.core.outbox,
-            &mut self.core.recvs,
-            stream,
-            sends,
-            receives,
-        )
     }
 
     fn want(&mut self, dir: Dir, count: u64)
@@ -262,25 +236,6 @@ fn open_recvs(
         return Ok(());
     }
     recvs.open_to(window, share, stream)
-}
-
-fn reserve_halves(
-    outbox: &mut Outbox,
-    recvs: &mut RecvTables,
-    stream: StreamId,
-    sends: bool,
-    receives: bool,
-) -> Result<(), NoMemory>
-    ensures sends { outbox.new ≡ outbox.old }
-    ensures receives { recvs.new ≡ recvs.old }
-{
-    if sends {
-        outbox.reserve(stream)?;
-    }
-    if receives {
-        recvs.reserve(stream)?;
-    }
-    Ok(())
 }
 
 fn both(a: bool, b: bool) -> bool

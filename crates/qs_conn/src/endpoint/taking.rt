@@ -207,7 +207,6 @@ impl Endpoint {
     {
         self.core.outbox.learn_of_open();
         let sends = self.core.outbox.count(stream);
-        self.core.outbox.learn_of_open();
         let recvs = self.core.recvs.count(stream);
         self.open_by_peer(stream)?;
         let was = self.core.is_over(stream);

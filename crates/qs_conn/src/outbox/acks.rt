@@ -1,8 +1,7 @@
-ghost use Rattle.std.specs.Prelude.{◌≡◌, ◌<◌, ◌≤◌, ◌↔◌, ℕ, length, is_some, true, None, Some, false, IfSome, IfNone, OnOk, OnErr};
+ghost use Rattle.std.specs.Prelude.{◌≡◌, ◌<◌, ◌≤◌, ℕ, length, is_some, true, None, Some, false, IfSome, IfNone, OnOk, OnErr};
 ghost use Rattle.std.specs.FinMap as fmap;
 ghost use Rattle.qs_send.specs.declared.piece.Item.{Item};
 ghost use Rattle.qs_send.specs.declared.piece.Piece.TheVariants as pieces;
-ghost use Rattle.qs_send.specs.Records.{Among};
 ghost use Rattle.qs_send.specs.AckPass.{Falls, IsNextNamed};
 ghost use Rattle.qs_send.specs.Chunks.{WasSent};
 ghost use Rattle.qs_send.specs.Lane.{Sending, after_reset_acked, after_acked, after_lost};
@@ -109,38 +108,13 @@ impl Outbox {
         ensures asks { OnErr result (PieceMayRunOut self.old.sends self.old.acked piece) }
         ensures idle { IsIdle self.new }
     {
+        let _next = self.next;
+        piece_acked(&mut self.types, &mut self.told, &piece)?;
         if packet.late {
-            return self.ack_lost(packet.number, piece);
+            self.lost.drop_first(packet.number);
+            return Ok(());
         }
-        self.ack_outstanding(packet.number, piece)
-    }
-
-    #[inline(always)]
-    fn ack_outstanding(&mut self, number: u64, piece: Piece) -> Result<(), NoMemory>
-        requires idle { IsIdle self.old }
-        requires first { first_piece (fmap.get self.old.outstanding number) ≡ Some piece }
-        ensures ok { OnOk result (self.new ≡ first_acked_out (acked_at false number piece) self.old) }
-        ensures err { OnErr result (self.new ≡ self.old) }
-        ensures asks { OnErr result (PieceMayRunOut self.old.sends self.old.acked piece) }
-        ensures idle { IsIdle self.new }
-    {
-        let _next = self.next;
-        piece_acked(&mut self.types, &mut self.told, &piece)?;
-        self.records.drop_first(number);
-        Ok(())
-    }
-
-    fn ack_lost(&mut self, number: u64, piece: Piece) -> Result<(), NoMemory>
-        requires idle { IsIdle self.old }
-        requires first { first_piece (fmap.get self.old.lost.pieces number) ≡ Some piece }
-        ensures ok { OnOk result (self.new ≡ first_acked_out (acked_at true number piece) self.old) }
-        ensures err { OnErr result (self.new ≡ self.old) }
-        ensures asks { OnErr result (PieceMayRunOut self.old.sends self.old.acked piece) }
-        ensures idle { IsIdle self.new }
-    {
-        let _next = self.next;
-        piece_acked(&mut self.types, &mut self.told, &piece)?;
-        self.lost.drop_first(number);
+        self.records.drop_first(packet.number);
         Ok(())
     }
 

@@ -12,7 +12,7 @@ ghost use Rattle.qs_machine.specs.Asking.{waits_for_credit, unsent_of, acked_bel
 ghost use Rattle.qs_conn.specs.Marks.{IsBefore, AreEndsMarked};
 ghost use Rattle.qs_conn.specs.Sending.{IsDueOf, IsFunded, MayWrite, HasSent, WasStopped, buffer_room, limit_left};
 ghost use Rattle.qs_conn.specs.Tasks.{IsOpen, IsQuietAt};
-ghost use Rattle.qs_machine.specs.Outgoing.{IsCarried, IsAckedOut, IsAckedReset, IsBlockedAt, WantsMore, reset_by, with_outgoing};
+ghost use Rattle.qs_machine.specs.Outgoing.{IsAckedOut, IsAckedReset, IsBlockedAt, WantsMore, reset_by, with_outgoing};
 
 use super::Outbox;
 use super::halves::{half_of, may_have, next_sought, next_with};

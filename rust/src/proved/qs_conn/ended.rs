@@ -12,7 +12,7 @@ impl ByDir<u64> {
         self.bidi == other.bidi && self.uni == other.uni
     }
 
-    /// What the stream added before goes first, so that it isn't counted twice.
+    /// What the stream added before goes, so that it isn't counted twice. Modulo 2^64: whoever asks knows that the counts fit.
     #[inline]
     pub(crate) fn recount(&mut self, stream: StreamId, was: bool, is: bool) {
         if is_uni(stream) {
@@ -24,6 +24,7 @@ impl ByDir<u64> {
 }
 
 fn moved(count: u64, was: bool, is: bool) -> u64 {
-    debug_assert!(count <= 1 << 60);
-    count + u64::from(is) - u64::from(was)
+    count
+        .wrapping_add(u64::from(is))
+        .wrapping_sub(u64::from(was))
 }

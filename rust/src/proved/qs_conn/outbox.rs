@@ -112,12 +112,6 @@ impl Outbox {
         self.next
     }
 
-    /// For how many pieces more the packet in the making has room.
-    #[inline]
-    pub(crate) fn spare(&self) -> usize {
-        self.spare
-    }
-
     #[inline]
     pub(crate) fn sent_sum(&self) -> u64 {
         self.sent
@@ -162,13 +156,6 @@ impl Outbox {
         debug_assert!(limit <= 0x3fff_ffff_ffff_ffff);
         let lanes = &mut self.types[type_of(stream)];
         lanes.open_to(type_of(stream) as u64, limit, buffer, index_of(stream) + 1)
-    }
-
-    /// Opens none: several streams may open at once, and a refusal of any is to change nothing.
-    #[inline]
-    pub(crate) fn reserve(&mut self, stream: StreamId) -> Result<(), NoMemory> {
-        let lanes = &mut self.types[type_of(stream)];
-        lanes.reserve_to(index_of(stream) + 1)
     }
 
     /// An opening is undone: nothing of these streams was sent or is to be sent, and they keep nothing.

@@ -71,12 +71,6 @@ impl RecvTables {
     }
 
     #[inline]
-    pub(crate) fn reserve(&mut self, stream: StreamId) -> Result<(), NoMemory> {
-        let lanes = &mut self.types[type_of(stream)];
-        lanes.reserve_to(index_of(stream) + 1)
-    }
-
-    #[inline]
     pub(crate) fn close_to(&mut self, stream: StreamId, count: usize) {
         let lanes = &mut self.types[type_of(stream)];
         lanes.close_to(count);

@@ -105,13 +105,6 @@ impl SendLanes {
         Ok(())
     }
 
-    /// Opens none, so that a refusal of several streams' memory changes nothing.
-    #[inline]
-    pub(crate) fn reserve_to(&mut self, count: usize) -> Result<(), NoMemory> {
-        let missing = count.saturating_sub(self.halves.len());
-        self.halves.reserve(missing)
-    }
-
     #[inline]
     pub(crate) fn close_to(&mut self, count: usize) {
         self.halves.truncate(count);

@@ -1,5 +1,4 @@
-use Rattle.std.proofs.Common.{refl, inl, inr, arith}
-use Rattle.std.proofs.lemmas.Bool.{cases_lt}
+use Rattle.std.proofs.Common.{refl, arith}
 use Rattle.qs_conn.proofs.Searches.{clear_here, passed, found}
 use Rattle.qs_conn.proofs.marks.next_word.Goals as goal
 

@@ -95,15 +95,7 @@ impl Endpoint {
         is_uni(stream) || self.core.outbox.is_open(stream)
     }
 
-    // The memory of the halves comes first, for all streams that open, so that a refusal there changes nothing. Their marks come behind: to
-    // take theirs in advance, too, cost a look at each row of marks for each stream.
     fn open_stream(&mut self, stream: StreamId) -> Result<(), NoMemory> {
-        self.reserve(stream)?;
-        self.open_reserved(stream)
-    }
-
-    // No clause says that memory was taken, so a refusal is undone.
-    fn open_reserved(&mut self, stream: StreamId) -> Result<(), NoMemory> {
         let (uni, own) = (is_uni(stream), self.is_own(stream));
         let limit = self.first_send_limit(stream);
         let window = self.window(stream);
@@ -133,18 +125,6 @@ impl Endpoint {
         }
         self.is_settled = false;
         Ok(())
-    }
-
-    fn reserve(&mut self, stream: StreamId) -> Result<(), NoMemory> {
-        let (uni, own) = (is_uni(stream), self.is_own(stream));
-        let (sends, receives) = (!both(uni, !own), !both(uni, own));
-        reserve_halves(
-            &mut self.core.outbox,
-            &mut self.core.recvs,
-            stream,
-            sends,
-            receives,
-        )
     }
 
     fn want(&mut self, dir: Dir, count: u64) {
@@ -209,22 +189,6 @@ fn open_recvs(
         return Ok(());
     }
     recvs.open_to(window, share, stream)
-}
-
-fn reserve_halves(
-    outbox: &mut Outbox,
-    recvs: &mut RecvTables,
-    stream: StreamId,
-    sends: bool,
-    receives: bool,
-) -> Result<(), NoMemory> {
-    if sends {
-        outbox.reserve(stream)?;
-    }
-    if receives {
-        recvs.reserve(stream)?;
-    }
-    Ok(())
 }
 
 fn both(a: bool, b: bool) -> bool {

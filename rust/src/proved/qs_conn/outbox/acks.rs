@@ -64,24 +64,13 @@ impl Outbox {
 
     #[inline]
     pub(crate) fn ack_kept(&mut self, packet: KeptPacket, piece: Piece) -> Result<(), NoMemory> {
+        let _next = self.next;
+        piece_acked(&mut self.types, &mut self.told, &piece)?;
         if packet.late {
-            return self.ack_lost(packet.number, piece);
+            self.lost.drop_first(packet.number);
+            return Ok(());
         }
-        self.ack_outstanding(packet.number, piece)
-    }
-
-    #[inline(always)]
-    fn ack_outstanding(&mut self, number: u64, piece: Piece) -> Result<(), NoMemory> {
-        let _next = self.next;
-        piece_acked(&mut self.types, &mut self.told, &piece)?;
-        self.records.drop_first(number);
-        Ok(())
-    }
-
-    fn ack_lost(&mut self, number: u64, piece: Piece) -> Result<(), NoMemory> {
-        let _next = self.next;
-        piece_acked(&mut self.types, &mut self.told, &piece)?;
-        self.lost.drop_first(number);
+        self.records.drop_first(packet.number);
         Ok(())
     }
 

@@ -9,7 +9,7 @@ use Rattle.qs_machine.specs.Standing.{IsInCredit}
 use Rattle.qs_machine.specs.Sums.{tally_on}
 use Rattle.qs_machine.specs.Outgoing.{Outgoing, AreOfOpen, sent_sum}
 use Rattle.qs_conn.proofs.Counted.{fit_recvs, fit_streamed, closed_counted}
-use Rattle.qs_conn.proofs.Counting.{counted_small, counted_part}
+use Rattle.qs_conn.proofs.Counting.{may_recount}
 use Rattle.qs_conn.specs.Ended.{AreAllCounted, IsToldOfEnd}
 use Rattle.qs_conn.proofs.CarriedSteps.{carried_recv, carried_closed, peer_outstanding}
 use Rattle.qs_conn.proofs.Cores.{kept_moved, rest_recvs}
@@ -106,12 +106,6 @@ pub close_to-requires-clause-unsent : goal.close_to-requires-clause-unsent
 close_to-requires-clause-unsent c =
     peer_unsent c.args.self.now _ c.args.stream c.count-sends.result (c.self-2.view_is ∙ c.in_ok-open_by_peer.ensures.ok) (c.count-sends.ensures ∙ ap (λ (e : End). length (table e.sends (c.args.stream % 4))) c.self.view_is)
 
-pub recount-requires-clause-small : goal.recount-requires-clause-small
-recount-requires-clause-small c = counted_small _ _ _ _ c.self-2.invariant.rest.core.counts.counted c.is_over-was.ensures.few
-
-pub recount-requires-clause-part : goal.recount-requires-clause-part
-recount-requires-clause-part c = counted_part _ _ _ _ _ _ c.self-2.invariant.rest.core.counts.counted c.is_over-was.ensures.value
-
 pub invariant_of-self-2 : goal.invariant_of-self-2
 invariant_of-self-2 c =
     let after = rw c.of-place.ensures at c.in_default.ensures.ok in
@@ -123,7 +117,7 @@ invariant_of-self-2 c =
     kept_moved _ _ _ _ _ _ c.self-2.invariant _
     (rest_recvs core h c.take_stream.new.self core.untold_recvs c.recount.new.self
     (stream_sound c.args.self.now _ c.args.stream c.args.offset c.args.bytes.now c.args.fin c.take_stream.new.self sound c.requires.passed opened after)
-    (fit_streamed _ _ _ _ _ _ _ h.core.counts _ _ h.core.sound _ c.args.stream _ _ _ _ c.is_over-was.result c.is_over-is.result checked after c.is_over-was.ensures.value c.is_over-is.ensures.value c.recount.ensures)
+    (fit_streamed _ _ _ _ _ _ _ h.core.counts _ _ h.core.sound _ c.args.stream _ _ _ _ c.is_over-was.result c.is_over-is.result checked after c.is_over-was.ensures.value c.is_over-is.ensures.value (c.recount.ensures (may_recount _ _ _ _ _ _ h.core.counts.counted c.is_over-was.ensures.value c.is_over-was.ensures.few)))
     (told_streamed core.limits.role core.limits.settings core.recvs core.outbox.outstanding core.outbox.acked core.untold_recvs h.core.told_in c.take_stream.new.self c.args.stream _ _ h.core.sound c.args.offset c.args.bytes.now c.args.fin checked after)
     (carried_recv core.recvs core.outbox.sends core.outbox.outstanding core.carried h.core.carried c.take_stream.new.self c.args.stream (λ l. take_stream l c.args.offset c.args.bytes.now c.args.fin) after (λ l. refl) (λ l v e. e)))
 

@@ -5,7 +5,7 @@ use Rattle.qs_machine.specs.Ends.{End, on_recv}
 use Rattle.qs_conn.specs.contracts.endpoint.Endpoint.{the_view}
 use Rattle.qs_machine.specs.Standing.{IsInCredit}
 use Rattle.qs_conn.proofs.Counted.{fit_broken}
-use Rattle.qs_conn.proofs.Counting.{counted_small, counted_part}
+use Rattle.qs_conn.proofs.Counting.{may_recount}
 use Rattle.qs_conn.proofs.CarriedSteps.{carried_recv, broken_stop, broken_limit}
 use Rattle.qs_conn.proofs.Cores.{kept_moved, rest_recvs}
 use Rattle.qs_machine.proofs.Taken.{in_there, reset_in, reset_checked, reset_sound}
@@ -20,12 +20,6 @@ pub take_reset-requires-clause-passed : goal.take_reset-requires-clause-passed
 take_reset-requires-clause-passed c =
     reset_checked c.args.self.now _ c.args.stream c.args.code c.args.size c.requires.passed (c.self-2.view_is ∙ c.in_ok-open_by_peer.ensures.ok)
 
-pub recount-requires-clause-small : goal.recount-requires-clause-small
-recount-requires-clause-small c = counted_small _ _ _ _ c.self-2.invariant.rest.core.counts.counted c.is_over-was.ensures.few
-
-pub recount-requires-clause-part : goal.recount-requires-clause-part
-recount-requires-clause-part c = counted_part _ _ _ _ _ _ c.self-2.invariant.rest.core.counts.counted c.is_over-was.ensures.value
-
 pub invariant_of-self : goal.invariant_of-self
 invariant_of-self c =
     let core = c.self-2.inside.core in
@@ -34,7 +28,7 @@ invariant_of-self c =
     kept_moved _ _ _ _ _ _ c.self-2.invariant _
     (rest_recvs core h c.take_reset.new.self core.untold_recvs c.recount.new.self
     (reset_sound c.args.self.now _ c.args.stream c.args.code c.args.size c.take_reset.new.self sound c.requires.passed (c.self-2.view_is ∙ c.in_ok-open_by_peer.ensures.ok) c.take_reset.ensures)
-    (fit_broken _ _ _ _ _ _ _ h.core.counts _ c.args.stream _ _ _ c.is_over-was.result c.is_over-is.result c.take_reset.ensures c.is_over-was.ensures.value c.is_over-is.ensures.value c.recount.ensures)
+    (fit_broken _ _ _ _ _ _ _ h.core.counts _ c.args.stream _ _ _ c.is_over-was.result c.is_over-is.result c.take_reset.ensures c.is_over-was.ensures.value c.is_over-is.ensures.value (c.recount.ensures (may_recount _ _ _ _ _ _ h.core.counts.counted c.is_over-was.ensures.value c.is_over-was.ensures.few)))
     (told_broken core.limits.role core.limits.settings core.recvs core.outbox.outstanding core.outbox.acked core.untold_recvs h.core.told_in c.take_reset.new.self c.args.stream c.args.code c.args.size c.take_reset.ensures)
     (carried_recv core.recvs core.outbox.sends core.outbox.outstanding core.carried h.core.carried c.take_reset.new.self c.args.stream (λ l. take_reset l c.args.code c.args.size) c.take_reset.ensures (λ l. broken_limit l c.args.code c.args.size) (λ l v. broken_stop l c.args.code c.args.size v)))
 

@@ -1,24 +1,18 @@
 use Rattle.std.proofs.Common.{sym, ◌∙◌, refl}
 use Rattle.qs_conn.specs.Middle.{IsAtRest}
 use Rattle.qs_conn.proofs.CarriedSteps.{same_data}
-use Rattle.qs_conn.proofs.Counting.{counted_small, counted_part}
+use Rattle.qs_conn.proofs.Counting.{may_recount}
 use Rattle.qs_conn.proofs.Counted.{piece_recounted}
 use Rattle.qs_conn.proofs.Cores.{rest_acked, rest_acked_by, rest_marked, rest_unmarked}
 use Rattle.qs_conn.proofs.Owns.{own_data}
 use Rattle.qs_conn.proofs.middle.Core.ack_piece.Goals as goal
-
-pub recount-requires-clause-small : goal.recount-requires-clause-small
-recount-requires-clause-small c = counted_small _ _ _ _ c.requires.rest.core.counts.counted c.is_over-was.ensures.few
-
-pub recount-requires-clause-part : goal.recount-requires-clause-part
-recount-requires-clause-part c = counted_part _ _ _ _ _ _ c.requires.rest.core.counts.counted c.is_over-was.ensures.value
 
 pub returns-in-Data-clause-rest : goal.returns-in-Data-clause-rest
 returns-in-Data-clause-rest c =
     let self = c.args.self.now in
     rest_acked self c.requires.rest c.args.packet.late c.args.packet.number c.args.piece c.ack_kept-2.new.self c.look_again.new.recvs c.look_again.new.sends c.recount.new.self c.requires.first c.in_ok-ack_kept-2.ensures.ok c.look_again.ensures.recvs c.look_again.ensures.sends
     (piece_recounted self.limits.role self.recvs c.args.packet.late c.args.packet.number c.in-Some.stream c.args.piece self.outbox c.ack_kept-2.new.self self.ended c.recount.new.self c.is_over-was.result c.is_over-is.result
-    (sym c.half_of.ensures ∙ c.in-Some.is) c.in_ok-ack_kept-2.ensures.ok c.requires.rest.core.counts.counted c.is_over-was.ensures.value c.is_over-is.ensures.value c.recount.ensures)
+    (sym c.half_of.ensures ∙ c.in-Some.is) c.in_ok-ack_kept-2.ensures.ok c.requires.rest.core.counts.counted c.is_over-was.ensures.value c.is_over-is.ensures.value (c.recount.ensures (may_recount _ _ _ _ _ _ c.requires.rest.core.counts.counted c.is_over-was.ensures.value c.is_over-was.ensures.few)))
     c.ack_kept-2.ensures.idle c.learn_apart.ensures self.carried (same_data c.args.packet.late c.args.piece _ _ self.recvs c.ack_kept-2.new.self.sends self.carried c.in-Data.is) self.own (own_data c.args.packet.late c.args.piece _ _ self.own c.in-Data.is)
 
 pub unmark_told-requires : goal.unmark_told-requires
@@ -26,7 +20,7 @@ unmark_told-requires c =
     let self = c.args.self.now in
     let rest : IsAtRest c.drop_unless-2.new.self = rw c.drop_unless-2.ensures (rest_acked self c.requires.rest c.args.packet.late c.args.packet.number c.args.piece c.ack_kept-2.new.self c.look_again.new.recvs c.look_again.new.sends c.recount.new.self c.requires.first c.in_ok-ack_kept-2.ensures.ok c.look_again.ensures.recvs c.look_again.ensures.sends
     (piece_recounted self.limits.role self.recvs c.args.packet.late c.args.packet.number c.in-Some.stream c.args.piece self.outbox c.ack_kept-2.new.self self.ended c.recount.new.self c.is_over-was.result c.is_over-is.result
-    (sym c.half_of.ensures ∙ c.in-Some.is) c.in_ok-ack_kept-2.ensures.ok c.requires.rest.core.counts.counted c.is_over-was.ensures.value c.is_over-is.ensures.value c.recount.ensures)
+    (sym c.half_of.ensures ∙ c.in-Some.is) c.in_ok-ack_kept-2.ensures.ok c.requires.rest.core.counts.counted c.is_over-was.ensures.value c.is_over-is.ensures.value (c.recount.ensures (may_recount _ _ _ _ _ _ c.requires.rest.core.counts.counted c.is_over-was.ensures.value c.is_over-was.ensures.few)))
     c.ack_kept-2.ensures.idle c.learn_apart.ensures _ refl _ refl) in
     rest.core
 

@@ -5,7 +5,7 @@ use Rattle.qs_machine.specs.Outgoing.{lanes_of}
 use Rattle.qs_machine.specs.Sums.{tables_of}
 use Rattle.qs_machine.proofs.LostSent.{sent_finish}
 use Rattle.qs_machine.proofs.TableEdits.{open_there, half_is, updated_is, on_ok}
-use Rattle.qs_conn.proofs.Outboxes.{half_found, half_there, lane_now, lane_step, same_step, box_finished, finish_ok, finish_err, on_error}
+use Rattle.qs_conn.proofs.Outboxes.{half_there, lane_now, lane_step, same_step, box_finished, finish_ok, finish_err, on_error}
 use Rattle.qs_conn.proofs.outbox.Outbox.finish.Goals as goal
 
 pub learn_lawful-requires-clause-open : goal.learn_lawful-requires-clause-open
@@ -17,7 +17,7 @@ finish-requires c = open_there c.self.inside.types c.args.stream _ _ _ c.self.in
 pub invariant_of-self : goal.invariant_of-self
 invariant_of-self c =
     let is = updated_is c.self.inside.types c.args.stream _ _ _ _ after_finish c.self.invariant.2 c.type_of.ensures.value c.index_of.ensures.value c.finish.ensures.after in
-    (box_finished _ _ _ _ _ _ _ _ _ c.self.invariant.0 c.args.stream _ (half_found _ c.args.stream (half_there _ c.args.self.now (tables_of c.self.inside.types) c.args.stream c.self.view_is refl c.requires)) c.learn_lawful.ensures is, sent_finish (tables_of c.self.inside.types) _ _ c.self.invariant.1 c.args.stream is, length-set _ _ _ ∙ c.self.invariant.2)
+    (box_finished _ _ _ _ _ _ _ _ _ c.self.invariant.0 c.args.stream (half_there _ c.args.self.now (tables_of c.self.inside.types) c.args.stream c.self.view_is refl c.requires) c.learn_lawful.ensures is, sent_finish (tables_of c.self.inside.types) _ _ c.self.invariant.1 c.args.stream is, length-set _ _ _ ∙ c.self.invariant.2)
 
 pub returns : goal.returns
 returns c =

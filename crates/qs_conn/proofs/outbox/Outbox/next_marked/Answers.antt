@@ -1,6 +1,5 @@
 use Rattle.std.proofs.Common.{◌≡◌, false, refl, arith}
 use Rattle.qs_machine.specs.Sums.{tables_of}
-use Rattle.qs_conn.specs.Tasks.{has}
 use Rattle.qs_conn.proofs.Outboxes.{some_open}
 use Rattle.qs_conn.proofs.Quiets.{quiet_at, quiet_before, held_from, held_open}
 use Rattle.qs_conn.proofs.outbox.Outbox.next_marked.Goals as goal

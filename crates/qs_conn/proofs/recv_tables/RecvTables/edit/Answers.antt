@@ -1,8 +1,8 @@
-use Rattle.std.proofs.Common.{ap, ◌∙◌, subst, sym}
+use Rattle.std.proofs.Common.{ap, ◌∙◌, subst}
 use Rattle.qs_recv.specs.declared.credit.Share.TheVariants.{Half}
 use Rattle.qs_machine.specs.Tables.{type_of, index_of}
 use Rattle.qs_machine.proofs.TableEdits.{open_there, lane_is}
-use Rattle.qs_conn.specs.RecvEdits.{OnceInto, OnceTakesInto, LeavesCalm}
+use Rattle.qs_conn.specs.RecvEdits.{OnceTakesInto, LeavesCalm}
 use Rattle.qs_conn.proofs.LaneEdits.{edited_in}
 use Rattle.qs_conn.proofs.recv_tables.RecvTables.edit.Goals as goal
 

@@ -1,5 +1,4 @@
 use Rattle.std.proofs.Common.{◌<◌, length, refl, sym, subst, arith, inl, inr}
-use Rattle.std.specs.Fn.{FnOnceReturnsAtMut}
 use Rattle.qs_send.specs.Lane.{Sending}
 use Rattle.qs_send.specs.Halves.{half_at}
 use Rattle.qs_send.specs.Sound.{IsLawful}

@@ -6,7 +6,7 @@ use Rattle.qs_conn.specs.Promised.{promised_on}
 use Rattle.qs_conn.proofs.CarriedSteps.{wide_all}
 use Rattle.qs_conn.proofs.Cores.{kept_moved, kept_streams, rest_opened, rest_placed, rest_ins_placed}
 use Rattle.qs_conn.proofs.Promised.{unwritten_back}
-use Rattle.qs_conn.proofs.endpoint.Endpoint.open_reserved.Goals as goal
+use Rattle.qs_conn.proofs.endpoint.Endpoint.open_stream.Goals as goal
 
 pub returns-in-Err-clause-err : goal.returns-in-Err-clause-err
 returns-in-Err-clause-err c =
