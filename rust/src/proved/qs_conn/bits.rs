@@ -48,7 +48,8 @@ impl Bits {
 
     #[inline(never)]
     fn grow_to(&mut self, count: usize) -> Result<(), NoMemory> {
-        match self.words.resize(count.div_ceil(FLAGS_PER_WORD), 0) {
+        let words = count.div_ceil(FLAGS_PER_WORD).max(self.words.len());
+        match self.words.resize(words, 0) {
             Ok(()) => {
                 self.count = count;
                 Ok(())

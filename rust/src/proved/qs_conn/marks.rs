@@ -14,8 +14,8 @@ pub(crate) struct Marks {
     words: Bits,
     // The least one with a mark.
     first: Option<usize>,
-    // No index from it on has a mark.
-    past: usize,
+    // No index past it has a mark.
+    last: usize,
 }
 
 impl Marks {
@@ -25,7 +25,7 @@ impl Marks {
             marks: Bits::new(alloc),
             words: Bits::new(alloc),
             first: None,
-            past: 0,
+            last: 0,
         }
     }
 
@@ -91,7 +91,7 @@ impl Marks {
         self.words.set(word, self.marks.word(word) != 0);
         if mark {
             self.first = least_index(self.first, index);
-            self.past = self.past.max(index + 1);
+            self.last = self.last.max(index);
         } else if self.first == Some(index) {
             self.first = least_from(index, &self.marks, &self.words);
         }
@@ -124,7 +124,7 @@ impl Marks {
         let first = self.first?;
         let below = told.first();
         // Mostly all with a mark were told.
-        if self.past <= below {
+        if self.last < below {
             return None;
         }
         self.least_untold(others, told, from.max(first).max(below))

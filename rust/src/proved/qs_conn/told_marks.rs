@@ -101,6 +101,8 @@ impl ToldMarks {
     pub(crate) fn first(&self) -> usize {
         let untold = !self.bits().word(self.first);
         let below = lowest_bit(untold, 0).unwrap_or(FLAGS_PER_WORD);
-        self.first.saturating_mul(FLAGS_PER_WORD).saturating_add(below)
+        self.first
+            .saturating_mul(FLAGS_PER_WORD)
+            .saturating_add(below)
     }
 }
