@@ -28,13 +28,15 @@ use Rattle.qs_calls.specs.declared.token.TokenFault.TheVariants as tokens
 use Rattle.qs_calls.specs.declared.closing.Closing.{Closing}
 use Rattle.qs_calls.specs.declared.closing.Received.{Received}
 use Rattle.qs_calls.specs.declared.closing.Received.TheVariants as received
+use Rattle.qs_calls.specs.declared.settings.Settings.{Settings}
+use Rattle.qs_calls.specs.declared.settings.PeerLimits.{PeerLimits}
 use Rattle.qs_calls.specs.declared.settings.SetupFault.{SetupFault}
 use Rattle.qs_calls.specs.declared.settings.SetupFault.TheVariants.{OutOfRange, TooManyStreams}
 use Rattle.qs_calls.specs.declared.settings.RaiseFault.{RaiseFault}
 use Rattle.qs_calls.specs.declared.settings.RaiseFault.TheVariants as raising
 use Rattle.qs_calls.specs.declared.settings.SetFault.{SetFault}
 use Rattle.qs_calls.specs.declared.settings.SetFault.TheVariants as setting
-use Rattle.qs_machine.specs.Ends.{End}
+use Rattle.qs_machine.specs.Ends.{End, end_made}
 use Rattle.qs_c.specs.declared.structs.GvMade.{GvMade}
 use Rattle.qs_c.specs.declared.structs.GvFilled.{GvFilled}
 use Rattle.qs_c.specs.declared.structs.GvClosing.{GvClosing}
@@ -202,6 +204,10 @@ received_told (Ok received.Duplicate) old = (11, old)
 received_told (Ok received.BelowFloor) old = (12, old)
 received_told (Ok (received.PeerClosed code)) old = (13, record old { code = code })
 received_told (Err closing) old = (14, closing_of closing)
+
+-- A handle holds a new end, whatever it held.
+abbrev pub IsNew : Option End → Type 0
+IsNew held = (e : End) × (role : Role) × (settings : Settings) × (peer : PeerLimits) × (held ≡ Some e) × (end_made role settings peer ≡ Ok e)
 
 -- A new end, or the settings are refused, and the end stays.
 abbrev pub Starts : Result End SetupFault → ℕ → End → End → Type 0

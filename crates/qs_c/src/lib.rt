@@ -35,7 +35,7 @@ mod telling;
 mod thing;
 mod tokens;
 
-ghost use Rattle.std.specs.Prelude.{◌≡◌, ◌++◌, ◌&&◌, List, ℕ, true, length, map, drop, Option, None, option_map, Result, MatchBool, ◌↔◌, IsTrue, is_some, nat_eq};
+ghost use Rattle.std.specs.Prelude.{◌≡◌, ◌++◌, ◌&&◌, List, ℕ, true, length, map, drop, Option, None, option_map, Result, MatchBool, ◌↔◌, IsTrue, nat_eq};
 ghost use Rattle.qs_wire.specs.Grammar.{frames_of};
 ghost use Rattle.qs_wire.specs.Reading.{reading_of};
 ghost use Rattle.qs_wire.specs.LastStream.{last_stream_of};
@@ -59,7 +59,7 @@ ghost use Rattle.qs_machine.specs.Credit.{spent, all_stored, granted_streams};
 ghost use Rattle.qs_machine.specs.Reports.{own_closing, lane_report};
 ghost use Rattle.qs_conn.specs.Written.{made_text, KeepsRest};
 ghost use Rattle.qs_conn.specs.Held.{IsHeldBy};
-ghost use Rattle.qs_c.specs.Statuses.{Called, Asked, Invalid, Starts, role_of, is_small, is_room, is_flag, dir_of, use_status, lost_status, make_status, raise_status, status_of, told, found, read_told, open_told, made_told, received_told};
+ghost use Rattle.qs_c.specs.Statuses.{Called, Asked, Invalid, IsNew, Starts, role_of, is_small, is_room, is_flag, dir_of, use_status, lost_status, make_status, raise_status, status_of, told, found, read_told, open_told, made_told, received_told};
 ghost use Rattle.qs_c.specs.Structs.{closing_of, settings_in, is_tuning, tuning_in, limits_in};
 ghost use Rattle.qs_c.specs.Lanes.{lane_of};
 ghost use Rattle.qs_c.specs.Frames.{NextAnswer, GivenAnswer};
@@ -91,7 +91,7 @@ pub use tokens::{gvp_token_acked, gvp_token_and, gvp_token_lost, gvp_token_of};
 /// Apart from `gvp_new`, so that making an endpoint can't fail for memory once its settings passed. A handle that holds one loses it.
 #[unsafe(no_mangle)]
 pub extern "C" fn gvp_reserve(alloc: Global, end: &mut Handle) -> u32
-    ensures { MatchBool (nat_eq result 0) (is_some end.new.cell.value ≡ true) ((result ≡ 2) × (end.new.cell.value ≡ end.old.cell.value)) }
+    ensures { MatchBool (nat_eq result 0) (IsNew end.new.cell.value) ((result ≡ 2) × (end.new.cell.value ≡ end.old.cell.value)) }
 {
     starts::reserve(alloc, end)
 }

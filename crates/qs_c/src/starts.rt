@@ -1,7 +1,7 @@
 //! Making an endpoint.
-ghost use Rattle.std.specs.Prelude.{◌≡◌, ◌&&◌, true, MatchBool, Some, None, Ok, is_some, nat_eq, if◌then◌else◌};
+ghost use Rattle.std.specs.Prelude.{◌≡◌, ◌&&◌, true, MatchBool, Some, None, Ok, nat_eq, if◌then◌else◌};
 ghost use Rattle.qs_machine.specs.Ends.{wide_end_made};
-ghost use Rattle.qs_c.specs.Statuses.{Tested, Starts, setup_status, is_flag, role_of};
+ghost use Rattle.qs_c.specs.Statuses.{Tested, IsNew, Starts, setup_status, is_flag, role_of};
 ghost use Rattle.qs_c.specs.Structs.{settings_in, is_tuning, tuning_in, limits_in};
 
 use crate::answers::{INVALID, NO_MEMORY, OK, of_setup};
@@ -35,7 +35,7 @@ const NOTHING_GRANTED: PeerLimits = PeerLimits {
 };
 
 pub(crate) fn reserve(alloc: Global, end: &mut Handle) -> u32
-    ensures { MatchBool (nat_eq result 0) (is_some end.new.cell.value ≡ true) ((result ≡ 2) × (end.new.cell.value ≡ end.old.cell.value)) }
+    ensures { MatchBool (nat_eq result 0) (IsNew end.new.cell.value) ((result ≡ 2) × (end.new.cell.value ≡ end.old.cell.value)) }
 {
     let Ok(least) = Endpoint::new(alloc, Role::Client, LEAST, NOTHING_GRANTED) else {
         return NO_MEMORY;

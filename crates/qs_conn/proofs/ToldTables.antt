@@ -1,15 +1,33 @@
 -- What it is to a table of marks that one of them is set or taken away.
-use Rattle.std.proofs.Common.{◌≡◌, ℕ, ◌-◌, ◌/◌, ◌%◌, ◌≤◌, ◌==◌, Bool, true, false, List, length, get_or, slice_get, is_some, nat_lt, unwrap_or, refl, sym, ap, ◌∙◌, arith, inl, inr}
+use Rattle.std.proofs.Common.{◌≡◌, ℕ, zero, suc, ◌+◌, ◌-◌, ◌/◌, ◌%◌, ◌<◌, ◌≤◌, Bool, true, false, List, ◌∷◌, ◌++◌, map, replicate, length, get_or, Option, None, Some, Result, Ok, Err, unwrap_or, refl, sym, ap, ◌∙◌, arith, inl, inr}
 use Rattle.std.proofs.Math.ListN.{set}
-use Rattle.std.proofs.lemmas.Bool.Decides.{nat_tests}
-use Rattle.std.proofs.lemmas.Bool.{cases_eq, eqb-true, eqb-false, eq-eqb}
-use Rattle.std.proofs.lemmas.Grind.{get_or-set_at}
-use Rattle.std.proofs.lemmas.List.{length-set, get_or-set_other}
-use Rattle.std.proofs.lemmas.Option.{unwrap_or-slice_get}
-use Rattle.qs_machine.specs.Heard.{is_told, StayPlaced}
-use Rattle.qs_machine.specs.Sums.{tables_of}
-use Rattle.qs_machine.proofs.TableEdits.{lookup_is, open_there, some_tested}
-use Rattle.qs_conn.specs.Marks.{is_marked}
+use Rattle.std.specs.List.{range_with_len}
+use Rattle.std.specs.Result.{OnOk, OnErr}
+use Rattle.std.proofs.lemmas.Bool.{cases_eq, false≢true}
+use Rattle.std.proofs.lemmas.Option.{slice_get_past, slice_get-get_or, unwrap_or-slice_get}
+use Rattle.qs_ranges.specs.declared.NoMemory.{NoMemory}
+use Rattle.qs_machine.specs.Tables.{Tables, with_table, lookup, update, updated, open_to, widened}
+use Rattle.qs_machine.specs.Heard.{is_told, IsToldBeside, IsForgotten}
+use Rattle.qs_machine.specs.Sums.{changed, tables_of}
+use Rattle.qs_machine.proofs.TableEdits.{lookup_is, with_is, table_is, opened_updated}
+use Rattle.qs_machine.proofs.TableLaws.{lookup_open, lookup_same, lookup_other}
+use Rattle.qs_conn.specs.Marks.{is_marked, IsMarkedBeside, IsUnmarkedBeside}
+
+-- One row
+
+all_unmarked : (lo n : ℕ) → replicate n false ≡ map (λ (i : ℕ). false) (range_with_len lo n)
+all_unmarked lo zero = refl
+all_unmarked lo (suc n) = ap (λ ms. false ∷ ms) (all_unmarked (lo + 1) n)
+
+pub marked_beside : (old mid new : List Bool) (n : ℕ) → mid ≡ old ++ replicate (n + 1 - length old) false → new ≡ set mid n true → IsMarkedBeside n old new
+marked_beside old mid new n opened is = is ∙ ap (λ xs. set xs n true) (opened ∙ ap (λ ms. old ++ ms) (all_unmarked (length old) (n + 1 - length old)))
+
+pub unmarked_beside : (old new : List Bool) (n : ℕ) → n < length old → new ≡ set old n false → IsUnmarkedBeside n old new
+unmarked_beside old new n there is = is ∙ ap (changed old n (λ mark. false)) (sym (slice_get-get_or old n false there))
+
+-- an index past the last has no mark
+pub none_unmarked : (old : List Bool) (n : ℕ) → length old ≤ n → IsUnmarkedBeside n old old
+none_unmarked old n past = ap (changed old n (λ mark. false)) (sym (slice_get_past old n past))
 
 -- Four rows
 
@@ -19,57 +37,43 @@ told_at ls m k d len kind = ap (λ o. unwrap_or o false) (lookup_is ls m k (m / 
 pub told_read : (ls : List (List Bool)) (n k i : ℕ) (d : List Bool) (b : Bool) → length ls ≡ 4 → k ≡ n % 4 → i ≡ n / 4 → b ≡ is_marked (get_or ls k d) i → b ≡ is_told (tables_of ls) n
 told_read ls n k i d b len kind index is = is ∙ ap (is_marked (get_or ls k d)) index ∙ sym (told_at ls n k d len kind)
 
-same_test : (m n : ℕ) → m % 4 ≡ n % 4 → (m / 4 == n / 4) ≡ (m == n)
-same_test m n kind = go (m == n) refl
-  where
-    go : (b : Bool) → (m == n) ≡ b → (m / 4 == n / 4) ≡ b
-    go true e = let at = eqb-true m n e in eq-eqb (m / 4) (n / 4) (omega (arith, at))
-    go false e = apart (m / 4 == n / 4) refl
-      where
-        apart : (c : Bool) → (m / 4 == n / 4) ≡ c → c ≡ false
-        apart true f = let at = eqb-true (m / 4) (n / 4) f in absurd (eqb-false m n e (omega (arith, at, kind)))
-        apart false f = refl
+pub told_beside : (ls : List (List Bool)) (n k i : ℕ) (d new : List Bool) → length ls ≡ 4 → k ≡ n % 4 → i ≡ n / 4 → IsMarkedBeside i (get_or ls k d) new → IsToldBeside n (tables_of ls) (tables_of (set ls k new))
+told_beside ls n k i d new len kind index is =
+    with_is ls n k new len kind
+    ∙ ap (with_table (tables_of ls) (n % 4)) (is ∙ ap (λ j. set (widened (get_or ls k d) (j + 1) (λ m. false)) j true) index ∙ ap (λ l. set (widened l (n / 4 + 1) (λ m. false)) (n / 4) true) (sym (table_is ls n k d len kind)))
+    ∙ sym (opened_updated (tables_of ls) n (λ m. false) true)
 
-not_same : (m n : ℕ) → (m ≡ n → ⊥) → (m == n) ≡ false
-not_same m n apart = go (m == n) refl
-  where
-    go : (b : Bool) → (m == n) ≡ b → b ≡ false
-    go true e = absurd (apart (eqb-true m n e))
-    go false e = refl
+-- What was told stays below a bound
 
-module _ (f : Bool → Bool → Bool) (keeps : (b : Bool) → f false b ≡ b) (ls : List (List Bool)) (n k i : ℕ) (d new : List Bool) (len : length ls ≡ 4) (kind : k ≡ n % 4) (index : i ≡ n / 4) (row : ((j : ℕ) → is_marked new j ≡ f (j == i) (is_marked (get_or ls k d) j)) × (length (get_or ls k d) ≤ length new)) where
-  mark_changed : (m : ℕ) → is_told (tables_of (set ls k new)) m ≡ f (m == n) (is_told (tables_of ls) m)
-  mark_changed m =
-      elim (cases_eq (m % 4) k) [
-        | inl same ↦
-            told_at (set ls k new) m k d (length-set ls k new ∙ len) (sym same)
-            ∙ ap (λ xs. is_marked xs (m / 4)) (get_or-set_at ls k k new d refl (omega (arith, len, kind)))
-            ∙ row.0 (m / 4)
-            ∙ ap (λ j. f (m / 4 == j) (is_marked (get_or ls k d) (m / 4))) index
-            ∙ ap (λ b. f b (is_marked (get_or ls k d) (m / 4))) (same_test m n (same ∙ kind))
-            ∙ ap (f (m == n)) (sym (told_at ls m k d len (sym same)))
-        | inr differs ↦
-            told_at (set ls k new) m (m % 4) d (length-set ls k new ∙ len) refl
-            ∙ ap (λ xs. is_marked xs (m / 4)) (get_or-set_other ls k (m % 4) new d differs)
-            ∙ sym (told_at ls m (m % 4) d len refl)
-            ∙ sym (keeps (is_told (tables_of ls) m))
-            ∙ ap (λ b. f b (is_told (tables_of ls) m)) (sym (not_same m n (λ at. differs (omega (arith, at, kind)))))
+module _ (old new : Tables Bool) (n bound : ℕ) (below : (m : ℕ) → is_told old m ≡ true → m < bound) where
+  unmarked_false : (o : Option Bool) → o ≡ Some false → unwrap_or o false ≡ true → ⊥
+  unmarked_false o is told = false≢true (ap (λ p. unwrap_or p false) (sym is) ∙ told)
+
+  told_below : n < bound → IsToldBeside n old new → (m : ℕ) → is_told new m ≡ true → m < bound
+  told_below small is m told =
+      elim (cases_eq m n) [
+        | inl same ↦ omega (arith, same, small)
+        | inr differs ↦ (
+            let at : lookup new m ≡ lookup (open_to old n (λ m. false)) m = ap (λ t. lookup t m) is ∙ lookup_other (open_to old n (λ m. false)) n m true differs in
+            elim (lookup_open old n m (λ m. false)) [
+              | inl stays ↦ below m (ap (λ o. unwrap_or o false) (sym (at ∙ stays)) ∙ told)
+              | inr opened ↦ absurd (unmarked_false (lookup new m) (at ∙ opened.3) told)
+            ]
+            )
       ]
 
-  stays_placed : StayPlaced (tables_of ls) (tables_of (set ls k new))
-  stays_placed m there =
-      elim (cases_eq (m % 4) k) [
-        | inl same ↦
-            ap is_some (lookup_is (set ls k new) m k (m / 4) d (length-set ls k new ∙ len) (sym same) refl)
-            ∙ ap (λ xs. is_some (slice_get xs (m / 4))) (get_or-set_at ls k k new d refl (omega (arith, len, kind)))
-            ∙ sym (some_tested new (m / 4) (length new) refl)
-            ∙ (let below = open_there ls m k (m / 4) d len (sym same) refl there in let t : nat_lt (m / 4) (length new) ≡ true = grind (arith, nat_tests, below, row.1) in t)
-        | inr differs ↦
-            ap is_some (lookup_is (set ls k new) m (m % 4) (m / 4) d (length-set ls k new ∙ len) refl refl
-            ∙ ap (λ xs. slice_get xs (m / 4)) (get_or-set_other ls k (m % 4) new d differs)
-            ∙ sym (lookup_is ls m (m % 4) (m / 4) d len refl refl))
-            ∙ there
-      ]
+  pub noted_below : n < bound → (r : Result (Unit {0}) NoMemory) → OnOk r (IsToldBeside n old new) → OnErr r (new ≡ old) → (m : ℕ) → is_told new m ≡ true → m < bound
+  noted_below small (Ok done) is same = told_below small is
+  noted_below small (Err refused) is same = λ m told. below m (ap (λ t. is_told t m) (sym same) ∙ told)
 
-  pub table_changed : ((m : ℕ) → is_told (tables_of (set ls k new)) m ≡ f (m == n) (is_told (tables_of ls) m)) × StayPlaced (tables_of ls) (tables_of (set ls k new))
-  table_changed = (mark_changed, stays_placed)
+  pub forgotten_below : IsForgotten n old new → (m : ℕ) → is_told new m ≡ true → m < bound
+  forgotten_below is m told = by (lookup old n) refl
+    where
+      by : (o : Option Bool) → lookup old n ≡ o → m < bound
+      by None none = below m (ap (λ t. is_told t m) (sym (is ∙ ap (updated old n (λ mark. false)) none)) ∙ told)
+      by (Some mark) there =
+          let at : new ≡ update old n false = is ∙ ap (updated old n (λ mark. false)) there in
+          elim (cases_eq m n) [
+            | inl same ↦ absurd (unmarked_false (lookup new m) (ap (λ t. lookup t m) at ∙ ap (lookup (update old n false)) same ∙ lookup_same old n mark false there) told)
+            | inr differs ↦ below m (ap (λ o. unwrap_or o false) (sym (ap (λ t. lookup t m) at ∙ lookup_other old n m false differs)) ∙ told)
+          ]

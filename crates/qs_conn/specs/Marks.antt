@@ -1,8 +1,9 @@
 -- Of private contracts.
 -- Which streams may have something to send or to tell: a mark for each index, and streams that have nothing.
-use Rattle.std.specs.Prelude.{◌≡◌, ℕ, ◌+◌, ◌*◌, ◌/◌, ◌^◌, ◌≤◌, ◌<◌, length, Bool, true, false, not, ◌==◌, ◌&&◌, ◌||◌, List, [], ◌∷◌, slice_index_or, slice_get, min, Option, None, Some, ⊤}
+use Rattle.std.specs.Prelude.{◌≡◌, ℕ, ◌+◌, ◌*◌, ◌/◌, ◌^◌, ◌≤◌, ◌<◌, length, Bool, true, false, not, ◌&&◌, List, [], ◌∷◌, slice_index_or, slice_get, slice_set, min, Option, None, Some, ⊤}
 pub use Rattle.qs_ranges.specs.Bits.{IsBefore}
-use Rattle.qs_machine.specs.Tables.{Tables, type_of, lookup}
+use Rattle.qs_machine.specs.Tables.{Tables, type_of, lookup, widened}
+use Rattle.qs_machine.specs.Sums.{changed}
 use Rattle.qs_send.specs.declared.piece.Item.{Item}
 use Rattle.qs_conn.specs.declared.slot.Slot.{Slot}
 use Rattle.qs_machine.specs.Ends.{End}
@@ -27,13 +28,13 @@ untold [] told = []
 untold (m ∷ marks) [] = m ∷ marks
 untold (m ∷ marks) (t ∷ told) = (m && not t) ∷ untold marks told
 
--- an index is marked, the others stand as they did, and none goes
+-- an index is marked, with all up to it there, and nothing else changes
 abbrev pub IsMarkedBeside : ℕ → List Bool → List Bool → Type 0
-IsMarkedBeside n old new = ((i : ℕ) → is_marked new i ≡ ((i == n) || is_marked old i)) × (length old ≤ length new)
+IsMarkedBeside n old new = new ≡ slice_set (widened old (n + 1) (λ i. false)) n true
 
--- an index isn't marked any more, the others stand as they did, and none goes
+-- an index isn't marked any more, where it is there, and nothing else changes
 abbrev pub IsUnmarkedBeside : ℕ → List Bool → List Bool → Type 0
-IsUnmarkedBeside n old new = ((i : ℕ) → is_marked new i ≡ (not (i == n) && is_marked old i)) × (length old ≤ length new)
+IsUnmarkedBeside n old new = new ≡ changed old n (λ mark. false) (slice_get old n)
 
 -- each part that isn't marked has the property
 abbrev pub AreMarked : {X : Type 0} → (X → Type 0) → List X → List Bool → Type 0

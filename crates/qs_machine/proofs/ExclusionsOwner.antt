@@ -551,18 +551,20 @@ is_ok (Ok done) = true
 is_ok (Err refused) = false
 
 noted_of_heard : NotNoted
-unfolding lookup is_ok
+unfolding lookup update open_to is_ok
 noted_of_heard =
     record {
-      unkept = λ h. false≢true (h.0.0 0);
-      another = λ h. false≢true (h.0.0 0);
+      unkept = λ h. false≢true (ap (λ t. is_told t 0) h.0);
+      another = λ h. false≢true (ap (λ t. is_told t 0) h.0);
       two_opened = λ h. (let is : 2 ≡ 1 = ap (λ (x : Hearing). x.opened_bidi) h in omega (arith, is));
-      short = λ h. false≢true ((h.short refl).0.0 0);
+      short = λ h. false≢true (ap (λ t. is_told t 0) (h.short refl).0);
       whole = λ refused h. false≢true (ap is_ok (h.whole refl).0);
       marked = λ refused h. none-some false (sym (h.short refl).1);
-      place_lost = λ h. false≢true (h.0.1 4 refl);
-      place_dropped = λ h. false≢true ((h.dry nothing_readable).0.1 0 refl);
-      read_empty = λ h. true≢false ((h.dry nothing_readable).0.0 0);
+      place_lost = λ h. false≢true (ap (λ t. is_some (lookup t 4)) h.0);
+      place_dropped = λ h. false≢true (ap (λ t. is_some (lookup t 0)) (h.dry nothing_readable).0);
+      place_more = λ h. true≢false (ap (λ t. is_some (lookup t 4)) h.0);
+      place_taken = λ h. true≢false (ap (λ t. is_some (lookup t 0)) (h.dry nothing_readable).0);
+      read_empty = λ h. true≢false (ap (λ t. is_told t 0) (h.dry nothing_readable).0);
       told_again = λ h. true≢false (ap (λ (x : Hearing). x.blocked.conn) h);
       risen = λ h. true≢false (ap (λ (x : Hearing). x.blocked.conn) h.1);
       present = λ h. false≢true (ap (λ (x : Hearing). x.blocked.conn) h.1);

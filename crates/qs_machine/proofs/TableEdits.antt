@@ -148,6 +148,14 @@ module _ {X : Type 0} where
       ∙ ap (with_table t k) (take-append_seam (table t k) _)
       ∙ own_table t k
 
+  -- a part that was opened becomes x
+  pub opened_updated : (t : Tables X) (n : ℕ) (begin : ℕ → X) (x : X) → update (open_to t n begin) n x ≡ with_table t (n % 4) (set (widened (table t (n % 4)) (n / 4 + 1) (λ i. begin (i * 4 + n % 4))) (n / 4) x)
+  unfolding update open_to
+  opened_updated t n begin x =
+      let k = n % 4 in
+      let ys = widened (table t k) (n / 4 + 1) (λ i. begin (i * 4 + k)) in
+      ap (λ xs. with_table (with_table t k ys) k (set xs (n / 4) x)) (table_with t k ys) ∙ with_twice t k ys (set ys (n / 4) x)
+
   -- the same, of the list at a place
 
   pub table_is : (ls : List (List X)) (n k : ℕ) (d : List X) → length ls ≡ 4 → k ≡ n % 4 → table (tables_of ls) (n % 4) ≡ get_or ls k d

@@ -85,6 +85,9 @@ pub record NotNoted : Type 0 where
   -- a place is given up, as a stream is noted or read empty
   pub place_lost : IsHeardBy (Readable 0) (record heard_one { readable = record no_streams { client_bidi = false ∷ false ∷ [] } }) (record heard_one { readable = only true }) → ⊥
   pub place_dropped : IsReadOn (server_with fresh) 0 (record heard_one { readable = only true }) (record heard_one { readable = no_streams }) → ⊥
+  -- or taken, of a stream that isn't noted
+  pub place_more : IsHeardBy (Readable 0) heard_one (record heard_one { readable = record no_streams { client_bidi = true ∷ false ∷ [] } }) → ⊥
+  pub place_taken : IsReadOn (server_with fresh) 0 heard_one (record heard_one { readable = only false }) → ⊥
   -- a stream that was read empty isn't heard of again
   pub read_empty : IsReadOn (server_with fresh) 0 (record heard_one { readable = only true }) (record heard_one { readable = only true }) → ⊥
   -- what the peer said is told, and is to be told again

@@ -1,6 +1,6 @@
 -- Of public contracts.
 -- What an end tells its owner of by itself, and what the owner heard of so far (RFC 9000, sections 2.2 to 2.4, 3 and 4, for the whole file).
-use Rattle.std.specs.Prelude.{◌≡◌, ℕ, ◌+◌, ◌*◌, ◌<◌, ◌==◌, Bool, true, false, not, ◌&&◌, ◌||◌, ◌⊎◌, Option, None, Some, Result, Ok, Err, is_some, nat_le, nat_lt, unwrap_or, if◌then◌else◌, MatchBool}
+use Rattle.std.specs.Prelude.{◌≡◌, ℕ, ◌+◌, ◌*◌, ◌<◌, Bool, true, false, ◌&&◌, ◌⊎◌, Option, None, Some, Result, Ok, Err, is_some, nat_le, nat_lt, unwrap_or, if◌then◌else◌, MatchBool}
 use Rattle.qs_ranges.specs.declared.NoMemory.{NoMemory}
 use Rattle.qs_wire.specs.Streams.{dir_of}
 use Rattle.qs_wire.specs.declared.stream_id.Dir.{Dir}
@@ -11,7 +11,7 @@ use Rattle.qs_send.specs.declared.piece.Item.{Item}
 use Rattle.qs_send.specs.declared.piece.Item.TheVariants as items
 use Rattle.qs_calls.specs.declared.news.News.{News}
 use Rattle.qs_calls.specs.declared.news.News.TheVariants.{Opened, Readable, Writable, Stopped, Finished, ResetAcked, Ended, Available, DataBlocked, StreamDataBlocked, StreamsBlocked}
-use Rattle.qs_machine.specs.Tables.{Tables, lookup, no_streams, type_of, index_of}
+use Rattle.qs_machine.specs.Tables.{Tables, lookup, update, updated, open_to, no_streams, type_of, index_of}
 use Rattle.qs_machine.specs.Ends.{End, is_own, send_lane, recv_lane}
 use Rattle.qs_machine.specs.Credit.{send_ended, granted_streams}
 use Rattle.qs_machine.specs.Seen.{Seen, Ack, Stream, Control, Close, Plain}
@@ -23,17 +23,14 @@ use Rattle.qs_machine.specs.Asking.{room, stopped_with, open_left}
 abbrev pub is_told : Tables Bool → ℕ → Bool
 is_told t n = unwrap_or (lookup t n) false
 
--- no place is given up: each stream that had one still has one, in which a mark takes no memory
-abbrev pub StayPlaced : Tables Bool → Tables Bool → Type 0
-StayPlaced old new = (m : ℕ) → is_some (lookup old m) ≡ true → is_some (lookup new m) ≡ true
-
--- one stream more has a mark
+-- One stream more has a mark. It has a place then, as each below it of its type has; no other stream's place comes or goes, so that a mark
+-- takes no memory where there is one.
 abbrev pub IsToldBeside : ℕ → Tables Bool → Tables Bool → Type 0
-IsToldBeside n old new = ((m : ℕ) → is_told new m ≡ ((m == n) || is_told old m)) × StayPlaced old new
+IsToldBeside n old new = new ≡ update (open_to old n (λ m. false)) n true
 
--- one stream has none any more
+-- one stream has none any more, and keeps its place, where it has one
 abbrev pub IsForgotten : ℕ → Tables Bool → Tables Bool → Type 0
-IsForgotten n old new = ((m : ℕ) → is_told new m ≡ (not (m == n) && is_told old m)) × StayPlaced old new
+IsForgotten n old new = new ≡ updated old n (λ mark. false) (lookup old n)
 
 -- what the peer said to hold it back, and its owner wasn't told: the connection's limit, those of streams, each direction's count (RFC 9000,
 -- sections 4.1 and 4.6)
