@@ -32,7 +32,7 @@ step_fits Discard = true
 
 -- n bytes at an offset end past the bytes that were read and the window; where bytes are thrown away there is no window (RFC 9000, section 4.1)
 abbrev pub is_past : Assembled → ℕ → ℕ → Bool
-is_past a offset n = not a.discarding && nat_lt (a.read_count + a.window) (offset + n)
+is_past a offset n = not a.discarding && nat_lt (a.read_count + a.widest) (offset + n)
 
 -- what a step shows on an assembly that holds a
 abbrev pub sight_of : Assembled → Step → Sight
@@ -59,7 +59,7 @@ replayed a (step ∷ steps) = replayed (after_step a step) steps
 -- What holds at all times of an assembly that steps are played on: the counts beside it are its own, and small enough to be added; and
 -- each stored byte lies at an offset that a frame can tell.
 pub record IsPlayed (a : Assembled) (window read_count : ℕ) (discarding : Bool) : Type 0 where
-  pub window_is : a.window ≡ window
+  pub window_is : a.widest ≡ window
   pub count_is : a.read_count ≡ read_count
   pub discarding_is : a.discarding ≡ discarding
   pub small_window : window ≤ MAX_WINDOW

@@ -35,7 +35,7 @@ impl Model for ChunkAssembly {
 
     ghost coded = { assembled_code };
 
-    ghost view = { λ a. record { stored = stored_in a.chunks; received = a.received; read_count = a.read_count; window = a.window; discarding = a.discarding } };
+    ghost view = { λ a. record { stored = stored_in a.chunks; received = a.received; read_count = a.read_count; widest = a.window; discarding = a.discarding } };
 
     ghost invariant = { λ a. IsKept a.chunks a.received a.read_count a.stored a.discarding };
 }

@@ -13,7 +13,7 @@ use Rattle.qs_recv.specs.declared.half.Read.TheVariants.{Bytes, End, Reset, Wait
 use Rattle.qs_recv.specs.declared.credit.Share.TheVariants.{Half}
 use Rattle.qs_send.specs.declared.piece.Item.{Item}
 use Rattle.qs_machine.specs.Tables.{Tables, lookup, updated}
-use Rattle.qs_machine.specs.Ends.{Present, Records, AckedItems, window_by}
+use Rattle.qs_machine.specs.Ends.{Present, Records, AckedItems, first_window_by}
 use Rattle.qs_machine.specs.Verdicts.{or_new}
 use Rattle.qs_machine.specs.Standing.{KeepsCredit, HasLawfulLane}
 use Rattle.qs_machine.proofs.EndedHalves.{whole_stays}
@@ -56,10 +56,10 @@ module _ (r : Role) (s : Settings) (recvs : Tables RecvLane) (m : Records) (a : 
   pub told_streamed : (p : Present) (g : ℕ) → KeepsCredit r s p recvs g → (offset : ℕ) (bytes : List ℕ) (fin : Bool) → IsOk (check_stream (or_new (lookup recvs n) 0 Half) offset (length bytes) fin) → now ≡ updated recvs n (λ l. take_stream l offset bytes fin) (lookup recvs n) → AreTold (TellsAt r s) now m a marks
   told_streamed p g k offset bytes fin passed is =
       told_updated (TellsAt r s) recvs m a marks h now n (λ l. take_stream l offset bytes fin) is
-      (λ l there. data_calm l offset bytes fin (subst (HasLawfulLane r s n) there (k.lanes n)).0 (subst (λ o. IsOk (check_stream (or_new o 0 Half) offset (length bytes) fin)) there passed) (window_by r s n) n)
+      (λ l there. data_calm l offset bytes fin (subst (HasLawfulLane r s n) there (k.lanes n)).0 (subst (λ o. IsOk (check_stream (or_new o 0 Half) offset (length bytes) fin)) there passed) (first_window_by r s n) n)
 
   pub told_broken : (code size : ℕ) → now ≡ updated recvs n (λ l. take_reset l code size) (lookup recvs n) → AreTold (TellsAt r s) now m a marks
-  told_broken code size is = told_updated (TellsAt r s) recvs m a marks h now n (λ l. take_reset l code size) is (λ l there. reset_calm l code size (window_by r s n) n)
+  told_broken code size is = told_updated (TellsAt r s) recvs m a marks h now n (λ l. take_reset l code size) is (λ l there. reset_calm l code size (first_window_by r s n) n)
 
   pub told_read : (room : ℕ) → now ≡ updated recvs n (λ l. after_read l room) (lookup recvs n) → AreTold (TellsAt r s) now m a marks
-  told_read room is = told_updated (TellsAt r s) recvs m a marks h now n (λ l. after_read l room) is (λ l there. read_calm l room (window_by r s n) n)
+  told_read room is = told_updated (TellsAt r s) recvs m a marks h now n (λ l. after_read l room) is (λ l there. read_calm l room (first_window_by r s n) n)

@@ -15,7 +15,7 @@ use Rattle.qs_send.specs.declared.piece.Piece.TheVariants.{Data, Told}
 use Rattle.qs_calls.specs.declared.settings.PeerLimits.{PeerLimits}
 use Rattle.qs_calls.specs.declared.closing.Closed.{Closed}
 use Rattle.qs_machine.specs.Tables.{Tables, lookup, update, updated, open_to}
-use Rattle.qs_machine.specs.Ends.{End, new_end, window_by}
+use Rattle.qs_machine.specs.Ends.{End, new_end, first_window_by}
 use Rattle.qs_machine.specs.Lawful.{frame_put}
 use Rattle.qs_machine.specs.Seen.{Seen, Stream, Control}
 use Rattle.qs_machine.specs.Outgoing.{Outgoing, HasSending, IsIdle, with_sends, on_lane, sent_sum, IsBlockedAt, IsCarried, first_piece, first_acked_out, first_lost_out, without_piece_out, AreApartIn, acked_at, item_put_out, chunk_put}
@@ -179,7 +179,7 @@ module _ (c : Core) (h : IsAtRest c) where
   -- Streams open
 
   pub rest_opened : (n w : ℕ) (share : Share) (limit buffer : ℕ) (no_send no_recv : Bool) (o : Outgoing) (now : Tables RecvLane) (ins outs : Tables Bool) → o ≡ with_sends (cond no_send c.outbox.sends (open_to c.outbox.sends n (λ m. new_send_lane m limit buffer))) c.outbox
-      → now ≡ cond no_recv c.recvs (open_to c.recvs n (λ m. new_recv_lane w share)) → w ≡ window_by c.limits.role c.limits.settings n → ins ≡ open_to c.untold_recvs n (λ k. false) → outs ≡ open_to c.untold_sends n (λ k. false)
+      → now ≡ cond no_recv c.recvs (open_to c.recvs n (λ m. new_recv_lane w share)) → w ≡ first_window_by c.limits.role c.limits.settings n → ins ≡ open_to c.untold_recvs n (λ k. false) → outs ≡ open_to c.untold_sends n (λ k. false)
       → (t : Carried) → t ≡ places_to n c.carried → IsAtRest (record c { outbox = o; recvs = now; untold_recvs = ins; untold_sends = outs; carried = t })
   rest_opened n w share limit buffer no_send no_recv o now ins outs is after window in_are out_are t marks =
       let sum = sum_open c.outbox.sends n limit buffer no_send in

@@ -20,7 +20,7 @@ use Rattle.qs_calls.specs.declared.settings.Tuning.{Tuning}
 use Rattle.qs_calls.specs.Settings.{are_in_wide_range}
 use Rattle.std.proofs.lemmas.Bool.Decides.{nat_tests}
 use Rattle.qs_machine.specs.Tables.{Tables, no_streams, lookup, updated, open_to, each}
-use Rattle.qs_machine.specs.Ends.{End, Present, is_uni, is_own, window, first_send_limit, opens, opened_by_peer}
+use Rattle.qs_machine.specs.Ends.{End, Present, is_uni, is_own, first_window, first_send_limit, opens, opened_by_peer}
 use Rattle.qs_wire.specs.declared.stream_id.Dir.{Dir}
 use Rattle.qs_wire.specs.declared.stream_id.Dir.TheVariants.{Bidi, Uni}
 use Rattle.qs_machine.specs.Standing.{KeepsCredit, HasLawfulLane, IsInCredit, IsWithinCredit}
@@ -244,7 +244,7 @@ within_counted e sound bidi uni =
 opened_counted : (e : End) (n : ℕ) (c : ByDir ℕ) (own : Bool) → AreAllCounted e.role e.recvs e.sends c → AreAllCounted e.role (cond own e (opens n e)).recvs (cond own e (opens n e)).sends c
 opened_counted e n c true h = h
 opened_counted e n c false h =
-    recvs_opened e.role e.recvs _ _ c n (window e n) e.tuning.credit_step (is_uni n && is_own e n) (sends_opened e.role e.recvs e.sends _ c n (first_send_limit e n) e.settings.send_buffer (is_uni n && not (is_own e n)) h refl) refl
+    recvs_opened e.role e.recvs _ _ c n (first_window e n) e.tuning.credit_step (is_uni n && is_own e n) (sends_opened e.role e.recvs e.sends _ c n (first_send_limit e n) e.settings.send_buffer (is_uni n && not (is_own e n)) h refl) refl
 
 same_role : (e : End) (n : ℕ) (own : Bool) → (cond own e (opens n e)).role ≡ e.role
 same_role e n true = refl

@@ -13,7 +13,7 @@ use Rattle.qs_calls.specs.declared.settings.PeerLimits.{PeerLimits}
 use Rattle.qs_calls.specs.declared.settings.SetupFault.TheVariants.{OutOfRange, TooManyStreams}
 use Rattle.qs_calls.specs.Settings.{are_in_wide_range, are_spellable, are_countable, wide_setup_fault, default_tuning}
 use Rattle.qs_machine.specs.Tables.{Tables, no_streams, lookup, updated, open_to}
-use Rattle.qs_machine.specs.Ends.{End, Present, first_present, new_end, end_unless, window_by}
+use Rattle.qs_machine.specs.Ends.{End, Present, first_present, new_end, end_unless, first_window_by}
 use Rattle.qs_machine.specs.Standing.{KeepsCredit}
 use Rattle.qs_machine.specs.Outgoing.{Outgoing, no_packets, sent_sum}
 use Rattle.qs_conn.specs.declared.by_dir.ByDir.{ByDir}
@@ -120,6 +120,6 @@ pub sound_after_window : (role : Role) (s : Settings) (p : Present) (recvs now :
 sound_after_window role s p recvs now g n w some small k after = subst (λ (t : Tables RecvLane). KeepsCredit role s p t g) (sym after) (sound_window n w (end_with role s p recvs g) some small k)
 
 -- a stream was opened, or wasn't
-pub sound_opened : (role : Role) (s : Settings) (p : Present) (recvs now : Tables RecvLane) (g n w : ℕ) (share : Share) (absent : Bool) → KeepsCredit role s p recvs g → w ≡ window_by role s n → now ≡ cond absent recvs (open_to recvs n (λ m. new_lane w share)) → KeepsCredit role s p now g
+pub sound_opened : (role : Role) (s : Settings) (p : Present) (recvs now : Tables RecvLane) (g n w : ℕ) (share : Share) (absent : Bool) → KeepsCredit role s p recvs g → w ≡ first_window_by role s n → now ≡ cond absent recvs (open_to recvs n (λ m. new_lane w share)) → KeepsCredit role s p now g
 sound_opened role s p recvs now g n w share true k window is = subst (λ (t : Tables RecvLane). KeepsCredit role s p t g) (sym is) k
 sound_opened role s p recvs now g n w share false k window is = subst (λ (t : Tables RecvLane). KeepsCredit role s p t g) (sym (is ∙ ap (λ v. open_to recvs n (λ m. new_lane v share)) window)) (keeps_open role s p recvs g k n share)

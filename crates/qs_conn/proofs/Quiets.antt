@@ -11,7 +11,7 @@ use Rattle.qs_conn.specs.declared.limits.Limits.{Limits}
 use Rattle.qs_calls.specs.declared.settings.Settings.{Settings}
 use Rattle.qs_wire.specs.declared.stream_id.Role.{Role}
 use Rattle.qs_machine.specs.Tables.{Tables, type_of, lookup, updated}
-use Rattle.qs_machine.specs.Ends.{End, window_by, role_bit}
+use Rattle.qs_machine.specs.Ends.{End, first_window_by, role_bit}
 use Rattle.qs_machine.specs.Due.{IsDue, IsEndDue, StreamGoes}
 use Rattle.qs_machine.specs.Outgoing.{Outgoing, IsTied, HasSending, IsBlockedAt, WantsMore, chunk_put, lanes_of, sent_sum}
 use Rattle.qs_conn.specs.Filling.{end_by, AnyWantsMore}
@@ -120,5 +120,5 @@ pub none_wants : (o : Outgoing) (from : ℕ) → ((n : ℕ) → n < from → Wan
 none_wants o from below quiet (n, w) = elim (cases_lt n from) [ inl before ↦ below n before w | inr ge ↦ no_wants o n (quiet n ge) w ]
 
 -- the window is that of the type
-pub window_same : (r : Role) (s : Settings) (n k : ℕ) → type_of n ≡ k → k < 4 → window_by r s k ≡ window_by r s n
+pub window_same : (r : Role) (s : Settings) (n k : ℕ) → type_of n ≡ k → k < 4 → first_window_by r s k ≡ first_window_by r s n
 window_same r s n k is small = let same : type_of k ≡ type_of n = omega (arith, is, small) in ap (λ j. if nat_le 2 j then s.uni else (if j % 2 == role_bit r then s.bidi_local else s.bidi_remote)) same

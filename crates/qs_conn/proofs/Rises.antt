@@ -12,7 +12,7 @@ use Rattle.qs_recv.specs.Changes.{stream_changes}
 use Rattle.qs_recv.specs.declared.half.Highest.{Highest}
 use Rattle.qs_recv.specs.declared.half.RecvFault.{RecvFault}
 use Rattle.qs_recv.specs.declared.half.RecvFault.TheVariants.{FinalSize, StreamCredit}
-use Rattle.qs_machine.specs.Ends.{End, is_own, is_uni, send_lane, recv_lane, window}
+use Rattle.qs_machine.specs.Ends.{End, is_own, is_uni, send_lane, recv_lane, first_window}
 use Rattle.qs_machine.specs.Seen.{Stream}
 use Rattle.qs_machine.specs.Credit.{grant}
 use Rattle.qs_machine.specs.Tables.{index_of}
@@ -67,7 +67,7 @@ pub rise_changes : (e : End) (n offset : ℕ) (bytes : List ℕ) (fin : Bool) (h
 rise_changes e n offset bytes fin h lawful fine is up = go (recv_lane e n) fine is lawful
   where
     go : (o : Option RecvLane) → cond (is_own e n) (fault_if (is_none o) STREAM_STATE_ERROR) (fault_if (nat_le (grant e n) (index_of n)) STREAM_LIMIT_ERROR) ≡ None
-        → check_stream (or_new o (window e n) e.tuning.credit_step) offset (length bytes) fin ≡ Ok h → ((l : RecvLane) → o ≡ Some l → IsLawful l)
+        → check_stream (or_new o (first_window e n) e.tuning.credit_step) offset (length bytes) fin ≡ Ok h → ((l : RecvLane) → o ≡ Some l → IsLawful l)
         → ((not (is_own e n) && (is_none o || (not (is_uni n) && is_none (send_lane e n)))) || half_changes (λ l. stream_changes l offset (length bytes) fin) o) ≡ true
     go None fine is lawful = or_left _ false (yet_to_open (is_own e n) (not (is_uni n) && is_none (send_lane e n)) (fault_if (nat_le (grant e n) (index_of n)) STREAM_LIMIT_ERROR) fine)
     go (Some l) fine is lawful = or_right (not (is_own e n) && (not (is_uni n) && is_none (send_lane e n))) _ (lane_changes l offset (length bytes) fin h (lawful l refl) is up)

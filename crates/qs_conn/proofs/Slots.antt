@@ -12,7 +12,7 @@ use Rattle.qs_machine.specs.Seen.{Control}
 use Rattle.qs_machine.specs.Lawful.{frame_put}
 use Rattle.qs_conn.specs.declared.slot.Slot.TheVariants as slots
 use Rattle.qs_machine.specs.Tables.{Tables, lookup}
-use Rattle.qs_machine.specs.Ends.{End, send_lane, recv_lane, window}
+use Rattle.qs_machine.specs.Ends.{End, send_lane, recv_lane, first_window}
 use Rattle.qs_machine.specs.Credit.{all_sent, granted_streams, first_grant}
 use Rattle.qs_machine.specs.Due.{IsCurrent, IsAcked, WantsCredit, wanted, known_count}
 use Rattle.qs_machine.specs.Sums.{or_none}
@@ -66,7 +66,7 @@ limit_some (Some l) m is = go l.final_size refl is
 limit_of : (o : Option RecvLane) (l : RecvLane) → o ≡ Some l → l.final_size ≡ None → limit_to_tell o ≡ Some l.limit
 limit_of o l is none = ap limit_to_tell is ∙ ap (λ f. cond (is_some f) None (Some l.limit)) none
 
-pub max_stream_data_there : (e : End) (n m : ℕ) → limit_to_tell (recv_lane e n) ≡ Some m → window e n < m → IsCurrentIn e (slots.MaxStreamData n) (Some (MaxStreamData n m))
+pub max_stream_data_there : (e : End) (n m : ℕ) → limit_to_tell (recv_lane e n) ≡ Some m → first_window e n < m → IsCurrentIn e (slots.MaxStreamData n) (Some (MaxStreamData n m))
 max_stream_data_there e n m tells lt =
     let (l, there, is, none) = limit_some (recv_lane e n) m tells in (
       (l, there, is, lt, none),
@@ -74,7 +74,7 @@ max_stream_data_there e n m tells lt =
       of_slot (λ j. IsCurrent e j → j ≡ MaxStreamData n m) (slots.MaxStreamData n) (λ k (l2, there2, is2, lt2, none2). ap (MaxStreamData n) (is2 ∙ same_Some l2.limit m (sym (limit_of (recv_lane e n) l2 there2 none2) ∙ tells))),
     )
 
-pub max_stream_data_none : (e : End) (n : ℕ) → ((m : ℕ) → limit_to_tell (recv_lane e n) ≡ Some m → window e n < m → ⊥) → IsCurrentIn e (slots.MaxStreamData n) None
+pub max_stream_data_none : (e : End) (n : ℕ) → ((m : ℕ) → limit_to_tell (recv_lane e n) ≡ Some m → first_window e n < m → ⊥) → IsCurrentIn e (slots.MaxStreamData n) None
 max_stream_data_none e n none = of_slot (λ j. IsCurrent e j → ⊥) (slots.MaxStreamData n) (λ k (l, there, is, lt, no_size). none k (limit_of (recv_lane e n) l there no_size ∙ ap Some (sym is)) lt)
 
 pub reset_there : (e : End) (n : ℕ) (r : Reset) → (or_none (send_lane e n)).was_reset ≡ Some r → IsCurrentIn e (slots.ResetStream n) (Some (ResetStream n r.code r.size))

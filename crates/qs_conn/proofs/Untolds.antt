@@ -19,7 +19,7 @@ use Rattle.qs_send.specs.declared.piece.Item.TheVariants.{MaxData, MaxStreamData
 use Rattle.qs_send.specs.declared.piece.Piece.{Piece}
 use Rattle.qs_send.specs.declared.piece.Piece.TheVariants.{Data, Told}
 use Rattle.qs_machine.specs.Tables.{Tables, table, with_table, lookup, updated, no_streams, open_to, each}
-use Rattle.qs_machine.specs.Ends.{End, Records, AckedItems, window_by}
+use Rattle.qs_machine.specs.Ends.{End, Records, AckedItems, first_window_by}
 use Rattle.qs_machine.specs.Told.{IsNoted}
 use Rattle.qs_machine.specs.Outgoing.{Outgoing, IsBlockedAt, first_acked_out, first_lost_out, acked_at, items_acked, reset_noted, blocked_noted}
 use Rattle.qs_machine.specs.Due.{Among, IsCurrent, IsCovered}
@@ -257,15 +257,15 @@ module _ {L : Type 0} (T : ℕ → L → Item → Type 0) (lanes : Tables L) (m 
   told_opens true now begin is none = subst (λ (t : Tables L). AreTold T t m a places) (sym is) told_placed
   told_opens false now begin is none = subst (λ (t : Tables L). AreTold T t m a places) (sym is) (told_opened begin none)
 
-pub recvs_open : (r : Role) (s : Settings) (recvs now : Tables RecvLane) (m : Records) (a : AckedItems) (marks : Tables Bool) (n w : ℕ) (share : Share) (absent : Bool) → AreTold (TellsAt r s) recvs m a marks → now ≡ cond absent recvs (open_to recvs n (λ k. new_recv_lane w share)) → w ≡ window_by r s n
+pub recvs_open : (r : Role) (s : Settings) (recvs now : Tables RecvLane) (m : Records) (a : AckedItems) (marks : Tables Bool) (n w : ℕ) (share : Share) (absent : Bool) → AreTold (TellsAt r s) recvs m a marks → now ≡ cond absent recvs (open_to recvs n (λ k. new_recv_lane w share)) → w ≡ first_window_by r s n
     → AreTold (TellsAt r s) now m a (open_to marks n (λ k. false))
 recvs_open r s recvs now m a marks n w share absent h is first =
     told_opens (TellsAt r s) recvs m a marks h n absent now (λ k. new_recv_lane w share) is
-    (λ k kind. recv_tell (λ i. ⊥) (window_by r s k) k (new_recv_lane w share)
+    (λ k kind. recv_tell (λ i. ⊥) (first_window_by r s k) k (new_recv_lane w share)
     (λ j limit (same, is, more, none). (let here = first ∙ window_at k kind in omega (arith, is, more, here)))
     (λ j code (same, stop, goes, whole). none-some code stop))
   where
-    window_at : (k : ℕ) → k % 4 ≡ n % 4 → window_by r s n ≡ window_by r s k
+    window_at : (k : ℕ) → k % 4 ≡ n % 4 → first_window_by r s n ≡ first_window_by r s k
     window_at k kind = sym (window_same r s n (n % 4) refl (omega arith)) ∙ window_same r s k (n % 4) kind (omega arith)
 
 pub sends_open : (sends now : Tables SendLane) (m : Records) (a : AckedItems) (marks : Tables Bool) (n limit buffer : ℕ) (absent : Bool) → AreTold SendTells sends m a marks → now ≡ cond absent sends (open_to sends n (λ k. new_send_lane k limit buffer))
@@ -400,7 +400,7 @@ AreNoted {L} T of = (p : Piece) (t : Tables Bool) (n : ℕ) (l : L) (a : AckedIt
 
 pub recv_noted : (r : Role) (s : Settings) → AreNoted (TellsAt r s) told_by_recv
 recv_noted r s p t n l a free =
-    recv_tell (λ i. IsNoted a i → IsNoted (items_acked p a) i) (window_by r s n) n l (λ k m has. limit_noted p t k m a (subst (λ j. lookup (marked_for told_by_recv p t) j ≡ Some false) (sym has.0) free)) (λ k code has. stop_noted p k a)
+    recv_tell (λ i. IsNoted a i → IsNoted (items_acked p a) i) (first_window_by r s n) n l (λ k m has. limit_noted p t k m a (subst (λ j. lookup (marked_for told_by_recv p t) j ≡ Some false) (sym has.0) free)) (λ k code has. stop_noted p k a)
 
 pub send_noted : AreNoted SendTells told_by_send
 send_noted p t n l a free =
@@ -440,7 +440,7 @@ module _ {L : Type 0} (T : ℕ → L → Item → Type 0) (of : Item → Option 
   marks_stay p is are = rw (is, are) (told_marked T lanes o.outstanding o.acked marks h (marked_for of p marks) (has_for of p marks))
 
 pub recv_own : (r : Role) (s : Settings) (n : ℕ) (l : RecvLane) (i : Item) → TellsAt r s n l i → told_by_recv i ≡ Some n
-recv_own r s n l = recv_tell (λ i. told_by_recv i ≡ Some n) (window_by r s n) n l (λ k m has. ap Some has.0) (λ k code has. ap Some has.0)
+recv_own r s n l = recv_tell (λ i. told_by_recv i ≡ Some n) (first_window_by r s n) n l (λ k m has. ap Some has.0) (λ k code has. ap Some has.0)
 
 pub send_own : (n : ℕ) (l : SendLane) (i : Item) → SendTells n l i → told_by_send i ≡ Some n
 send_own n l = send_tell (λ i. told_by_send i ≡ Some n) n l (λ k code size has. ap Some has.0) (λ k m has. ap Some has.0)
@@ -497,7 +497,7 @@ idle_covered e slot i current covered j at is = subst (IsCovered e) (sym (curren
 module _ (t : Limits) (recvs : Tables RecvLane) (o : Outgoing) (e : End) (n : ℕ) where
   pub in_idle : IsIdle (end_by t recvs o e) (slots.StopSending n) → IsIdle (end_by t recvs o e) (slots.MaxStreamData n) → (l : RecvLane) → lookup recvs n ≡ Some l → HasTold (TellsAt t.role t.settings n) o.outstanding o.acked l
   in_idle stops limit l at =
-      recv_tell (IsToldIn o.outstanding o.acked) (window_by t.role t.settings n) n l
+      recv_tell (IsToldIn o.outstanding o.acked) (first_window_by t.role t.settings n) n l
       (λ k m (same, is, more, none). subst (λ j. IsToldIn o.outstanding o.acked (MaxStreamData j m)) (sym same) (limit (MaxStreamData n m) refl (l, at, is, more, none)))
       (λ k code (same, is, goes, whole). subst (λ j. IsToldIn o.outstanding o.acked (StopSending j code)) (sym same) (stops (StopSending n code) refl (l, at, is, goes, whole)))
 

@@ -11,7 +11,7 @@ use Rattle.qs_send.specs.declared.piece.Item.TheVariants.{MaxStreamData, ResetSt
 use Rattle.qs_send.specs.declared.piece.Piece.{Piece}
 use Rattle.qs_send.specs.declared.piece.Piece.TheVariants.{Data, Told}
 use Rattle.qs_machine.specs.Tables.{Tables, lookup, updated}
-use Rattle.qs_machine.specs.Ends.{Records, AckedItems, window_by}
+use Rattle.qs_machine.specs.Ends.{Records, AckedItems, first_window_by}
 use Rattle.qs_machine.specs.Told.{IsNoted}
 use Rattle.qs_machine.specs.Outgoing.{IsBlockedAt}
 use Rattle.qs_conn.specs.Marks.{is_marked}
@@ -58,7 +58,7 @@ AreTold {L} Tells lanes outstanding acked marks = (n : ℕ) → IsToldAt (Tells 
 
 -- so it is with the receiving halves of an end
 abbrev pub TellsAt : Role → Settings → ℕ → RecvLane → Item → Type 0
-TellsAt role s n = RecvTells (window_by role s n) n
+TellsAt role s n = RecvTells (first_window_by role s n) n
 
 -- the stream of whose receiving half an item tells
 abbrev pub told_by_recv : Item → Option ℕ

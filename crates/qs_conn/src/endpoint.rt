@@ -3,7 +3,7 @@ ghost use Rattle.std.specs.Prelude.{◌≡◌, ◌+◌, ◌≤◌, ◌<◌, max,
 ghost use Rattle.qs_ranges.specs.Numbers.{MAX_VARINT};
 ghost use Rattle.qs_recv.specs.Lane.{MAX_WINDOW, next_limit};
 ghost use Rattle.qs_calls.specs.Settings.{wide_setup_fault};
-ghost use Rattle.qs_machine.specs.Ends.{end_made, wide_end_made, new_end, role_bit, is_uni, is_own, window, first_send_limit};
+ghost use Rattle.qs_machine.specs.Ends.{end_made, wide_end_made, new_end, role_bit, is_uni, is_own, first_window, first_send_limit};
 ghost use Rattle.qs_machine.specs.Credit.{spent, all_stored, granted_streams, count_step, in_steps, settle};
 ghost use Rattle.qs_machine.specs.Making.{ClosePayload, ClosePayloadBy, close_text_of};
 ghost use Rattle.qs_conn.specs.Layers.{ClosingFits};
@@ -295,7 +295,7 @@ impl Endpoint {
 
     // Its first limit too, which is what the peer counts with.
     fn window(&self, stream: StreamId) -> u64
-        ensures value { result ≡ window self.now stream }
+        ensures value { result ≡ first_window self.now stream }
         ensures some { 1 ≤ result }
         ensures small { result ≤ MAX_WINDOW }
     {

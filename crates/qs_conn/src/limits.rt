@@ -4,7 +4,7 @@ ghost use Rattle.qs_ranges.specs.Numbers.{MAX_VARINT};
 ghost use Rattle.qs_recv.specs.Lane.{MAX_CONN_WINDOW, RecvLane};
 ghost use Rattle.qs_conn.specs.declared.slot.Slot.TheVariants as slots;
 ghost use Rattle.qs_machine.specs.Tables.{Tables};
-ghost use Rattle.qs_machine.specs.Ends.{End, window_by};
+ghost use Rattle.qs_machine.specs.Ends.{End, first_window_by};
 ghost use Rattle.qs_machine.specs.Setting.{count_with};
 ghost use Rattle.qs_conn.specs.declared.limits.Limits.{Limits};
 ghost use Rattle.qs_machine.specs.Outgoing.{Outgoing};
@@ -177,7 +177,7 @@ impl Limits {
     }
 
     pub(crate) fn window(&self, stream: StreamId) -> u64
-        ensures { result ≡ window_by self.now.role self.now.settings stream }
+        ensures { result ≡ first_window_by self.now.role self.now.settings stream }
     {
         if is_uni(stream) {
             self.settings.uni
@@ -220,10 +220,10 @@ impl Limits {
 }
 
 // Never less than the present count, since none may fall.
-fn count_with(present: u64, granted: u64, lifetime: u64, ended: u64, grant: u64) -> u64
-    ensures { result ≡ count_with present granted lifetime ended grant }
+fn count_with(old: u64, granted: u64, lifetime: u64, ended: u64, grant: u64) -> u64
+    ensures { result ≡ count_with old granted lifetime ended grant }
 {
-    if present < grant {
+    if old < grant {
         granted.max(grant.saturating_add(ended).min(lifetime))
     } else {
         granted

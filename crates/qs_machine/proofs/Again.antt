@@ -16,7 +16,7 @@ use Rattle.qs_send.specs.Records.{Among}
 use Rattle.qs_send.specs.declared.piece.Item.{Item}
 use Rattle.qs_send.specs.declared.piece.Item.TheVariants.{MaxData, MaxStreamData, MaxStreams, ResetStream, StopSending, DataBlocked, StreamDataBlocked, StreamsBlocked}
 use Rattle.qs_machine.specs.Tables.{Tables, lookup, updated, open_to, each}
-use Rattle.qs_machine.specs.Ends.{End, is_own, is_own_by, is_uni, on_send, on_recv, opens, opened_by_peer, first_send_limit, window, closes}
+use Rattle.qs_machine.specs.Ends.{End, is_own, is_own_by, is_uni, on_send, on_recv, opens, opened_by_peer, first_send_limit, first_window, closes}
 use Rattle.qs_machine.specs.Credit.{spent, settle, all_taken}
 use Rattle.qs_machine.specs.Seen.{Seen, Ack, Stream, Control, Close, Plain, seen, seen_all, asks_ack, any_asks}
 use Rattle.qs_machine.specs.Verdicts.{verdict, item_verdict, state_fault_in, state_fault_out, credit_fault, bytes_fault, fault_of, ack_fault, fault_if, or_else, or_new}
@@ -66,7 +66,7 @@ WasOpened e n = is_own e n ≡ false → IsOpenAt e n
 pub opens_it : (n : ℕ) (e : End) → IsOpenAt (opens n e) n
 opens_it n e =
     record {
-      recvs = λ h. subst (λ t. is_some (lookup t n) ≡ true) (sym (not_chosen (is_uni n && is_own e n) e.recvs (open_to e.recvs n (λ m. new_recv_lane (window e n) e.tuning.credit_step)) h)) (open_at e.recvs n (λ m. new_recv_lane (window e n) e.tuning.credit_step));
+      recvs = λ h. subst (λ t. is_some (lookup t n) ≡ true) (sym (not_chosen (is_uni n && is_own e n) e.recvs (open_to e.recvs n (λ m. new_recv_lane (first_window e n) e.tuning.credit_step)) h)) (open_at e.recvs n (λ m. new_recv_lane (first_window e n) e.tuning.credit_step));
       sends = λ h. subst (λ t. is_some (lookup t n) ≡ true) (sym (not_chosen (is_uni n && not (is_own e n)) e.sends (open_to e.sends n (λ m. new_send_lane m (first_send_limit e n) e.settings.send_buffer)) h)) (open_at e.sends n (λ m. new_send_lane m (first_send_limit e n) e.settings.send_buffer));
     }
 
@@ -93,7 +93,7 @@ opened_back n e h = cond_both (is_own e n) e (opens n e) (λ x. x ≡ e) (λ _. 
     back : IsOpenAt e n → opens n e ≡ e
     back is =
         let s : (opens n e).sends ≡ e.sends = cond_both (is_uni n && not (is_own e n)) e.sends (open_to e.sends n (λ m. new_send_lane m (first_send_limit e n) e.settings.send_buffer)) (λ t. t ≡ e.sends) (λ _. refl) (λ c. open_back e.sends n _ (is.sends c)) in
-        let r : (opens n e).recvs ≡ e.recvs = cond_both (is_uni n && is_own e n) e.recvs (open_to e.recvs n (λ m. new_recv_lane (window e n) e.tuning.credit_step)) (λ t. t ≡ e.recvs) (λ _. refl) (λ c. open_back e.recvs n _ (is.recvs c)) in
+        let r : (opens n e).recvs ≡ e.recvs = cond_both (is_uni n && is_own e n) e.recvs (open_to e.recvs n (λ m. new_recv_lane (first_window e n) e.tuning.credit_step)) (λ t. t ≡ e.recvs) (λ _. refl) (λ c. open_back e.recvs n _ (is.recvs c)) in
         λ i. record e { sends = s i; recvs = r i }
 
 pub recv_back : (n : ℕ) (f : RecvLane → RecvLane) (l : RecvLane) (e : End) → WasOpened e n → lookup e.recvs n ≡ Some l → f l ≡ l → on_recv n f (opened_by_peer n e) ≡ e
@@ -297,10 +297,10 @@ no_growth : (h spent granted : ℕ) → spent ≤ granted → nat_lt granted (sp
 no_growth h spent granted le = grind (arith, nat_tests)
 
 in_again : (n : ℕ) (l : RecvLane) (e : End) (check : RecvLane → Result Highest RecvFault) → state_fault_in e n ≡ None → lookup e.recvs n ≡ Some l → check l ≡ Ok (record { before = highest l; after = highest l }) → IsInCredit e
-    → or_else (state_fault_in e n) (credit_fault e (check (or_new (lookup e.recvs n) (window e n) e.tuning.credit_step))) ≡ None
+    → or_else (state_fault_in e n) (credit_fault e (check (or_new (lookup e.recvs n) (first_window e n) e.tuning.credit_step))) ≡ None
 in_again n l e check fine is passes sound =
-    ap (λ a. or_else a (credit_fault e (check (or_new (lookup e.recvs n) (window e n) e.tuning.credit_step)))) fine
-    ∙ ap (λ o. credit_fault e (check (or_new o (window e n) e.tuning.credit_step))) is
+    ap (λ a. or_else a (credit_fault e (check (or_new (lookup e.recvs n) (first_window e n) e.tuning.credit_step)))) fine
+    ∙ ap (λ o. credit_fault e (check (or_new o (first_window e n) e.tuning.credit_step))) is
     ∙ ap (credit_fault e) passes
     ∙ ap (λ b. fault_if b 0x03) (no_growth (highest l) (spent e) e.granted sound.spent)
 
@@ -344,7 +344,7 @@ unfolding verdict frame_taken
 frame_again (Ack largest ranges) e (fine, bare) sound = (fine, named_again e ranges bare)
 frame_again (Stream n offset bytes fin) e (fine, was, l, is, has) sound =
     let h = data_again l offset bytes fin (lawful_in e n l sound is) has in (
-      passes_last _ _ (bytes_fault e n offset bytes) (in_again n l e (λ k. check_stream k offset (length bytes) fin) fine is h.0 sound) (ap (λ o. fault_of (check_bytes (or_new o (window e n) e.tuning.credit_step) offset bytes)) is ∙ ap fault_of h.1),
+      passes_last _ _ (bytes_fault e n offset bytes) (in_again n l e (λ k. check_stream k offset (length bytes) fin) fine is h.0 sound) (ap (λ o. fault_of (check_bytes (or_new o (first_window e n) e.tuning.credit_step) offset bytes)) is ∙ ap fault_of h.1),
       recv_back n (λ k. take_stream k offset bytes fin) l e was is h.2,
     )
 frame_again (Control i) e h sound = item_again i e h sound

@@ -6,7 +6,7 @@ use Rattle.qs_recv.specs.Lane.{RecvLane, new_lane as new_recv_lane, after_read, 
 use Rattle.qs_send.specs.declared.piece.Piece.{Piece}
 use Rattle.qs_calls.specs.declared.closing.Closed.{Closed}
 use Rattle.qs_calls.specs.declared.closing.Closed.TheVariants.{Told}
-use Rattle.qs_machine.specs.Ends.{End, on_recv, is_own, is_uni, opens, closes, window}
+use Rattle.qs_machine.specs.Ends.{End, on_recv, is_own, is_uni, opens, closes, first_window}
 use Rattle.qs_machine.specs.FrameStep.{frame_taken, acks, named}
 use Rattle.qs_machine.specs.Lawful.{frame_put}
 use Rattle.qs_machine.specs.Making.{first_lost}
@@ -77,7 +77,7 @@ moves_recv n f e sound kept = moves_recvs e (on_recv n f e) refl refl (kept_upda
 moves_opens : (n : ℕ) (e : End) → Moves e (opens n e)
 moves_opens n e =
     moves_recvs e (opens n e) refl refl
-    (cond_both (is_uni n && is_own e n) e.recvs _ (KeptIn LaneAfter e.recvs) (λ _. kept_same LaneAfter lane_same e.recvs) (λ _. kept_open LaneAfter lane_same e.recvs n (λ m. new_recv_lane (window e n) e.tuning.credit_step)))
+    (cond_both (is_uni n && is_own e n) e.recvs _ (KeptIn LaneAfter e.recvs) (λ _. kept_same LaneAfter lane_same e.recvs) (λ _. kept_open LaneAfter lane_same e.recvs n (λ m. new_recv_lane (first_window e n) e.tuning.credit_step)))
 
 moves_set : (x : Setting) (e : End) → Moves e (with_setting x e)
 moves_set (ConnWindow w) e = moves_none e (with_setting (ConnWindow w) e) refl refl refl

@@ -11,7 +11,7 @@ use Rattle.qs_recv.proofs.LawfulLaws.{lawful_new, lawful_raise, highest-take_str
 use Rattle.qs_calls.specs.declared.settings.Settings.{Settings}
 use Rattle.qs_calls.specs.Settings.{are_in_wide_range, is_between, MAX_GRANT}
 use Rattle.qs_machine.specs.Tables.{Tables, lookup, update, updated, open_to, each, total}
-use Rattle.qs_machine.specs.Ends.{Present, window_by, is_uni, is_own_by, End, is_own, recv_lane, opens, opened_by_peer, window, on_recv}
+use Rattle.qs_machine.specs.Ends.{Present, first_window_by, is_uni, is_own_by, End, is_own, recv_lane, opens, opened_by_peer, first_window, on_recv}
 use Rattle.qs_machine.specs.Standing.{HasLawfulLane, KeepsCredit, IsInCredit, CountsStand}
 use Rattle.qs_machine.proofs.TableLaws.{slots_updated, slots_opened, slots_each, total_update, total_open, total_each, lookup_open, open_at}
 use Rattle.std.specs.Prelude.{cond, max, nat_le, nat_lt, is_none, Result, Ok, Err, IsOk}
@@ -58,22 +58,22 @@ windows_fit s h =
       uni = (grind (arith, nat_tests, h), grind (arith, nat_tests, h));
     }
 
-window_fits : (role : Role) (s : Settings) (n : ℕ) → WindowsFit s → (1 ≤ window_by role s n) × (window_by role s n ≤ MAX_WINDOW)
+window_fits : (role : Role) (s : Settings) (n : ℕ) → WindowsFit s → (1 ≤ first_window_by role s n) × (first_window_by role s n ≤ MAX_WINDOW)
 window_fits role s n h =
     cond_both (is_uni n) s.uni _ (λ w. (1 ≤ w) × (w ≤ MAX_WINDOW)) (λ _. h.uni) (λ _.
     cond_both (is_own_by role n) s.bidi_local s.bidi_remote (λ w. (1 ≤ w) × (w ≤ MAX_WINDOW)) (λ _. h.local) (λ _. h.remote))
 
 -- streams of one type have one window
-window_same : (role : Role) (s : Settings) (n m : ℕ) → m % 4 ≡ n % 4 → window_by role s n ≡ window_by role s m
+window_same : (role : Role) (s : Settings) (n m : ℕ) → m % 4 ≡ n % 4 → first_window_by role s n ≡ first_window_by role s m
 window_same role s n m e = rw e refl
 
 -- Changes of a table
 
 module _ (role : Role) (s : Settings) (p : Present) (recvs : Tables RecvLane) (granted : ℕ) (h : KeepsCredit role s p recvs granted) where
-  lane_at : (n : ℕ) (l : RecvLane) → lookup recvs n ≡ Some l → IsLawful l × (window_by role s n ≤ l.arrived.window)
+  lane_at : (n : ℕ) (l : RecvLane) → lookup recvs n ≡ Some l → IsLawful l × (first_window_by role s n ≤ l.arrived.widest)
   lane_at n l is = subst (HasLawfulLane role s n) is (h.lanes n)
 
-  pub keeps_update : (n : ℕ) (l m : RecvLane) → lookup recvs n ≡ Some l → IsLawful m → l.arrived.window ≤ m.arrived.window → taken l ≤ taken m
+  pub keeps_update : (n : ℕ) (l m : RecvLane) → lookup recvs n ≡ Some l → IsLawful m → l.arrived.widest ≤ m.arrived.widest → taken l ≤ taken m
       → total highest recvs + highest m ≤ granted + highest l → KeepsCredit role s p (update recvs n m) granted
   keeps_update n l m is lawful wider more credit =
       record {
@@ -86,7 +86,7 @@ module _ (role : Role) (s : Settings) (p : Present) (recvs : Tables RecvLane) (g
 
   -- a change of a lane, where the lane is open
   pub keeps_widened : (n : ℕ) (f : RecvLane → RecvLane)
-      → ((l : RecvLane) → lookup recvs n ≡ Some l → IsLawful l → IsLawful (f l) × (l.arrived.window ≤ (f l).arrived.window) × (taken l ≤ taken (f l)) × (total highest recvs + highest (f l) ≤ granted + highest l))
+      → ((l : RecvLane) → lookup recvs n ≡ Some l → IsLawful l → IsLawful (f l) × (l.arrived.widest ≤ (f l).arrived.widest) × (taken l ≤ taken (f l)) × (total highest recvs + highest (f l) ≤ granted + highest l))
       → KeepsCredit role s p (updated recvs n f (lookup recvs n)) granted
   keeps_widened n f keeps = go (lookup recvs n) refl
     where
@@ -96,7 +96,7 @@ module _ (role : Role) (s : Settings) (p : Present) (recvs : Tables RecvLane) (g
 
   -- a change that leaves its window as it was
   pub keeps_updated : (n : ℕ) (f : RecvLane → RecvLane)
-      → ((l : RecvLane) → lookup recvs n ≡ Some l → IsLawful l → IsLawful (f l) × ((f l).arrived.window ≡ l.arrived.window) × (taken l ≤ taken (f l)) × (total highest recvs + highest (f l) ≤ granted + highest l))
+      → ((l : RecvLane) → lookup recvs n ≡ Some l → IsLawful l → IsLawful (f l) × ((f l).arrived.widest ≡ l.arrived.widest) × (taken l ≤ taken (f l)) × (total highest recvs + highest (f l) ≤ granted + highest l))
       → KeepsCredit role s p (updated recvs n f (lookup recvs n)) granted
   keeps_updated n f keeps =
       keeps_widened n f (λ l is lawful.
@@ -104,9 +104,9 @@ module _ (role : Role) (s : Settings) (p : Present) (recvs : Tables RecvLane) (g
       let same = k.1 in
       (k.0, omega (arith, same), k.2, k.3))
 
-  pub keeps_open : (n : ℕ) (share : Share) → KeepsCredit role s p (open_to recvs n (λ m. new_lane (window_by role s n) share)) granted
+  pub keeps_open : (n : ℕ) (share : Share) → KeepsCredit role s p (open_to recvs n (λ m. new_lane (first_window_by role s n) share)) granted
   keeps_open n share =
-      let w = window_by role s n in
+      let w = first_window_by role s n in
       let fits = window_fits role s n (windows_fit s h.settings) in
       record {
         settings = h.settings;
@@ -167,7 +167,7 @@ two_checks _ c f g x h e = absurd (cc)
 
 pub sound_opens : (n : ℕ) (e : End) → IsInCredit e → IsInCredit (opens n e)
 sound_opens n e h =
-    cond_both (is_uni n && is_own e n) e.recvs (open_to e.recvs n (λ m. new_lane (window e n) e.tuning.credit_step)) (λ t. KeepsCredit e.role e.settings e.present t e.granted)
+    cond_both (is_uni n && is_own e n) e.recvs (open_to e.recvs n (λ m. new_lane (first_window e n) e.tuning.credit_step)) (λ t. KeepsCredit e.role e.settings e.present t e.granted)
     (λ _. h) (λ _. keeps_open e.role e.settings e.present e.recvs e.granted h n e.tuning.credit_step)
 
 pub sound_opened : (n : ℕ) (e : End) → IsInCredit e → IsInCredit (opened_by_peer n e)
@@ -175,8 +175,8 @@ sound_opened n e h = cond_both (is_own e n) e (opens n e) IsInCredit (λ _. h) (
 
 spent_opens : (n : ℕ) (e : End) → spent (opens n e) ≡ spent e
 spent_opens n e =
-    cond_both (is_uni n && is_own e n) e.recvs (open_to e.recvs n (λ m. new_lane (window e n) e.tuning.credit_step)) (λ t. total highest t ≡ total highest e.recvs)
-    (λ _. refl) (λ _. total_open highest e.recvs n (λ m. new_lane (window e n) e.tuning.credit_step) (λ m. end_of-empty))
+    cond_both (is_uni n && is_own e n) e.recvs (open_to e.recvs n (λ m. new_lane (first_window e n) e.tuning.credit_step)) (λ t. total highest t ≡ total highest e.recvs)
+    (λ _. refl) (λ _. total_open highest e.recvs n (λ m. new_lane (first_window e n) e.tuning.credit_step) (λ m. end_of-empty))
 
 -- a lane that was opened is there as it was, or as it begins
 begun : (t : Tables RecvLane) (n w : ℕ) (share : Share) → lookup (open_to t n (λ m. new_lane w share)) n ≡ Some (or_new (lookup t n) w share)
@@ -192,15 +192,15 @@ begun t n w share =
 
 opens_lane : (n : ℕ) (e : End) → is_own e n ≡ false → recv_lane (opens n e) n ≡ Some (lane_of e n)
 opens_lane n e other =
-    ap (λ t. lookup t n) (not_chosen (is_uni n && is_own e n) e.recvs (open_to e.recvs n (λ m. new_lane (window e n) e.tuning.credit_step)) (and_right (is_uni n) (is_own e n) other))
-    ∙ begun e.recvs n (window e n) e.tuning.credit_step
+    ap (λ t. lookup t n) (not_chosen (is_uni n && is_own e n) e.recvs (open_to e.recvs n (λ m. new_lane (first_window e n) e.tuning.credit_step)) (and_right (is_uni n) (is_own e n) other))
+    ∙ begun e.recvs n (first_window e n) e.tuning.credit_step
 
 -- the lane that a frame which passed the first checks changes
 pub opened_lane : (n : ℕ) (e : End) → state_fault_in e n ≡ None → recv_lane (opened_by_peer n e) n ≡ Some (lane_of e n)
 opened_lane n e passed = go (is_own e n) refl passed
   where
     go : (b : Bool) → is_own e n ≡ b → cond b (fault_if (is_none (recv_lane e n)) 0x05) (fault_if (nat_le (grant e n) (n / 4)) 0x04) ≡ None → recv_lane (cond b e (opens n e)) n ≡ Some (lane_of e n)
-    go true own p = is_open (recv_lane e n) (window e n) e.tuning.credit_step (no_fault _ _ p)
+    go true own p = is_open (recv_lane e n) (first_window e n) e.tuning.credit_step (no_fault _ _ p)
     go false other p = opens_lane n e other
 
 -- Frames with data and resets
@@ -208,7 +208,7 @@ opened_lane n e passed = go (is_own e n) refl passed
 -- a change of the lane that a frame names, by a call that passed its check
 on_named : (n : ℕ) (e : End) (f : RecvLane → RecvLane) (h : Highest) → IsInCredit e → state_fault_in e n ≡ None
     → (IsLawful (lane_of e n) → IsLawful (f (lane_of e n)) × (taken (lane_of e n) ≤ taken (f (lane_of e n))) × (highest (lane_of e n) ≤ highest (f (lane_of e n))))
-    → (f (lane_of e n)).arrived.window ≡ (lane_of e n).arrived.window
+    → (f (lane_of e n)).arrived.widest ≡ (lane_of e n).arrived.widest
     → (IsLawful (lane_of e n) → (h.before ≡ highest (lane_of e n)) × (highest (f (lane_of e n)) ≤ max h.before h.after))
     → spent e + (h.after - h.before) ≤ e.granted
     → KeepsCredit (opened_by_peer n e).role (opened_by_peer n e).settings (opened_by_peer n e).present (updated (opened_by_peer n e).recvs n f (recv_lane (opened_by_peer n e) n)) (opened_by_peer n e).granted
@@ -222,7 +222,7 @@ on_named n e f h sound passed keeps same counts credit =
     let c = counts at_lane in
     let growth : spent open_end + highest (f (lane_of e n)) ≤ open_end.granted + highest (lane_of e n) =
     omega (arith, (cond_both (is_own e n) e (opens n e) (λ x. spent x ≡ spent e) (λ _. refl) (λ _. spent_opens n e)), (cond_both (is_own e n) e (opens n e) (λ x. x.granted ≡ e.granted) (λ _. refl) (λ _. refl)), credit, c.0, c.1, k.2) in
-    subst (λ x. IsLawful (f x) × ((f x).arrived.window ≡ x.arrived.window) × (taken x ≤ taken (f x)) × (spent open_end + highest (f x) ≤ open_end.granted + highest x)) this (k.0, same, k.1, growth))
+    subst (λ x. IsLawful (f x) × ((f x).arrived.widest ≡ x.arrived.widest) × (taken x ≤ taken (f x)) × (spent open_end + highest (f x) ≤ open_end.granted + highest x)) this (k.0, same, k.1, growth))
 
 sound_stream : (n offset : ℕ) (bytes : List ℕ) (fin : Bool) (e : End) → verdict e (Stream n offset bytes fin) ≡ None → IsInCredit e → IsInCredit (frame_taken (Stream n offset bytes fin) e)
 unfolding verdict frame_taken
@@ -237,7 +237,7 @@ sound_stream n offset bytes fin e v sound =
     (λ lawful.
     let g = grows_after_call lane (TakeStream offset bytes fin) lawful allowed in
     (lawful_after_call lane (TakeStream offset bytes fin) lawful allowed, g.taken_grows, g.highest_grows))
-    (same_either (λ (a : Assembled). a.window) (is_some lane.reset_code) lane.arrived (put lane.arrived offset bytes) refl)
+    (same_either (λ (a : Assembled). a.widest) (is_some lane.reset_code) lane.arrived (put lane.arrived offset bytes) refl)
     (λ lawful.
     let after : highest (take_stream lane offset bytes fin) ≡ h.after = highest-take_stream lane offset bytes fin lawful ∙ ap (λ (x : Highest). x.after) same in
     let most : highest (take_stream lane offset bytes fin) ≤ max h.before h.after = omega (arith, after) in
@@ -255,7 +255,7 @@ sound_reset n code size e v sound =
     (λ lawful.
     let g = grows_after_call lane (TakeReset code size) lawful allowed in
     (lawful_after_call lane (TakeReset code size) lawful allowed, g.taken_grows, g.highest_grows))
-    (cond_both (is_some lane.reset_code || is_whole lane) lane _ (λ l. l.arrived.window ≡ lane.arrived.window) (λ _. refl) (λ _. refl))
+    (cond_both (is_some lane.reset_code || is_whole lane) lane _ (λ l. l.arrived.widest ≡ lane.arrived.widest) (λ _. refl) (λ _. refl))
     (λ lawful.
     let before : highest lane ≡ h.before = ap (λ (x : Highest). x.before) same in
     let after : size ≡ h.after = ap (λ (x : Highest). x.after) same in
@@ -289,7 +289,7 @@ sound_frame f e v h = h
 pub sound_settle : (e : End) → IsInCredit e → IsInCredit (settle e)
 sound_settle e h = keeps_settle e.role e.settings e.present e.recvs e.granted h e.tuning.credit_step
 
-read_window : (answer : Read) (l : RecvLane) (size : ℕ) → (after_answer answer l size).arrived.window ≡ l.arrived.window
+read_window : (answer : Read) (l : RecvLane) (size : ℕ) → (after_answer answer l size).arrived.widest ≡ l.arrived.widest
 read_window (reads.Bytes n) l size = refl
 read_window answer l size = refl
 
@@ -308,7 +308,7 @@ sound_stop n code e h =
     let stopped : RecvLane → RecvLane = λ l. record l { arrived = discard l.arrived; stop_code = Some code } in
     keeps_updated e.role e.settings e.present e.recvs e.granted h n (λ l. stop l code) (λ l is lawful.
     let g = grows_after_call l (StopWith code) lawful tt in
-    (lawful_after_call l (StopWith code) lawful tt, same_either (λ (m : RecvLane). m.arrived.window) (is_some l.stop_code || is_over l) l (stopped l) refl, g.taken_grows, omega (arith, same_either highest (is_some l.stop_code || is_over l) l (stopped l) refl, h.spent)))
+    (lawful_after_call l (StopWith code) lawful tt, same_either (λ (m : RecvLane). m.arrived.widest) (is_some l.stop_code || is_over l) l (stopped l) refl, g.taken_grows, omega (arith, same_either highest (is_some l.stop_code || is_over l) l (stopped l) refl, h.spent)))
 
 -- a setting that isn't refused lies in its range
 settable : (closed b : Bool) (f g : SetFault) (o : Option SetFault) → first_refusal (refuse_if closed f) (first_refusal (refuse_if (not b) g) o) ≡ None → b ≡ true
@@ -354,7 +354,7 @@ sound_forget n code e h =
     let stopped : RecvLane → RecvLane = λ l. record l { arrived = discard l.arrived; stop_code = Some code } in
     keeps_updated e.role e.settings e.present e.recvs e.granted h n (λ l. stop_and_forget l code) (λ l is lawful.
     let g = grows_after_call l (ForgetWith code) lawful tt in
-    (lawful_after_call l (ForgetWith code) lawful tt, same_either (λ (m : RecvLane). m.arrived.window) (is_some l.stop_code || is_over l) l (stopped l) refl, g.taken_grows, omega (arith, same_either highest (is_some l.stop_code || is_over l) l (stopped l) refl, h.spent)))
+    (lawful_after_call l (ForgetWith code) lawful tt, same_either (λ (m : RecvLane). m.arrived.widest) (is_some l.stop_code || is_over l) l (stopped l) refl, g.taken_grows, omega (arith, same_either highest (is_some l.stop_code || is_over l) l (stopped l) refl, h.spent)))
 
 pub sound_change : (old : End) (call : Call) (c : Change) (e : End) → Comes old call e c → IsInCredit e → IsInCredit (changed c e)
 sound_change old call (Wanted Uni count) e comes h = h

@@ -23,7 +23,7 @@ use Rattle.qs_send.specs.declared.parts.SendFault.TheVariants.{WasReset, Finishe
 use Rattle.qs_send.specs.declared.piece.Item.{Item}
 use Rattle.qs_send.specs.declared.piece.Item.TheVariants.{MaxData, MaxStreamData, MaxStreams, ResetStream, StopSending, StreamDataBlocked}
 use Rattle.qs_machine.specs.Tables.{Tables, lookup, updated, open_to}
-use Rattle.qs_machine.specs.Ends.{End, is_own, is_uni, send_lane, recv_lane, on_send, on_recv, opens, opened_by_peer, window}
+use Rattle.qs_machine.specs.Ends.{End, is_own, is_uni, send_lane, recv_lane, on_send, on_recv, opens, opened_by_peer, first_window}
 use Rattle.qs_machine.specs.Seen.{Seen, Ack, Stream, Control}
 use Rattle.qs_machine.specs.Verdicts.{verdict, state_fault_in, state_fault_out, or_new}
 use Rattle.qs_machine.specs.FrameStep.{frame_taken, item_taken}
@@ -194,7 +194,7 @@ recv_same n f e fine none stays =
 recv_differs : (n : ℕ) (f : RecvLane → RecvLane) (e : End) (l : RecvLane) → state_fault_in e n ≡ None → lookup e.recvs n ≡ Some l → (f l ≡ l → ⊥) → on_recv n f (opened_by_peer n e) ≡ e → ⊥
 recv_differs n f e l fine is differs same =
     let mid = opened_by_peer n e in
-    let there : lookup mid.recvs n ≡ Some l = in_there e mid n fine refl ∙ ap (λ o. Some (or_new o (window e n) e.tuning.credit_step)) is in
+    let there : lookup mid.recvs n ≡ Some l = in_there e mid n fine refl ∙ ap (λ o. Some (or_new o (first_window e n) e.tuning.credit_step)) is in
     differs (same_Some (f l) l (sym (changed mid.recvs n f l there) ∙ ap (λ (x : End). lookup x.recvs n) same ∙ is))
 
 send_same : (n : ℕ) (f : SendLane → SendLane) (e : End) → state_fault_out e n ≡ None → is_yet_to_open e n ≡ false → ((l : SendLane) → lookup e.sends n ≡ Some l → f l ≡ l) → on_send n f (opened_by_peer n e) ≡ e

@@ -5,7 +5,7 @@ use Rattle.std.proofs.lemmas.Option.{slice_get-map}
 use Rattle.qs_send.specs.Lane.{SendLane, allow_lane, new_lane as new_send_lane, write_lane, finish_lane, reset_lane, stop_taken, acked_lane, reset_acked_lane, blocked_lane, sent_lane, buffer_lane}
 use Rattle.qs_calls.specs.declared.settings.PeerLimits.{PeerLimits}
 use Rattle.qs_machine.specs.Tables.{Tables, table}
-use Rattle.qs_machine.specs.Ends.{End, first_send_limit, on_send, on_recv, is_own, is_uni, window, opens, opened_by_peer}
+use Rattle.qs_machine.specs.Ends.{End, first_send_limit, on_send, on_recv, is_own, is_uni, first_window, opens, opened_by_peer}
 use Rattle.qs_machine.specs.Raising.{knows_limits, type_allowed, limits_raised}
 use Rattle.qs_machine.proofs.TableLaws.{with_same, with_other, lookup_in}
 use Rattle.qs_machine.proofs.TablesAfter.{KeptIn, kept_same, kept_twice, kept_updated, kept_open, kept_each}
@@ -183,7 +183,7 @@ module _ (R : RecvLane → RecvLane → Type 0) (same : (l : RecvLane) → R l l
   one_edited n x e = kept_updated R same e.recvs n (recv_edited x) (λ l is. edits x l)
 
   one_opens : (n : ℕ) (e : End) → Stay e (opens n e)
-  one_opens n e = cond_both (is_uni n && is_own e n) e.recvs _ (KeptIn R e.recvs) (λ _. kept_same R same e.recvs) (λ _. kept_open R same e.recvs n (λ m. new_recv_lane (window e n) e.tuning.credit_step))
+  one_opens n e = cond_both (is_uni n && is_own e n) e.recvs _ (KeptIn R e.recvs) (λ _. kept_same R same e.recvs) (λ _. kept_open R same e.recvs n (λ m. new_recv_lane (first_window e n) e.tuning.credit_step))
 
   peer_opens : (n : ℕ) (e : End) → Stay e (opened_by_peer n e)
   peer_opens n e = cond_both (is_own e n) e (opens n e) (Stay e) (λ _. as_it_was e) (λ _. one_opens n e)

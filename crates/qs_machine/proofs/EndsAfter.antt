@@ -21,7 +21,7 @@ use Rattle.qs_send.proofs.Carrying.{rest_of, get-without_first, carried-without_
 use Rattle.qs_machine.specs.Tables.{Tables, lookup}
 use Rattle.qs_calls.specs.declared.closing.Closed.{Closed}
 use Rattle.qs_machine.specs.Recording.{recorded}
-use Rattle.qs_machine.specs.Ends.{End, Records, AckedItems, closes, is_own, is_uni, on_send, on_recv, opens, opened_by_peer, first_send_limit, window}
+use Rattle.qs_machine.specs.Ends.{End, Records, AckedItems, closes, is_own, is_uni, on_send, on_recv, opens, opened_by_peer, first_send_limit, first_window}
 use Rattle.qs_machine.specs.Credit.{settle}
 use Rattle.qs_machine.specs.Seen.{Seen, Ack, Stream, Control}
 use Rattle.qs_machine.specs.Verdicts.{verdict, or_new}
@@ -189,7 +189,7 @@ after_opens : (n : ℕ) (e : End) → IsAfter e (opens n e)
 after_opens n e =
     after_tables e _ _ e.granted
     (cond_both (is_uni n && not (is_own e n)) e.sends _ (KeptIn HalfAfter e.sends) (λ _. sends_same e.sends) (λ _. kept_open HalfAfter half_same e.sends n (λ m. new_send_lane m (first_send_limit e n) e.settings.send_buffer)))
-    (cond_both (is_uni n && is_own e n) e.recvs _ (KeptIn LaneAfter e.recvs) (λ _. recvs_same e.recvs) (λ _. kept_open LaneAfter lane_same e.recvs n (λ m. new_recv_lane (window e n) e.tuning.credit_step)))
+    (cond_both (is_uni n && is_own e n) e.recvs _ (KeptIn LaneAfter e.recvs) (λ _. recvs_same e.recvs) (λ _. kept_open LaneAfter lane_same e.recvs n (λ m. new_recv_lane (first_window e n) e.tuning.credit_step)))
 
 pub after_opened : (n : ℕ) (e : End) → IsAfter e (opened_by_peer n e)
 after_opened n e = cond_both (is_own e n) e (opens n e) (IsAfter e) (λ _. after_same e) (λ _. after_opens n e)

@@ -2,7 +2,7 @@
 use Rattle.std.proofs.Common.{ℕ, sym, ◌≡◌, ◌≤◌, Bool, true, false, ◌||◌, List, [], take, Some, is_some, refl, subst, arith}
 use Rattle.std.proofs.lemmas.Bool.{cond_both}
 use Rattle.qs_send.specs.Lane.{SendLane, reset_refusal, reset_lane, broken_off, first_code, stop_taken}
-use Rattle.qs_machine.specs.Ends.{End, is_own, window, opens, opened_by_peer}
+use Rattle.qs_machine.specs.Ends.{End, is_own, first_window, opens, opened_by_peer}
 use Rattle.std.specs.Prelude.{cond}
 use Rattle.std.proofs.lemmas.Bool.Decides.{nat_tests}
 use Rattle.qs_wire.specs.declared.stream_id.Dir.TheVariants.{Bidi, Uni}

@@ -10,7 +10,7 @@ use Rattle.qs_recv.specs.declared.half.RecvFault.{RecvFault}
 use Rattle.qs_machine.specs.Credit.{grant}
 use Rattle.qs_machine.specs.Tables.{Tables, table, with_table, lookup, updated, open_to, index_of}
 use Rattle.qs_machine.specs.Outgoing.{Outgoing, with_outgoing, with_sends, sent_sum, AreOfOpen}
-use Rattle.qs_machine.specs.Ends.{End, Records, LostPackets, window, opens, is_own, is_uni, send_lane, opened_by_peer, first_send_limit}
+use Rattle.qs_machine.specs.Ends.{End, Records, LostPackets, first_window, opens, is_own, is_uni, send_lane, opened_by_peer, first_send_limit}
 use Rattle.qs_machine.specs.Seen.{Stream, Control}
 use Rattle.qs_machine.specs.Verdicts.{verdict, state_fault_in, state_fault_out, credit_fault, bytes_fault, fault_of, or_new, lane_of, fault_if, STREAM_LIMIT_ERROR}
 use Rattle.qs_machine.specs.FrameStep.{frame_taken}
@@ -111,7 +111,7 @@ pub mid_sends : (e mid : End) (n : ℕ) → mid ≡ opened_by_peer n e
     → mid.sends ≡ cond (is_own e n || (is_uni n && not (is_own e n))) e.sends (open_to e.sends n (λ m. new_send_lane m (first_send_limit e n) e.settings.send_buffer))
 mid_sends e mid n is = ap (λ (k : End). k.sends) is ∙ of_either (λ (k : End). k.sends) e (opens n e) (is_own e n) ∙ nested (is_own e n) (is_uni n && not (is_own e n)) e.sends _
 
-mid_recvs : (e mid : End) (n : ℕ) → mid ≡ opened_by_peer n e → mid.recvs ≡ cond (is_own e n || (is_uni n && is_own e n)) e.recvs (open_to e.recvs n (λ m. new_lane (window e n) e.tuning.credit_step))
+mid_recvs : (e mid : End) (n : ℕ) → mid ≡ opened_by_peer n e → mid.recvs ≡ cond (is_own e n || (is_uni n && is_own e n)) e.recvs (open_to e.recvs n (λ m. new_lane (first_window e n) e.tuning.credit_step))
 mid_recvs e mid n is = ap (λ (k : End). k.recvs) is ∙ of_either (λ (k : End). k.recvs) e (opens n e) (is_own e n) ∙ nested (is_own e n) (is_uni n && is_own e n) e.recvs _
 
 pub sends_back : (e mid : End) (n m : ℕ) (now : Tables SendLane) → mid ≡ opened_by_peer n e → m ≡ length (table e.sends (n % 4))
@@ -123,7 +123,7 @@ pub recvs_back : (e mid : End) (n m : ℕ) (now : Tables RecvLane) → mid ≡ o
 recvs_back e mid n m now is len cut = opened_closed e.recvs n _ _ mid.recvs now m (mid_recvs e mid n is) len cut
 
 pub tally_back : (e mid : End) (n m : ℕ) → mid ≡ opened_by_peer n e → m ≡ length (table e.recvs (n % 4)) → tally_on (take m (table mid.recvs (n % 4))) ≡ tally_on (table mid.recvs (n % 4))
-tally_back e mid n m is len = same_tally e.recvs n (window e n) e.tuning.credit_step _ mid.recvs m (mid_recvs e mid n is) len
+tally_back e mid n m is len = same_tally e.recvs n (first_window e n) e.tuning.credit_step _ mid.recvs m (mid_recvs e mid n is) len
 
 -- but for its tables an end that opened a stream is as before
 pub restored : (e mid : End) (n : ℕ) (sends : Tables SendLane) (recvs : Tables RecvLane) → mid ≡ opened_by_peer n e → sends ≡ e.sends → recvs ≡ e.recvs

@@ -14,7 +14,7 @@ use Rattle.qs_send.specs.declared.piece.Piece.{Piece}
 use Rattle.qs_send.specs.declared.piece.Piece.TheVariants.{Data, Told}
 pub use Rattle.qs_send.specs.Records.{Among}
 use Rattle.qs_send.specs.Records.{IsCarried}
-use Rattle.qs_machine.specs.Ends.{End, send_lane, recv_lane, window}
+use Rattle.qs_machine.specs.Ends.{End, send_lane, recv_lane, first_window}
 use Rattle.qs_machine.specs.Credit.{all_sent, granted_streams, first_grant}
 
 -- some outstanding packet carried the piece (RFC 9000, section 13.3)
@@ -60,7 +60,7 @@ known_count e Uni = e.known_uni
 -- There is a reason to tell the item, and it has its current value (RFC 9000, sections 4.1, 4.6 and 13.3).
 abbrev pub IsCurrent : End → Item → Type 0
 IsCurrent e (MaxData m) = (m ≡ e.granted) × (e.settings.conn_window < m)
-IsCurrent e (MaxStreamData n m) = (l : RecvLane) × (recv_lane e n ≡ Some l) × (m ≡ l.limit) × (window e n < m) × (l.final_size ≡ None)
+IsCurrent e (MaxStreamData n m) = (l : RecvLane) × (recv_lane e n ≡ Some l) × (m ≡ l.limit) × (first_window e n < m) × (l.final_size ≡ None)
 IsCurrent e (MaxStreams d m) = (m ≡ granted_streams e d) × (first_grant e.settings d < m)
 IsCurrent e (ResetStream n code size) = (l : SendLane) × (send_lane e n ≡ Some l) × (l.was_reset ≡ Some (record { code = code; size = size }))
 IsCurrent e (StopSending n code) = (l : RecvLane) × (recv_lane e n ≡ Some l) × (l.stop_code ≡ Some code) × (l.reset_code ≡ None) × (is_whole l ≡ false)

@@ -134,13 +134,13 @@ on_recv n f e = record e { recvs = updated e.recvs n f (recv_lane e n) }
 abbrev pub first_send_limit : End → ℕ → ℕ
 first_send_limit e n = if is_uni n then e.peer.uni else (if is_own e n then e.peer.bidi_remote else e.peer.bidi_local)
 
--- the window that an end of that role has set for a stream (RFC 9000, section 18.2)
-abbrev pub window_by : Role → Settings → ℕ → ℕ
-window_by role s n = if is_uni n then s.uni else (if is_own_by role n then s.bidi_local else s.bidi_remote)
+-- the window that an end of that role has set for a stream at first (RFC 9000, section 18.2)
+abbrev pub first_window_by : Role → Settings → ℕ → ℕ
+first_window_by role s n = if is_uni n then s.uni else (if is_own_by role n then s.bidi_local else s.bidi_remote)
 
--- the window of a receiving half, which is its first limit too (RFC 9000, section 4.1)
-abbrev pub window : End → ℕ → ℕ
-window e n = window_by e.role e.settings n
+-- the first window of a receiving half, which is its first limit too (RFC 9000, section 4.1)
+abbrev pub first_window : End → ℕ → ℕ
+first_window e n = first_window_by e.role e.settings n
 
 -- The end with the stream, and all lower ones of its type, open. On a unidirectional stream only its initiator sends
 -- (RFC 9000, sections 2.1 and 3.2).
@@ -148,7 +148,7 @@ abbrev pub opens : ℕ → End → End
 opens n e =
     record e {
       sends = if is_uni n && not (is_own e n) then e.sends else open_to e.sends n (λ m. new_send_lane m (first_send_limit e n) e.settings.send_buffer);
-      recvs = if is_uni n && is_own e n then e.recvs else open_to e.recvs n (λ m. new_recv_lane (window e n) e.tuning.credit_step);
+      recvs = if is_uni n && is_own e n then e.recvs else open_to e.recvs n (λ m. new_recv_lane (first_window e n) e.tuning.credit_step);
     }
 
 -- a frame that names a stream of the peer opens it (RFC 9000, section 3.2)

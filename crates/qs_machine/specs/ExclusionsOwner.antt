@@ -240,7 +240,7 @@ by_halves all = record (server (record standard { grant_uni = 4; lifetime_uni = 
 
 -- a half of which six of ten bytes of window were read
 abbrev pub six_read : RecvLane
-six_read = record fresh { arrived = record fresh.arrived { read_count = 6; window = 10 }; limit = 10; window = 10 }
+six_read = record fresh { arrived = record fresh.arrived { read_count = 6; widest = 10 }; limit = 10; window = 10 }
 
 -- the same once two were read, where its limit moves by such a share
 abbrev pub two_read : Share → RecvLane
@@ -339,7 +339,7 @@ pub record SetsNoMoreOfIt : Type 0 where
   -- the limit stays once the final size is known
   pub ended : limit_at_first (settle (with_setting (StreamWindow 0 20) (server_with (record six_read { final_size = Some 8 })))) ≡ Some 10
   -- the widest one that was set is remembered
-  pub widest : option_map (λ l. l.arrived.window) (recv_lane (with_setting (StreamWindow 0 4) (tuned Half)) 0) ≡ Some 10
+  pub widest : option_map (λ l. l.arrived.widest) (recv_lane (with_setting (StreamWindow 0 4) (tuned Half)) 0) ≡ Some 10
   -- a stream that opens later begins with the one that the peer was told at first
   pub later : recv_lane (opens 4 (with_setting (StreamWindow 0 11) (tuned Half))) 4 ≡ Some (new_recv_lane 1024 Half)
   -- of a stream that isn't open none is set

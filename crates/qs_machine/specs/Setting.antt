@@ -46,8 +46,8 @@ set_refusal e x =
     (first_refusal (refuse_if (not (is_settable x)) setting.OutOfRange) (half_fault e x))
 
 -- as a window moves a limit, a greater grant moves a count of streams at once, up to the lifetime's, and under a smaller one it stands
-abbrev pub count_with : (present granted lifetime ended grant : ℕ) → ℕ
-count_with present granted lifetime ended grant = if nat_lt present grant then max granted (min lifetime (grant + ended)) else granted
+abbrev pub count_with : (old granted lifetime ended grant : ℕ) → ℕ
+count_with old granted lifetime ended grant = if nat_lt old grant then max granted (min lifetime (grant + ended)) else granted
 
 -- the end with what was set in force; what the peer was told at first stays as it was
 abbrev pub with_setting : Setting → End → End

@@ -10,13 +10,13 @@ use Rattle.qs_recv.specs.Lawful.{IsLawful}
 use Rattle.qs_calls.specs.declared.settings.Settings.{Settings}
 use Rattle.qs_calls.specs.Settings.{MAX_GRANT, are_in_wide_range}
 use Rattle.qs_machine.specs.Tables.{Tables, lookup, total}
-use Rattle.qs_machine.specs.Ends.{End, Present, window_by, window, recv_lane}
+use Rattle.qs_machine.specs.Ends.{End, Present, first_window_by, first_window, recv_lane}
 use Rattle.qs_machine.specs.Credit.{spent, all_taken, all_stored, granted_streams, lifetime, next_count}
 
--- a receiving half that is open is lawful, and its greatest window is no narrower than the one of its type of stream
+-- a receiving half that is open is lawful, and its widest window is no narrower than the one of its type of stream
 abbrev pub HasLawfulLane : Role → Settings → ℕ → Option RecvLane → Type 0
 HasLawfulLane role s n None = ⊤
-HasLawfulLane role s n (Some l) = IsLawful l × (window_by role s n ≤ l.arrived.window)
+HasLawfulLane role s n (Some l) = IsLawful l × (first_window_by role s n ≤ l.arrived.widest)
 
 -- what is in force is in the ranges that an end has at first, and the widest window is no narrower than the present one
 pub record IsInForce (p : Present) : Type 0 where
@@ -53,7 +53,7 @@ CountsAreSettled e = (d : Dir) → granted_streams e d ≡ next_count e d
 -- of one stream: its stored bytes were granted and aren't taken, and that is within the widest window that was set of it
 pub record IsLaneWithin (l : RecvLane) : Type 0 where
   pub stored : fmap.len l.arrived.stored ≤ l.limit - taken l
-  pub credit : l.limit - taken l ≤ l.arrived.window
+  pub credit : l.limit - taken l ≤ l.arrived.widest
   pub spent : highest l ≤ l.limit
 
 -- the bytes that an end stores were granted and aren't taken, and that is within the widest window that was set; and so of each stream; no

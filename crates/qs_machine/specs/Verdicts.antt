@@ -11,7 +11,7 @@ use Rattle.qs_recv.specs.declared.half.RecvFault.TheVariants.{FinalSize, StreamC
 use Rattle.qs_send.specs.declared.piece.Item.{Item}
 use Rattle.qs_send.specs.declared.piece.Item.TheVariants.{MaxData, MaxStreamData, MaxStreams, ResetStream, StopSending, DataBlocked, StreamDataBlocked, StreamsBlocked}
 use Rattle.qs_machine.specs.Tables.{index_of}
-use Rattle.qs_machine.specs.Ends.{End, is_own, is_uni, send_lane, recv_lane, window}
+use Rattle.qs_machine.specs.Ends.{End, is_own, is_uni, send_lane, recv_lane, first_window}
 use Rattle.qs_machine.specs.Credit.{spent, grant}
 use Rattle.qs_machine.specs.Seen.{Seen, Ack, Stream, Control, Close, Plain}
 
@@ -60,7 +60,7 @@ or_new (Some lane) window share = lane
 
 -- the receiving half of a stream as it is, or as it begins
 abbrev pub lane_of : End → ℕ → RecvLane
-lane_of e n = or_new (recv_lane e n) (window e n) e.tuning.credit_step
+lane_of e n = or_new (recv_lane e n) (first_window e n) e.tuning.credit_step
 
 abbrev pub fault_code : RecvFault → ℕ
 fault_code FinalSize = FINAL_SIZE_ERROR

@@ -21,7 +21,7 @@ use Rattle.qs_calls.specs.declared.settings.Settings.{Settings}
 use Rattle.qs_calls.specs.declared.event.Side.{Side}
 use Rattle.qs_calls.specs.declared.event.Side.TheVariants.{A, B}
 use Rattle.qs_machine.specs.Tables.{Tables, table, lookup, total}
-use Rattle.qs_machine.specs.Ends.{End, is_uni, is_own, is_own_by, role_bit, own_type, peer_type, first_send_limit, window, window_by}
+use Rattle.qs_machine.specs.Ends.{End, is_uni, is_own, is_own_by, role_bit, own_type, peer_type, first_send_limit, first_window, first_window_by}
 use Rattle.qs_machine.specs.Credit.{granted_streams, first_grant, all_taken, recv_ended, both_ended, ended}
 use Rattle.qs_machine.specs.Due.{known_count}
 use Rattle.qs_machine.specs.Seen.{Control}
@@ -129,7 +129,7 @@ lookup_at t k i lt =
     let index : (i * 4 + k) / 4 ≡ i = omega arith in
     λ j. slice_get (table t (kind_of k i lt j)) (index j)
 
-window_at : (e : End) (k i : ℕ) → k < 4 → window e (i * 4 + k) ≡ window e k
+window_at : (e : End) (k i : ℕ) → k < 4 → first_window e (i * 4 + k) ≡ first_window e k
 window_at e k i lt =
     let small : k % 4 ≡ k = omega arith in
     let same : (i * 4 + k) % 4 ≡ k % 4 = kind_of k i lt ∙ sym small in
@@ -149,7 +149,7 @@ module _ (a b : Settings) (h : History) (w : World) (ok : WorldOk a b h w) (told
     abbrev there : End
     there = end_of w (other s)
 
-    first_limit : (n : ℕ) → first_send_limit here n ≡ window there n
+    first_limit : (n : ℕ) → first_send_limit here n ≡ first_window there n
     first_limit n = rw (told s, opposite a b h w ok s n) (first_of (is_uni n) (is_own there n) there.settings.uni there.settings.bidi_remote there.settings.bidi_local)
 
     -- written, granted beyond the first window, and beyond what was taken
@@ -157,10 +157,10 @@ module _ (a b : Settings) (h : History) (w : World) (ok : WorldOk a b h w) (told
     bytes n = value (λ (l : SendLane). l.written) (lookup here.sends n)
 
     abbrev raised : ℕ → ℕ
-    raised n = value (λ (r : RecvLane). r.limit - window there n) (lookup there.recvs n)
+    raised n = value (λ (r : RecvLane). r.limit - first_window there n) (lookup there.recvs n)
 
     abbrev given : ℕ → ℕ
-    given n = value (λ (r : RecvLane). r.limit - (window there n + taken r)) (lookup there.recvs n)
+    given n = value (λ (r : RecvLane). r.limit - (first_window there n + taken r)) (lookup there.recvs n)
 
     abbrev sending_one : ℕ → ℕ
     sending_one n = value (λ (l : SendLane). 1) (lookup here.sends n)
@@ -181,7 +181,7 @@ module _ (a b : Settings) (h : History) (w : World) (ok : WorldOk a b h w) (told
       | inr tells ↦ go (lookup there.recvs n) ((ok.ends (other s)).recvs n) tells
     ]
       where
-        go : (o : Option RecvLane) → RecvSlot (past (other s) h) n (window there n) o → Tells (past (other s) h).mine (Control (MaxStreamData n l.limit)) → l.limit - first_send_limit here n ≤ value (λ (r : RecvLane). r.limit - window there n) o
+        go : (o : Option RecvLane) → RecvSlot (past (other s) h) n (first_window there n) o → Tells (past (other s) h).mine (Control (MaxStreamData n l.limit)) → l.limit - first_send_limit here n ≤ value (λ (r : RecvLane). r.limit - first_window there n) o
         go None none tells = absurd (none.no_limit l.limit tells)
         go (Some r) half tells = (let le = half.limit_told l.limit tells in omega (arith, le, first_limit n))
 
@@ -232,7 +232,7 @@ module _ (a b : Settings) (h : History) (w : World) (ok : WorldOk a b h w) (told
     got_few n = go (lookup there.recvs n) refl
       where
         go : (o : Option RecvLane) → lookup there.recvs n ≡ o
-            → marks_of (got_marks there n) o ≤ 2 * bytes n + 4 * value (λ (r : RecvLane). 1) o + value (λ (r : RecvLane). one_if (not (is_own there n))) o + value (λ (r : RecvLane). r.limit - window there n) o
+            → marks_of (got_marks there n) o ≤ 2 * bytes n + 4 * value (λ (r : RecvLane). 1) o + value (λ (r : RecvLane). one_if (not (is_own there n))) o + value (λ (r : RecvLane). r.limit - first_window there n) o
         go None is = omega arith
         go (Some r) is =
             omega (
@@ -243,13 +243,13 @@ module _ (a b : Settings) (h : History) (w : World) (ok : WorldOk a b h w) (told
               one_most (is_some r.reset_code),
               one_most r.told,
               one_most (is_done there.acked (StopSending n 0)),
-              told_few (window there n + 1) r.limit (is_done there.acked (MaxStreamData n r.limit)),
+              told_few (first_window there n + 1) r.limit (is_done there.acked (MaxStreamData n r.limit)),
             )
 
     raised_few : (n : ℕ) → raised n ≤ bytes n + given n
     raised_few n = go (lookup there.recvs n) refl
       where
-        go : (o : Option RecvLane) → lookup there.recvs n ≡ o → value (λ (r : RecvLane). r.limit - window there n) o ≤ bytes n + value (λ (r : RecvLane). r.limit - (window there n + taken r)) o
+        go : (o : Option RecvLane) → lookup there.recvs n ≡ o → value (λ (r : RecvLane). r.limit - first_window there n) o ≤ bytes n + value (λ (r : RecvLane). r.limit - (first_window there n + taken r)) o
         go None is = omega arith
         go (Some r) is = omega (arith, taken_below n r is)
 
@@ -354,7 +354,7 @@ module _ (a b : Settings) (h : History) (w : World) (ok : WorldOk a b h w) (told
 
   all_given : (s : Side) (k : ℕ) → k < 4 → over (given s) k ≤ beyond_on (end_of w (other s)) k
   all_given s k lt =
-      sum_all (λ (r : RecvLane). r.limit - (window (end_of w (other s)) k + taken r)) (table (end_of w (other s)).recvs k) many (λ i. given s (i * 4 + k))
+      sum_all (λ (r : RecvLane). r.limit - (first_window (end_of w (other s)) k + taken r)) (table (end_of w (other s)).recvs k) many (λ i. given s (i * 4 + k))
       (λ i j. value (λ (r : RecvLane). r.limit - (window_at (end_of w (other s)) k i lt j + taken r)) (lookup_at (end_of w (other s)).recvs k i lt j))
 
   -- a longer sum

@@ -13,7 +13,7 @@ use Rattle.qs_calls.specs.declared.settings.Settings.{Settings}
 use Rattle.qs_calls.specs.declared.settings.PeerLimits.{PeerLimits}
 use Rattle.qs_calls.specs.declared.event.Side.{Side}
 use Rattle.qs_machine.specs.Tables.{Tables, lookup, total}
-use Rattle.qs_machine.specs.Ends.{End, AckedItems, is_uni, is_own, is_own_by, first_send_limit, window, window_by}
+use Rattle.qs_machine.specs.Ends.{End, AckedItems, is_uni, is_own, is_own_by, first_send_limit, first_window, first_window_by}
 use Rattle.qs_machine.specs.Credit.{granted_streams, first_grant}
 use Rattle.qs_machine.specs.Due.{known_count}
 use Rattle.qs_machine.specs.EndStep.{Call, Answer as CallAnswer, EndStep}
@@ -53,8 +53,8 @@ module _ (a b : End) (g : Goes a b) where
   first_same : (n : ℕ) → first_send_limit b n ≡ first_send_limit a n
   first_same n = λ i. cond (is_uni n) (g.peer i).uni (cond (is_own_by (g.role i) n) (g.peer i).bidi_remote (g.peer i).bidi_local)
 
-  window_same : (n : ℕ) → window b n + 1 ≡ window a n + 1
-  window_same n = λ i. window_by (g.role i) (g.settings i) n + 1
+  window_same : (n : ℕ) → first_window b n + 1 ≡ first_window a n + 1
+  window_same n = λ i. first_window_by (g.role i) (g.settings i) n + 1
 
   own_same : (n : ℕ) → one_if (not (is_own b n)) ≡ one_if (not (is_own a n))
   own_same n = λ i. one_if (not (is_own_by (g.role i) n))
@@ -83,7 +83,7 @@ module _ (a b : End) (g : Goes a b) where
         one_grows (is_some l.reset_code) (is_some m.reset_code) r.3,
         one_grows l.told m.told r.4,
         one_grows (is_done a.acked (StopSending n 0)) (is_done b.acked (StopSending n 0)) (g.items (StopSending n 0)),
-        item_grows a.acked b.acked (MaxStreamData n) (window a n + 1) (window b n + 1) l.limit m.limit g.items (window_same n) r.5,
+        item_grows a.acked b.acked (MaxStreamData n) (first_window a n + 1) (first_window b n + 1) l.limit m.limit g.items (window_same n) r.5,
       )
 
   stream_grows : (n : ℕ) → stream_marks a n ≤ stream_marks b n

@@ -8,7 +8,7 @@ use Rattle.qs_send.specs.Lane.{SendLane}
 use Rattle.qs_calls.specs.declared.settings.Settings.{Settings}
 use Rattle.qs_calls.specs.declared.event.Side.{Side}
 use Rattle.qs_machine.specs.Tables.{table, total}
-use Rattle.qs_machine.specs.Ends.{End, own_type, window}
+use Rattle.qs_machine.specs.Ends.{End, own_type, first_window}
 use Rattle.qs_machine.specs.Credit.{all_taken, ended}
 use Rattle.qs_runs.specs.Logs.{History}
 use Rattle.qs_runs.specs.Worlds.{World, Run}
@@ -24,7 +24,7 @@ streams_at e = length (table e.sends (own_type e Bidi)) + length (table e.sends 
 
 -- what the streams of a type may send beyond their first window and what was taken
 abbrev pub beyond_on : End → ℕ → ℕ
-beyond_on e kind = sum_by (λ (l : RecvLane). l.limit - (window e kind + taken l)) (table e.recvs kind)
+beyond_on e kind = sum_by (λ (l : RecvLane). l.limit - (first_window e kind + taken l)) (table e.recvs kind)
 
 -- what an owner gave beyond the first windows and grants: none where it set none wider
 abbrev pub beyond : End → ℕ

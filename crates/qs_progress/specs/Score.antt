@@ -14,7 +14,7 @@ use Rattle.qs_calls.specs.declared.settings.Settings.{Settings}
 use Rattle.qs_calls.specs.declared.settings.PeerLimits.{PeerLimits}
 use Rattle.qs_calls.specs.declared.event.Side.{Side}
 use Rattle.qs_machine.specs.Tables.{lookup, total}
-use Rattle.qs_machine.specs.Ends.{End, AckedItems, is_own, first_send_limit, window}
+use Rattle.qs_machine.specs.Ends.{End, AckedItems, is_own, first_send_limit, first_window}
 use Rattle.qs_machine.specs.Credit.{granted_streams, first_grant}
 use Rattle.qs_machine.specs.Due.{known_count}
 use Rattle.qs_runs.specs.Logs.{Happening, History}
@@ -60,7 +60,7 @@ abbrev pub got_marks : End → ℕ → RecvLane → ℕ
 got_marks e n l =
     one_if (not (is_own e n)) + set.len l.arrived.received + l.arrived.read_count + one_if (is_some l.final_size) + one_if (is_some l.reset_code) + one_if l.told
     + one_if (is_done e.acked (StopSending n 0))
-    + told_from (window e n + 1) l.limit (is_done e.acked (MaxStreamData n l.limit))
+    + told_from (first_window e n + 1) l.limit (is_done e.acked (MaxStreamData n l.limit))
 
 -- of a half, where there is one
 abbrev pub marks_of : {X : Type 0} → (X → ℕ) → Option X → ℕ

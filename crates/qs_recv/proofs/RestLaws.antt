@@ -77,7 +77,7 @@ whole_below e size =
 -- A new half
 
 pub new_at_rest : (w : ℕ) (share : Share) → lane_at_rest (record { widest = w; size = w; share = share }) 0 0 w None None None false ≡ new_lane w share
-new_at_rest w share = ap (λ r. record (new_lane w share) { arrived = record { stored = map.empty; received = r; read_count = 0; window = w; discarding = false } }) (numbers-none 0 0 (omega arith))
+new_at_rest w share = ap (λ r. record (new_lane w share) { arrived = record { stored = map.empty; received = r; read_count = 0; widest = w; discarding = false } }) (numbers-none 0 0 (omega arith))
 
 pub at_rest_new : (w : ℕ) (share : Share) → 1 ≤ w → w ≤ MAX_WINDOW → IsAtRest (lane_at_rest (record { widest = w; size = w; share = share }) 0 0 w None None None false) 0 0
 at_rest_new w share some small =
@@ -207,9 +207,9 @@ pub forgotten_is : (lane : RecvLane) (w n e code size : ℕ) → IsSound lane w 
     → lane_at_rest (record { widest = w; size = lane.window; share = lane.share }) n e lane.limit (Some size) (Some code) lane.stop_code lane.told ≡ record lane { arrived = forget lane.arrived; final_size = Some size; reset_code = Some code }
 forgotten_is lane w n e code size h =
     ap (λ a. record lane { arrived = a; final_size = Some size; reset_code = Some code }) (sym (
-    ap (λ k. record { stored = map.empty; received = numbers 0 k; read_count = lane.arrived.read_count; window = lane.arrived.window; discarding = true }) h.end_is
-    ∙ ap (λ k. record { stored = map.empty; received = numbers 0 e; read_count = k; window = lane.arrived.window; discarding = true }) h.count_is
-    ∙ ap (λ k. record { stored = map.empty; received = numbers 0 e; read_count = n; window = k; discarding = true }) h.window_is
+    ap (λ k. record { stored = map.empty; received = numbers 0 k; read_count = lane.arrived.read_count; widest = lane.arrived.widest; discarding = true }) h.end_is
+    ∙ ap (λ k. record { stored = map.empty; received = numbers 0 e; read_count = k; widest = lane.arrived.widest; discarding = true }) h.count_is
+    ∙ ap (λ k. record { stored = map.empty; received = numbers 0 e; read_count = n; widest = k; discarding = true }) h.window_is
     ))
 
 pub reset_is : (lane : RecvLane) (w n e code size : ℕ) → is_some lane.reset_code ≡ false → is_whole lane ≡ false → IsSound lane w n e
@@ -272,6 +272,6 @@ rested_is lane w n e size done all h let_go =
     ap (λ m. record lane.arrived { stored = m }) stored
     ∙ ap (λ r. record lane.arrived { stored = map.empty; received = r }) received
     ∙ ap (λ k. record lane.arrived { stored = map.empty; received = numbers 0 e; read_count = k }) h.count_is
-    ∙ ap (λ k. record lane.arrived { stored = map.empty; received = numbers 0 e; read_count = n; window = k }) h.window_is
-    ∙ ap (λ off. record lane.arrived { stored = map.empty; received = numbers 0 e; read_count = n; window = w; discarding = off }) h.lawful.discards
+    ∙ ap (λ k. record lane.arrived { stored = map.empty; received = numbers 0 e; read_count = n; widest = k }) h.window_is
+    ∙ ap (λ off. record lane.arrived { stored = map.empty; received = numbers 0 e; read_count = n; widest = w; discarding = off }) h.lawful.discards
     ))

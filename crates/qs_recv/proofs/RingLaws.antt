@@ -268,9 +268,9 @@ empty_kept from =
     none false = refl
 
 pub nothing_taken : (r : NumberSet) (from w room : ℕ) (off : Bool)
-    → (let a : Assembled = record { stored = map.empty; received = r; read_count = from; window = w; discarding = off } in a ≡ take_front a room)
+    → (let a : Assembled = record { stored = map.empty; received = r; read_count = from; widest = w; discarding = off } in a ≡ take_front a room)
 nothing_taken r from w room off =
-    let a : Assembled = record { stored = map.empty; received = r; read_count = from; window = w; discarding = off } in
+    let a : Assembled = record { stored = map.empty; received = r; read_count = from; widest = w; discarding = off } in
     take_nothing a (empty_kept from) ∙ take_done a 0 room (ap length (empty_front from 0)) (empty_front from room ∙ sym (empty_front from 0))
 
 -- A put of known bytes, or of none
@@ -465,10 +465,10 @@ put_fits r w from stored offset first count bytes f g p is =
 
 -- what an assembly holds after a put
 pub put_ring : (r : NumberSet) (w from stored offset first : ℕ) (bytes : List ℕ) (f g : ℕ → ℕ) → IsPut r w from stored offset first bytes f g
-    → (let a : Assembled = record { stored = ring_bytes r f from w; received = r; read_count = from; window = w; discarding = false } in
+    → (let a : Assembled = record { stored = ring_bytes r f from w; received = r; read_count = from; widest = w; discarding = false } in
     record a { stored = ring_bytes (with_run r offset (length bytes)) g from w; received = with_run r offset (length bytes) } ≡ put a offset bytes)
 put_ring r w from stored offset first bytes f g p =
-    let a : Assembled = record { stored = ring_bytes r f from w; received = r; read_count = from; window = w; discarding = false } in
+    let a : Assembled = record { stored = ring_bytes r f from w; received = r; read_count = from; widest = w; discarding = false } in
     put_is a offset bytes _ _ refl (put_stored r w from stored offset first bytes f g p) refl
 
 -- a vector whose whole slice was written

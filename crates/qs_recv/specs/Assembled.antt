@@ -1,7 +1,7 @@
 -- Trusted.
 -- What an assembly holds of a stream, however it keeps it (RFC 9000, section 2.2, for the whole file).
 --     Assembled      the bytes that are still to be read, by offset; every offset that came; how many bytes were read; how far past
---                    these the next ones may lie, the greatest window that was set; and whether bytes are thrown away
+--                    these the next ones may lie, the widest window that was set; and whether bytes are thrown away
 --     nothing_yet, at_rest, put, take_front, discard      what the calls of an assembly leave
 --     forget, widen      what a reset leaves, and a greater window
 --     front m at size      the bytes of m from an offset on, up to the first offset that isn't in m, and at most size
@@ -16,17 +16,17 @@ pub record Assembled : Type 0 where
   pub stored : map.FinMap nat_cmp ℕ
   pub received : NumberSet
   pub read_count : ℕ
-  pub window : ℕ
+  pub widest : ℕ
   pub discarding : Bool
 
 -- nothing came, and bytes within one window may (RFC 9000, section 4.1)
 abbrev pub nothing_yet : ℕ → Assembled
-nothing_yet window = record { stored = map.empty; received = set.empty; read_count = 0; window = window; discarding = false }
+nothing_yet window = record { stored = map.empty; received = set.empty; read_count = 0; widest = window; discarding = false }
 
 -- the offsets below `end` came, and nothing is stored: what came was read or thrown away (RFC 9000, sections 2.2 and 3.5)
 abbrev pub at_rest : ℕ → ℕ → ℕ → Bool → Assembled
 at_rest window read_count end discarding =
-    record { stored = map.empty; received = numbers 0 end; read_count = read_count; window = window; discarding = discarding }
+    record { stored = map.empty; received = numbers 0 end; read_count = read_count; widest = window; discarding = discarding }
 
 -- m, and under each offset from `at` on that didn't come before, the byte that comes there
 unfoldable pub store : NumberSet → map.FinMap nat_cmp ℕ → ℕ → List ℕ → map.FinMap nat_cmp ℕ
@@ -72,7 +72,7 @@ discard a = record a { stored = map.empty; discarding = true }
 
 -- bytes may lie so far past those that were read, too (RFC 9000, section 4.2)
 abbrev pub widen : Assembled → ℕ → Assembled
-widen a window = record a { window = max a.window window }
+widen a window = record a { widest = max a.widest window }
 
 -- after a reset nothing is stored from now on, and it doesn't matter which offsets came: each one up to the largest that did counts as
 -- one that came (RFC 9000, section 3.2)

@@ -15,8 +15,8 @@ abbrev pub assembled_code : Coded Assembled
 assembled_code =
     code_by (map.FinMap nat_cmp ℕ × (NumberSet × (ℕ × (ℕ × Bool))))
     (coded× (map.code coded_ℕ coded_ℕ) (coded× (set.code coded_ℕ) (coded× coded_ℕ (coded× coded_ℕ coded_bool))))
-    (λ a. (a.stored, (a.received, (a.read_count, (a.window, a.discarding)))))
-    (λ p. record { stored = p.0; received = p.1.0; read_count = p.1.1.0; window = p.1.1.1.0; discarding = p.1.1.1.1 })
+    (λ a. (a.stored, (a.received, (a.read_count, (a.widest, a.discarding)))))
+    (λ p. record { stored = p.0; received = p.1.0; read_count = p.1.1.0; widest = p.1.1.1.0; discarding = p.1.1.1.1 })
     (λ _. refl)
 
 abbrev pub share_number : Share → ℕ

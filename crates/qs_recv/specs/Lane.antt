@@ -15,7 +15,7 @@ use Rattle.qs_recv.specs.declared.credit.Share.TheVariants.{Half, Quarter, Eight
 use Rattle.qs_recv.specs.Assembled.{Assembled, nothing_yet, put, take_front, front_of, discard, same, forget, widen}
 
 -- what arrived; the final size, the reset's code and the code of this end's own stop, where known; whether a reader was told of the end or
--- the reset, or wants to be told of neither; the limit on offsets that was granted; the window by which it moves, beside the greatest one in
+-- the reset, or wants to be told of neither; the limit on offsets that was granted; the present window, by which it moves, beside the widest one in
 -- `arrived`; and by which share of it (RFC 9000, sections 3.2, 3.5, 4.1 and 4.2)
 pub record RecvLane : Type 0 where
   pub arrived : Assembled
@@ -216,8 +216,8 @@ raise_answer lane = if nat_lt lane.limit (raised_limit lane) then Some (raised_l
 
 -- a greater window moves a limit at once, be it by less than a step; under a smaller one the limit stands until it is met
 -- (RFC 9000, section 4.2)
-abbrev pub limit_with : (present granted taken window : ℕ) → ℕ
-limit_with present granted taken window = if nat_lt present window then max granted (min MAX_VARINT (taken + window)) else granted
+abbrev pub limit_with : (old granted taken window : ℕ) → ℕ
+limit_with old granted taken window = if nat_lt old window then max granted (min MAX_VARINT (taken + window)) else granted
 
 -- the limit under another window: it stays once the final size is known (RFC 9000, sections 4.2 and 4.5)
 abbrev pub limit_under : RecvLane → ℕ → ℕ

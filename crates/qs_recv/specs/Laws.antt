@@ -61,9 +61,9 @@ CallsNeverTakeBack = (lane : RecvLane) (call : LaneCall) → IsLawful lane → I
 abbrev pub StoredBytesWereGranted : Type 0
 StoredBytesWereGranted = (lane : RecvLane) → IsLawful lane → map.len lane.arrived.stored ≤ lane.limit - taken lane
 
--- what was granted beyond what was taken lies within the greatest window, and what was taken within the limit
+-- what was granted beyond what was taken lies within the widest window, and what was taken within the limit
 abbrev pub CreditIsWithinWindow : Type 0
-CreditIsWithinWindow = (lane : RecvLane) → IsLawful lane → (taken lane ≤ lane.limit) × (lane.limit - taken lane ≤ lane.arrived.window)
+CreditIsWithinWindow = (lane : RecvLane) → IsLawful lane → (taken lane ≤ lane.limit) × (lane.limit - taken lane ≤ lane.arrived.widest)
 
 -- each stored byte is the one that was sent at its offset
 abbrev pub IsSent : List ℕ → Assembled → Type 0

@@ -12,7 +12,7 @@ CodeFits code = IfSome code (λ n. n ≤ MAX_VARINT)
 -- the lane is lawful, the half's own counts are those of the assembly, and a stop can be told
 pub record IsSound (lane : RecvLane) (window read_count received_end : ℕ) : Type 0 where
   pub lawful : IsLawful lane
-  pub window_is : lane.arrived.window ≡ window
+  pub window_is : lane.arrived.widest ≡ window
   pub count_is : lane.arrived.read_count ≡ read_count
   pub end_is : end_of lane.arrived.received ≡ received_end
   pub stop_fits : CodeFits lane.stop_code

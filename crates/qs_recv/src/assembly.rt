@@ -44,7 +44,7 @@ pub trait Assembly: Drop {
     fn put(&mut self, offset: u64, bytes: &[u8]) -> Result<(), NoMemory>
         requires in_range { offset + length bytes.now ≤ MAX_VARINT }
         requires in_window { (holds self.old).discarding ≡ false
-            → offset + length bytes.now ≤ (holds self.old).read_count + (holds self.old).window }
+            → offset + length bytes.now ≤ (holds self.old).read_count + (holds self.old).widest }
         ensures ok { OnOk result (holds self.new ≡ put (holds self.old) offset bytes.now) }
         ensures err { OnErr result (holds self.new ≡ holds self.old) }
 

@@ -34,14 +34,14 @@ pub fn next_limit(limit: u64, taken: u64, window: u64, share: Share) -> u64
 
 /// The limit under another window. A greater one moves it at once: a step that is never reached would hide it. Under a smaller one it
 /// stays, since no limit may fall (RFC 9000, section 4.1).
-pub(crate) fn limit_with(present: u64, granted: u64, taken: u64, window: u64) -> u64
+pub(crate) fn limit_with(old: u64, granted: u64, taken: u64, window: u64) -> u64
     requires small { granted ≤ MAX_VARINT }
     requires taken { taken ≤ MAX_VARINT }
     requires window { window ≤ MAX_CONN_WINDOW }
-    ensures value { result ≡ limit_with present granted taken window }
+    ensures value { result ≡ limit_with old granted taken window }
     ensures in_range { result ≤ MAX_VARINT }
 {
-    if present < window {
+    if old < window {
         granted.max((taken + window).min(MAX_VARINT))
     } else {
         granted

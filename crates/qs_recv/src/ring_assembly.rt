@@ -70,7 +70,7 @@ impl Model for RingAssembly {
 
     ghost coded = { coded× assembled_code (coded× coded_ℕ coded_ℕ) };
 
-    ghost view = { λ a. (record { stored = stored_in_ring a.received (byte_of a.ring.0 a.near a.apart.pages) a.window a.read_count a.discarding; received = a.received; read_count = a.read_count; window = a.window; discarding = a.discarding }, (length a.ring.0 + btree_map_len a.apart.pages * 2048, a.near)) };
+    ghost view = { λ a. (record { stored = stored_in_ring a.received (byte_of a.ring.0 a.near a.apart.pages) a.window a.read_count a.discarding; received = a.received; read_count = a.read_count; widest = a.window; discarding = a.discarding }, (length a.ring.0 + btree_map_len a.apart.pages * 2048, a.near)) };
 
     ghost invariant = { λ a. IsRing (byte_of a.ring.0 a.near a.apart.pages) a.received a.window a.read_count a.stored a.discarding × IsSized a.ring.0 a.apart.pages a.received a.read_count a.near a.end a.window a.discarding × CameWritten a.ring a.received a.read_count a.near a.discarding };
 }
@@ -114,7 +114,7 @@ impl Assembly for RingAssembly {
 
     fn put(&mut self, offset: u64, bytes: &[u8]) -> Result<(), NoMemory>
         requires in_range { offset + length bytes.now ≤ MAX_VARINT }
-        requires in_window { self.old.0.discarding ≡ false → offset + length bytes.now ≤ self.old.0.read_count + self.old.0.window }
+        requires in_window { self.old.0.discarding ≡ false → offset + length bytes.now ≤ self.old.0.read_count + self.old.0.widest }
         ensures ok { OnOk result (self.new.0 ≡ put self.old.0 offset bytes.now) }
         ensures err { OnErr result (self.new.0 ≡ self.old.0) }
 
@@ -227,7 +227,7 @@ impl RingAssembly {
         bytes: &[u8],
     ) -> Result<(), NoMemory>
         requires in_range { offset + length bytes.now ≤ MAX_VARINT }
-        requires in_window { offset + length bytes.now ≤ self.old.0.read_count + self.old.0.window }
+        requires in_window { offset + length bytes.now ≤ self.old.0.read_count + self.old.0.widest }
         requires on { self.old.0.discarding ≡ false }
         requires gap { IsNextGap self.old.0.received (max offset self.old.0.read_count) (offset + length bytes.now) first stop }
         requires some { first < offset + length bytes.now }
@@ -280,7 +280,7 @@ impl RingAssembly {
         bytes: &[u8],
     ) -> Result<(), NoMemory>
         requires in_range { offset + length bytes.now ≤ MAX_VARINT }
-        requires in_window { offset + length bytes.now ≤ self.old.0.read_count + self.old.0.window }
+        requires in_window { offset + length bytes.now ≤ self.old.0.read_count + self.old.0.widest }
         requires on { self.old.0.discarding ≡ false }
         requires gap { IsNextGap self.old.0.received (max offset self.old.0.read_count) (offset + length bytes.now) first stop }
         requires some { first < offset + length bytes.now }
@@ -313,7 +313,7 @@ impl RingAssembly {
     // Before new bytes are stored, so that each byte moves once, and what is next to be read always stands in the ring.
     fn draw(&mut self, end: u64) -> Result<(), NoMemory>
         requires in_range { end ≤ MAX_VARINT }
-        requires in_window { end ≤ self.old.0.read_count + self.old.0.window }
+        requires in_window { end ≤ self.old.0.read_count + self.old.0.widest }
         requires on { self.old.0.discarding ≡ false }
         ensures same { self.new.0 ≡ self.old.0 }
         ensures near { OnOk result ((q : ℕ) → self.new.1.1 ≤ q → set.contains self.new.0.received q ≡ true → end ≤ self.new.1.1) }

@@ -7,7 +7,7 @@ use Rattle.qs_recv.specs.Lane.{RecvLane, taken, next_limit}
 use Rattle.qs_send.specs.Lane.{SendLane}
 use Rattle.qs_calls.specs.declared.settings.Settings.{Settings}
 use Rattle.qs_calls.specs.declared.event.Side.{Side}
-use Rattle.qs_machine.specs.Ends.{is_uni, is_own_by, window_by, window}
+use Rattle.qs_machine.specs.Ends.{is_uni, is_own_by, first_window_by, first_window}
 use Rattle.qs_machine.specs.Credit.{all_sent, all_taken}
 use Rattle.qs_machine.proofs.CallsSound.{WindowsFit, windows_fit}
 use Rattle.qs_runs.specs.Logs.{History, other, read, written}
@@ -27,7 +27,7 @@ use Rattle.qs_rest.proofs.Resting.{limits_known, window_known}
 use Rattle.qs_rest.proofs.Streams.{lawful, sender_ok, reader_ok, no_reset_known, acked_sent, end_sent, sent_alone, taken_sent, all_was_taken, is_read}
 
 -- each window is at least one byte
-some_window : (role : Role) (s : Settings) (n : ℕ) → WindowsFit s → 1 ≤ window_by role s n
+some_window : (role : Role) (s : Settings) (n : ℕ) → WindowsFit s → 1 ≤ first_window_by role s n
 some_window role s n h =
     cond_both (is_uni n) s.uni _ (λ x. 1 ≤ x) (λ _. h.uni.0) (λ _.
     cond_both (is_own_by role n) s.bidi_local s.bidi_remote (λ x. 1 ≤ x) (λ _. h.local.0) (λ _. h.remote.0))
@@ -126,7 +126,7 @@ module _ (a b : Settings) (h : History) (w : World) (ok : WorldOk a b h w) (keep
 
         by : (y : Option RecvLane) → receiving w s n ≡ y → length (read (other s) n h) ≡ l.written
         by None e =
-            let slot = subst (RecvSlot (past (other s) h) n (window (end_of w (other s)) n)) e ((ok.ends (other s)).recvs n) in
+            let slot = subst (RecvSlot (past (other s) h) n (first_window (end_of w (other s)) n)) e ((ok.ends (other s)).recvs n) in
             let nothing : length (read (other s) n h) ≡ 0 = ap length slot.no_bytes in
             omega (arith, nothing, sent_alone a b h w ok keeps rest s n l at e, all_is_sent room)
         by (Some r) e =

@@ -18,7 +18,7 @@ use Rattle.qs_send.specs.declared.piece.Piece.TheVariants.{Told}
 use Rattle.qs_send.proofs.Carrying.{carried-empty}
 use Rattle.qs_calls.specs.Settings.{limits_of, default_tuning}
 use Rattle.qs_machine.specs.Tables.{lookup, total}
-use Rattle.qs_machine.specs.Ends.{End, recv_lane, window, is_uni, is_own, new_end}
+use Rattle.qs_machine.specs.Ends.{End, recv_lane, first_window, is_uni, is_own, new_end}
 use Rattle.qs_machine.specs.Due.{IsDue, IsEndDue, IsCurrent, Sendable}
 use Rattle.qs_machine.specs.Examples.{standard, client_of}
 use Rattle.qs_machine.specs.SmallEnds.{client_with, wrote, reset_half, finished, fresh, three_came}
@@ -35,7 +35,7 @@ pub record IsSilent (e : End) : Type 0 where
   pub granted : e.granted ≤ e.settings.conn_window
   pub bidi : e.granted_bidi ≤ e.settings.grant_bidi
   pub uni : e.granted_uni ≤ e.settings.grant_uni
-  pub recvs : (n : ℕ) (l : RecvLane) → recv_lane e n ≡ Some l → (l.limit ≤ window e n) × (l.stop_code ≡ None)
+  pub recvs : (n : ℕ) (l : RecvLane) → recv_lane e n ≡ Some l → (l.limit ≤ first_window e n) × (l.stop_code ≡ None)
   pub wants_bidi : e.wanted_bidi ≡ None
   pub wants_uni : e.wanted_uni ≡ None
 
@@ -72,7 +72,7 @@ new_silent role =
       wants_uni = refl;
     }
 
-window_of : (n : ℕ) → window (client_of standard) n ≡ 1024
+window_of : (n : ℕ) → first_window (client_of standard) n ≡ 1024
 window_of n = go (is_uni n) (is_own (client_of standard) n) 1024
   where
     go : (u o : Bool) (k : ℕ) → (if u then k else (if o then k else k)) ≡ k

@@ -12,7 +12,7 @@ use Rattle.qs_send.specs.declared.piece.Piece.TheVariants.{Told}
 use Rattle.qs_calls.specs.declared.settings.Settings.{Settings}
 use Rattle.qs_calls.specs.declared.event.Side.{Side}
 use Rattle.qs_calls.specs.declared.event.Side.TheVariants.{A, B}
-use Rattle.qs_machine.specs.Ends.{End, first_send_limit, window, is_uni, is_own}
+use Rattle.qs_machine.specs.Ends.{End, first_send_limit, first_window, is_uni, is_own}
 use Rattle.qs_machine.specs.Credit.{granted_streams}
 use Rattle.qs_machine.specs.Due.{known_count}
 use Rattle.qs_machine.specs.Seen.{Control}
@@ -62,10 +62,10 @@ module _ (a b : Settings) (h : History) (w : World) (ok : WorldOk a b h w) (keep
     there = end_of w (other s)
 
     -- the first limit of each half is the window of the other
-    first_limit : (n : ℕ) → first_send_limit here n ≡ window there n
+    first_limit : (n : ℕ) → first_send_limit here n ≡ first_window there n
     first_limit n = rw (told, opposite a b h w ok s n) (limit_by (is_uni n) (is_own there n) there.settings.uni there.settings.bidi_remote there.settings.bidi_local)
 
-    pub window_known : (n : ℕ) → window there n ≤ first_send_limit here n
+    pub window_known : (n : ℕ) → first_window there n ≤ first_send_limit here n
     window_known n = omega (arith, first_limit n)
 
     data_known : there.granted ≤ here.known_data
@@ -77,7 +77,7 @@ module _ (a b : Settings) (h : History) (w : World) (ok : WorldOk a b h w) (keep
 
     stream_known : (n : ℕ) (l : SendLane) (r : RecvLane) → sending w s n ≡ Some l → receiving w s n ≡ Some r → r.final_size ≡ None → r.limit ≤ l.limit
     stream_known n l r at is open_end =
-        elim (cases_lt (window there n) r.limit) [
+        elim (cases_lt (first_window there n) r.limit) [
           | inl more ↦ (
               let acked = items_acked there (MaxStreamData n r.limit) (rest (other s)) (r, is, refl, more, open_end) in
               let (m, found, le) = taken_here s (MaxStreamData n r.limit) ((keeps (other s)).acked.streams n r.limit acked) in

@@ -16,7 +16,7 @@ use Rattle.qs_send.specs.declared.parts.SendState.TheVariants.{DataRecvd}
 use Rattle.qs_send.specs.declared.piece.Item.TheVariants.{ResetStream, StopSending}
 use Rattle.qs_calls.specs.declared.settings.Settings.{Settings}
 use Rattle.qs_calls.specs.declared.event.Side.{Side}
-use Rattle.qs_machine.specs.Ends.{first_send_limit, window}
+use Rattle.qs_machine.specs.Ends.{first_send_limit, first_window}
 use Rattle.qs_machine.specs.Credit.{spent, all_taken, all_stored, all_sent}
 use Rattle.qs_machine.specs.Standing.{HasLawfulLane}
 use Rattle.qs_machine.specs.Seen.{Stream, Control}
@@ -60,8 +60,8 @@ module _ (a b : Settings) (h : History) (w : World) (ok : WorldOk a b h w) (keep
   pub sender_ok : (l : SendLane) → sending w s n ≡ Some l → SendOk (past s h) n (first_send_limit (end_of w s) n) l
   sender_ok l at = subst (SendSlot (past s h) n (first_send_limit (end_of w s) n)) at ((ok.ends s).sends n)
 
-  pub reader_ok : (r : RecvLane) → receiving w s n ≡ Some r → RecvOk (past (other s) h) n (window (end_of w (other s)) n) r
-  reader_ok r is = subst (RecvSlot (past (other s) h) n (window (end_of w (other s)) n)) is ((ok.ends (other s)).recvs n)
+  pub reader_ok : (r : RecvLane) → receiving w s n ≡ Some r → RecvOk (past (other s) h) n (first_window (end_of w (other s)) n) r
+  reader_ok r is = subst (RecvSlot (past (other s) h) n (first_window (end_of w (other s)) n)) is ((ok.ends (other s)).recvs n)
 
   -- what is acknowledged was sent
   pub acked_sent : (l : SendLane) (q : ℕ) → sending w s n ≡ Some l → set.contains l.acked q ≡ true → q < l.sent_end

@@ -12,7 +12,7 @@ use Rattle.qs_recv.specs.Lawful.{IsLawful}
 use Rattle.qs_recv.proofs.LawfulLaws.{taken_within}
 use Rattle.qs_send.specs.Lane.{SendLane}
 use Rattle.qs_send.specs.declared.piece.Piece.TheVariants.{Data}
-use Rattle.qs_machine.specs.Ends.{End, send_lane, on_recv, is_own, is_uni, opens, opened_by_peer, window}
+use Rattle.qs_machine.specs.Ends.{End, send_lane, on_recv, is_own, is_uni, opens, opened_by_peer, first_window}
 use Rattle.qs_machine.specs.Credit.{all_sent, settle}
 use Rattle.qs_machine.specs.Due.{IsDue, IsEndDue}
 use Rattle.qs_rest.specs.Rest.{TellsNoNews, AtRest}
@@ -299,8 +299,8 @@ told_updated t n f all keeps = go (lookup t n) refl
 
 told_opens : (n : ℕ) (e : End) → AllTold e.recvs → AllTold (opens n e).recvs
 told_opens n e all =
-    cond_both (is_uni n && is_own e n) e.recvs (open_to e.recvs n (λ m. new_recv_lane (window e n) e.tuning.credit_step)) AllTold (λ _. all)
-    (λ _. slots_opened (λ m o. ToldSlot o) e.recvs n (λ m. new_recv_lane (window e n) e.tuning.credit_step) all (λ m none kind. new_told (window e n) e.tuning.credit_step))
+    cond_both (is_uni n && is_own e n) e.recvs (open_to e.recvs n (λ m. new_recv_lane (first_window e n) e.tuning.credit_step)) AllTold (λ _. all)
+    (λ _. slots_opened (λ m o. ToldSlot o) e.recvs n (λ m. new_recv_lane (first_window e n) e.tuning.credit_step) all (λ m none kind. new_told (first_window e n) e.tuning.credit_step))
 
 told_settles : (e : End) → AllTold e.recvs → AllTold (settle e).recvs
 told_settles e all = slots_each (λ m o. ToldSlot o) raise e.recvs (λ m. go (lookup e.recvs m) (all m))
@@ -346,8 +346,8 @@ module _ (t : Tables RecvLane) where
 
   held_opens : (n : ℕ) (e : End) → AllHeld t e.recvs → AllHeld t (opens n e).recvs
   held_opens n e all =
-      cond_both (is_uni n && is_own e n) e.recvs (open_to e.recvs n (λ m. new_recv_lane (window e n) e.tuning.credit_step)) (AllHeld t) (λ _. all)
-      (λ _. slots_opened (HeldSlot t) e.recvs n (λ m. new_recv_lane (window e n) e.tuning.credit_step) all (λ m none kind told. absurd (false≢true told)))
+      cond_both (is_uni n && is_own e n) e.recvs (open_to e.recvs n (λ m. new_recv_lane (first_window e n) e.tuning.credit_step)) (AllHeld t) (λ _. all)
+      (λ _. slots_opened (HeldSlot t) e.recvs n (λ m. new_recv_lane (first_window e n) e.tuning.credit_step) all (λ m none kind told. absurd (false≢true told)))
 
   held_opened : (n : ℕ) (e : End) → AllHeld t e.recvs → AllHeld t (opened_by_peer n e).recvs
   held_opened n e all = cond_both (is_own e n) e (opens n e) (λ x. AllHeld t x.recvs) (λ _. all) (λ _. held_opens n e all)

@@ -10,7 +10,7 @@ use Rattle.qs_recv.specs.Lane.{RecvLane, raise, taken, set_window, read_answer, 
 use Rattle.qs_send.specs.Lane.{SendLane, write_lane, unacked_from, refusal}
 use Rattle.qs_send.specs.declared.piece.Item.TheVariants.{MaxStreamData, ResetStream}
 use Rattle.qs_machine.specs.Tables.{Tables, lookup, update, updated, each}
-use Rattle.qs_machine.specs.Ends.{End, first_send_limit, window, on_send, on_recv, End as Endpoint, Present}
+use Rattle.qs_machine.specs.Ends.{End, first_send_limit, first_window, on_send, on_recv, End as Endpoint, Present}
 use Rattle.qs_machine.specs.Seen.{Seen, Stream, Control}
 use Rattle.qs_runs.specs.Pasts.{Past, Packets, Tells, TellsEnd, WasConfirmed, TellsByte}
 use Rattle.qs_machine.proofs.Pieces.{All_more}
@@ -70,7 +70,7 @@ send_same h = send_alike h (λ is. is) (λ k ack. ack) h.sent_limit h.limit_told
 
 -- A limit rises, an end is given, and what no clause speaks of may be anything.
 pub recv_alike : {mine theirs : Packets} {given : List ℕ} {stopped ended was told : Bool} {n w top window widest : ℕ} {share : Share} {l : RecvLane} → RecvTrue mine theirs given stopped ended n w l → l.limit ≤ top →
-    (was ≡ true → (size : ℕ) × (l.arrived.read_count ≡ size) × (l.final_size ≡ Some size) × TellsEnd theirs n size) → RecvTrue mine theirs given stopped was n w (record l { arrived = record l.arrived { window = widest }; told = told; limit = top; window = window; share = share })
+    (was ≡ true → (size : ℕ) × (l.arrived.read_count ≡ size) × (l.final_size ≡ Some size) × TellsEnd theirs n size) → RecvTrue mine theirs given stopped was n w (record l { arrived = record l.arrived { widest = widest }; told = told; limit = top; window = window; share = share })
 recv_alike h rises is_end =
     record {
       received = h.received;
@@ -148,23 +148,23 @@ lane_changed p e sent n l m ok is this =
 -- what the past says of one receiving half changes, and the half
 module _ (p : Past) (e : Endpoint) (n : ℕ) (ok : EndOk p e) where
   pub recv_view : (given : ℕ → List ℕ) (stopped ended : ℕ → Bool) (l m : RecvLane) → ((j : ℕ) → j ≢ n → (given j ≡ p.gave j) × (stopped j ≡ p.stopped j) × (ended j ≡ p.ended j)) → lookup e.recvs n ≡ Some l →
-      RecvTrue p.mine p.theirs (given n) (stopped n) (ended n) n (window e n) m → Grows l m → EndOk (record p { gave = given; stopped = stopped; ended = ended }) (record e { recvs = update e.recvs n m })
+      RecvTrue p.mine p.theirs (given n) (stopped n) (ended n) n (first_window e n) m → Grows l m → EndOk (record p { gave = given; stopped = stopped; ended = ended }) (record e { recvs = update e.recvs n m })
   recv_view given stopped ended l m same is this g =
       record {
         sends = ok.sends;
-        recvs = slots_updated (λ j o. RecvSlot (record p { gave = given; stopped = stopped; ended = ended }) j (window e j) o) e.recvs n l m is (λ j ne. other j (same j ne) (lookup e.recvs j) (ok.recvs j)) this;
+        recvs = slots_updated (λ j o. RecvSlot (record p { gave = given; stopped = stopped; ended = ended }) j (first_window e j) o) e.recvs n l m is (λ j ne. other j (same j ne) (lookup e.recvs j) (ok.recvs j)) this;
         packets = ok.packets;
         taken = taken_stays p e.recvs _ (grows_update e.recvs n l m is g) ok.taken;
         credit = ok.credit;
         streams = subst (λ r. OpenOk p e.role e.peer.streams_bidi e.peer.streams_uni e.known_bidi e.known_uni (is_open e.sends) r) (sym (open_update e.recvs n l m is)) ok.streams;
       }
     where
-      other : (j : ℕ) → (given j ≡ p.gave j) × (stopped j ≡ p.stopped j) × (ended j ≡ p.ended j) → (o : Option RecvLane) → RecvSlot p j (window e j) o → RecvSlot (record p { gave = given; stopped = stopped; ended = ended }) j (window e j) o
+      other : (j : ℕ) → (given j ≡ p.gave j) × (stopped j ≡ p.stopped j) × (ended j ≡ p.ended j) → (o : Option RecvLane) → RecvSlot p j (first_window e j) o → RecvSlot (record p { gave = given; stopped = stopped; ended = ended }) j (first_window e j) o
       other j (a, b, c) None h = record { no_bytes = a ∙ h.no_bytes; no_end = c ∙ h.no_end; not_stopped = b ∙ h.not_stopped; no_limit = h.no_limit; no_stop = h.no_stop }
       other j (a, b, c) (Some x) h = rw (a, b, c) h
 
 module _ (p : Past) (e : End) (n : ℕ) (ok : EndOk p e) where
-  pub recv_changed : (l m : RecvLane) → lookup e.recvs n ≡ Some l → RecvOk p n (window e n) m → Grows l m → EndOk p (record e { recvs = update e.recvs n m })
+  pub recv_changed : (l m : RecvLane) → lookup e.recvs n ≡ Some l → RecvOk p n (first_window e n) m → Grows l m → EndOk p (record e { recvs = update e.recvs n m })
   recv_changed l m is this g = recv_view p e n ok p.gave p.stopped p.ended l m (λ j ne. (refl, refl, refl)) is this g
 
   pub send_changed : (l m : SendLane) → lookup e.sends n ≡ Some l → SendOk p n (first_send_limit e n) m → m.sent_end ≡ l.sent_end → EndOk p (record e { sends = update e.sends n m })
@@ -200,7 +200,7 @@ some_mapped g None = refl
 some_mapped g (Some x) = refl
 
 module _ (p : Past) (e : End) (ok : EndOk p e) where
-  slot_raised : (n : ℕ) (o : Option RecvLane) → RecvSlot p n (window e n) o → RecvSlot p n (window e n) (option_map raise o)
+  slot_raised : (n : ℕ) (o : Option RecvLane) → RecvSlot p n (first_window e n) o → RecvSlot p n (first_window e n) (option_map raise o)
   slot_raised n None h = h
   slot_raised n (Some l) h =
       recv_alike h (cond_both (is_some l.final_size) l.limit _ (λ k. l.limit ≤ k) (λ _. omega arith) (λ _. next_limit_grows l.limit (taken l) l.window l.share)) h.ended
@@ -212,7 +212,7 @@ module _ (p : Past) (e : End) (ok : EndOk p e) where
   settle_ok =
       record {
         sends = ok.sends;
-        recvs = slots_each (λ n o. RecvSlot p n (window e n) o) raise e.recvs (λ n. slot_raised n (lookup e.recvs n) (ok.recvs n));
+        recvs = slots_each (λ n o. RecvSlot p n (first_window e n) o) raise e.recvs (λ n. slot_raised n (lookup e.recvs n) (ok.recvs n));
         packets = ok.packets;
         taken = taken_stays p e.recvs _ settle_grows ok.taken;
         credit = granted_more _ ok.credit (next_limit_grows e.granted (all_taken e) e.present.conn_window e.tuning.credit_step);
@@ -224,7 +224,7 @@ module _ (p : Past) (e : End) (ok : EndOk p e) where
 pub window_ok : (p : Past) (e : End) (n w : ℕ) → EndOk p e → EndOk p (on_recv n (λ l. set_window l w) e)
 window_ok p e n w ok = go (lookup e.recvs n) refl (ok.recvs n)
   where
-    go : (o : Option RecvLane) → lookup e.recvs n ≡ o → RecvSlot p n (window e n) o → EndOk p (record e { recvs = updated e.recvs n (λ l. set_window l w) o })
+    go : (o : Option RecvLane) → lookup e.recvs n ≡ o → RecvSlot p n (first_window e n) o → EndOk p (record e { recvs = updated e.recvs n (λ l. set_window l w) o })
     go None is h = ok
     go (Some l) is h = recv_changed p e n ok l (set_window l w) is (recv_alike h (under_grows l w) h.ended) (record { received = λ q old. old; final = λ size old. old; reset = λ none. none })
 

@@ -12,7 +12,7 @@ use Rattle.qs_calls.specs.declared.settings.Settings.{Settings}
 use Rattle.qs_calls.specs.declared.event.Side.{Side}
 use Rattle.qs_calls.specs.declared.event.Side.TheVariants.{A, B}
 use Rattle.qs_machine.specs.Tables.{lookup, index_of}
-use Rattle.qs_machine.specs.Ends.{End, closes, first_send_limit, window, is_own, is_uni}
+use Rattle.qs_machine.specs.Ends.{End, closes, first_send_limit, first_window, is_own, is_uni}
 use Rattle.qs_machine.specs.Credit.{spent}
 use Rattle.qs_machine.specs.Seen.{Seen, Stream, Control}
 use Rattle.qs_machine.specs.Plains.{frames_in}
@@ -64,15 +64,15 @@ module _ (a b : Settings) (h : History) (w : World) (ok : WorldOk a b h w) where
       let sender : End = end_of w s in
       let receiver : End = end_of w (other s) in
       record {
-        prefix = prefix_agrees (past s h) (past (other s) h) n (first_send_limit sender n) (window receiver n) (theirs_mine s h) (lookup sender.sends n) (lookup receiver.recvs n) ((ok.ends s).sends n) ((ok.ends (other s)).recvs n);
-        ended = whole_agrees (past s h) (past (other s) h) n (first_send_limit sender n) (window receiver n) (theirs_mine s h) (lookup sender.sends n) (lookup receiver.recvs n) ((ok.ends s).sends n) ((ok.ends (other s)).recvs n);
+        prefix = prefix_agrees (past s h) (past (other s) h) n (first_send_limit sender n) (first_window receiver n) (theirs_mine s h) (lookup sender.sends n) (lookup receiver.recvs n) ((ok.ends s).sends n) ((ok.ends (other s)).recvs n);
+        ended = whole_agrees (past s h) (past (other s) h) n (first_send_limit sender n) (first_window receiver n) (theirs_mine s h) (lookup sender.sends n) (lookup receiver.recvs n) ((ok.ends s).sends n) ((ok.ends (other s)).recvs n);
       }
 
   pub whole : (s : Side) (n : ℕ) → WholeAgrees h w s n
   whole s n l there =
       let sender : End = end_of w s in
       let receiver : End = end_of w (other s) in
-      received_agrees (past s h) (past (other s) h) n (first_send_limit sender n) (window receiver n) (theirs_mine s h) receiver ((ok.ends (other s)).recvs n) (λ k g holds ack land. All_at (FrameTaken receiver.recvs) (past (other s) h).taken g (ok.ends (other s)).taken (confirmed_taken a b h w ok s k g holds ack land)) l
+      received_agrees (past s h) (past (other s) h) n (first_send_limit sender n) (first_window receiver n) (theirs_mine s h) receiver ((ok.ends (other s)).recvs n) (λ k g holds ack land. All_at (FrameTaken receiver.recvs) (past (other s) h).taken g (ok.ends (other s)).taken (confirmed_taken a b h w ok s k g holds ack land)) l
       (subst (SendSlot (past s h) n (first_send_limit sender n)) there ((ok.ends s).sends n))
 
   pub final_sizes : (s : Side) (n : ℕ) → FinalSizesAgree w s n
@@ -80,10 +80,10 @@ module _ (a b : Settings) (h : History) (w : World) (ok : WorldOk a b h w) where
       let sender : End = end_of w s in
       let receiver : End = end_of w (other s) in
       record {
-        size = λ r size there. size_agrees (past s h) (past (other s) h) n (first_send_limit sender n) (window receiver n) (theirs_mine s h) (lookup sender.sends n) r size ((ok.ends s).sends n)
-            (subst (RecvSlot (past (other s) h) n (window receiver n)) there ((ok.ends (other s)).recvs n));
-        code = λ r code there. reset_agrees (past s h) (past (other s) h) n (first_send_limit sender n) (window receiver n) (theirs_mine s h) (lookup sender.sends n) r code ((ok.ends s).sends n)
-            (subst (RecvSlot (past (other s) h) n (window receiver n)) there ((ok.ends (other s)).recvs n));
+        size = λ r size there. size_agrees (past s h) (past (other s) h) n (first_send_limit sender n) (first_window receiver n) (theirs_mine s h) (lookup sender.sends n) r size ((ok.ends s).sends n)
+            (subst (RecvSlot (past (other s) h) n (first_window receiver n)) there ((ok.ends (other s)).recvs n));
+        code = λ r code there. reset_agrees (past s h) (past (other s) h) n (first_send_limit sender n) (first_window receiver n) (theirs_mine s h) (lookup sender.sends n) r code ((ok.ends s).sends n)
+            (subst (RecvSlot (past (other s) h) n (first_window receiver n)) there ((ok.ends (other s)).recvs n));
       }
 
   -- the receiver is the side that was asked for
@@ -163,8 +163,8 @@ module _ (a b : Settings) (h : History) (w : World) (ok : WorldOk a b h w) (s : 
     send_slot : SendSlot (past s h) n (first_send_limit sender n) (sending w s n)
     send_slot = sends_ok.sends n
 
-    recv_at : (r : RecvLane) → receiving w s n ≡ Some r → RecvSlot (past (other s) h) n (window receiver n) (Some r)
-    recv_at r is = subst (RecvSlot (past (other s) h) n (window receiver n)) is (recvs_ok.recvs n)
+    recv_at : (r : RecvLane) → receiving w s n ≡ Some r → RecvSlot (past (other s) h) n (first_window receiver n) (Some r)
+    recv_at r is = subst (RecvSlot (past (other s) h) n (first_window receiver n)) is (recvs_ok.recvs n)
 
     send_at : (l : SendLane) → sending w s n ≡ Some l → SendSlot (past s h) n (first_send_limit sender n) (Some l)
     send_at l is = subst (SendSlot (past s h) n (first_send_limit sender n)) is (sends_ok.sends n)
@@ -188,10 +188,10 @@ module _ (a b : Settings) (h : History) (w : World) (ok : WorldOk a b h w) (s : 
         by (Some l) at slot m le offset bytes fin t low high = (let below : offset + length bytes ≤ l.sent_end = (slot.told offset bytes fin t).below in (l, at, omega arith))
 
     pub stored_is_written : StoredIsWritten h w s n
-    stored_is_written r q b is has_it = byte_written (past s h) (past (other s) h) n (first_send_limit sender n) (window receiver n) (theirs_mine s h) (sending w s n) send_slot q b ((recv_at r is).stored q b has_it)
+    stored_is_written r q b is has_it = byte_written (past s h) (past (other s) h) n (first_send_limit sender n) (first_window receiver n) (theirs_mine s h) (sending w s n) send_slot q b ((recv_at r is).stored q b has_it)
 
     pub read_is_written : ReadIsWritten h s n
-    read_is_written q b has_it = gave_written (past s h) (past (other s) h) n (first_send_limit sender n) (window receiver n) (theirs_mine s h) (sending w s n) (receiving w s n) send_slot (recvs_ok.recvs n) q b has_it
+    read_is_written q b has_it = gave_written (past s h) (past (other s) h) n (first_send_limit sender n) (first_window receiver n) (theirs_mine s h) (sending w s n) (receiving w s n) send_slot (recvs_ok.recvs n) q b has_it
 
     -- a frame that arrived took effect
     frame_taken_by : (f : Seen) → HasArrived h s f → FrameTaken receiver.recvs f
@@ -222,20 +222,20 @@ module _ (a b : Settings) (h : History) (w : World) (ok : WorldOk a b h w) (s : 
 
     pub final_size_is_declared : FinalSizeIsDeclared h w s n
     final_size_is_declared r size is final =
-        let (l, at, declared) = size_agrees (past s h) (past (other s) h) n (first_send_limit sender n) (window receiver n) (theirs_mine s h) (sending w s n) r size send_slot (recv_at r is) final in
-        (l, at, declared, sym (final_sent (past (other s) h) (past s h) (theirs_mine s h) n (first_send_limit sender n) (window receiver n) (Some l) r (send_at l at) (recv_at r is) size final), λ none. count l at none)
+        let (l, at, declared) = size_agrees (past s h) (past (other s) h) n (first_send_limit sender n) (first_window receiver n) (theirs_mine s h) (sending w s n) r size send_slot (recv_at r is) final in
+        (l, at, declared, sym (final_sent (past (other s) h) (past s h) (theirs_mine s h) n (first_send_limit sender n) (first_window receiver n) (Some l) r (send_at l at) (recv_at r is) size final), λ none. count l at none)
       where
         count : (l : SendLane) → sending w s n ≡ Some l → r.reset_code ≡ None → length (written s n h) ≡ size
         count l at none =
             elim ((recv_at r is).final size final) [
               | inl t ↦ (
-                  let (m, there, sent, end) = end_written (past s h) (past (other s) h) n (first_send_limit sender n) (window receiver n) (theirs_mine s h) (sending w s n) size send_slot t in
-                  written_count (past s h) (past (other s) h) n (first_send_limit sender n) (window receiver n) (theirs_mine s h) (sending w s n) m send_slot there ∙ end)
+                  let (m, there, sent, end) = end_written (past s h) (past (other s) h) n (first_send_limit sender n) (first_window receiver n) (theirs_mine s h) (sending w s n) size send_slot t in
+                  written_count (past s h) (past (other s) h) n (first_send_limit sender n) (first_window receiver n) (theirs_mine s h) (sending w s n) m send_slot there ∙ end)
               | inr t ↦ absurd (none-some t.0 (sym none ∙ t.1))
             ]
 
     pub reset_code_is_the_senders : ResetCodeIsTheSenders w s n
-    reset_code_is_the_senders r code is known = reset_agrees (past s h) (past (other s) h) n (first_send_limit sender n) (window receiver n) (theirs_mine s h) (sending w s n) r code send_slot (recv_at r is) known
+    reset_code_is_the_senders r code is known = reset_agrees (past s h) (past (other s) h) n (first_send_limit sender n) (first_window receiver n) (theirs_mine s h) (sending w s n) r code send_slot (recv_at r is) known
 
   pub sent_is_within_known : SentIsWithinKnown w s
   sent_is_within_known = record { connection = sends_ok.credit.sent_known; streams = λ n l is. (send_at n l is).sent_limit }

@@ -8,7 +8,7 @@ use Rattle.qs_recv.specs.Lane.{RecvLane, new_lane as new_recv_lane, take_stream,
 use Rattle.qs_recv.specs.declared.credit.Share.{Share}
 use Rattle.qs_send.specs.Lane.{SendLane, unacked_from, new_lane as new_send_lane, allow_lane, stop_taken}
 use Rattle.qs_machine.specs.Tables.{Tables, lookup, open_to, total, updated}
-use Rattle.qs_machine.specs.Ends.{End, is_own, is_own_by, is_uni, first_send_limit, window, opens, role_bit, opened_by_peer}
+use Rattle.qs_machine.specs.Ends.{End, is_own, is_own_by, is_uni, first_send_limit, first_window, opens, role_bit, opened_by_peer}
 use Rattle.qs_machine.specs.Credit.{all_sent}
 use Rattle.qs_machine.specs.Seen.{Seen, Ack, Stream, Control, Plain}
 use Rattle.qs_machine.specs.Plains.{is_plain}
@@ -75,13 +75,13 @@ abbrev pub new_sends : End → ℕ → ℕ → SendLane
 new_sends e n m = new_send_lane m (first_send_limit e n) e.settings.send_buffer
 
 abbrev pub new_recvs : End → ℕ → ℕ → RecvLane
-new_recvs e n m = new_recv_lane (window e n) e.tuning.credit_step
+new_recvs e n m = new_recv_lane (first_window e n) e.tuning.credit_step
 
 module _ (e : End) where
   same_limit : (n m : ℕ) → m % 4 ≡ n % 4 → first_send_limit e m ≡ first_send_limit e n
   same_limit n m kind = rw kind refl
 
-  same_window : (n m : ℕ) → m % 4 ≡ n % 4 → window e m ≡ window e n
+  same_window : (n m : ℕ) → m % 4 ≡ n % 4 → first_window e m ≡ first_window e n
   same_window n m kind = rw kind refl
 
 opened_grow : (t : Tables RecvLane) (n : ℕ) (begin : ℕ → RecvLane) → AllGrow t (open_to t n begin)
@@ -119,11 +119,11 @@ module _ (p : Past) (e : End) (n : ℕ) (ok : EndOk p e) where
       slots_opened (λ m o. SendSlot p m (first_send_limit e m) o) e.sends n (new_sends e n) ok.sends
       (λ m h kind. subst (λ limit. SendOk p m (first_send_limit e m) (new_send_lane m limit e.settings.send_buffer)) (same_limit e n m kind) (new_send_ok p m m (first_send_limit e m) e.settings.send_buffer h))
 
-  recvs_opened : (b : Bool) → (m : ℕ) → RecvSlot p m (window e m) (lookup (if b then e.recvs else open_to e.recvs n (new_recvs e n)) m)
+  recvs_opened : (b : Bool) → (m : ℕ) → RecvSlot p m (first_window e m) (lookup (if b then e.recvs else open_to e.recvs n (new_recvs e n)) m)
   recvs_opened true = ok.recvs
   recvs_opened false =
-      slots_opened (λ m o. RecvSlot p m (window e m) o) e.recvs n (new_recvs e n) ok.recvs
-      (λ m h kind. subst (λ limit. RecvOk p m (window e m) (new_recv_lane limit e.tuning.credit_step)) (same_window e n m kind) (new_recv_ok p m (window e m) e.tuning.credit_step h))
+      slots_opened (λ m o. RecvSlot p m (first_window e m) o) e.recvs n (new_recvs e n) ok.recvs
+      (λ m h kind. subst (λ limit. RecvOk p m (first_window e m) (new_recv_lane limit e.tuning.credit_step)) (same_window e n m kind) (new_recv_ok p m (first_window e m) e.tuning.credit_step h))
 
   pub grow_by : (b : Bool) → AllGrow e.recvs (if b then e.recvs else open_to e.recvs n (new_recvs e n))
   grow_by true m l is = (l, is, Grows_refl l)
@@ -213,7 +213,7 @@ pub lane_opened : (e : End) (n : ℕ) (r : RecvLane) (b : Bool) → is_own e n �
 lane_opened e n r true own is = rw is refl
 lane_opened e n r false own is = by _ is
   where
-    by : (b : Bool) → lookup (if b then e.recvs else open_to e.recvs n (new_recvs e n)) n ≡ Some r → or_new (lookup e.recvs n) (window e n) e.tuning.credit_step ≡ r
+    by : (b : Bool) → lookup (if b then e.recvs else open_to e.recvs n (new_recvs e n)) n ≡ Some r → or_new (lookup e.recvs n) (first_window e n) e.tuning.credit_step ≡ r
     by true is = rw is refl
     by false is =
         elim (lookup_open e.recvs n n (new_recvs e n)) [
@@ -326,13 +326,13 @@ module _ (p : Past) where
       Effect p old (record e { recvs = updated e.recvs n (λ l. take_stream l offset bytes fin) o }) (Stream n offset bytes fin)
   stream_taken old e n offset bytes fin None is some this ok t fine grow = absurd (false≢true some)
   stream_taken old e n offset bytes fin (Some l) is some this ok t fine grow =
-      let h : RecvOk p n (window e n) l = subst (RecvSlot p n (window e n)) is (ok.recvs n) in
+      let h : RecvOk p n (first_window e n) l = subst (RecvSlot p n (first_window e n)) is (ok.recvs n) in
       let fits = fin_fits old l offset (length bytes) fin (subst (λ x. credit_fault old (check_stream x offset (length bytes) fin) ≡ None) (this l refl) fine) in
-      let grows = take_stream_grows p n (window e n) l h offset bytes fin t fits in
+      let grows = take_stream_grows p n (first_window e n) l h offset bytes fin t fits in
       record {
-        ok = recv_changed p e n ok l (take_stream l offset bytes fin) is (take_stream_ok p n (window e n) l h offset bytes fin t fits) grows;
+        ok = recv_changed p e n ok l (take_stream l offset bytes fin) is (take_stream_ok p n (first_window e n) l h offset bytes fin t fits) grows;
         grow = grow_trans old.recvs e.recvs _ grow (grows_update e.recvs n l (take_stream l offset bytes fin) is grows);
-        taken = (take_stream l offset bytes fin, lookup_same e.recvs n l (take_stream l offset bytes fin) is, take_stream_taken p n (window e n) l h offset bytes fin t fits);
+        taken = (take_stream l offset bytes fin, lookup_same e.recvs n l (take_stream l offset bytes fin) is, take_stream_taken p n (first_window e n) l h offset bytes fin t fits);
       }
 
   reset_taken : (old e : End) (n code size : ℕ) (o : Option RecvLane) → lookup e.recvs n ≡ o → is_some o ≡ true → ((r : RecvLane) → o ≡ Some r → lane_of old n ≡ r) → EndOk p e → Tells p.theirs (Control (ResetStream n code size)) →
@@ -340,14 +340,14 @@ module _ (p : Past) where
       Effect p old (record e { recvs = updated e.recvs n (λ l. take_reset l code size) o }) (Control (ResetStream n code size))
   reset_taken old e n code size None is some this ok t fine grow = absurd (false≢true some)
   reset_taken old e n code size (Some l) is some this ok t fine grow =
-      let h : RecvOk p n (window e n) l = subst (RecvSlot p n (window e n)) is (ok.recvs n) in
+      let h : RecvOk p n (first_window e n) l = subst (RecvSlot p n (first_window e n)) is (ok.recvs n) in
       let fits = reset_fits old l size (subst (λ x. credit_fault old (check_reset x size) ≡ None) (this l refl) fine) in
       let b : Bool = is_some l.reset_code || is_whole l in
-      let grows = take_reset_grows p n (window e n) l h code size t fits b in
+      let grows = take_reset_grows p n (first_window e n) l h code size t fits b in
       record {
-        ok = recv_changed p e n ok l (take_reset l code size) is (take_reset_ok p n (window e n) l h code size t fits b) grows;
+        ok = recv_changed p e n ok l (take_reset l code size) is (take_reset_ok p n (first_window e n) l h code size t fits b) grows;
         grow = grow_trans old.recvs e.recvs _ grow (grows_update e.recvs n l (take_reset l code size) is grows);
-        taken = (take_reset l code size, lookup_same e.recvs n l (take_reset l code size) is, take_reset_taken p n (window e n) l h code size t fits b refl);
+        taken = (take_reset l code size, lookup_same e.recvs n l (take_reset l code size) is, take_reset_taken p n (first_window e n) l h code size t fits b refl);
       }
 
   -- a frame on what the peer sends comes to a half that is open then: an own stream has to be, another one opens

@@ -12,7 +12,7 @@ use Rattle.qs_send.specs.declared.piece.Item.TheVariants.{MaxData, MaxStreamData
 use Rattle.qs_send.specs.declared.piece.Piece.{Piece}
 use Rattle.qs_send.specs.declared.piece.Piece.TheVariants.{Data, Told}
 use Rattle.qs_machine.specs.Tables.{lookup, update, updated}
-use Rattle.qs_machine.specs.Ends.{End, first_send_limit, window, on_send}
+use Rattle.qs_machine.specs.Ends.{End, first_send_limit, first_window, on_send}
 use Rattle.qs_machine.specs.Credit.{settle, all_sent}
 use Rattle.qs_machine.specs.Seen.{Seen, Ack, Stream, Control, Close, Plain}
 use Rattle.qs_send.specs.Records.{Among}
@@ -82,7 +82,7 @@ module _ (p : Past) (more : Packets) (e : End) (sent : ℕ) (f : Seen)
         limit_told = h.limit_told;
       }
 
-  recv_put : (n : ℕ) (o : Option RecvLane) → lookup e.recvs n ≡ o → RecvSlot p n (window e n) o → RecvSlot (record p { mine = more }) n (window e n) o
+  recv_put : (n : ℕ) (o : Option RecvLane) → lookup e.recvs n ≡ o → RecvSlot p n (first_window e n) o → RecvSlot (record p { mine = more }) n (first_window e n) o
   recv_put n None at h =
       record {
         no_bytes = h.no_bytes;

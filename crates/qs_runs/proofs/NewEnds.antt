@@ -14,7 +14,7 @@ use Rattle.qs_calls.specs.declared.settings.PeerLimits.{PeerLimits}
 use Rattle.qs_calls.specs.declared.settings.SetupFault.{SetupFault}
 use Rattle.qs_calls.specs.Settings.{limits_of, wide_setup_fault, default_tuning}
 use Rattle.qs_machine.specs.Tables.{total, no_streams}
-use Rattle.qs_machine.specs.Ends.{End, first_send_limit, window, new_end, end_made, wide_end_made, end_unless}
+use Rattle.qs_machine.specs.Ends.{End, first_send_limit, first_window, new_end, end_made, wide_end_made, end_unless}
 use Rattle.qs_machine.specs.Seen.{Seen}
 use Rattle.qs_machine.proofs.Counts.{new_ends_wide}
 use Rattle.qs_machine.proofs.Ties.{nowhere}
@@ -58,7 +58,7 @@ module _ (role : Role) (own : Settings) (tuned : Tuning) (told : PeerLimits) (p 
   new_ok =
       record {
         sends = λ n. subst (SendSlot p n (first_send_limit (new_end role own tuned told) n)) (sym (nowhere n)) (new_send n (first_send_limit (new_end role own tuned told) n));
-        recvs = λ n. subst (RecvSlot p n (window (new_end role own tuned told) n)) (sym (nowhere n)) (new_recv n (window (new_end role own tuned told) n));
+        recvs = λ n. subst (RecvSlot p n (first_window (new_end role own tuned told) n)) (sym (nowhere n)) (new_recv n (first_window (new_end role own tuned told) n));
         packets = record {
           count = sym (ap length made);
           records = λ k ps x is a. absurd (none-some ps (sym (fmap.get-empty nat_cmp k) ∙ is));

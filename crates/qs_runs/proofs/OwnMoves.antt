@@ -5,7 +5,7 @@ use Rattle.std.specs.FinMap as fmap
 use Rattle.qs_send.specs.Records.{Among, without_first}
 use Rattle.qs_send.specs.LostRecords.{MOST_LOST, with_piece, with_number, without_oldest}
 use Rattle.qs_send.specs.declared.piece.Piece.{Piece}
-use Rattle.qs_machine.specs.Ends.{End, Records, LostPackets, lost_with, on_send, on_recv, send_lane, first_send_limit, window, is_uni, is_own}
+use Rattle.qs_machine.specs.Ends.{End, Records, LostPackets, lost_with, on_send, on_recv, send_lane, first_send_limit, first_window, is_uni, is_own}
 use Rattle.qs_machine.specs.Making.{first_lost, losses, MakeStep, MakeAt, make_refusal, IsMade, LoseStep, lose_refusal, ClaimStep, claim_refusal}
 use Rattle.qs_runs.specs.Pasts.{Past, PieceOf, TellsEnd, Tells}
 use Rattle.qs_runs.specs.Invariant.{EndOk, StoodIn, RecvTrue, RecvSlot, RecvOk, SendOk, SendSlot, OpenOk, is_open}
@@ -197,7 +197,7 @@ module _ (p : Past) (e new : End) (ok : EndOk p e) where
   -- the half that a call speaks of
   half_changed : (q : Past) (n : ℕ) (f : RecvLane → RecvLane) (l : RecvLane) → lookup e.recvs n ≡ Some l → (given : ℕ → List ℕ) (stopped ended : ℕ → Bool) →
       q ≡ record p { gave = given; stopped = stopped; ended = ended } → ((j : ℕ) → j ≢ n → (given j ≡ p.gave j) × (stopped j ≡ p.stopped j) × (ended j ≡ p.ended j)) →
-      RecvTrue p.mine p.theirs (given n) (stopped n) (ended n) n (window e n) (f l) → Grows l (f l) → EndOk q (on_recv n f e)
+      RecvTrue p.mine p.theirs (given n) (stopped n) (ended n) n (first_window e n) (f l) → Grows l (f l) → EndOk q (on_recv n f e)
   half_changed q n f l there given stopped ended view same this g =
       let e_same : record e { recvs = update e.recvs n (f l) } ≡ on_recv n f e = ap (λ o. record e { recvs = updated e.recvs n f o }) (sym there) in
       subst (λ x. EndOk x (on_recv n f e)) (sym view) (subst (EndOk _) e_same (recv_view p e n ok given stopped ended l (f l) same there this g))
@@ -205,12 +205,12 @@ module _ (p : Past) (e new : End) (ok : EndOk p e) where
   -- and then the limits move
   changed_half : (q : Past) (n : ℕ) (f : RecvLane → RecvLane) (l : RecvLane) → lookup e.recvs n ≡ Some l → (given : ℕ → List ℕ) (stopped ended : ℕ → Bool) →
       q ≡ record p { gave = given; stopped = stopped; ended = ended } → ((j : ℕ) → j ≢ n → (given j ≡ p.gave j) × (stopped j ≡ p.stopped j) × (ended j ≡ p.ended j)) →
-      RecvTrue p.mine p.theirs (given n) (stopped n) (ended n) n (window e n) (f l) → Grows l (f l) → new ≡ settle (on_recv n f e) → EndOk q new
+      RecvTrue p.mine p.theirs (given n) (stopped n) (ended n) n (first_window e n) (f l) → Grows l (f l) → new ≡ settle (on_recv n f e) → EndOk q new
   changed_half q n f l there given stopped ended view same this g is = ended_by _ _ new is (settle_ok _ _ (half_changed q n f l there given stopped ended view same this g))
 
   -- a half is stopped by such a change
   stops_by : (n : ℕ) (f : RecvLane → RecvLane) (answer : Result (Unit {0}) UseFault) → Certain (recv_refusal (is_some e.closed) e n) e answer new ((answer ≡ Ok tt) × (new ≡ settle (on_recv n f e)))
-      → ((l : RecvLane) → RecvOk p n (window e n) l → RecvTrue p.mine p.theirs (p.gave n) true (p.ended n) n (window e n) (f l) × Grows l (f l)) → EndOk (with_effects (if_ok answer (λ done. Stopped n ∷ [])) p) new
+      → ((l : RecvLane) → RecvOk p n (first_window e n) l → RecvTrue p.mine p.theirs (p.gave n) true (p.ended n) n (first_window e n) (f l) × Grows l (f l)) → EndOk (with_effects (if_ok answer (λ done. Stopped n ∷ [])) p) new
   stops_by n f answer step stops =
       elim (certain_cases (recv_refusal (is_some e.closed) e n) e answer new _ step) [
         | inl (fault, is, same) ↦ subst (λ a. EndOk (with_effects (if_ok a (λ done. Stopped n ∷ [])) p) new) (sym is) (ended_by p e new same ok)
@@ -220,62 +220,62 @@ module _ (p : Past) (e new : End) (ok : EndOk p e) where
       go : recv_refusal (is_some e.closed) e n ≡ None → (o : Option RecvLane) → lookup e.recvs n ≡ o → new ≡ settle (on_recv n f e) → EndOk (with_effect (Stopped n) p) new
       go allowed None there same = absurd (none-some _ (sym (no_refusal (refuse_if (is_some e.closed) Closed) (Some (no_half (is_some (send_lane e n)))) (rw there at allowed)).1))
       go allowed (Some l) there same =
-          let h : RecvOk p n (window e n) l = subst (RecvSlot p n (window e n)) there (ok.recvs n) in
+          let h : RecvOk p n (first_window e n) l = subst (RecvSlot p n (first_window e n)) there (ok.recvs n) in
           let (stopped, grows) = stops l h in
           changed_half _ n f l there p.gave (λ m. if m == n then true else p.stopped m) p.ended refl
           (λ j ne. (refl, rw (ne_eqb j n ne) refl, refl))
-          (subst (λ b. RecvTrue p.mine p.theirs (p.gave n) (if b then true else p.stopped n) (p.ended n) n (window e n) (f l)) (sym (eq-eqb n n refl)) stopped)
+          (subst (λ b. RecvTrue p.mine p.theirs (p.gave n) (if b then true else p.stopped n) (p.ended n) n (first_window e n) (f l)) (sym (eq-eqb n n refl)) stopped)
           grows same
 
   stop_moves : (n code : ℕ) (answer : Result (Unit {0}) UseFault) → StopStep e n code answer new → EndOk (with_effects (effects_of (Stop n code) answer) p) new
   stop_moves n code answer step =
-      stops_by n (λ m. stop m code) answer step (λ l h. (stop_ok p n (window e n) l h code (is_some l.stop_code || is_over l), stop_grows p n (window e n) l h code (is_some l.stop_code || is_over l)))
+      stops_by n (λ m. stop m code) answer step (λ l h. (stop_ok p n (first_window e n) l h code (is_some l.stop_code || is_over l), stop_grows p n (first_window e n) l h code (is_some l.stop_code || is_over l)))
 
   forget_moves : (n code : ℕ) (answer : Result (Unit {0}) UseFault) → StopAndForgetStep e n code answer new → EndOk (with_effects (effects_of (StopAndForget n code) answer) p) new
   forget_moves n code answer step =
       stops_by n (λ m. stop_and_forget m code) answer step (λ l h. (
-        (let stopped = stop_ok p n (window e n) l h code (is_some l.stop_code || is_over l) in recv_alike stopped (omega arith) stopped.ended),
-        told_grows l _ (stop_grows p n (window e n) l h code (is_some l.stop_code || is_over l)),
+        (let stopped = stop_ok p n (first_window e n) l h code (is_some l.stop_code || is_over l) in recv_alike stopped (omega arith) stopped.ended),
+        told_grows l _ (stop_grows p n (first_window e n) l h code (is_some l.stop_code || is_over l)),
       ))
 
   -- a half is read
   pub half_read : (n size : ℕ) (l : RecvLane) → lookup e.recvs n ≡ Some l → (a : Read) → read_answer l size ≡ a → EndOk (with_read p n a (bytes_of a l size)) (on_recv n (λ m. after_read m size) e)
   half_read n size l there a at =
-      let h : RecvOk p n (window e n) l = subst (RecvSlot p n (window e n)) there (ok.recvs n) in
+      let h : RecvOk p n (first_window e n) l = subst (RecvSlot p n (first_window e n)) there (ok.recvs n) in
       go h a at
     where
       -- what is told leaves all that is known
       none_lost : (a : Read) → read_answer l size ≡ a → Grows l (after_answer a l size) → Grows l (after_read l size)
       none_lost a at g = subst (λ x. Grows l (after_answer x l size)) (sym at) g
 
-      ended_now : RecvOk p n (window e n) l → read_answer l size ≡ reads.End → (if n == n && not (p.stopped n) then true else p.ended n) ≡ true → (end : ℕ) × (l.arrived.read_count ≡ end) × (l.final_size ≡ Some end) × TellsEnd p.theirs n end
+      ended_now : RecvOk p n (first_window e n) l → read_answer l size ≡ reads.End → (if n == n && not (p.stopped n) then true else p.ended n) ≡ true → (end : ℕ) × (l.arrived.read_count ≡ end) × (l.final_size ≡ Some end) × TellsEnd p.theirs n end
       ended_now h at is = split (p.stopped n) refl is
         where
           split : (b : Bool) → p.stopped n ≡ b → (if n == n && not b then true else p.ended n) ≡ true → (end : ℕ) × (l.arrived.read_count ≡ end) × (l.final_size ≡ Some end) × TellsEnd p.theirs n end
-          split false unstopped is = end_by_fin p n (window e n) l h size at (h.not_stopped unstopped)
+          split false unstopped is = end_by_fin p n (first_window e n) l h size at (h.not_stopped unstopped)
           split true stopped is = (let was : p.ended n ≡ true = rw (eq-eqb n n refl) at is in h.ended was)
 
-      go : RecvOk p n (window e n) l → (a : Read) → read_answer l size ≡ a → EndOk (with_read p n a (bytes_of a l size)) (on_recv n (λ m. after_read m size) e)
+      go : RecvOk p n (first_window e n) l → (a : Read) → read_answer l size ≡ a → EndOk (with_read p n a (bytes_of a l size)) (on_recv n (λ m. after_read m size) e)
       go h (reads.Bytes count) at =
           half_changed _ n (λ m. after_read m size) l there (λ m. p.gave m ++ (if m == n then front_of l.arrived size else [])) p.stopped p.ended refl
           (λ j ne. (rw (ne_eqb j n ne) (append-nil (p.gave j)), refl, refl))
-          (subst (λ b. RecvTrue p.mine p.theirs (p.gave n ++ (if b then front_of l.arrived size else [])) (p.stopped n) (p.ended n) n (window e n) (after_read l size)) (sym (eq-eqb n n refl))
-          (subst (λ a. RecvTrue p.mine p.theirs (p.gave n ++ front_of l.arrived size) (p.stopped n) (p.ended n) n (window e n) (after_answer a l size)) (sym at)
-          (read_bytes_ok p n (window e n) l h size count (not_at_end l size count at))))
+          (subst (λ b. RecvTrue p.mine p.theirs (p.gave n ++ (if b then front_of l.arrived size else [])) (p.stopped n) (p.ended n) n (first_window e n) (after_read l size)) (sym (eq-eqb n n refl))
+          (subst (λ a. RecvTrue p.mine p.theirs (p.gave n ++ front_of l.arrived size) (p.stopped n) (p.ended n) n (first_window e n) (after_answer a l size)) (sym at)
+          (read_bytes_ok p n (first_window e n) l h size count (not_at_end l size count at))))
           (none_lost (reads.Bytes count) at (record { received = λ q is. is; final = λ x is. is; reset = λ none. none }))
       go h reads.End at =
           half_changed _ n (λ m. after_read m size) l there p.gave p.stopped (λ m. if m == n && not (p.stopped m) then true else p.ended m) refl
           (λ j ne. (refl, refl, rw (ne_eqb j n ne) refl))
-          (subst (λ a. RecvTrue p.mine p.theirs (p.gave n) (p.stopped n) (if n == n && not (p.stopped n) then true else p.ended n) n (window e n) (after_answer a l size)) (sym at)
-          (read_told_ok p n (window e n) l h _ (λ is. ended_now h at is)))
+          (subst (λ a. RecvTrue p.mine p.theirs (p.gave n) (p.stopped n) (if n == n && not (p.stopped n) then true else p.ended n) n (first_window e n) (after_answer a l size)) (sym at)
+          (read_told_ok p n (first_window e n) l h _ (λ is. ended_now h at is)))
           (none_lost reads.End at (record { received = λ q is. is; final = λ x is. is; reset = λ none. none }))
       go h (reads.Reset c) at =
           half_changed _ n (λ m. after_read m size) l there p.gave p.stopped p.ended refl (λ j ne. (refl, refl, refl))
-          (subst (λ a. RecvTrue p.mine p.theirs (p.gave n) (p.stopped n) (p.ended n) n (window e n) (after_answer a l size)) (sym at) (read_told_ok p n (window e n) l h (p.ended n) h.ended))
+          (subst (λ a. RecvTrue p.mine p.theirs (p.gave n) (p.stopped n) (p.ended n) n (first_window e n) (after_answer a l size)) (sym at) (read_told_ok p n (first_window e n) l h (p.ended n) h.ended))
           (none_lost (reads.Reset c) at (record { received = λ q is. is; final = λ x is. is; reset = λ none. none }))
       go h reads.Wait at =
           half_changed _ n (λ m. after_read m size) l there p.gave p.stopped p.ended refl (λ j ne. (refl, refl, refl))
-          (subst (λ a. RecvTrue p.mine p.theirs (p.gave n) (p.stopped n) (p.ended n) n (window e n) (after_answer a l size)) (sym at) h)
+          (subst (λ a. RecvTrue p.mine p.theirs (p.gave n) (p.stopped n) (p.ended n) n (first_window e n) (after_answer a l size)) (sym at) h)
           (none_lost reads.Wait at (Grows_refl l))
 
   read_moves : (n size : ℕ) (answer : Answer (ReadUpTo n size)) → ReadStep e n size answer.0 answer.1 new → EndOk (with_effects (effects_of (ReadUpTo n size) answer) p) new

@@ -3,7 +3,7 @@ use Rattle.std.proofs.Common.{ℕ, ◌++◌, inl, inr, Option, Some, None}
 use Rattle.qs_recv.specs.Lane.{RecvLane}
 use Rattle.qs_send.specs.Lane.{SendLane}
 use Rattle.qs_machine.specs.Tables.{lookup}
-use Rattle.qs_machine.specs.Ends.{End, first_send_limit, window}
+use Rattle.qs_machine.specs.Ends.{End, first_send_limit, first_window}
 use Rattle.qs_runs.specs.Pasts.{Packets, Past}
 use Rattle.qs_runs.proofs.Changes.{send_alike}
 use Rattle.qs_runs.proofs.Past.{Tells-more, TellsOffset-more, TellsByte-more, TellsEnd-more, Confirmed-more, IsNamed-more}
@@ -37,7 +37,7 @@ module _ (p : Past) (more : Packets) where
   peer_moves e ok =
       record {
         sends = λ n. send_slot n (first_send_limit e n) (lookup e.sends n) (ok.sends n);
-        recvs = λ n. recv_slot n (window e n) (lookup e.recvs n) (ok.recvs n);
+        recvs = λ n. recv_slot n (first_window e n) (lookup e.recvs n) (ok.recvs n);
         packets = ok.packets;
         taken = ok.taken;
         credit = record {

@@ -15,7 +15,7 @@ use Rattle.qs_recv.specs.declared.half.RecvFault.TheVariants.{FinalSize, StreamC
 use Rattle.qs_send.specs.Lane.{SendLane}
 use Rattle.qs_send.specs.declared.piece.Item.TheVariants.{MaxData, MaxStreamData, ResetStream, StopSending, StreamDataBlocked}
 use Rattle.qs_machine.specs.Tables.{Tables, lookup, update, total, open_to}
-use Rattle.qs_machine.specs.Ends.{End, first_send_limit, window, is_own, is_uni, opens, opened_by_peer, recv_lane, send_lane}
+use Rattle.qs_machine.specs.Ends.{End, first_send_limit, first_window, is_own, is_uni, opens, opened_by_peer, recv_lane, send_lane}
 use Rattle.qs_machine.specs.Credit.{spent, all_sent, grant}
 use Rattle.qs_machine.specs.Seen.{Seen, Ack, Stream, Control}
 use Rattle.qs_machine.specs.Verdicts.{verdict, item_verdict, state_fault_in, state_fault_out, credit_fault, bytes_fault, fault_of, ack_fault, fault_if, or_else, lane_of, STREAM_STATE_ERROR, STREAM_LIMIT_ERROR}
@@ -33,7 +33,7 @@ sent_of o = value (λ l. l.sent_end) o
 -- Two ends that face each other: f's first limits are at most what e granted, and f knows of no more streams than e grants.
 pub record Facing (e f : End) : Type 0 where
   pub opposite : (n : ℕ) → is_own f n ≡ not (is_own e n)
-  pub first_limit : (n : ℕ) → first_send_limit f n ≤ window e n
+  pub first_limit : (n : ℕ) → first_send_limit f n ≤ first_window e n
   pub first_data : f.peer.max_data ≤ e.settings.conn_window
   pub bidi : f.known_bidi ≤ e.granted_bidi
   pub uni : f.known_uni ≤ e.granted_uni
@@ -137,14 +137,14 @@ module _ (p : Past) (e : End) (ok : EndOk p e) where
   recv_is_open : (m : ℕ) → (NeverReceived p.mine (p.gave m) (p.stopped m) (p.ended m) m → ⊥) → is_open e.recvs m ≡ true
   recv_is_open m sent = go (lookup e.recvs m) (ok.recvs m)
     where
-      go : (o : Option RecvLane) → RecvSlot p m (window e m) o → is_some o ≡ true
+      go : (o : Option RecvLane) → RecvSlot p m (first_window e m) o → is_some o ≡ true
       go None h = absurd (sent h)
       go (Some l) h = refl
 
 module _ (p q : Past) (from : p.theirs ≡ q.mine) (back : q.theirs ≡ p.mine) (e f : End) (facing : Facing e f) (ok : EndOk p e) (their : EndOk q f) where
-  slot_le : (m : ℕ) (x : Option RecvLane) → RecvSlot p m (window e m) x → value highest x ≤ sent_of (lookup f.sends m)
+  slot_le : (m : ℕ) (x : Option RecvLane) → RecvSlot p m (first_window e m) x → value highest x ≤ sent_of (lookup f.sends m)
   slot_le m None h = omega arith
-  slot_le m (Some r) h = highest_sent p q from m (first_send_limit f m) (window e m) (lookup f.sends m) r (their.sends m) h
+  slot_le m (Some r) h = highest_sent p q from m (first_send_limit f m) (first_window e m) (lookup f.sends m) r (their.sends m) h
 
   pub spent_le : spent e ≤ all_sent f
   spent_le = total_le highest (λ l. l.sent_end) e.recvs f.sends (λ m. slot_le m (lookup e.recvs m) (ok.recvs m))
@@ -179,7 +179,7 @@ module _ (p q : Past) (from : p.theirs ≡ q.mine) (back : q.theirs ≡ p.mine) 
   pub lane_limit : (n : ℕ) (l : SendLane) (r : RecvLane) → lookup f.sends n ≡ Some l → lookup e.recvs n ≡ Some r → l.limit ≤ r.limit
   lane_limit n l r there is =
       let hs = subst (SendSlot q n (first_send_limit f n)) there (their.sends n) in
-      let hr = subst (RecvSlot p n (window e n)) is (ok.recvs n) in
+      let hr = subst (RecvSlot p n (first_window e n)) is (ok.recvs n) in
       elim hs.limit_told [
         | inl first ↦ omega (arith, first, facing.first_limit n, hr.window_granted)
         | inr told ↦ hr.limit_told _ (subst (λ x. Tells x (Control (MaxStreamData n l.limit))) back told)
@@ -252,7 +252,7 @@ total_by t n window share false = total_open highest t n (λ m. new_recv_lane wi
 -- opening spends nothing
 pub spent_opened : (e : End) (n : ℕ) (b : Bool) → spent (if b then e else opens n e) ≡ spent e
 spent_opened e n true = refl
-spent_opened e n false = total_by e.recvs n (window e n) e.tuning.credit_step _
+spent_opened e n false = total_by e.recvs n (first_window e n) e.tuning.credit_step _
 
 module _ (p q : Past) (from : p.theirs ≡ q.mine) (back : q.theirs ≡ p.mine) (e f : End) (facing : Facing e f) (ok : EndOk p e) (their : EndOk q f) where
   -- the receiving half of a stream that the peer named
@@ -267,8 +267,8 @@ module _ (p q : Past) (from : p.theirs ≡ q.mine) (back : q.theirs ≡ p.mine) 
     facing_then : Facing (opened_by_peer n e) f
     facing_then = facing_by e f n (is_own e n) facing
 
-    half_ok : (r : RecvLane) → lookup (opened_by_peer n e).recvs n ≡ Some r → RecvSlot p n (window (opened_by_peer n e) n) (Some r)
-    half_ok r is = subst (RecvSlot p n (window (opened_by_peer n e) n)) is (opened.recvs n)
+    half_ok : (r : RecvLane) → lookup (opened_by_peer n e).recvs n ≡ Some r → RecvSlot p n (first_window (opened_by_peer n e) n) (Some r)
+    half_ok r is = subst (RecvSlot p n (first_window (opened_by_peer n e) n)) is (opened.recvs n)
 
     -- the half's limit and the connection's leave room up to what was sent
     room_at : (r : RecvLane) → lookup (opened_by_peer n e).recvs n ≡ Some r → (l : SendLane) → lookup f.sends n ≡ Some l → (end : ℕ) → highest r ≤ end → end ≤ l.sent_end → (l.sent_end ≤ r.limit) × (spent e + (end - highest r) ≤ e.granted)
@@ -281,8 +281,8 @@ module _ (p q : Past) (from : p.theirs ≡ q.mine) (back : q.theirs ≡ p.mine) 
 
     known_sent : (r : RecvLane) → lookup (opened_by_peer n e).recvs n ≡ Some r → (l : SendLane) → lookup f.sends n ≡ Some l → ((size : ℕ) → r.final_size ≡ Some size → size ≡ l.sent_end) × (highest r ≤ l.sent_end)
     known_sent r is l there = (
-      λ size final. final_sent p q from n (first_send_limit f n) (window (opened_by_peer n e) n) (lookup f.sends n) r (their.sends n) (half_ok r is) size final ∙ ap sent_of there,
-      subst (λ o. highest r ≤ sent_of o) there (highest_sent p q from n (first_send_limit f n) (window (opened_by_peer n e) n) (lookup f.sends n) r (their.sends n) (half_ok r is)),
+      λ size final. final_sent p q from n (first_send_limit f n) (first_window (opened_by_peer n e) n) (lookup f.sends n) r (their.sends n) (half_ok r is) size final ∙ ap sent_of there,
+      subst (λ o. highest r ≤ sent_of o) there (highest_sent p q from n (first_send_limit f n) (first_window (opened_by_peer n e) n) (lookup f.sends n) r (their.sends n) (half_ok r is)),
     )
 
   stream_lane : (n offset : ℕ) (bytes : List ℕ) (fin : Bool) → Tells q.mine (Stream n offset bytes fin) → (o : Option RecvLane) → lookup (opened_by_peer n e).recvs n ≡ o → is_some o ≡ true → (s : Option SendLane) → lookup f.sends n ≡ s → SendSlot q n (first_send_limit f n) s →
@@ -301,7 +301,7 @@ module _ (p q : Past) (from : p.theirs ≡ q.mine) (back : q.theirs ≡ p.mine) 
   bytes_lane : (n offset : ℕ) (bytes : List ℕ) (fin : Bool) → Tells q.mine (Stream n offset bytes fin) → (o : Option RecvLane) → lookup (opened_by_peer n e).recvs n ≡ o → is_some o ≡ true → bytes_fault e n offset bytes ≡ None
   bytes_lane n offset bytes fin t None is some = absurd (false≢true some)
   bytes_lane n offset bytes fin t (Some r) is some =
-      let written = byte_written q p n (first_send_limit f n) (window e n) from (lookup f.sends n) (their.sends n) in
+      let written = byte_written q p n (first_send_limit f n) (first_window e n) from (lookup f.sends n) (their.sends n) in
       let half = half_ok n _ t refl r is in
       let stored : IsSent (q.bytes n) r.arrived = λ y b at. written y b (half.stored y b at) in
       let carried : IsPart (q.bytes n) offset bytes = λ y b at.

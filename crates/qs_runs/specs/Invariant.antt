@@ -15,7 +15,7 @@ use Rattle.qs_send.specs.declared.parts.Reset.{Reset}
 use Rattle.qs_send.specs.declared.piece.Item.TheVariants.{MaxData, MaxStreamData, MaxStreams, ResetStream, StopSending, StreamDataBlocked}
 use Rattle.qs_send.specs.declared.piece.Piece.{Piece}
 use Rattle.qs_machine.specs.Tables.{Tables, lookup}
-use Rattle.qs_machine.specs.Ends.{End, Records, is_own_by, is_uni, first_send_limit, window}
+use Rattle.qs_machine.specs.Ends.{End, Records, is_own_by, is_uni, first_send_limit, first_window}
 use Rattle.qs_machine.specs.Credit.{all_sent, first_grant, granted_streams}
 use Rattle.qs_machine.specs.Standing.{IsSound}
 use Rattle.qs_machine.specs.Repeats.{SentWasWritten}
@@ -188,7 +188,7 @@ is_open t n = is_some (lookup t n)
 -- The invariant of one end, with a number that is at most the known limit.
 pub record EndHas (p : Past) (e : End) (sent : ℕ) : Type 0 where
   pub sends : (n : ℕ) → SendSlot p n (first_send_limit e n) (lookup e.sends n)
-  pub recvs : (n : ℕ) → RecvSlot p n (window e n) (lookup e.recvs n)
+  pub recvs : (n : ℕ) → RecvSlot p n (first_window e n) (lookup e.recvs n)
   pub packets : PacketsOk p e.next e.outstanding e.lost.pieces e.done e.floor
   pub taken : TakenOk p e.recvs
   pub credit : CreditOk p sent e.known_data e.granted e.peer.max_data e.settings.conn_window

@@ -174,8 +174,8 @@ impl Limits {
 }
 
 // Never less than the present count, since none may fall.
-fn count_with(present: u64, granted: u64, lifetime: u64, ended: u64, grant: u64) -> u64 {
-    if present < grant {
+fn count_with(old: u64, granted: u64, lifetime: u64, ended: u64, grant: u64) -> u64 {
+    if old < grant {
         granted.max(grant.saturating_add(ended).min(lifetime))
     } else {
         granted

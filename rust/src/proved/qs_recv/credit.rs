@@ -31,11 +31,11 @@ pub fn next_limit(limit: u64, taken: u64, window: u64, share: Share) -> u64 {
 /// The limit under another window. A greater one moves it at once: a step that is never reached would hide it. Under a smaller one it
 /// stays, since no limit may fall (RFC 9000, section 4.1).
 #[inline]
-pub(crate) fn limit_with(present: u64, granted: u64, taken: u64, window: u64) -> u64 {
+pub(crate) fn limit_with(old: u64, granted: u64, taken: u64, window: u64) -> u64 {
     debug_assert!(granted <= 0x3fff_ffff_ffff_ffff);
     debug_assert!(taken <= 0x3fff_ffff_ffff_ffff);
     debug_assert!(window <= 1 << 40);
-    if present < window {
+    if old < window {
         granted.max((taken + window).min(MAX_VARINT))
     } else {
         granted

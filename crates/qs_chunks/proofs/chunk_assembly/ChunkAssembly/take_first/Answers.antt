@@ -72,6 +72,6 @@ returns-clause-rest c =
     let next = c.begins_at.ensures.0 c.if-not-begins_at.false in
     let count = c.take_front-count.ensures.count in
     let fits : k ≤ length (first_bytes cs) = omega (arith, count) in
-    let before : Assembled = record { stored = stored_in cs; received = c.self.inside.received; read_count = rc; window = c.self.inside.window; discarding = c.self.inside.discarding } in
+    let before : Assembled = record { stored = stored_in cs; received = c.self.inside.received; read_count = rc; widest = c.self.inside.window; discarding = c.self.inside.discarding } in
     ap (λ m. record before { stored = m; read_count = rc + k }) (ap stored_in c.take_front-count.ensures.rest ∙ sym (keep_taken cs rc k c.self.invariant.ordered next.0 next.1 fits))
     ∙ ap (λ a. take_exactly a k) c.self.view_is

@@ -24,7 +24,7 @@ returns-then-self-clause-news c =
 pub returns-in_default-clause-ok : goal.returns-in_default-clause-ok
 returns-in_default-clause-ok c =
     let cs = c.self.inside.chunks in
-    let before : Assembled = record { stored = stored_in cs; received = c.self.inside.received; read_count = c.self.inside.read_count; window = c.self.inside.window; discarding = c.self.inside.discarding } in
+    let before : Assembled = record { stored = stored_in cs; received = c.self.inside.received; read_count = c.self.inside.read_count; widest = c.self.inside.window; discarding = c.self.inside.discarding } in
     let kept = rw c.if-self.false at c.self.invariant in
     let all : IsStored cs (max c.args.offset c.self.inside.read_count) (c.args.offset + length c.args.bytes.now) = λ q low high. c.in_default.ensures.none q (omega (arith, c.max-start.ensures)) high in
     let same = stored_same c.self.inside.received cs c.self.inside.read_count c.self.inside.stored c.args.offset c.args.bytes.now kept all in
@@ -63,7 +63,7 @@ pub returns-clause-ok : goal.returns-clause-ok
 returns-clause-ok c =
     let spot = c.in-Some.spot in
     let cs = c.self.inside.chunks in
-    let before : Assembled = record { stored = stored_in cs; received = c.self.inside.received; read_count = c.self.inside.read_count; window = c.self.inside.window; discarding = c.self.inside.discarding } in
+    let before : Assembled = record { stored = stored_in cs; received = c.self.inside.received; read_count = c.self.inside.read_count; widest = c.self.inside.window; discarding = c.self.inside.discarding } in
     let stored = placed_stored c.self.inside.received cs c.place.new.chunks spot.joins c.self.inside.read_count c.self.inside.stored spot.first spot.after spot.from spot.to
     c.args.offset c.args.bytes.now (rw c.if-self.false at c.self.invariant) (rw c.max-start.ensures at c.in-Some.ensures.found) c.in-Some.ensures.joins c.in_ok-place.ensures.ok in
     put_is before c.args.offset c.args.bytes.now (stored_in c.place.new.chunks) c.place.new.received c.if-self.false stored c.in_ok-place.ensures.noted ∙ ap (λ a. put a c.args.offset c.args.bytes.now) c.self.view_is

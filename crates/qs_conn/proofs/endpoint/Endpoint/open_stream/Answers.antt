@@ -1,6 +1,6 @@
 use Rattle.std.proofs.Common.{refl, sym, ap, ◌∙◌}
 use Rattle.qs_machine.specs.Asking.{kept_on}
-use Rattle.qs_machine.specs.Ends.{End, window}
+use Rattle.qs_machine.specs.Ends.{End, first_window}
 use Rattle.qs_machine.proofs.Taken.{none_back, lost_back, unsent_back, out_back}
 use Rattle.qs_conn.specs.Promised.{promised_on}
 use Rattle.qs_conn.proofs.CarriedSteps.{wide_all}
@@ -17,7 +17,7 @@ pub invariant_of-self-2 : goal.invariant_of-self-2
 invariant_of-self-2 c =
     let core = c.self.inside.core in
     let h = c.self.invariant.rest in
-    let window = c.window-window.ensures.value ∙ ap (λ (e : End). window e c.args.stream) (sym c.self.view_is) in
+    let window = c.window-window.ensures.value ∙ ap (λ (e : End). first_window e c.args.stream) (sym c.self.view_is) in
     kept_moved _ _ _ _ _ _ c.self.invariant _
     (rest_opened core h c.args.stream c.window-window.result _ _ _ _ _ _ _ _ _ c.in_ok-open_sends.ensures.ok c.in_default.ensures.ok window c.in_ok-open_to.ensures.ok c.in_ok-open_to-2.ensures.ok _ c.in_ok-open_to-3.ensures.ok)
 

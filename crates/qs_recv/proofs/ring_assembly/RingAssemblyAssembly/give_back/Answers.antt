@@ -23,7 +23,7 @@ returns-then-self-eq0-clause-same c =
     let s = c.self.inside in
     let pages = s.apart.pages in
     let f = byte_of s.ring.0 s.near pages in
-    rw (← c.self.view_is) (ap (λ m. (let a : Assembled = record { stored = m; received = s.received; read_count = s.read_count; window = s.window; discarding = s.discarding } in a))
+    rw (← c.self.view_is) (ap (λ m. (let a : Assembled = record { stored = m; received = s.received; read_count = s.read_count; widest = s.window; discarding = s.discarding } in a))
     (emptied_view s.received f (byte_of c.none.result.0 s.near pages) s.window s.read_count s.stored s.discarding c.self.invariant.0 c.if-self-eq0.true))
 
 pub returns-then-self-eq0-clause-gone : goal.returns-then-self-eq0-clause-gone

@@ -23,5 +23,5 @@ returns-clause-after c =
     let s = c.self.inside in
     let v = max s.window c.args.window in
     rw (← c.self.view_is, c.max-self-inside.ensures)
-    (ap (λ m. (let a : Assembled = record { stored = m; received = s.received; read_count = s.read_count; window = v; discarding = s.discarding } in a))
+    (ap (λ m. (let a : Assembled = record { stored = m; received = s.received; read_count = s.read_count; widest = v; discarding = s.discarding } in a))
     (view_wider s.received (byte_of s.ring.0 s.near s.apart.pages) s.window v s.read_count s.stored s.discarding (omega arith) c.self.invariant.0))
