@@ -66,7 +66,7 @@ pub items_piece : (p : Piece) (e : End) → ItemsGrow e.acked (piece_acked p e).
 items_piece (Data n c) e i is = is
 items_piece (Told j) e i is = noted j e i is
 
-items_acks : (ps : List AckedPiece) (e : End) → ItemsGrow e.acked (acks ps e).acked
+pub items_acks : (ps : List AckedPiece) (e : End) → ItemsGrow e.acked (acks ps e).acked
 unfolding acks
 items_acks [] e i is = is
 items_acks (p ∷ ps) e i is = items_acks ps (first_acked p e) i (items_piece p.piece (without_piece p.late p.number e) i is)
@@ -74,7 +74,7 @@ items_acks (p ∷ ps) e i is = items_acks ps (first_acked p e) i (items_piece p.
 items_opened : (n : ℕ) (e : End) → ItemsGrow e.acked (opened_by_peer n e).acked
 items_opened n e i is = cond_both (is_own e n) e (opens n e) (λ x. is_done x.acked i ≡ true) (λ _. is) (λ _. is)
 
-items_frame : (f : Seen) (e : End) → ItemsGrow e.acked (frame_taken f e).acked
+pub items_frame : (f : Seen) (e : End) → ItemsGrow e.acked (frame_taken f e).acked
 unfolding frame_taken
 items_frame (Ack largest ranges) e i is = items_acks (named e ranges) e i is
 items_frame (Stream n offset bytes fin) e i is = items_opened n e i is
@@ -85,7 +85,7 @@ items_frame (Control (StopSending n code)) e i is = items_opened n e i is
 items_frame (Control (StreamDataBlocked n m)) e i is = items_opened n e i is
 items_frame f e i is = is
 
-items_put : (f : Seen) (e : End) → ItemsGrow e.acked (frame_put f e).acked
+pub items_put : (f : Seen) (e : End) → ItemsGrow e.acked (frame_put f e).acked
 unfolding frame_put
 items_put (Control (StreamDataBlocked n m)) e i is = is
 items_put f e i is = is

@@ -5,3 +5,6 @@ pub mod Score
 pub mod Exclusions
 pub mod Within
 pub mod Bound
+pub mod CalmCalls
+pub mod InOrder
+pub mod Outstanding

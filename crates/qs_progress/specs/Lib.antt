@@ -2,3 +2,5 @@ pub mod Score
 pub mod Within
 pub mod Bound
 pub mod Exclusions
+pub mod Laps
+pub mod Outstanding
