@@ -8,3 +8,4 @@ pub mod Bound
 pub mod CalmCalls
 pub mod InOrder
 pub mod Outstanding
+pub mod Going

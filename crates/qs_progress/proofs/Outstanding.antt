@@ -54,16 +54,16 @@ AcksStay l m = ((q : ℕ) → set.contains l.acked q ≡ true → set.contains m
 pub stay_same : (l : SendLane) → AcksStay l l
 stay_same l = (λ q is. is, λ is. is, λ is. is)
 
-stay_twice : (l m k : SendLane) → AcksStay l m → AcksStay m k → AcksStay l k
+pub stay_twice : (l m k : SendLane) → AcksStay l m → AcksStay m k → AcksStay l k
 stay_twice l m k a b = (λ q is. b.0 q (a.0 q is), λ is. b.1 (a.1 is), λ is. b.2 (a.2 is))
 
-abbrev StayIn : Tables SendLane → Tables SendLane → Type 0
+abbrev pub StayIn : Tables SendLane → Tables SendLane → Type 0
 StayIn t u = KeptIn AcksStay t u
 
-in_same : (t : Tables SendLane) → StayIn t t
+pub in_same : (t : Tables SendLane) → StayIn t t
 in_same t = kept_same AcksStay stay_same t
 
-in_turn : (t u v : Tables SendLane) → StayIn t u → StayIn u v → StayIn t v
+pub in_turn : (t u v : Tables SendLane) → StayIn t u → StayIn u v → StayIn t v
 in_turn t u v a b = kept_twice AcksStay stay_same stay_twice t u v a b
 
 in_edited : (t : Tables SendLane) (n : ℕ) (f : SendLane → SendLane) → ((l : SendLane) → AcksStay l (f l)) → StayIn t (updated t n f (lookup t n))
@@ -74,7 +74,7 @@ in_opened n e =
     cond_both (is_own e n) e (opens n e) (λ x. StayIn e.sends x.sends) (λ _. in_same e.sends) (λ _.
     cond_both (is_uni n && not (is_own e n)) e.sends _ (StayIn e.sends) (λ _. in_same e.sends) (λ _. kept_open AcksStay stay_same e.sends n (λ m. new_send_lane m (first_send_limit e n) e.settings.send_buffer)))
 
-stop_stays : (answers : Bool) (code : ℕ) (l : SendLane) → AcksStay l (stop_taken answers l code)
+pub stop_stays : (answers : Bool) (code : ℕ) (l : SendLane) → AcksStay l (stop_taken answers l code)
 stop_stays true code l = cond_both (is_some (reset_refusal l)) l (record l { stopped = first_code l.stopped code }) (AcksStay l) (λ _. stay_same l) (λ _. stay_same l)
 stop_stays false code l = cond_both (is_some (reset_refusal l)) l (record (broken_off l code) { stopped = first_code l.stopped code }) (AcksStay l) (λ _. stay_same l) (λ _. stay_same l)
 
@@ -246,7 +246,7 @@ module _ (k : ℕ) (p : Piece) where
         | inr ne ↦ (ps, get_other e.outstanding e.next (pieces_so_far e e.next ++ q ∷ []) k ne ∙ at, among)
       ]
 
-  in_put : (f : Seen) (e : End) → StayIn e.sends (frame_put f e).sends
+  pub in_put : (f : Seen) (e : End) → StayIn e.sends (frame_put f e).sends
   unfolding frame_put
   in_put (Stream n offset bytes fin) e = in_edited e.sends n (λ l. sent_lane l (chunk_of offset bytes fin)) stay_same
   in_put (Control (StreamDataBlocked n m)) e = in_edited e.sends n blocked_lane stay_same

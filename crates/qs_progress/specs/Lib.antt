@@ -4,3 +4,4 @@ pub mod Bound
 pub mod Exclusions
 pub mod Laps
 pub mod Outstanding
+pub mod Going

@@ -4,6 +4,7 @@ ghost use Rattle.qs_progress.specs.Score.{WhatIsDoneStays};
 ghost use Rattle.qs_progress.specs.Within.{ItemsAreWithin};
 ghost use Rattle.qs_progress.specs.Bound.{DoneIsBounded};
 ghost use Rattle.qs_progress.specs.Outstanding.{WhatIsOutStays};
+ghost use Rattle.qs_progress.specs.Going.{WhatGoesOutIsNew};
 ghost use Rattle.qs_progress.specs.Exclusions.{Exclusions};
 
 /// What is done stays done: whatever happens, an end's score never falls, once it was told its peer's true limits.
@@ -25,6 +26,11 @@ pub fn items_are_within()
 /// Where nothing is lost, asked for, set or closed, what an outstanding packet carries stays outstanding, or is acknowledged.
 pub fn what_is_out_stays()
     ensures { WhatIsOutStays }
+{}
+
+/// And what goes out then wasn't acknowledged before.
+pub fn what_goes_out_is_new()
+    ensures { WhatGoesOutIsNew }
 {}
 
 /// What a score counts, and what it doesn't: small ends with theirs, and one whose score falls where it takes in higher limits of its peer.
