@@ -101,7 +101,7 @@ sum_list F (x ∷ xs) lo (suc k) g is =
 sum_all : {X : Type 0} (F : X → ℕ) (xs : List X) (k : ℕ) (g : ℕ → ℕ) → ((i : ℕ) → g i ≡ value F (slice_get xs i)) → sum_by g (range_with_len 0 k) ≤ sum_by F xs
 sum_all F xs k g is = sum_list F xs 0 k g (λ i. (let e : 0 + i ≡ i = omega arith in ap g e) ∙ is i)
 
-sum_ones : {X : Type 0} (xs : List X) → sum_by (λ (x : X). 1) xs ≡ length xs
+pub sum_ones : {X : Type 0} (xs : List X) → sum_by (λ (x : X). 1) xs ≡ length xs
 sum_ones [] = refl
 sum_ones {X} (y ∷ xs) = sum_by-cons (λ (x : X). 1) y xs ∙ omega (arith, sum_ones xs)
 
@@ -123,7 +123,7 @@ length_zip (x ∷ xs) (y ∷ ys) = omega (arith, length_zip xs ys)
 kind_of : (k i : ℕ) → k < 4 → (i * 4 + k) % 4 ≡ k
 kind_of k i lt = omega arith
 
-lookup_at : {X : Type 0} (t : Tables X) (k i : ℕ) → k < 4 → lookup t (i * 4 + k) ≡ slice_get (table t k) i
+pub lookup_at : {X : Type 0} (t : Tables X) (k i : ℕ) → k < 4 → lookup t (i * 4 + k) ≡ slice_get (table t k) i
 unfolding lookup
 lookup_at t k i lt =
     let index : (i * 4 + k) / 4 ≡ i = omega arith in

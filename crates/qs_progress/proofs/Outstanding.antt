@@ -69,7 +69,7 @@ in_turn t u v a b = kept_twice AcksStay stay_same stay_twice t u v a b
 in_edited : (t : Tables SendLane) (n : ℕ) (f : SendLane → SendLane) → ((l : SendLane) → AcksStay l (f l)) → StayIn t (updated t n f (lookup t n))
 in_edited t n f stays = kept_updated AcksStay stay_same t n f (λ l is. stays l)
 
-in_opened : (n : ℕ) (e : End) → StayIn e.sends (opened_by_peer n e).sends
+pub in_opened : (n : ℕ) (e : End) → StayIn e.sends (opened_by_peer n e).sends
 in_opened n e =
     cond_both (is_own e n) e (opens n e) (λ x. StayIn e.sends x.sends) (λ _. in_same e.sends) (λ _.
     cond_both (is_uni n && not (is_own e n)) e.sends _ (StayIn e.sends) (λ _. in_same e.sends) (λ _. kept_open AcksStay stay_same e.sends n (λ m. new_send_lane m (first_send_limit e n) e.settings.send_buffer)))
@@ -85,12 +85,12 @@ in_piece (Told (MaxStreams Uni m)) e = in_same e.sends
 in_piece (Told (StreamsBlocked Uni m)) e = in_same e.sends
 in_piece (Told i) e = in_same e.sends
 
-in_acks : (ps : List AckedPiece) (e : End) → StayIn e.sends (acks ps e).sends
+pub in_acks : (ps : List AckedPiece) (e : End) → StayIn e.sends (acks ps e).sends
 unfolding acks
 in_acks [] e = in_same e.sends
 in_acks (a ∷ ps) e = in_turn e.sends (first_acked a e).sends _ (in_piece a.piece (without_piece a.late a.number e)) (in_acks ps (first_acked a e))
 
-in_frame : (f : Seen) (e : End) → StayIn e.sends (frame_taken f e).sends
+pub in_frame : (f : Seen) (e : End) → StayIn e.sends (frame_taken f e).sends
 unfolding frame_taken
 in_frame (Ack largest ranges) e = in_acks (named e ranges) e
 in_frame (Stream n offset bytes fin) e = in_opened n e
@@ -252,13 +252,16 @@ module _ (k : ℕ) (p : Piece) where
   in_put (Control (StreamDataBlocked n m)) e = in_edited e.sends n blocked_lane stay_same
   in_put f e = in_same e.sends
 
-  out_put : (f : Seen) (e : End) → Stays e → Stays (frame_put f e)
+  pub put_in : (f : Seen) (e : End) → IsIn e.outstanding k p → IsIn (frame_put f e).outstanding k p
   unfolding frame_put
+  put_in (Stream n offset bytes fin) e here = in_noted (Data n (chunk_of offset bytes fin)) (on_send n (λ l. sent_lane l (chunk_of offset bytes fin)) e) here
+  put_in (Control (StreamDataBlocked n m)) e here = in_noted (Told (StreamDataBlocked n m)) (on_send n blocked_lane e) here
+  put_in (Control i) e here = in_noted (Told i) e here
+  put_in f e here = here
+
+  out_put : (f : Seen) (e : End) → Stays e → Stays (frame_put f e)
   out_put f e (inr reached) = inr (reached_stays e (frame_put f e) (in_put f e) (items_put f e) p reached)
-  out_put (Stream n offset bytes fin) e (inl here) = inl (in_noted (Data n (chunk_of offset bytes fin)) (on_send n (λ l. sent_lane l (chunk_of offset bytes fin)) e) here)
-  out_put (Control (StreamDataBlocked n m)) e (inl here) = inl (in_noted (Told (StreamDataBlocked n m)) (on_send n blocked_lane e) here)
-  out_put (Control i) e (inl here) = inl (in_noted (Told i) e here)
-  out_put f e (inl here) = inl here
+  out_put f e (inl here) = inl (put_in f e here)
 
   out_fills : (old : End) (fs : List Seen) (e last : End) → Fills old e fs last → Stays e → Stays last
   out_fills old [] e last is s = subst Stays (sym is) s

@@ -5,3 +5,4 @@ pub mod Exclusions
 pub mod Laps
 pub mod Outstanding
 pub mod Going
+pub mod Comes
