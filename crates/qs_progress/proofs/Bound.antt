@@ -21,7 +21,7 @@ use Rattle.qs_calls.specs.declared.settings.Settings.{Settings}
 use Rattle.qs_calls.specs.declared.event.Side.{Side}
 use Rattle.qs_calls.specs.declared.event.Side.TheVariants.{A, B}
 use Rattle.qs_machine.specs.Tables.{Tables, table, lookup, total}
-use Rattle.qs_machine.specs.Ends.{End, is_uni, is_own, is_own_by, role_bit, own_type, peer_type, first_send_limit, window, window_by}
+use Rattle.qs_machine.specs.Ends.{End, is_uni, is_own, role_bit, peer_type, first_send_limit, window}
 use Rattle.qs_machine.specs.Credit.{granted_streams, first_grant, all_taken, recv_ended, both_ended, ended}
 use Rattle.qs_machine.specs.Due.{known_count}
 use Rattle.qs_machine.specs.Seen.{Control}
@@ -30,13 +30,13 @@ use Rattle.qs_machine.proofs.TableLaws.{value, total_le}
 use Rattle.qs_runs.specs.Logs.{History, other}
 use Rattle.qs_runs.specs.Pasts.{past, Tells}
 use Rattle.qs_runs.specs.Worlds.{World, end_of, Run}
-use Rattle.qs_runs.specs.Invariant.{WorldOk, SendSlot, SendOk, RecvSlot, RecvOk, EndOk}
+use Rattle.qs_runs.specs.Invariant.{WorldOk, SendSlot, SendOk, RecvSlot}
 use Rattle.qs_runs.proofs.Changes.{acked_written}
 use Rattle.qs_runs.proofs.Clauses.{received_is_below_sent, final_size_is_declared, known_is_within_granted, is_open_at_initiator}
 use Rattle.qs_runs.proofs.Runs.{run_keeps, opposite, known_counts}
 use Rattle.qs_rest.specs.Resting.{KnowsFirstLimits}
 use Rattle.qs_progress.specs.Score.{one_if, is_done, told_from, sent_marks, got_marks, marks_of, stream_marks, first_count, count_marks, credit_marks, halves, type_marks, score}
-use Rattle.qs_progress.specs.Bound.{written_at, streams_at, beyond_on, beyond, most}
+use Rattle.qs_progress.specs.Bound.{written_at, streams_at, beyond_on, most}
 use Rattle.qs_progress.proofs.Sums.{le_same, sum_grows, told_few}
 
 -- Sets and lists

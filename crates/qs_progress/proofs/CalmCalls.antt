@@ -1,5 +1,5 @@
 -- What calm calls are made of: frames that take effect, packets that are made, and reads.
-use Rattle.std.proofs.Common.{◌≡◌, ℕ, ◌+◌, ◌*◌, Bool,  true, false, List, [], ◌∷◌, ◌⊎◌, take, Option, Some, None, is_some, refl, sym, subst, inl, inr, arith}
+use Rattle.std.proofs.Common.{◌≡◌, ℕ, ◌+◌, ◌*◌, Bool, true, false, List, [], ◌∷◌, ◌⊎◌, take, Option, Some, None, is_some, refl, sym, subst, inl, inr, arith}
 use Rattle.std.specs.Prelude.{MatchBool, Result, Ok, Err, not, ◌&&◌, nat_eq, nat_lt, nat_le}
 use Rattle.std.proofs.lemmas.Bool.{false≢true}
 use Rattle.std.proofs.lemmas.Bool.Decides.{nat_tests}
@@ -30,7 +30,7 @@ use Rattle.qs_calls.specs.declared.token.TokenFault.TheVariants as tokens
 use Rattle.qs_calls.specs.declared.uses.UseFault.{UseFault}
 use Rattle.qs_machine.specs.Ends.{End, on_recv, closes, peer_type}
 use Rattle.qs_machine.specs.Credit.{settle}
-use Rattle.qs_machine.specs.Seen.{Seen, Ack, Stream, Control, Close, Plain, seen, seen_all}
+use Rattle.qs_machine.specs.Seen.{Seen, Ack, Stream, Control, seen, seen_all}
 use Rattle.qs_machine.specs.Verdicts.{verdict}
 use Rattle.qs_machine.specs.FrameStep.{frame_taken, frames_taken, acks, named, NoFault}
 use Rattle.qs_machine.specs.Recording.{recorded}
@@ -39,7 +39,7 @@ use Rattle.qs_machine.specs.Receiving.{ReceiveBy, EndsBy, AtEnd, RunsOut}
 use Rattle.qs_machine.specs.Making.{MakeAt, MakeAckAt, make_refusal, claim_refusal}
 use Rattle.qs_machine.specs.Filling.{FillAt}
 use Rattle.qs_machine.specs.Alone.{is_ours, TakesOne, TakeBy, TakesEach, TakeAllBy, token_refusal, only, after_one, TokenAckedStep}
-use Rattle.qs_machine.specs.Owner.{AcceptStep, AcceptOfStep, AcceptOpen, AcceptOpenOf, GivesNone, GivesBidi, GivesUni, ReadBy, ConsumeStep, recv_refusal, is_read_no_more, first_refusal, refuse_if}
+use Rattle.qs_machine.specs.Owner.{AcceptStep, AcceptOfStep, AcceptOpen, AcceptOpenOf, GivesNone, GivesBidi, GivesUni, ReadBy, recv_refusal, is_read_no_more, first_refusal, refuse_if}
 use Rattle.qs_machine.specs.EndStep.{Call, Answer, EndStep, Open, Accept, AcceptOf, Write, Finish, Reset, Stop, StopAndForget, ReadUpTo, Consume, Receive, TakeFrame, TakeFrames, TokenAcked, TokenLost, Make, MakeAck, FillIn, Lose, Claim, RaiseLimits, Set, TellClosed}
 use Rattle.qs_machine.proofs.EveryCall.{by_refusal, if_allowed, by_test, stops_by, by_open, closed_same}
 use Rattle.qs_machine.proofs.Again.{seen_in, takes_prefix}

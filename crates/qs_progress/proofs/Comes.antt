@@ -1,27 +1,15 @@
 -- Rest comes: of two laps in a row, of which the second doesn't begin at rest, something is done for good.
-use Rattle.std.proofs.Common.{◌≡◌, ℕ, zero, suc, ◌+◌, ◌*◌, ◌<◌, ◌≤◌, Bool, true, false, List, [], ◌∷◌, Option, Some, None, is_some, refl, sym, ap, ◌∙◌, subst, arith}
+use Rattle.std.proofs.Common.{◌≡◌, ℕ, ◌+◌, ◌*◌, ◌≤◌, Bool, true, false, List, [], ◌∷◌, sym, subst, arith}
 use Rattle.std.specs.Prelude.{⊤}
-use Rattle.std.proofs.lemmas.Bool.{false≢true, true≢false}
 use Rattle.qs_calls.specs.declared.settings.Settings.{Settings}
-use Rattle.qs_calls.specs.declared.event.Side.{Side}
 use Rattle.qs_calls.specs.declared.event.Side.TheVariants.{A, B}
-use Rattle.qs_machine.specs.Ends.{End}
-use Rattle.qs_machine.specs.Seen.{Seen}
-use Rattle.qs_machine.specs.FrameStep.{named, acks, frame_taken}
-use Rattle.qs_machine.specs.Lawful.{frame_put}
-use Rattle.qs_machine.specs.Setting.{Grant, SendBuffer, StreamWindow}
-use Rattle.qs_machine.specs.EndStep.{Call, Answer as CallAnswer, EndStep}
-use Rattle.qs_wire.specs.declared.stream_id.Dir.TheVariants.{Uni}
-use Rattle.qs_machine.proofs.EveryCall.{Change, changed, Comes, relates, Wanted, WasSet, Took, Acked, Put, Shut}
-use Rattle.qs_machine.proofs.Leaves.{acks_leave, put_leaves, frame_leaves}
+use Rattle.qs_machine.specs.EndStep.{Call}
 use Rattle.qs_runs.specs.Logs.{Happening}
-use Rattle.qs_runs.specs.Worlds.{World, end_of, WorldStep, Run}
-use Rattle.qs_runs.proofs.Stays.{each_side}
+use Rattle.qs_runs.specs.Worlds.{World, WorldStep, Run}
 use Rattle.qs_rest.proofs.FirstLimits.{first_limits_stay}
 use Rattle.qs_progress.specs.Score.{score}
-use Rattle.qs_progress.specs.Bound.{most}
 use Rattle.qs_progress.specs.Laps.{Moment, IsCalm, Trail, Lap}
-use Rattle.qs_progress.specs.Comes.{BothRest, BothOpen, IsReached, Course, laps_in, stretches_in, RestComes}
+use Rattle.qs_progress.specs.Comes.{BothOpen, IsReached, Course, laps_in, stretches_in, RestComes}
 use Rattle.qs_progress.proofs.Score.{what_is_done_stays}
 use Rattle.qs_progress.proofs.Bound.{is_below}
 use Rattle.qs_progress.proofs.Trails.{trail_open}

@@ -1,10 +1,10 @@
 -- Where a score stays the same, so does each thing that it counts.
-use Rattle.std.proofs.Common.{◌≡◌, ℕ, zero, suc, ◌+◌, ◌-◌, ◌*◌, ◌/◌, ◌%◌, ◌<◌, ◌≤◌, Bool, true, false, not, ◌||◌, ◌&&◌, List, [], ◌∷◌, length, slice_get, sum_by, Option, Some, None, is_some, refl, sym, ap, ◌∙◌, subst, arith, inl, inr, nat_cmp}
+use Rattle.std.proofs.Common.{◌≡◌, ℕ, zero, suc, ◌+◌, ◌-◌, ◌*◌, ◌/◌, ◌%◌, ◌<◌, ◌≤◌, Bool, true, false, not, ◌&&◌, List, [], ◌∷◌, length, slice_get, sum_by, Option, Some, None, is_some, refl, sym, ap, ◌∙◌, subst, arith, inl, inr}
 use Rattle.std.specs.Prelude.{nat_le}
 use Rattle.std.specs.List.{range_with_len}
 use Rattle.std.specs.FinSet as set
 use Rattle.std.specs.Cmp.{nat_cmp_total, unsigned_tied}
-use Rattle.std.proofs.lemmas.Bool.{cases_lt, cond_both, or_cases, true≢false, eqb-true}
+use Rattle.std.proofs.lemmas.Bool.{cases_lt, or_cases, true≢false, eqb-true}
 use Rattle.std.proofs.lemmas.Bool.Decides.{nat_tests}
 use Rattle.std.proofs.lemmas.List.Sums.{sum_by-cons}
 use Rattle.std.proofs.lemmas.Option.{none-some, same_Some}
@@ -20,7 +20,7 @@ use Rattle.qs_machine.specs.Ends.{End, is_own, first_send_limit, window}
 use Rattle.qs_machine.specs.Credit.{granted_streams, first_grant}
 use Rattle.qs_machine.specs.Due.{known_count}
 use Rattle.qs_progress.specs.Score.{one_if, is_done, told_from, sent_marks, got_marks, marks_of, stream_marks, first_count, count_marks, credit_marks, halves, type_marks, score}
-use Rattle.qs_progress.proofs.Sums.{sum_grows, one_grows, told_grows, marks_grow}
+use Rattle.qs_progress.proofs.Sums.{sum_grows, one_grows, marks_grow}
 use Rattle.qs_progress.proofs.Halves.{is_broken, SentGrows, GotGrows}
 use Rattle.qs_progress.proofs.Bound.{sum_ones}
 use Rattle.qs_progress.proofs.Score.{Goes, item_grows, sent_grows, got_grows, stream_grows, halves_grow, type_grows, count_grows, credit_grows, first_same, window_same, own_same}

@@ -1,14 +1,13 @@
 -- Frames that come and raise no score change nothing but records.
-use Rattle.std.proofs.Common.{◌≡◌, ℕ, ◌+◌, ◌<◌, ◌≤◌, Bool, true, false, not, ◌&&◌, ◌||◌, cond, List, [], ◌∷◌, ◌⊎◌, length, Option, Some, None, is_some, refl, sym, ap, ◌∙◌, subst, arith, inl, inr}
-use Rattle.std.specs.Prelude.{max}
+use Rattle.std.proofs.Common.{◌≡◌, ℕ, ◌+◌, ◌≤◌, Bool, true, false, not, ◌&&◌, ◌||◌, cond, List, [], ◌∷◌, ◌⊎◌, length, Option, Some, None, is_some, refl, sym, ap, ◌∙◌, subst, arith, inl, inr}
 use Rattle.std.specs.FinSet as set
-use Rattle.std.proofs.lemmas.Bool.{cond_both, or_cases, or_left, or_right, false≢true, true≢false, both_ways}
-use Rattle.std.proofs.lemmas.Option.{none-some, same_Some}
-use Rattle.qs_ranges.specs.Numbers.{numbers, contains-with_range, is_within}
+use Rattle.std.proofs.lemmas.Bool.{or_cases, or_left, or_right, true≢false, both_ways}
+use Rattle.std.proofs.lemmas.Option.{same_Some}
+use Rattle.qs_ranges.specs.Numbers.{contains-with_range, is_within}
 use Rattle.std.proofs.lemmas.Bool.Decides.{nat_tests}
 use Rattle.qs_wire.specs.declared.stream_id.Dir.{Dir}
 use Rattle.qs_wire.specs.declared.stream_id.Dir.TheVariants.{Bidi, Uni}
-use Rattle.qs_recv.specs.Assembled.{Assembled, put, forget}
+use Rattle.qs_recv.specs.Assembled.{put, forget}
 use Rattle.qs_recv.specs.Lane.{RecvLane, take_stream, take_reset, is_whole}
 use Rattle.qs_send.specs.Lane.{SendLane, reset_refusal, first_code, broken_off, stop_taken, allow_lane}
 use Rattle.qs_send.specs.declared.piece.Item.{Item}
@@ -17,19 +16,18 @@ use Rattle.qs_machine.specs.Tables.{Tables, lookup, updated}
 use Rattle.qs_machine.specs.Ends.{End, is_own, is_own_by, is_uni, first_send_limit, opens, opened_by_peer}
 use Rattle.qs_machine.specs.Due.{known_count}
 use Rattle.qs_machine.specs.Seen.{Seen, Ack, Stream, Control, Close, Plain}
-use Rattle.qs_machine.specs.Verdicts.{verdict, state_fault_in, state_fault_out, lane_of}
+use Rattle.qs_machine.specs.Verdicts.{verdict, lane_of}
 use Rattle.qs_machine.specs.FrameStep.{frame_taken, frames_taken, named, NoFault}
 use Rattle.qs_machine.specs.Receiving.{GoesOn}
 use Rattle.qs_machine.specs.Standing.{IsSound, IsInCredit}
 use Rattle.qs_machine.specs.Repeats.{SentWasWritten}
-use Rattle.qs_machine.proofs.EveryCall.{not_chosen, no_fault_there}
+use Rattle.qs_machine.proofs.EveryCall.{not_chosen}
 use Rattle.qs_machine.proofs.TablesAfter.{KeptIn, still_open}
 use Rattle.qs_machine.proofs.Taken.{in_there, out_there, stream_in, reset_in}
 use Rattle.qs_machine.proofs.LanesAgain.{LaneAfter, put_again}
 use Rattle.qs_machine.proofs.EndsAfter.{IsAfter, HalfAfter, after_twice, mid_stream, mid_reset, mid_allow, mid_stop, has_code}
-use Rattle.qs_machine.proofs.Again.{WasOpened, IsOpenAt, IsStopped, opens_it, opened_back, recv_back, send_back, stopped_back, allow_back, changed, first_goes, one_left, all_left}
+use Rattle.qs_machine.proofs.Again.{WasOpened, IsStopped, opens_it, opened_back, recv_back, send_back, stopped_back, allow_back, changed, first_goes, one_left, all_left}
 use Rattle.qs_progress.specs.Score.{first_count, score}
-use Rattle.qs_progress.proofs.Halves.{is_broken}
 use Rattle.qs_progress.proofs.Score.{Goes}
 use Rattle.qs_progress.proofs.Even.{members_even, open_even, broken_even, limit_even, received_even, size_even, code_even, known_even, known_count_even}
 use Rattle.qs_progress.proofs.Alike.{but_records, SendsAlike, alike_at, alike_back, slots_same, slots_twice, alike_acks, acks_rest}

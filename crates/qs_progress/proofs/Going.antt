@@ -1,13 +1,12 @@
 -- What goes out wasn't acknowledged.
-use Rattle.std.proofs.Common.{◌≡◌, ◌≢◌, ℕ, ◌+◌, ◌<◌, ◌≤◌, Bool, true, false, List, [], ◌∷◌, ◌++◌, ◌⊎◌, length, take, Option, Some, None, is_some, refl, sym, ap, ◌∙◌, subst, arith, inl, inr}
-use Rattle.std.specs.Prelude.{nat_le}
+use Rattle.std.proofs.Common.{◌≡◌, ℕ, ◌≤◌, Bool, true, false, List, [], ◌∷◌, ◌++◌, ◌⊎◌, take, Option, Some, None, refl, sym, ap, ◌∙◌, subst, arith, inl, inr}
 use Rattle.std.specs.FinMap as fmap
 use Rattle.std.specs.FinSet as set
 use Rattle.std.proofs.lemmas.Bool.{cases_eq, cond_both, true≢false, false≢true}
 use Rattle.std.proofs.lemmas.Bool.Decides.{nat_tests}
 use Rattle.std.proofs.lemmas.Option.{same_Some, none-some}
 use Rattle.qs_wire.specs.declared.stream_id.Dir.TheVariants.{Bidi, Uni}
-use Rattle.qs_recv.specs.Lane.{RecvLane, after_read}
+use Rattle.qs_recv.specs.Lane.{RecvLane}
 use Rattle.qs_send.specs.Lane.{SendLane, sent_lane, blocked_lane}
 use Rattle.qs_send.specs.Records.{Among, PacketPieces}
 use Rattle.qs_send.specs.declared.piece.Item.{Item}
@@ -15,18 +14,16 @@ use Rattle.qs_send.specs.declared.piece.Item.TheVariants.{MaxData, MaxStreamData
 use Rattle.qs_send.specs.declared.piece.Piece.{Piece}
 use Rattle.qs_send.specs.declared.piece.Piece.TheVariants.{Data, Told}
 use Rattle.qs_send.proofs.Carrying.{rest_of}
-use Rattle.qs_machine.specs.Tables.{lookup}
-use Rattle.qs_machine.specs.Ends.{End, is_own, on_send, on_recv, opens, opened_by_peer}
-use Rattle.qs_machine.specs.Credit.{settle}
-use Rattle.qs_machine.specs.Due.{IsCurrent, IsAcked, IsDueItem}
+use Rattle.qs_machine.specs.Ends.{End, is_own, on_send, opens, opened_by_peer}
+use Rattle.qs_machine.specs.Due.{IsCurrent, IsAcked}
 use Rattle.qs_machine.specs.Seen.{Seen, Ack, Stream, Control, Close, Plain}
-use Rattle.qs_machine.specs.FrameStep.{AckedPiece, acked_at, held, frame_taken, frames_taken, without_piece, acks, first_acked, named}
+use Rattle.qs_machine.specs.FrameStep.{AckedPiece, acked_at, frame_taken, frames_taken, without_piece, acks, first_acked, named}
 use Rattle.qs_machine.specs.Lawful.{MayPut, MayCarry, Fills, frame_put, noted, pieces_so_far, chunk_of}
 use Rattle.qs_machine.proofs.AcksAgain.{held_piece, first_other}
 use Rattle.qs_machine.proofs.Carried.{get_new, get_other, among_push, so_far}
 use Rattle.qs_runs.specs.Worlds.{end_of}
 use Rattle.qs_runs.proofs.Histories.{two_sides}
-use Rattle.qs_progress.specs.Score.{reaches, is_done}
+use Rattle.qs_progress.specs.Score.{reaches}
 use Rattle.qs_progress.specs.Within.{AllWithin}
 use Rattle.qs_progress.specs.Outstanding.{IsIn, IsReached}
 use Rattle.qs_progress.specs.Going.{WhatGoesOutIsNew}

@@ -1,5 +1,5 @@
 -- An ACK takes the pieces of each packet in the order in which they stand in its record.
-use Rattle.std.proofs.Common.{◌≡◌, ℕ, zero, suc, ◌+◌, ◌<◌, ◌≤◌, Bool, true, false, cond, ◌&&◌, List, [], ◌∷◌, ◌++◌, ◌⊎◌, map, take, nat_cmp, Option, Some, None, refl, sym, ap, ◌∙◌, subst, inl, inr, arith}
+use Rattle.std.proofs.Common.{◌≡◌, ℕ, suc, ◌+◌, ◌<◌, ◌≤◌, Bool, true, false, cond, ◌&&◌, List, [], ◌∷◌, ◌++◌, map, take, nat_cmp, Option, Some, None, refl, sym, ap, ◌∙◌, subst, inl, inr, arith}
 use Rattle.std.specs.Prelude.{⊤, T, nat_lt, reverse, flat_map, ◌==◌}
 use Rattle.std.specs.List.{filter}
 use Rattle.std.specs.Ordering.{is_lt}
@@ -13,7 +13,7 @@ use Rattle.qs_send.specs.declared.piece.Piece.{Piece}
 use Rattle.qs_send.proofs.Carrying.{rest_of, get_same-without_first}
 use Rattle.qs_machine.specs.Ends.{End, Records}
 use Rattle.qs_machine.specs.FrameStep.{AckedPiece, acked_at, held, without_piece, pieces_of, acks, first_acked, named_in, named, acked_numbers, is_named}
-use Rattle.qs_machine.proofs.AcksAgain.{held_piece, first_other, acks_append, piece_list, filter_among, reverse_among, late_stays}
+use Rattle.qs_machine.proofs.AcksAgain.{held_piece, first_other, piece_list, filter_among, reverse_among, late_stays}
 use Rattle.qs_machine.proofs.Named.{Rises}
 use Rattle.qs_runs.proofs.Lists.{Among_push}
 

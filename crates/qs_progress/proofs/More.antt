@@ -1,6 +1,5 @@
 -- Where nothing changed but records and what is acknowledged, an end has no more to send than it had.
-use Rattle.std.proofs.Common.{◌≡◌, ℕ, ◌+◌, ◌<◌, ◌≤◌, Bool, true, false, ◌⊎◌, Option, Some, None, refl, sym, ap, ◌∙◌, subst, arith, inl, inr, nat_cmp}
-use Rattle.std.specs.Prelude.{nat_le}
+use Rattle.std.proofs.Common.{◌≡◌, ℕ, ◌<◌, ◌≤◌, true, false, Option, Some, None, refl, sym, ap, ◌∙◌, subst, arith, inl, inr}
 use Rattle.std.specs.FinMap as fmap
 use Rattle.std.specs.FinSet as set
 use Rattle.std.proofs.lemmas.Bool.{true≢false}
@@ -12,10 +11,10 @@ use Rattle.qs_send.specs.declared.piece.Item.{Item}
 use Rattle.qs_send.specs.declared.piece.Item.TheVariants.{MaxData, MaxStreamData, MaxStreams, ResetStream, StopSending, DataBlocked, StreamDataBlocked, StreamsBlocked}
 use Rattle.qs_send.specs.declared.piece.Piece.{Piece}
 use Rattle.qs_send.specs.declared.piece.Piece.TheVariants.{Data, Told}
-use Rattle.qs_machine.specs.Tables.{Tables, lookup, total}
+use Rattle.qs_machine.specs.Tables.{lookup}
 use Rattle.qs_machine.specs.Ends.{End, window, window_by}
 use Rattle.qs_machine.specs.Credit.{all_sent}
-use Rattle.qs_machine.specs.Due.{IsCurrent, IsAcked, IsCovered, IsDueItem, IsDue, WantsCredit, StreamGoes}
+use Rattle.qs_machine.specs.Due.{IsCurrent, IsAcked, IsCovered, IsDue, StreamGoes}
 use Rattle.qs_machine.proofs.TableLaws.{value, total_le}
 use Rattle.qs_rest.specs.Rest.{HasMore}
 use Rattle.qs_rest.proofs.ItemParts.{acked_or_not}
@@ -25,7 +24,7 @@ use Rattle.qs_progress.proofs.Items.{ItemsGrow}
 use Rattle.qs_progress.proofs.Outstanding.{StayIn, reached_stays}
 use Rattle.qs_progress.proofs.Going.{done_acked}
 use Rattle.qs_progress.proofs.Undone.{IsUndone, unless}
-use Rattle.qs_progress.proofs.Alike.{but_records, Alike, SendsAlike, alike_at, alike_back}
+use Rattle.qs_progress.proofs.Alike.{Alike, alike_at, alike_back}
 use Rattle.qs_progress.proofs.Steps.{Quiet, IsReady, current_undone}
 
 reaches_it : (o : Option ℕ) (m : ℕ) → o ≡ Some m → reaches o m ≡ true
@@ -119,22 +118,36 @@ module _ (a b : End) (quiet : Quiet a b) (grow : ItemsGrow a.acked b.acked) (rea
 
   stream_back : (n : ℕ) → StreamGoes b n → StreamGoes a n
   stream_back n (m, there, inl (q, due, lt, first)) =
-      let (l, at, al) = send_at n m there in
-      (l, at, inl (q, due_back n l m q at al due, omega (arith, lt, al.limit), elim first [
-        | inl again ↦ inl (omega (arith, again, al.sent_end))
-        | inr (next, credit) ↦ inr (next ∙ al.sent_end, omega (arith, credit, sent_same, known_same))
-      ]))
+      let (l, at, al) = send_at n m there in (
+        l,
+        at,
+        inl (
+          q,
+          due_back n l m q at al due,
+          omega (arith, lt, al.limit),
+          elim first [
+            | inl again ↦ inl (omega (arith, again, al.sent_end))
+            | inr (next, credit) ↦ inr (next ∙ al.sent_end, omega (arith, credit, sent_same, known_same))
+          ],
+        ),
+      )
   stream_back n (m, there, inr (due, whole)) =
       let (l, at, al) = send_at n m there in
-      let not : l.fin_acked ≡ false = unless l.fin_acked (λ is. true≢false (sym (al.acks.1 is) ∙ due.not_acked)) in
-      (l, at, inr (record {
-        no_reset = sym al.was_reset ∙ due.no_reset;
-        finished = sym al.finished ∙ due.finished;
-        not_acked = not;
-        not_sent = λ offset len (k, ps, flies, among).
-            let (qs, still, one) = keeps k (Data n (record { offset = offset; len = len; fin = true })) (ps, flies, among) (l, at, inr (refl, not)) in
-            due.not_sent offset len (k, qs, still, one);
-      }, sym al.sent_end ∙ whole ∙ al.written))
+      let not : l.fin_acked ≡ false = unless l.fin_acked (λ is. true≢false (sym (al.acks.1 is) ∙ due.not_acked)) in (
+        l,
+        at,
+        inr (
+          record {
+            no_reset = sym al.was_reset ∙ due.no_reset;
+            finished = sym al.finished ∙ due.finished;
+            not_acked = not;
+            not_sent = λ offset len (k, ps, flies, among).
+                let (qs, still, one) = keeps k (Data n (record { offset = offset; len = len; fin = true })) (ps, flies, among) (l, at, inr (refl, not)) in
+                due.not_sent offset len (k, qs, still, one);
+          },
+          sym al.sent_end ∙ whole ∙ al.written,
+        ),
+      )
 
   pub more_back : HasMore b → HasMore a
   more_back (inl (i, (now, uncovered))) = inl (i, (current_back i now, λ covered. uncovered (covered_stays i now covered)))

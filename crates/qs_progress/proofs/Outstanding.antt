@@ -1,5 +1,5 @@
 -- What is outstanding stays so or is acknowledged, where nothing is lost.
-use Rattle.std.proofs.Common.{◌≡◌, ◌≢◌, ℕ, ◌+◌, ◌<◌, ◌≤◌, Bool, true, false, ◌||◌, ◌&&◌, not, cond, List, [], ◌∷◌, ◌++◌, ◌⊎◌, take, Option, Some, None, is_some, refl, sym, ap, ◌∙◌, subst, inl, inr, arith}
+use Rattle.std.proofs.Common.{◌≡◌, ℕ, ◌+◌, Bool, true, false, ◌&&◌, not, List, [], ◌∷◌, ◌++◌, ◌⊎◌, take, Option, Some, None, is_some, refl, sym, ap, ◌∙◌, subst, inl, inr, arith}
 use Rattle.std.specs.Prelude.{⊤, max}
 use Rattle.std.specs.List.{AllByRecursion}
 use Rattle.std.specs.FinMap as fmap
@@ -15,17 +15,16 @@ use Rattle.qs_recv.specs.Lane.{after_read}
 use Rattle.qs_send.specs.Lane.{SendLane, reset_refusal, broken_off, first_code, stop_taken, allow_lane, acked_lane, reset_acked_lane, sent_lane, blocked_lane, new_lane as new_send_lane}
 use Rattle.qs_send.specs.Records.{Among, IsCarried, PacketPieces}
 use Rattle.qs_send.specs.declared.parts.Chunk.{Chunk}
-use Rattle.qs_send.specs.declared.piece.Item.{Item}
 use Rattle.qs_send.specs.declared.piece.Item.TheVariants.{MaxData, MaxStreamData, MaxStreams, ResetStream, StopSending, DataBlocked, StreamDataBlocked, StreamsBlocked}
 use Rattle.qs_send.specs.declared.piece.Piece.{Piece}
 use Rattle.qs_send.specs.declared.piece.Piece.TheVariants.{Data, Told}
 use Rattle.qs_send.proofs.Carrying.{rest_of}
 use Rattle.qs_machine.specs.Tables.{Tables, lookup, updated}
-use Rattle.qs_machine.specs.Ends.{End, AckedItems, is_own, is_uni, on_send, on_recv, opens, opened_by_peer, first_send_limit, closes}
+use Rattle.qs_machine.specs.Ends.{End, is_own, is_uni, on_send, on_recv, opens, opened_by_peer, first_send_limit, closes}
 use Rattle.qs_machine.specs.Credit.{settle}
 use Rattle.qs_machine.specs.Recording.{recorded}
 use Rattle.qs_machine.specs.Seen.{Seen, Ack, Stream, Control}
-use Rattle.qs_machine.specs.FrameStep.{AckedPiece, acked_at, greatest, greatest_of, or_zero, held, frame_taken, frames_taken, without_piece, acks, first_acked, piece_acked, item_acked, named, NoFault}
+use Rattle.qs_machine.specs.FrameStep.{AckedPiece, acked_at, greatest, greatest_of, or_zero, held, frame_taken, frames_taken, without_piece, acks, first_acked, piece_acked, named, NoFault}
 use Rattle.qs_machine.specs.Standing.{IsSound}
 use Rattle.qs_machine.specs.Repeats.{SentWasWritten, IsWritten}
 use Rattle.qs_machine.specs.Lawful.{Fills, frame_put, noted, pieces_so_far, chunk_of}
@@ -41,7 +40,7 @@ use Rattle.qs_runs.proofs.Runs.{run_keeps}
 use Rattle.qs_progress.specs.Score.{reaches}
 use Rattle.qs_progress.specs.Within.{AllWithin}
 use Rattle.qs_progress.specs.Outstanding.{IsIn, IsReached, WhatIsOutStays}
-use Rattle.qs_progress.proofs.Items.{ItemsGrow, items_piece, items_acks, items_frame, items_put}
+use Rattle.qs_progress.proofs.Items.{ItemsGrow, items_acks, items_frame, items_put}
 use Rattle.qs_progress.proofs.InOrder.{InOrder, order_take, order_named, first_same}
 use Rattle.qs_progress.proofs.Within.{items_are_within}
 use Rattle.qs_progress.proofs.CalmCalls.{Ends, Forms, calm_call}

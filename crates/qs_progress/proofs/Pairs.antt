@@ -1,13 +1,11 @@
 -- Two laps in a row, of which the second doesn't begin at rest, raise a score.
-use Rattle.std.proofs.Common.{◌≡◌, ℕ, ◌+◌, ◌<◌, ◌≤◌, Bool, true, false, not, ◌&&◌, List, [], ◌∷◌, ◌⊎◌, length, slice_get, take, Option, Some, None, is_some, refl, sym, ap, ◌∙◌, subst, arith, inl, inr, zero, suc}
-use Rattle.std.specs.FinMap as fmap
+use Rattle.std.proofs.Common.{◌≡◌, ℕ, ◌+◌, ◌<◌, ◌≤◌, Bool, true, false, not, ◌&&◌, List, [], ◌∷◌, ◌⊎◌, length, slice_get, Some, None, is_some, refl, sym, ap, ◌∙◌, subst, arith, inl, inr, zero, suc}
 use Rattle.std.proofs.lemmas.Bool.{cases_lt, true≢false}
 use Rattle.std.proofs.lemmas.Option.{none-some}
 use Rattle.qs_wire.specs.declared.stream_id.Dir.{Dir}
 use Rattle.qs_wire.specs.declared.stream_id.Dir.TheVariants.{Bidi, Uni}
 use Rattle.qs_recv.specs.Lane.{RecvLane}
 use Rattle.qs_recv.specs.News.{is_readable}
-use Rattle.qs_send.specs.Lane.{SendLane}
 use Rattle.qs_send.specs.Records.{Among}
 use Rattle.qs_send.specs.declared.piece.Piece.{Piece}
 use Rattle.qs_send.specs.declared.piece.Piece.TheVariants.{Data, Told}
@@ -16,22 +14,18 @@ use Rattle.qs_calls.specs.declared.event.Side.{Side}
 use Rattle.qs_calls.specs.declared.event.Side.TheVariants.{A, B}
 use Rattle.qs_machine.specs.Tables.{lookup}
 use Rattle.qs_machine.specs.Ends.{End}
-use Rattle.qs_machine.specs.Credit.{settle}
 use Rattle.qs_machine.specs.Due.{known_count}
-use Rattle.qs_machine.specs.EndStep.{EndStep}
 use Rattle.qs_machine.specs.FrameStep.{frames_taken}
-use Rattle.qs_machine.specs.Lawful.{Fills}
 use Rattle.qs_machine.specs.News.{IsLeast, IsReadable}
-use Rattle.qs_machine.proofs.TablesAfter.{KeptIn}
 use Rattle.qs_machine.proofs.EachHalf.{sends_kept}
 use Rattle.qs_machine.proofs.CallsCounts.{lanes_call}
 use Rattle.qs_machine.proofs.Again.{all_left}
-use Rattle.qs_runs.specs.Logs.{Happening, History, other}
+use Rattle.qs_runs.specs.Logs.{Happening, other}
 use Rattle.qs_runs.specs.Pasts.{Packets, PieceOf, past}
-use Rattle.qs_runs.specs.Worlds.{World, end_of, WorldStep, Run}
+use Rattle.qs_runs.specs.Worlds.{end_of, WorldStep, Run}
 use Rattle.qs_runs.proofs.Histories.{two_sides}
 use Rattle.qs_runs.proofs.Runs.{run_keeps}
-use Rattle.qs_rest.specs.Rest.{HasMore, AtRest}
+use Rattle.qs_rest.specs.Rest.{AtRest}
 use Rattle.qs_rest.proofs.Runs.{every_run_keeps}
 use Rattle.qs_rest.proofs.Telling.{no_news}
 use Rattle.qs_rest.proofs.FirstLimits.{first_limits_stay}
@@ -46,11 +40,10 @@ use Rattle.qs_progress.proofs.CalmCalls.{Forms, calm_call}
 use Rattle.qs_progress.proofs.Outstanding.{AcksStay, stay_same, stay_twice, what_is_out_stays}
 use Rattle.qs_progress.proofs.Undone.{IsUndone, undone_unreached, acks_edits, undone_stays}
 use Rattle.qs_progress.proofs.Alike.{slots_same, slots_twice}
-use Rattle.qs_progress.proofs.Frozen.{IsSteady}
 use Rattle.qs_progress.proofs.Steps.{Quiet, PutsOut, IsReady, Result, forms, ends_after}
 use Rattle.qs_progress.proofs.More.{more_back}
 use Rattle.qs_progress.proofs.Trails.{trail_open}
-use Rattle.qs_progress.proofs.Steady.{Paired, StopsReset, runs_pair, runs_reset}
+use Rattle.qs_progress.proofs.Steady.{runs_pair, runs_reset}
 
 quiet_same : (e : End) → Quiet e e
 quiet_same e = record { rest = refl; sends = slots_same e.sends; carried = λ k p here. here }

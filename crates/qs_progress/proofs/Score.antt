@@ -1,7 +1,5 @@
 -- What is done stays done: a score never falls.
-use Rattle.std.proofs.Common.{◌≡◌, ℕ, ◌+◌, ◌*◌, ◌-◌, ◌≤◌, ◌∷◌, Bool, true, false, not, ◌||◌, cond, Option, Some, None, is_some, refl, sym, ap, ◌∙◌, subst, arith}
-use Rattle.std.specs.Prelude.{nat_le}
-use Rattle.std.specs.FinSet as set
+use Rattle.std.proofs.Common.{◌≡◌, ℕ, ◌+◌, ◌*◌, ◌≤◌, ◌∷◌, true, not, cond, Option, Some, None, is_some, refl, sym, ap, ◌∙◌, subst, arith}
 use Rattle.qs_wire.specs.declared.stream_id.Dir.{Dir}
 use Rattle.qs_wire.specs.declared.stream_id.Dir.TheVariants.{Bidi, Uni}
 use Rattle.qs_recv.specs.Lane.{RecvLane}
@@ -10,9 +8,8 @@ use Rattle.qs_send.specs.declared.piece.Item.{Item}
 use Rattle.qs_send.specs.declared.piece.Item.TheVariants.{MaxData, MaxStreamData, MaxStreams, StopSending, DataBlocked, StreamDataBlocked, StreamsBlocked}
 use Rattle.qs_calls.specs.Settings.{limits_of}
 use Rattle.qs_calls.specs.declared.settings.Settings.{Settings}
-use Rattle.qs_calls.specs.declared.settings.PeerLimits.{PeerLimits}
 use Rattle.qs_calls.specs.declared.event.Side.{Side}
-use Rattle.qs_machine.specs.Tables.{Tables, lookup, total}
+use Rattle.qs_machine.specs.Tables.{Tables, lookup}
 use Rattle.qs_machine.specs.Ends.{End, AckedItems, is_uni, is_own, is_own_by, first_send_limit, window, window_by}
 use Rattle.qs_machine.specs.Credit.{granted_streams, first_grant}
 use Rattle.qs_machine.specs.Due.{known_count}
@@ -27,7 +24,7 @@ use Rattle.qs_runs.proofs.Runs.{run_keeps, settings_stay}
 use Rattle.qs_runs.proofs.Stays.{each_side}
 use Rattle.qs_rest.specs.Resting.{KnowsFirstLimits}
 use Rattle.qs_rest.proofs.FirstLimits.{first_limits_stay}
-use Rattle.qs_progress.specs.Score.{one_if, is_done, told_from, sent_marks, got_marks, marks_of, stream_marks, first_count, count_marks, credit_marks, halves, type_marks, score, WhatIsDoneStays}
+use Rattle.qs_progress.specs.Score.{one_if, is_done, told_from, sent_marks, got_marks, stream_marks, first_count, count_marks, credit_marks, halves, type_marks, score, WhatIsDoneStays}
 use Rattle.qs_progress.proofs.Sums.{le_same, sum_grows, one_grows, told_grows, marks_grow}
 use Rattle.qs_progress.proofs.Halves.{is_broken, SentGrows, sent_same, sent_twice, sent_edits, GotGrows, got_same, got_twice, got_edits}
 use Rattle.qs_progress.proofs.Items.{ItemsGrow, grown_call}

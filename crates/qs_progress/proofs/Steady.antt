@@ -1,24 +1,22 @@
 -- In every run both halves of a bidirectional stream of the peer are open or neither, and a half that a STOP_SENDING came for is reset, unless
 -- its owner answers it.
-use Rattle.std.proofs.Common.{◌≡◌, ℕ, ◌*◌, ◌+◌, ◌%◌, ◌/◌, ◌≤◌, Bool, true, false, not, ◌&&◌, cond, List, [], ◌∷◌, ◌⊎◌, take, option_map, Option, Some, None, is_some, refl, sym, ap, ◌∙◌, subst, arith, inl, inr}
+use Rattle.std.proofs.Common.{◌≡◌, ℕ, ◌%◌, ◌/◌, true, false, not, ◌&&◌, cond, List, [], ◌∷◌, ◌⊎◌, take, option_map, Option, Some, None, is_some, refl, sym, ap, ◌∙◌, subst, inl, inr}
 use Rattle.std.specs.Prelude.{⊤, nat_le}
-use Rattle.std.proofs.lemmas.Bool.{cases_eq, cond_both, true≢false, false≢true, both_ways}
-use Rattle.std.proofs.lemmas.Option.{none-some, same_Some, slice_get-map}
-use Rattle.qs_wire.specs.declared.stream_id.Role.{Role}
-use Rattle.qs_wire.specs.declared.stream_id.Role.TheVariants.{Client, Server}
-use Rattle.qs_wire.specs.declared.stream_id.Dir.TheVariants.{Bidi, Uni}
+use Rattle.std.proofs.lemmas.Bool.{cases_eq, cond_both, false≢true}
+use Rattle.std.proofs.lemmas.Option.{slice_get-map}
+use Rattle.qs_wire.specs.declared.stream_id.Dir.TheVariants.{Uni}
 use Rattle.qs_recv.specs.Lane.{RecvLane, after_read, stop, stop_and_forget, raise, set_window, take_stream, take_reset, new_lane as new_recv_lane}
 use Rattle.qs_send.specs.Lane.{SendLane, reset_refusal, broken_off, first_code, stop_taken, allow_lane, write_lane, finish_lane, reset_lane, acked_lane, reset_acked_lane, sent_lane, blocked_lane, buffer_lane, new_lane as new_send_lane}
-use Rattle.qs_send.specs.declared.piece.Item.TheVariants.{MaxData, MaxStreamData, MaxStreams, ResetStream, StopSending, DataBlocked, StreamDataBlocked, StreamsBlocked}
+use Rattle.qs_send.specs.declared.piece.Item.TheVariants.{MaxData, MaxStreamData, MaxStreams, ResetStream, StopSending, StreamDataBlocked, StreamsBlocked}
 use Rattle.qs_send.specs.declared.piece.Piece.{Piece}
 use Rattle.qs_send.specs.declared.piece.Piece.TheVariants.{Data, Told}
 use Rattle.qs_calls.specs.declared.settings.Settings.{Settings}
 use Rattle.qs_calls.specs.declared.settings.Tuning.{Tuning}
 use Rattle.qs_calls.specs.declared.settings.PeerLimits.{PeerLimits}
 use Rattle.qs_calls.specs.declared.event.Side.{Side}
-use Rattle.qs_calls.specs.declared.event.Side.TheVariants.{A, B}
-use Rattle.qs_machine.specs.Tables.{Tables, table, lookup, updated, update, open_to, each, no_streams}
-use Rattle.qs_machine.specs.Ends.{End, is_own, is_own_by, is_uni, on_send, on_recv, opens, opened_by_peer, first_send_limit, window, new_end}
+use Rattle.qs_calls.specs.declared.event.Side.TheVariants.{A}
+use Rattle.qs_machine.specs.Tables.{Tables, table, lookup, updated, open_to, no_streams}
+use Rattle.qs_machine.specs.Ends.{End, is_own, is_own_by, is_uni, on_recv, opens, opened_by_peer, first_send_limit, window}
 use Rattle.qs_machine.specs.Raising.{knows_limits, type_allowed, limits_raised}
 use Rattle.qs_machine.specs.Seen.{Seen, Ack, Stream, Control}
 use Rattle.qs_machine.specs.FrameStep.{AckedPiece, frame_taken, acks, first_acked, piece_acked, without_piece, named}
@@ -27,11 +25,11 @@ use Rattle.qs_machine.specs.Setting.{Grant, SendBuffer, StreamWindow}
 use Rattle.qs_machine.specs.EndStep.{Call, Answer as CallAnswer, EndStep}
 use Rattle.qs_machine.proofs.EveryCall.{Change, changed, Comes, relates, Wanted, Opened, Written, Finished, WasReset, Stopped, Forgotten, WasRead, Raised, WasSet, Took, Acked, Put, Settled}
 use Rattle.qs_machine.proofs.TableLaws.{slots_updated, slots_opened, lookup_other, lookup_open, lookup_each, open_at, open_lower, with_same, with_other, lookup_in}
-use Rattle.qs_machine.proofs.TablesAfter.{KeptIn, kept_same, kept_twice, kept_updated, kept_open, still_open}
-use Rattle.qs_machine.proofs.EachHalf.{SendEdit, sends_kept, kept_raised}
+use Rattle.qs_machine.proofs.TablesAfter.{kept_updated, kept_open, still_open}
+use Rattle.qs_machine.proofs.EachHalf.{kept_raised}
 use Rattle.qs_machine.proofs.Leaves.{acks_leave, put_leaves, frame_leaves}
 use Rattle.qs_machine.proofs.Ties.{nowhere}
-use Rattle.qs_runs.specs.Logs.{Happening, History}
+use Rattle.qs_runs.specs.Logs.{History}
 use Rattle.qs_runs.specs.Worlds.{World, end_of, Run}
 use Rattle.qs_runs.proofs.Histories.{two_sides}
 use Rattle.qs_runs.proofs.NewEnds.{first_world, made_first}
@@ -213,9 +211,12 @@ abbrev Pairs : End → End → Type 0
 Pairs e f = (f.role ≡ e.role) × ((m : ℕ) → open_in e.sends m → open_in f.sends m) × Opens e f
 
 pairs_twice : (a b c : End) → Pairs a b → Pairs b c → Pairs a c
-pairs_twice a b c x y =
-    (y.0 ∙ x.0, (λ m h. y.1 m (x.1 m h)), (λ m foreign bidi h.
-    elim (y.2 m (ap (λ r. is_own_by r m) x.0 ∙ foreign) bidi h) [ inl mid ↦ elim (x.2 m foreign bidi mid) [ inl was ↦ inl was | inr now ↦ inr (y.1 m now) ] | inr now ↦ inr now ]))
+pairs_twice a b c x y = (
+  y.0 ∙ x.0,
+  (λ m h. y.1 m (x.1 m h)),
+  (λ m foreign bidi h.
+      elim (y.2 m (ap (λ r. is_own_by r m) x.0 ∙ foreign) bidi h) [ inl mid ↦ elim (x.2 m foreign bidi mid) [ inl was ↦ inl was | inr now ↦ inr (y.1 m now) ] | inr now ↦ inr now ]),
+)
 
 -- tables of which no receiving half opened
 pairs_sends : (e f : End) → f.role ≡ e.role → f.recvs ≡ e.recvs → ((m : ℕ) → open_in e.sends m → open_in f.sends m) → Pairs e f
@@ -226,9 +227,12 @@ pairs_recv n f e = (refl, (λ m h. h), λ m foreign bidi h. inl (was_edited e.re
 
 pairs_change : (old : End) (call : Call) (c : Change) (e : End) → Comes old call e c → Pairs e (changed c e)
 pairs_change old call (Wanted Uni count) e comes = pairs_sends e (changed (Wanted Uni count) e) refl refl (λ m h. h)
-pairs_change old call (Opened n) e comes =
-    (refl, (λ m h. cond_both (is_uni n && not (is_own e n)) e.sends (open_to e.sends n (λ j. new_send_lane j (first_send_limit e n) e.settings.send_buffer)) (λ t. open_in t m) (λ _. h)
-    (λ _. still_open Any e.sends _ m (kept_open Any (λ l. tt) e.sends n (λ j. new_send_lane j (first_send_limit e n) e.settings.send_buffer)) h)), opens_both n e)
+pairs_change old call (Opened n) e comes = (
+  refl,
+  (λ m h. cond_both (is_uni n && not (is_own e n)) e.sends (open_to e.sends n (λ j. new_send_lane j (first_send_limit e n) e.settings.send_buffer)) (λ t. open_in t m) (λ _. h)
+      (λ _. still_open Any e.sends _ m (kept_open Any (λ l. tt) e.sends n (λ j. new_send_lane j (first_send_limit e n) e.settings.send_buffer)) h)),
+  opens_both n e,
+)
 pairs_change old call (Written n bytes l) e comes = pairs_sends e (changed (Written n bytes l) e) refl refl (open_edited e.sends n (λ m. write_lane m bytes))
 pairs_change old call (Finished n) e comes = pairs_sends e (changed (Finished n) e) refl refl (open_edited e.sends n finish_lane)
 pairs_change old call (WasReset n code) e comes = pairs_sends e (changed (WasReset n code) e) refl refl (open_edited e.sends n (λ m. reset_lane m code))

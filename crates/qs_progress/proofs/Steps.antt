@@ -1,9 +1,8 @@
 -- A calm call that raises no score puts out what wasn't acknowledged, or changes nothing but records.
-use Rattle.std.proofs.Common.{◌≡◌, ℕ, ◌+◌, ◌*◌, ◌<◌, ◌≤◌, zero, suc, Bool, true, false, cond, ◌||◌, ◌&&◌, List, [], ◌∷◌, ◌++◌, ◌⊎◌, length, map, take, slice_get, option_map, Option, Some, None, is_some, refl, sym, ap, ◌∙◌, subst, arith, inl, inr, nat_cmp}
+use Rattle.std.proofs.Common.{◌≡◌, ℕ, ◌+◌, ◌*◌, ◌<◌, ◌≤◌, suc, Bool, true, false, cond, List, [], ◌∷◌, ◌++◌, ◌⊎◌, length, map, take, slice_get, option_map, Option, Some, None, is_some, refl, sym, ap, ◌∙◌, subst, arith, inl, inr}
 use Rattle.std.specs.Prelude.{max, nat_le}
 use Rattle.std.specs.FinMap as fmap
 use Rattle.std.specs.FinMap.{nat_cmp-IsAntisymmetric, same_map}
-use Rattle.std.specs.FinSet as set
 use Rattle.std.specs.Cmp.{nat_cmp_total}
 use Rattle.std.proofs.lemmas.Bool.{true≢false}
 use Rattle.std.proofs.lemmas.Bool.Decides.{nat_tests}
@@ -22,29 +21,28 @@ use Rattle.qs_send.specs.declared.piece.Item.TheVariants.{MaxData, MaxStreamData
 use Rattle.qs_send.specs.declared.piece.Piece.{Piece}
 use Rattle.qs_send.specs.declared.piece.Piece.TheVariants.{Data, Told}
 use Rattle.qs_machine.specs.Tables.{Tables, lookup, total, each, updated}
-use Rattle.qs_machine.specs.Ends.{End, on_send, on_recv, closes}
-use Rattle.qs_machine.specs.Credit.{settle, ended, send_ended, count_after, next_count}
+use Rattle.qs_machine.specs.Ends.{End, on_send, on_recv}
+use Rattle.qs_machine.specs.Credit.{settle, ended, send_ended, count_after}
 use Rattle.qs_machine.specs.Due.{IsCurrent, IsDueItem}
 use Rattle.qs_machine.specs.Seen.{Seen, Ack, Stream, Control, Close, Plain}
 use Rattle.qs_machine.specs.FrameStep.{frames_taken, acks, named}
-use Rattle.qs_machine.specs.Recording.{recorded}
-use Rattle.qs_machine.specs.Lawful.{MayPut, Fills, frame_put, noted, pieces_so_far, chunk_of}
+use Rattle.qs_machine.specs.Lawful.{Fills, frame_put, noted, pieces_so_far, chunk_of}
 use Rattle.qs_machine.specs.SettledLimits.{LimitsAreSettled}
 use Rattle.qs_machine.specs.Standing.{IsSound, CountsAreSettled}
 use Rattle.qs_machine.specs.Repeats.{SentWasWritten}
 use Rattle.qs_machine.proofs.TableLaws.{lookup_each}
 use Rattle.qs_machine.proofs.TablesAfter.{KeptIn, kept_same, updated_back}
-use Rattle.qs_machine.proofs.EndedHalves.{RecvStays, SendStays}
+use Rattle.qs_machine.proofs.EndedHalves.{RecvStays}
 use Rattle.qs_machine.proofs.Counts.{ended_grows}
 use Rattle.qs_machine.proofs.LanesAgain.{LaneAfter}
 use Rattle.qs_machine.proofs.EachHalf.{Reads}
 use Rattle.qs_machine.proofs.EndsAfter.{IsAfter, after_same, after_twice, after_closes, after_recorded, after_settle, after_acks, named_written, lawful_in}
 use Rattle.qs_machine.proofs.Again.{changed, all_left}
 use Rattle.qs_machine.proofs.Pieces.{All_take}
-use Rattle.qs_machine.proofs.Carried.{get_new, among_last, among_more}
+use Rattle.qs_machine.proofs.Carried.{get_new, among_last}
 use Rattle.qs_machine.specs.FrameStep.{AckedPiece}
 use Rattle.qs_machine.specs.Repeats.{WasWritten}
-use Rattle.qs_progress.specs.Score.{is_done, score}
+use Rattle.qs_progress.specs.Score.{score}
 use Rattle.qs_progress.specs.Within.{AllWithin}
 use Rattle.qs_progress.specs.Outstanding.{IsIn, IsReached}
 use Rattle.qs_progress.proofs.Bound.{lookup_at}
@@ -53,7 +51,7 @@ use Rattle.qs_progress.proofs.Score.{Goes}
 use Rattle.qs_progress.proofs.Even.{members_even, acked_even, fin_even, reset_even, read_even, told_even_of}
 use Rattle.qs_progress.proofs.CalmCalls.{Ends, Forms}
 use Rattle.qs_progress.proofs.Outstanding.{AcksStay, put_in}
-use Rattle.qs_progress.proofs.Going.{done_acked, chunk_unreached, frames_back, ends_back}
+use Rattle.qs_progress.proofs.Going.{done_acked, frames_back, ends_back}
 use Rattle.qs_progress.proofs.Undone.{IsUndone, undone_stays, unless}
 use Rattle.qs_progress.proofs.Alike.{but_records, Alike, SendsAlike, alike_at, alike_back, slots_same, slots_twice, alike_acks, acks_rest}
 use Rattle.qs_progress.proofs.Frozen.{IsSteady, frames_like}

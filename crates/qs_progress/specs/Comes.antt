@@ -1,5 +1,6 @@
--- Of laws.
--- Rest comes: every run is led to rest by laps, and how many there are is bounded. The whole file is ours.
+-- Trusted.
+-- Rest comes: every run is led to rest by laps, and how many there are is bounded. The whole file is ours: RFC 9000
+-- has no measure of a connection.
 use Rattle.std.specs.Prelude.{◌≡◌, ℕ, ◌+◌, ◌*◌, ◌≤◌, Bool, true, false, List, [], ◌∷◌, None, ⊤}
 use Rattle.qs_calls.specs.declared.settings.Settings.{Settings}
 use Rattle.qs_calls.specs.declared.event.Side.{Side}

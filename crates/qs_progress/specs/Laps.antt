@@ -1,4 +1,4 @@
--- Of laws.
+-- Trusted.
 -- Laps: what the layer beneath and the owners do where nothing is lost and nothing new is asked for. The whole file is ours: RFC 9000 has no
 -- measure of a connection.
 use Rattle.std.specs.Prelude.{◌≡◌, ℕ, ◌<◌, false, List, [], ◌∷◌, None, ⊤}
