@@ -21,7 +21,7 @@ use Rattle.qs_calls.specs.declared.settings.Settings.{Settings}
 use Rattle.qs_calls.specs.declared.event.Side.{Side}
 use Rattle.qs_calls.specs.declared.event.Side.TheVariants.{A, B}
 use Rattle.qs_machine.specs.Tables.{Tables, table, lookup, total}
-use Rattle.qs_machine.specs.Ends.{End, is_uni, is_own, is_own_by, role_bit, own_type, peer_type, first_send_limit, first_window, first_window_by}
+use Rattle.qs_machine.specs.Ends.{End, is_uni, is_own, role_bit, peer_type, first_send_limit, first_window}
 use Rattle.qs_machine.specs.Credit.{granted_streams, first_grant, all_taken, recv_ended, both_ended, ended}
 use Rattle.qs_machine.specs.Due.{known_count}
 use Rattle.qs_machine.specs.Seen.{Control}
@@ -30,13 +30,13 @@ use Rattle.qs_machine.proofs.TableLaws.{value, total_le}
 use Rattle.qs_runs.specs.Logs.{History, other}
 use Rattle.qs_runs.specs.Pasts.{past, Tells}
 use Rattle.qs_runs.specs.Worlds.{World, end_of, Run}
-use Rattle.qs_runs.specs.Invariant.{WorldOk, SendSlot, SendOk, RecvSlot, RecvOk, EndOk}
+use Rattle.qs_runs.specs.Invariant.{WorldOk, SendSlot, SendOk, RecvSlot}
 use Rattle.qs_runs.proofs.Changes.{acked_written}
 use Rattle.qs_runs.proofs.Clauses.{received_is_below_sent, final_size_is_declared, known_is_within_granted, is_open_at_initiator}
 use Rattle.qs_runs.proofs.Runs.{run_keeps, opposite, known_counts}
 use Rattle.qs_rest.specs.Resting.{KnowsFirstLimits}
 use Rattle.qs_progress.specs.Score.{one_if, is_done, told_from, sent_marks, got_marks, marks_of, stream_marks, first_count, count_marks, credit_marks, halves, type_marks, score}
-use Rattle.qs_progress.specs.Bound.{written_at, streams_at, beyond_on, beyond, most}
+use Rattle.qs_progress.specs.Bound.{written_at, streams_at, beyond_on, most}
 use Rattle.qs_progress.proofs.Sums.{le_same, sum_grows, told_few}
 
 -- Sets and lists
@@ -101,7 +101,7 @@ sum_list F (x ∷ xs) lo (suc k) g is =
 sum_all : {X : Type 0} (F : X → ℕ) (xs : List X) (k : ℕ) (g : ℕ → ℕ) → ((i : ℕ) → g i ≡ value F (slice_get xs i)) → sum_by g (range_with_len 0 k) ≤ sum_by F xs
 sum_all F xs k g is = sum_list F xs 0 k g (λ i. (let e : 0 + i ≡ i = omega arith in ap g e) ∙ is i)
 
-sum_ones : {X : Type 0} (xs : List X) → sum_by (λ (x : X). 1) xs ≡ length xs
+pub sum_ones : {X : Type 0} (xs : List X) → sum_by (λ (x : X). 1) xs ≡ length xs
 sum_ones [] = refl
 sum_ones {X} (y ∷ xs) = sum_by-cons (λ (x : X). 1) y xs ∙ omega (arith, sum_ones xs)
 
@@ -123,7 +123,7 @@ length_zip (x ∷ xs) (y ∷ ys) = omega (arith, length_zip xs ys)
 kind_of : (k i : ℕ) → k < 4 → (i * 4 + k) % 4 ≡ k
 kind_of k i lt = omega arith
 
-lookup_at : {X : Type 0} (t : Tables X) (k i : ℕ) → k < 4 → lookup t (i * 4 + k) ≡ slice_get (table t k) i
+pub lookup_at : {X : Type 0} (t : Tables X) (k i : ℕ) → k < 4 → lookup t (i * 4 + k) ≡ slice_get (table t k) i
 unfolding lookup
 lookup_at t k i lt =
     let index : (i * 4 + k) / 4 ≡ i = omega arith in

@@ -1,14 +1,12 @@
 -- What small ends' scores are.
-use Rattle.std.proofs.Common.{◌≡◌, ℕ, ◌+◌, false, true, Some, refl, arith}
-use Rattle.qs_recv.specs.Lane.{RecvLane}
-use Rattle.qs_send.specs.Lane.{SendLane}
+use Rattle.std.proofs.Common.{◌≡◌, refl, arith}
 use Rattle.qs_wire.specs.declared.stream_id.Role.{Role}
 use Rattle.qs_wire.specs.declared.stream_id.Role.TheVariants.{Client, Server}
 use Rattle.qs_calls.specs.Settings.{limits_of, default_tuning}
 use Rattle.qs_machine.specs.Tables.{lookup, total}
-use Rattle.qs_machine.specs.Ends.{End, new_end}
+use Rattle.qs_machine.specs.Ends.{new_end}
 use Rattle.qs_machine.specs.Examples.{standard}
-use Rattle.qs_progress.specs.Score.{sent_marks, got_marks, score}
+use Rattle.qs_progress.specs.Score.{score}
 use Rattle.qs_progress.specs.Exclusions.{Exclusions}
 
 new_is : (role : Role) → score (new_end role standard default_tuning (limits_of standard)) ≡ 0

@@ -1,5 +1,5 @@
 -- What is done of a half stays done, across each of its edits.
-use Rattle.std.proofs.Common.{◌≡◌, ℕ, ◌+◌, ◌≤◌, Bool, true, false, ◌||◌, cond, length, List, Option, Some, None, is_some, refl, sym, ◌∙◌, arith}
+use Rattle.std.proofs.Common.{◌≡◌, ℕ, ◌+◌, ◌≤◌, Bool, true, false, ◌||◌, length, Some, is_some, refl, ◌∙◌, arith}
 use Rattle.std.specs.FinSet as set
 use Rattle.std.specs.Cmp.{nat_cmp_total}
 use Rattle.std.proofs.lemmas.Bool.{cond_both, or_left, or_right}
@@ -12,8 +12,7 @@ use Rattle.qs_recv.specs.Lane.{RecvLane, after_answer, read_answer, stop, is_ove
 use Rattle.qs_recv.specs.declared.half.Read.{Read}
 use Rattle.qs_recv.specs.declared.half.Read.TheVariants as reads
 use Rattle.qs_recv.proofs.LawfulLaws.{raised_grows, under_grows}
-use Rattle.qs_send.specs.Lane.{SendLane, reset_refusal, reset_lane, broken_off, first_code, stop_taken, acked_lane}
-use Rattle.qs_send.specs.declared.parts.Chunk.{Chunk}
+use Rattle.qs_send.specs.Lane.{SendLane, reset_refusal, broken_off, first_code, stop_taken}
 use Rattle.qs_machine.proofs.EachHalf.{SendEdit, Resets, Allows, IsAsked, IsAcked, ResetIsAcked, send_edited, RecvEdit, Stops, Forgets, Reads, Widens, Takes, IsReset, Raises, recv_edited}
 use Rattle.qs_machine.proofs.EndsAfter.{has_code}
 use Rattle.qs_progress.proofs.Sums.{le_same}

@@ -1,5 +1,5 @@
 -- What is acknowledged of control items stays so, and grants and what an end was made with don't fall, across each call of an end.
-use Rattle.std.proofs.Common.{◌≡◌, ℕ, ◌≤◌, Bool, true, false, cond, List, [], ◌∷◌, take, Option, Some, None, refl, sym, ap, ◌∙◌, subst, arith}
+use Rattle.std.proofs.Common.{◌≡◌, ℕ, ◌≤◌, Bool, true, false, cond, List, [], ◌∷◌, take, Option, Some, None, refl, sym, ap, ◌∙◌, arith}
 use Rattle.std.specs.Prelude.{max, nat_le}
 use Rattle.std.specs.FinMap as fmap
 use Rattle.std.specs.FinSet as set
@@ -17,9 +17,9 @@ use Rattle.qs_machine.specs.Credit.{ended}
 use Rattle.qs_machine.specs.Seen.{Seen, Ack, Stream, Control}
 use Rattle.qs_machine.specs.FrameStep.{frame_taken, AckedPiece, acks, first_acked, without_piece, piece_acked, item_acked, greatest, greatest_of, or_zero, named}
 use Rattle.qs_machine.specs.Lawful.{frame_put}
-use Rattle.qs_machine.specs.Setting.{ConnWindow, Grant, SendBuffer, StreamWindow, count_with}
+use Rattle.qs_machine.specs.Setting.{Grant, SendBuffer, StreamWindow, count_with}
 use Rattle.qs_machine.specs.EndStep.{Call, Answer, EndStep}
-use Rattle.qs_machine.proofs.EveryCall.{Change, changed, Comes, relates, Wanted, Raised, WasSet, Took, Acked, Put, Settled}
+use Rattle.qs_machine.proofs.EveryCall.{Change, changed, Comes, relates, Wanted, WasSet, Took, Acked, Put, Settled}
 use Rattle.qs_machine.proofs.Leaves.{acks_leave, put_leaves, frame_leaves}
 use Rattle.qs_progress.specs.Score.{reaches, is_done}
 use Rattle.qs_progress.proofs.Sums.{le_same}
@@ -66,7 +66,7 @@ pub items_piece : (p : Piece) (e : End) → ItemsGrow e.acked (piece_acked p e).
 items_piece (Data n c) e i is = is
 items_piece (Told j) e i is = noted j e i is
 
-items_acks : (ps : List AckedPiece) (e : End) → ItemsGrow e.acked (acks ps e).acked
+pub items_acks : (ps : List AckedPiece) (e : End) → ItemsGrow e.acked (acks ps e).acked
 unfolding acks
 items_acks [] e i is = is
 items_acks (p ∷ ps) e i is = items_acks ps (first_acked p e) i (items_piece p.piece (without_piece p.late p.number e) i is)
@@ -74,7 +74,7 @@ items_acks (p ∷ ps) e i is = items_acks ps (first_acked p e) i (items_piece p.
 items_opened : (n : ℕ) (e : End) → ItemsGrow e.acked (opened_by_peer n e).acked
 items_opened n e i is = cond_both (is_own e n) e (opens n e) (λ x. is_done x.acked i ≡ true) (λ _. is) (λ _. is)
 
-items_frame : (f : Seen) (e : End) → ItemsGrow e.acked (frame_taken f e).acked
+pub items_frame : (f : Seen) (e : End) → ItemsGrow e.acked (frame_taken f e).acked
 unfolding frame_taken
 items_frame (Ack largest ranges) e i is = items_acks (named e ranges) e i is
 items_frame (Stream n offset bytes fin) e i is = items_opened n e i is
@@ -85,7 +85,7 @@ items_frame (Control (StopSending n code)) e i is = items_opened n e i is
 items_frame (Control (StreamDataBlocked n m)) e i is = items_opened n e i is
 items_frame f e i is = is
 
-items_put : (f : Seen) (e : End) → ItemsGrow e.acked (frame_put f e).acked
+pub items_put : (f : Seen) (e : End) → ItemsGrow e.acked (frame_put f e).acked
 unfolding frame_put
 items_put (Control (StreamDataBlocked n m)) e i is = is
 items_put f e i is = is

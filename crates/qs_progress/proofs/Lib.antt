@@ -5,3 +5,17 @@ pub mod Score
 pub mod Exclusions
 pub mod Within
 pub mod Bound
+pub mod CalmCalls
+pub mod InOrder
+pub mod Outstanding
+pub mod Even
+pub mod Going
+pub mod Undone
+pub mod Alike
+pub mod Frozen
+pub mod Steps
+pub mod Steady
+pub mod Trails
+pub mod More
+pub mod Pairs
+pub mod Comes

@@ -1,7 +1,5 @@
 -- What is done stays done: a score never falls.
-use Rattle.std.proofs.Common.{◌≡◌, ℕ, ◌+◌, ◌*◌, ◌-◌, ◌≤◌, ◌∷◌, Bool, true, false, not, ◌||◌, cond, Option, Some, None, is_some, refl, sym, ap, ◌∙◌, subst, arith}
-use Rattle.std.specs.Prelude.{nat_le}
-use Rattle.std.specs.FinSet as set
+use Rattle.std.proofs.Common.{◌≡◌, ℕ, ◌+◌, ◌*◌, ◌≤◌, ◌∷◌, true, not, cond, Option, Some, None, is_some, refl, sym, ap, ◌∙◌, subst, arith}
 use Rattle.qs_wire.specs.declared.stream_id.Dir.{Dir}
 use Rattle.qs_wire.specs.declared.stream_id.Dir.TheVariants.{Bidi, Uni}
 use Rattle.qs_recv.specs.Lane.{RecvLane}
@@ -10,9 +8,8 @@ use Rattle.qs_send.specs.declared.piece.Item.{Item}
 use Rattle.qs_send.specs.declared.piece.Item.TheVariants.{MaxData, MaxStreamData, MaxStreams, StopSending, DataBlocked, StreamDataBlocked, StreamsBlocked}
 use Rattle.qs_calls.specs.Settings.{limits_of}
 use Rattle.qs_calls.specs.declared.settings.Settings.{Settings}
-use Rattle.qs_calls.specs.declared.settings.PeerLimits.{PeerLimits}
 use Rattle.qs_calls.specs.declared.event.Side.{Side}
-use Rattle.qs_machine.specs.Tables.{Tables, lookup, total}
+use Rattle.qs_machine.specs.Tables.{Tables, lookup}
 use Rattle.qs_machine.specs.Ends.{End, AckedItems, is_uni, is_own, is_own_by, first_send_limit, first_window, first_window_by}
 use Rattle.qs_machine.specs.Credit.{granted_streams, first_grant}
 use Rattle.qs_machine.specs.Due.{known_count}
@@ -27,13 +24,13 @@ use Rattle.qs_runs.proofs.Runs.{run_keeps, settings_stay}
 use Rattle.qs_runs.proofs.Stays.{each_side}
 use Rattle.qs_rest.specs.Resting.{KnowsFirstLimits}
 use Rattle.qs_rest.proofs.FirstLimits.{first_limits_stay}
-use Rattle.qs_progress.specs.Score.{one_if, is_done, told_from, sent_marks, got_marks, marks_of, stream_marks, first_count, count_marks, credit_marks, halves, type_marks, score, WhatIsDoneStays}
+use Rattle.qs_progress.specs.Score.{one_if, is_done, told_from, sent_marks, got_marks, stream_marks, first_count, count_marks, credit_marks, halves, type_marks, score, WhatIsDoneStays}
 use Rattle.qs_progress.proofs.Sums.{le_same, sum_grows, one_grows, told_grows, marks_grow}
 use Rattle.qs_progress.proofs.Halves.{is_broken, SentGrows, sent_same, sent_twice, sent_edits, GotGrows, got_same, got_twice, got_edits}
 use Rattle.qs_progress.proofs.Items.{ItemsGrow, grown_call}
 
 -- an item whose value doesn't fall, from the same least one on
-item_grows : (x y : AckedItems) (item : ℕ → Item) (least low p q : ℕ) → ItemsGrow x y → low ≡ least → p ≤ q → told_from least p (is_done x (item p)) ≤ told_from low q (is_done y (item q))
+pub item_grows : (x y : AckedItems) (item : ℕ → Item) (least low p q : ℕ) → ItemsGrow x y → low ≡ least → p ≤ q → told_from least p (is_done x (item p)) ≤ told_from low q (is_done y (item q))
 item_grows x y item least low p q more is le = rw is (told_grows least p q (is_done x (item p)) (is_done y (item q)) le (λ same done. subst (λ v. is_done y (item v) ≡ true) same (more (item p) done)))
 
 -- Two ends of the same role that were made and told alike, of which the second did and knows no less
@@ -50,16 +47,16 @@ pub record Goes (a b : End) : Type 0 where
   pub recvs : KeptIn GotGrows a.recvs b.recvs
 
 module _ (a b : End) (g : Goes a b) where
-  first_same : (n : ℕ) → first_send_limit b n ≡ first_send_limit a n
+  pub first_same : (n : ℕ) → first_send_limit b n ≡ first_send_limit a n
   first_same n = λ i. cond (is_uni n) (g.peer i).uni (cond (is_own_by (g.role i) n) (g.peer i).bidi_remote (g.peer i).bidi_local)
 
-  window_same : (n : ℕ) → first_window b n + 1 ≡ first_window a n + 1
+  pub window_same : (n : ℕ) → first_window b n + 1 ≡ first_window a n + 1
   window_same n = λ i. first_window_by (g.role i) (g.settings i) n + 1
 
-  own_same : (n : ℕ) → one_if (not (is_own b n)) ≡ one_if (not (is_own a n))
+  pub own_same : (n : ℕ) → one_if (not (is_own b n)) ≡ one_if (not (is_own a n))
   own_same n = λ i. one_if (not (is_own_by (g.role i) n))
 
-  sent_grows : (n : ℕ) (l m : SendLane) → SentGrows l m → sent_marks a n l ≤ sent_marks b n m
+  pub sent_grows : (n : ℕ) (l m : SendLane) → SentGrows l m → sent_marks a n l ≤ sent_marks b n m
   sent_grows n l m r =
       omega (
         arith,
@@ -72,7 +69,7 @@ module _ (a b : End) (g : Goes a b) where
         item_grows a.acked b.acked (StreamDataBlocked n) (first_send_limit a n) (first_send_limit b n) l.limit m.limit g.items (first_same n) r.4,
       )
 
-  got_grows : (n : ℕ) (l m : RecvLane) → GotGrows l m → got_marks a n l ≤ got_marks b n m
+  pub got_grows : (n : ℕ) (l m : RecvLane) → GotGrows l m → got_marks a n l ≤ got_marks b n m
   got_grows n l m r =
       omega (
         arith,
@@ -86,13 +83,13 @@ module _ (a b : End) (g : Goes a b) where
         item_grows a.acked b.acked (MaxStreamData n) (first_window a n + 1) (first_window b n + 1) l.limit m.limit g.items (window_same n) r.5,
       )
 
-  stream_grows : (n : ℕ) → stream_marks a n ≤ stream_marks b n
+  pub stream_grows : (n : ℕ) → stream_marks a n ≤ stream_marks b n
   stream_grows n =
       let sent = marks_grow SentGrows (sent_marks a n) (sent_marks b n) a.sends b.sends g.sends (sent_grows n) n in
       let got = marks_grow GotGrows (got_marks a n) (got_marks b n) a.recvs b.recvs g.recvs (got_grows n) n in
       omega (arith, sent, got)
 
-  halves_grow : halves a ≤ halves b
+  pub halves_grow : halves a ≤ halves b
   halves_grow =
       let sends = total_le (λ (l : SendLane). 1) (λ (l : SendLane). 1) a.sends b.sends (λ n. one_kept SentGrows a.sends b.sends g.sends n) in
       let recvs = total_le (λ (l : RecvLane). 1) (λ (l : RecvLane). 1) a.recvs b.recvs (λ n. one_kept GotGrows a.recvs b.recvs g.recvs n) in
@@ -105,10 +102,10 @@ module _ (a b : End) (g : Goes a b) where
           go None is = omega arith
           go (Some x) is = subst (λ o. 1 ≤ value (λ (x : X). 1) o) (sym (kept n x is).1) (le_same 1)
 
-  type_grows : (kind : ℕ) → type_marks a kind ≤ type_marks b kind
+  pub type_grows : (kind : ℕ) → type_marks a kind ≤ type_marks b kind
   type_grows kind = sum_grows (λ i. stream_marks a (i * 4 + kind)) (λ i. stream_marks b (i * 4 + kind)) 0 (halves a) (halves b) halves_grow (λ i. stream_grows (i * 4 + kind))
 
-  count_grows : (d : Dir) → count_marks a d ≤ count_marks b d
+  pub count_grows : (d : Dir) → count_marks a d ≤ count_marks b d
   count_grows d =
       let grant : first_grant b.settings d + 1 ≡ first_grant a.settings d + 1 = λ i. first_grant (g.settings i) d + 1 in
       let first : first_count b.peer d ≡ first_count a.peer d = λ i. first_count (g.peer i) d in
@@ -120,7 +117,7 @@ module _ (a b : End) (g : Goes a b) where
         item_grows a.acked b.acked (StreamsBlocked d) (first_count a.peer d) (first_count b.peer d) (known_count a d) (known_count b d) g.items first (g.known_counts d),
       )
 
-  credit_grows : credit_marks a ≤ credit_marks b
+  pub credit_grows : credit_marks a ≤ credit_marks b
   credit_grows =
       let window : b.settings.conn_window + 1 ≡ a.settings.conn_window + 1 = λ i. (g.settings i).conn_window + 1 in
       let first : b.peer.max_data ≡ a.peer.max_data = λ i. (g.peer i).max_data in
@@ -144,12 +141,12 @@ module _ (a b : End) (g : Goes a b) where
       omega (arith, zero, one, two, three, bidi, uni, credit)
 
 -- a call of an end that knew its peer's first limits
-score_call : (old : End) (call : Call) (answer : CallAnswer call) (new : End) → EndStep old call answer new → new.peer ≡ old.peer → score old ≤ score new
-score_call old call answer new step peer =
+pub goes_call : (old : End) (call : Call) (answer : CallAnswer call) (new : End) → EndStep old call answer new → new.peer ≡ old.peer → Goes old new
+goes_call old call answer new step peer =
     let sends = sends_kept SentGrows sent_same sent_twice sent_edits old call answer new step in
     let grown = grown_call old call answer new step in
     let rises = rises_call old call answer new step in
-    score_grows old new (record {
+    record {
       role = sends.0;
       peer = peer;
       settings = grown.0;
@@ -160,14 +157,17 @@ score_call old call answer new step peer =
       known_counts = each_dir (known_count old) (known_count new) rises.2 rises.3;
       sends = sends.1;
       recvs = recvs_kept GotGrows got_same got_twice got_edits old call answer new step;
-    })
+    }
   where
     each_dir : (f g : Dir → ℕ) → f Bidi ≤ g Bidi → f Uni ≤ g Uni → (d : Dir) → f d ≤ g d
     each_dir f g bidi uni Bidi = bidi
     each_dir f g bidi uni Uni = uni
 
+score_call : (old : End) (call : Call) (answer : CallAnswer call) (new : End) → EndStep old call answer new → new.peer ≡ old.peer → score old ≤ score new
+score_call old call answer new step peer = score_grows old new (goes_call old call answer new step peer)
+
 -- the limits that an end was told are the true ones, which don't change
-peer_stays : (a b : Settings) (h : History) (v w : World) (x : Happening) → Run a b h v → WorldStep h v x w → (s : Side) → KnowsFirstLimits v s → (end_of w s).peer ≡ (end_of v s).peer
+pub peer_stays : (a b : Settings) (h : History) (v w : World) (x : Happening) → Run a b h v → WorldStep h v x w → (s : Side) → KnowsFirstLimits v s → (end_of w s).peer ≡ (end_of v s).peer
 peer_stays a b h v w x run step s told =
     first_limits_stay a b h v w x run step s told
     ∙ ap limits_of (settings_stay a b h v w x (run_keeps a b h v run) (run_keeps a b (x ∷ h) w (v, run, step)) (other s)) ∙ sym told

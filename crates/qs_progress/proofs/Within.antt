@@ -1,5 +1,5 @@
 -- What is put in packets has the present value, and values don't fall: so none in a packet, and none acknowledged, is above it.
-use Rattle.std.proofs.Common.{◌≡◌, ℕ, ◌≤◌, Bool, true, false, cond, ◌||◌, ◌++◌, List, [], ◌∷◌, ◌⊎◌, take, Option, Some, None, is_some, refl, sym, ap, ◌∙◌, subst, inl, inr, arith}
+use Rattle.std.proofs.Common.{◌≡◌, ℕ, Bool, true, false, cond, ◌||◌, ◌++◌, List, [], ◌∷◌, ◌⊎◌, take, Option, Some, None, is_some, refl, sym, ap, ◌∙◌, subst, inl, inr, arith}
 use Rattle.std.specs.Prelude.{max}
 use Rattle.std.specs.List.{AllByRecursion}
 use Rattle.std.specs.FinMap as fmap
@@ -9,7 +9,6 @@ use Rattle.std.proofs.lemmas.Bool.{cases_lt, eqb-true, cond_both, or_left, true�
 use Rattle.std.proofs.lemmas.Option.{none-some, same_Some}
 use Rattle.qs_wire.specs.declared.stream_id.Role.{Role}
 use Rattle.qs_wire.specs.declared.stream_id.Role.TheVariants.{Client, Server}
-use Rattle.qs_wire.specs.declared.stream_id.Dir.{Dir}
 use Rattle.qs_wire.specs.declared.stream_id.Dir.TheVariants.{Bidi, Uni}
 use Rattle.qs_recv.specs.Assembled.{discard, forget}
 use Rattle.qs_recv.specs.Lane.{RecvLane, after_answer, read_answer, stop, is_over, is_whole}
@@ -28,9 +27,8 @@ use Rattle.qs_send.proofs.Carrying.{carried-empty, carried-without_first}
 use Rattle.qs_calls.specs.declared.settings.Settings.{Settings}
 use Rattle.qs_calls.specs.declared.settings.Tuning.{Tuning}
 use Rattle.qs_calls.specs.declared.settings.PeerLimits.{PeerLimits}
-use Rattle.qs_calls.specs.declared.event.Side.{Side}
-use Rattle.qs_calls.specs.declared.event.Side.TheVariants.{A, B}
-use Rattle.qs_machine.specs.Ends.{End, AckedItems, is_own, on_send, new_end, opens, opened_by_peer}
+use Rattle.qs_calls.specs.declared.event.Side.TheVariants.{A}
+use Rattle.qs_machine.specs.Ends.{End, is_own, on_send, new_end, opens, opened_by_peer}
 use Rattle.qs_machine.specs.Seen.{Seen, Ack, Stream, Control}
 use Rattle.qs_machine.specs.FrameStep.{frame_taken, AckedPiece, held, acks, first_acked, without_piece, piece_acked, item_acked, greatest, greatest_of, or_zero, named}
 use Rattle.qs_machine.specs.Lawful.{MayPut, frame_put, item_put, chunk_of}
@@ -43,10 +41,9 @@ use Rattle.qs_machine.proofs.Carried.{carried_is}
 use Rattle.qs_machine.proofs.LostSent.{lost_carried}
 use Rattle.qs_machine.proofs.EndsAfter.{carried_without}
 use Rattle.qs_machine.proofs.EachHalf.{SendEdit, Resets, IsAsked, send_edited, sends_kept, RecvEdit, Stops, Forgets, Reads, IsReset, recv_edited, recvs_kept}
-use Rattle.qs_machine.proofs.EveryCall.{Change, changed, Comes, Cases, each_call, Wanted, WasSet, Took, Acked, Put, Lost}
+use Rattle.qs_machine.proofs.EveryCall.{Change, changed, Comes, each_call, Wanted, WasSet, Took, Acked, Put, Lost}
 use Rattle.qs_machine.proofs.Rising.{rises_call}
-use Rattle.qs_runs.specs.Logs.{Happening, History}
-use Rattle.qs_runs.specs.Worlds.{World, end_of, WorldStep, Run}
+use Rattle.qs_runs.specs.Worlds.{end_of}
 use Rattle.qs_runs.proofs.Histories.{two_sides}
 use Rattle.qs_runs.proofs.NewEnds.{first_world, made_first}
 use Rattle.qs_runs.proofs.Stays.{each_side}

@@ -1,5 +1,5 @@
--- Of laws.
--- What two ends did and know for good is bounded. The whole file is ours.
+-- Trusted.
+-- What two ends did and know for good is bounded. The whole file is ours: RFC 9000 has no measure of a connection.
 use Rattle.std.specs.Prelude.{ℕ, ◌+◌, ◌-◌, ◌*◌, ◌≤◌, length}
 use Rattle.std.specs.List.{sum_by}
 use Rattle.qs_wire.specs.declared.stream_id.Dir.TheVariants.{Bidi, Uni}

@@ -3,6 +3,9 @@
 ghost use Rattle.qs_progress.specs.Score.{WhatIsDoneStays};
 ghost use Rattle.qs_progress.specs.Within.{ItemsAreWithin};
 ghost use Rattle.qs_progress.specs.Bound.{DoneIsBounded};
+ghost use Rattle.qs_progress.specs.Outstanding.{WhatIsOutStays};
+ghost use Rattle.qs_progress.specs.Going.{WhatGoesOutIsNew};
+ghost use Rattle.qs_progress.specs.Comes.{RestComes};
 ghost use Rattle.qs_progress.specs.Exclusions.{Exclusions};
 
 /// What is done stays done: whatever happens, an end's score never falls, once it was told its peer's true limits.
@@ -19,6 +22,21 @@ pub fn done_is_bounded()
 /// In every run no packet of an end, outstanding or lost, holds an item whose value is above the present one, and none such was acknowledged.
 pub fn items_are_within()
     ensures { ItemsAreWithin }
+{}
+
+/// Where nothing is lost, asked for, set or closed, what an outstanding packet carries stays outstanding, or is acknowledged.
+pub fn what_is_out_stays()
+    ensures { WhatIsOutStays }
+{}
+
+/// And what goes out then wasn't acknowledged before.
+pub fn what_goes_out_is_new()
+    ensures { WhatGoesOutIsNew }
+{}
+
+/// Rest comes: in every run, from each moment on, a number bounds how many laps don't begin at rest.
+pub fn rest_comes()
+    ensures { RestComes }
 {}
 
 /// What a score counts, and what it doesn't: small ends with theirs, and one whose score falls where it takes in higher limits of its peer.

@@ -1,0 +1,70 @@
+-- Rest comes: of two laps in a row, of which the second doesn't begin at rest, something is done for good.
+use Rattle.std.proofs.Common.{◌≡◌, ℕ, ◌+◌, ◌*◌, ◌≤◌, Bool, true, false, List, [], ◌∷◌, sym, subst, arith}
+use Rattle.std.specs.Prelude.{⊤}
+use Rattle.qs_calls.specs.declared.settings.Settings.{Settings}
+use Rattle.qs_calls.specs.declared.event.Side.TheVariants.{A, B}
+use Rattle.qs_machine.specs.EndStep.{Call}
+use Rattle.qs_runs.specs.Logs.{Happening}
+use Rattle.qs_runs.specs.Worlds.{World, WorldStep, Run}
+use Rattle.qs_rest.proofs.FirstLimits.{first_limits_stay}
+use Rattle.qs_progress.specs.Score.{score}
+use Rattle.qs_progress.specs.Laps.{Moment, IsCalm, Trail, Lap}
+use Rattle.qs_progress.specs.Comes.{BothOpen, IsReached, Course, laps_in, stretches_in, RestComes}
+use Rattle.qs_progress.proofs.Score.{what_is_done_stays}
+use Rattle.qs_progress.proofs.Bound.{is_below}
+use Rattle.qs_progress.proofs.Trails.{trail_open}
+use Rattle.qs_progress.proofs.Pairs.{laps_raise}
+
+-- what both ends did
+abbrev both : World → ℕ
+both w = score w.a + score w.b
+
+course_open : (parts : List Bool) (old new : Moment) → Course parts old new → BothOpen new.ends → BothOpen old.ends
+course_open [] old new is open_end = subst (λ (m : Moment). BothOpen m.ends) is open_end
+course_open (true ∷ parts) old new (begins, mid, lap, rest) open_end = trail_open IsCalm lap.moments old mid lap.calm (course_open parts mid new rest open_end)
+course_open (false ∷ parts) old new (ms, mid, stretch, rest) open_end = trail_open (λ call. ⊤) ms old mid stretch (course_open parts mid new rest open_end)
+
+-- Trails
+
+module _ (a b : Settings) where
+  reached : (old new : Moment) (x : Happening) → IsReached a b old → new.log ≡ x ∷ old.log → WorldStep old.log old.ends x new.ends → IsReached a b new
+  reached old new x r logged step =
+      record { run = subst (λ h. Run a b h new.ends) (sym logged) (old.ends, r.run, step); told = λ s. first_limits_stay a b old.log old.ends new.ends x r.run step s (r.told s) }
+
+  trail : (Is : Call → Type 0) (ms : List Moment) (old new : Moment) → IsReached a b old → Trail Is old ms new → IsReached a b new × (both old.ends ≤ both new.ends)
+  trail Is [] old new r is = subst (λ m. IsReached a b m × (both old.ends ≤ both m.ends)) (sym is) (r, omega arith)
+  trail Is (m ∷ ms) old new r ((x, kind, logged, step), rest) =
+      let first = what_is_done_stays a b old.log old.ends m.ends x r.run step A (r.told A) in
+      let second = what_is_done_stays a b old.log old.ends m.ends x r.run step B (r.told B) in
+      let (there, later) = trail Is ms m new (reached old m x r logged step) rest in
+      (there, omega (arith, first, second, later))
+
+  lap : (old new : Moment) → IsReached a b old → Lap old new → IsReached a b new × (both old.ends ≤ both new.ends)
+  lap old new r l = trail IsCalm l.moments old new r l.calm
+
+  courses : (parts : List Bool) (old new : Moment) → IsReached a b old → Course parts old new → BothOpen new.ends → IsReached a b new × (laps_in parts + 2 * both old.ends ≤ 2 * both new.ends + stretches_in parts + 1)
+  courses [] old new r is open_end = subst (λ m. IsReached a b m × (0 + 2 * both old.ends ≤ 2 * both m.ends + 0 + 1)) (sym is) (r, omega arith)
+  courses (true ∷ []) old new r (begins, mid, first, is) open_end =
+      let (there, more) = lap old mid r first in
+      subst (λ m. IsReached a b m × (0 + 1 + 2 * both old.ends ≤ 2 * both m.ends + 0 + 1)) (sym is) (there, omega (arith, more))
+  courses (true ∷ true ∷ parts) old new r (begins, mid, first, (goes_on, next, second, rest)) open_end =
+      let (at_mid, more) = lap old mid r first in
+      let (at_next, more_yet) = lap mid next at_mid second in
+      let grew = laps_raise a b old mid next r first goes_on second (course_open parts next new rest open_end) in
+      let (there, later) = courses parts next new at_next rest open_end in
+      (there, omega (arith, grew, later))
+  courses (true ∷ false ∷ parts) old new r (begins, mid, first, (ms, next, stretch, rest)) open_end =
+      let (at_mid, more) = lap old mid r first in
+      let (at_next, more_yet) = trail (λ call. ⊤) ms mid next at_mid stretch in
+      let (there, later) = courses parts next new at_next rest open_end in
+      (there, omega (arith, more, more_yet, later))
+  courses (false ∷ parts) old new r (ms, next, stretch, rest) open_end =
+      let (at_next, more) = trail (λ call. ⊤) ms old next r stretch in
+      let (there, later) = courses parts next new at_next rest open_end in
+      (there, omega (arith, more, later))
+
+pub rest_comes : RestComes
+rest_comes a b parts old new r course open_end =
+    let (there, counted) = courses a b parts old new r course open_end in
+    let few = is_below a b new.log new.ends there.run there.told in
+    omega (arith, counted, few)
