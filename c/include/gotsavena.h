@@ -519,7 +519,7 @@ GV_API gv_status gv_receive(gv_endpoint *end, uint64_t number, const uint8_t *pa
  *
  * The numbers wait in memory that the endpoint keeps, so that a call seldom needs more: at most 16 bytes for each from the lowest that was
  * outstanding to the highest, when these were farthest apart, or 512 bytes. */
-GV_API gv_status gv_receive_telling(gv_endpoint *end, uint64_t number, const uint8_t *payload, size_t len,
+GV_API gv_status gv_receive_with_acks(gv_endpoint *end, uint64_t number, const uint8_t *payload, size_t len,
                                     void (*told)(void *context, uint64_t number), void *context);
 
 /** Makes the next packet: writes its payload at the front of out, which has room for 128 to 16383 bytes, and its number and length to *made
@@ -560,7 +560,7 @@ GV_API gv_status gv_next_outstanding(const gv_endpoint *end, uint64_t from, uint
 
 /** The lowest number from one on of an outstanding packet that an ACK of this payload names. Ask before gv_receive() of the payload, after
  * which they are gone, and again from the number after each answer. It reads up to the first fault or the first CONNECTION_CLOSE, and
- * doesn't check whether gv_receive() would accept the payload. gv_receive_telling() names all in one reading, and is better. ::GV_NONE:
+ * doesn't check whether gv_receive() would accept the payload. gv_receive_with_acks() names all in one reading, and is better. ::GV_NONE:
  * there is none (section 13.3; RFC 9002, section 7). */
 GV_API gv_status gv_next_newly_acked(const gv_endpoint *end, const uint8_t *payload, size_t len, uint64_t from, uint64_t *number);
 
@@ -682,7 +682,7 @@ GV_API gv_status gv_stop(gv_endpoint *end, uint64_t stream, uint64_t code);
 /** As gv_stop(), for an application that never wants to hear of the stream again: it counts as read to its end as soon as its last byte or
  * a reset arrives. So the peer gets another stream without another read here (sections 3.2, 3.5 and 4.6). The first code stays. Refused as
  * gv_stop() is. */
-GV_API gv_status gv_stop_and_forget(gv_endpoint *end, uint64_t stream, uint64_t code);
+GV_API gv_status gv_stop_and_discard(gv_endpoint *end, uint64_t stream, uint64_t code);
 
 /** Reads the next bytes (section 2.2). ::GV_OK: *count bytes were written to into. ::GV_NOTHING_YET: none arrived yet. ::GV_END_OF_STREAM:
  * all was read. ::GV_RESET_BY_PEER: the peer reset the stream, and *code, if code isn't null, is its code. Refused as gv_stop() is. */
@@ -768,7 +768,7 @@ GV_API gv_status gv_acked_below(const gv_endpoint *end, uint64_t stream, uint64_
  *
  * The last three kinds come each time that the peer said so of a limit that hadn't risen by the end of the packet, once for all that it
  * said since the last one. They come from gv_take_frame() and gv_take_frames() once this was called. From gv_receive() they come only if
- * gv_hear_blocked() chose so, since that reads payloads twice; it turns the other two on as well. Frames that are passed in twice report
+ * gv_report_blocked() chose so, since that reads payloads twice; it turns the other two on as well. Frames that are passed in twice report
  * twice. A stream whose length is known has none, since no limit moves then; one that was stopped does. A greater window helps:
  * gv_set_conn_window(), gv_set_stream_window() or gv_set_grant().
  *
@@ -776,11 +776,11 @@ GV_API gv_status gv_acked_below(const gv_endpoint *end, uint64_t stream, uint64_
  * and none of the last three kinds, since none could be acted on, and ::GV_EVENT_READABLE only if reads_when_closed was chosen. */
 GV_API gv_status gv_next_event(gv_endpoint *end, gv_event *event);
 
-/** Chooses whether gv_receive() and gv_receive_telling() look through each payload for blocked frames of the peer (sections 19.12 to
+/** Chooses whether gv_receive() and gv_receive_with_acks() look through each payload for blocked frames of the peer (sections 19.12 to
  * 19.14). Not by default: it costs a second reading of each payload, and a third if there is such a frame. If it is chosen, gv_take_frame()
  * and gv_take_frames() note such frames before an event was asked for, too. Memory for the notes is taken before the payload takes effect:
  * if it is refused, ::GV_NO_MEMORY, nothing changed, and the same payload may come again. */
-GV_API gv_status gv_hear_blocked(gv_endpoint *end, bool is_chosen);
+GV_API gv_status gv_report_blocked(gv_endpoint *end, bool is_chosen);
 
 /** @}
  * @name Credit
@@ -863,10 +863,10 @@ GV_API gv_status gv_peer_closed(const gv_endpoint *end, uint64_t *code);
  * itself (sections 10.2 and 19.19). Without it streams would go on as if the connection were open. The endpoint is then closed as after any
  * close, but gv_closing(), gv_close_payload() and gv_peer_closed() know nothing of it. gv_receive() and gv_take_frame() return
  * ::GV_CLOSED_BY_PEER, or ::GV_PROTOCOL_ERROR if this side closed. One that closed before stays as it is. */
-GV_API gv_status gv_tell_closed(gv_endpoint *end, gv_closer by, gv_close_kind kind, uint64_t code);
+GV_API gv_status gv_note_closed(gv_endpoint *end, gv_closer by, gv_close_kind kind, uint64_t code);
 
-/** The close that gv_tell_closed() noted: whose it was, its kind and its code. ::GV_NONE: it is open, or closed in another way. */
-GV_API gv_status gv_told_close(const gv_endpoint *end, gv_closer *by, gv_close_kind *kind, uint64_t *code);
+/** The close that gv_note_closed() noted: whose it was, its kind and its code. ::GV_NONE: it is open, or closed in another way. */
+GV_API gv_status gv_noted_close(const gv_endpoint *end, gv_closer *by, gv_close_kind *kind, uint64_t *code);
 
 /** @}
  * @name Frames

@@ -285,9 +285,9 @@ class Endpoint:
         while check(lib.gv_next_event(self._end, event), none=lib.GV_NONE):
             yield Event(event.kind, event.stream, event.dir, event.code)
 
-    def hear_blocked(self, is_chosen=True):
+    def report_blocked(self, is_chosen=True):
         """Chooses whether receive looks for what the peer says to be blocked."""
-        check(lib.gv_hear_blocked(self._end, is_chosen))
+        check(lib.gv_report_blocked(self._end, is_chosen))
 
     def closing(self):
         """Why this endpoint closed, as Closing, or None."""

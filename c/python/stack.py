@@ -177,7 +177,7 @@ def ask_the_rest():
     assert (fault.kind, fault.code, fault.place) == (lib.GV_FAULT_TRUNCATED, 7, 1), vars(fault)
     # DATA_BLOCKED of 5 at a limit that didn't rise: an event, from take at once, from receive where that is chosen.
     owner = Endpoint(SERVER, conn_window=5)
-    owner.hear_blocked()
+    owner.report_blocked()
     owner.receive(0, Frame(lib.GV_FRAME_DATA_BLOCKED, limit=5).put())
     assert [event.kind for event in owner.events()] == [lib.GV_EVENT_DATA_BLOCKED]
     # A stream of the server's own that was never opened: STREAM_STATE_ERROR (section 19.8).

@@ -165,7 +165,7 @@ gv_status gv_receive(gv_endpoint *end, uint64_t number, const uint8_t *payload, 
   return status;
 }
 
-gv_status gv_receive_telling(gv_endpoint *end, uint64_t number, const uint8_t *payload, size_t len,
+gv_status gv_receive_with_acks(gv_endpoint *end, uint64_t number, const uint8_t *payload, size_t len,
                              void (*told)(void *context, uint64_t number), void *context) {
   enum { FIRST_ROOM = 64 };
   gvp_closing_info why = {0, 0, 0};
@@ -177,7 +177,7 @@ gv_status gv_receive_telling(gv_endpoint *end, uint64_t number, const uint8_t *p
   if (!expect_payload(end, from, len, &blocked)) return GV_NO_MEMORY;
   all = &end->told;
   do {
-    status = leave(end, gvp_receive_telling(enter(end), number, from, len, &why, all->at, all->room, &count));
+    status = leave(end, gvp_receive_with_acks(enter(end), number, from, len, &why, all->at, all->room, &count));
   } while (status == GV_NO_ROOM && has_room(end, all, all->room == 0 ? FIRST_ROOM : 2 * all->room));
   for (size_t i = 0; i < count; i++) told(context, all->at[i]);
   if (status == GV_OK && blocked > 0) (void)look_through(end, from, len, true);
@@ -250,7 +250,7 @@ gv_status gv_next_event(gv_endpoint *end, gv_event *event) {
   return status;
 }
 
-gv_status gv_hear_blocked(gv_endpoint *end, bool is_chosen) {
+gv_status gv_report_blocked(gv_endpoint *end, bool is_chosen) {
   if (end == NULL) return GV_INVALID;
   end->looks = is_chosen;
   return GV_OK;
@@ -315,9 +315,9 @@ gv_status gv_stop(gv_endpoint *end, uint64_t stream, uint64_t code) {
   return read_on(end, stream, leave(end, gvp_stop(enter(end), stream, code)));
 }
 
-gv_status gv_stop_and_forget(gv_endpoint *end, uint64_t stream, uint64_t code) {
+gv_status gv_stop_and_discard(gv_endpoint *end, uint64_t stream, uint64_t code) {
   if (end == NULL) return GV_INVALID;
-  return read_on(end, stream, leave(end, gvp_stop_and_forget(enter(end), stream, code)));
+  return read_on(end, stream, leave(end, gvp_stop_and_discard(enter(end), stream, code)));
 }
 
 gv_status gv_read(gv_endpoint *end, uint64_t stream, uint8_t *into, size_t size, size_t *count, uint64_t *code) {
@@ -472,15 +472,15 @@ gv_status gv_close_payload(const gv_endpoint *end, uint8_t *out, size_t room, si
   return status;
 }
 
-gv_status gv_tell_closed(gv_endpoint *end, gv_closer by, gv_close_kind kind, uint64_t code) {
+gv_status gv_note_closed(gv_endpoint *end, gv_closer by, gv_close_kind kind, uint64_t code) {
   if (end == NULL) return GV_INVALID;
-  return leave(end, gvp_tell_closed(enter(end), (uint32_t)by, (uint32_t)kind, code));
+  return leave(end, gvp_note_closed(enter(end), (uint32_t)by, (uint32_t)kind, code));
 }
 
-gv_status gv_told_close(const gv_endpoint *end, gv_closer *by, gv_close_kind *kind, uint64_t *code) {
+gv_status gv_noted_close(const gv_endpoint *end, gv_closer *by, gv_close_kind *kind, uint64_t *code) {
   gvp_told told = {0, 0, 0};
   if (end == NULL || by == NULL || kind == NULL || code == NULL) return GV_INVALID;
-  gv_status status = leave(end, gvp_told_close(enter(end), &told));
+  gv_status status = leave(end, gvp_noted_close(enter(end), &told));
   if (status != GV_OK) return status;
   *by = (gv_closer)told.by;
   *kind = (gv_close_kind)told.kind;

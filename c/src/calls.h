@@ -21,7 +21,7 @@ struct gv_endpoint {
   bool wants[2];   /* of which directions an opening was refused since an event was asked for: no memory is taken to refuse it */
   gv_allocator memory;
   const gv_allocator *outer; /* from where the thread takes memory again once the call ends */
-  numbers told;              /* where gv_receive_telling() has the numbers written */
+  numbers told;              /* where gv_receive_with_acks() has the numbers written */
   bool hears;                /* whether an event was asked for: then frames are noted that say what holds the peer back */
   bool looks;                /* whether payloads are looked through for such frames */
   numbers said;              /* the streams of such frames that took effect and found no memory to be noted: those of one call */

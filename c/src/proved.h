@@ -213,7 +213,9 @@ uint32_t gvp_next_outstanding(gvp_handle *end, uint64_t from, uint64_t *number);
 uint32_t gvp_next_readable(gvp_handle *end, uint64_t from, uint64_t *stream);
 uint32_t gvp_next_sendable(gvp_handle *end, uint64_t from, uint64_t *stream);
 uint32_t gvp_next_writable(gvp_handle *end, uint64_t from, uint64_t *stream);
+uint32_t gvp_note_closed(gvp_handle *end, uint32_t by, uint32_t kind, uint64_t code);
 uint32_t gvp_noted(gvp_handle *end, uint64_t *count);
+uint32_t gvp_noted_close(gvp_handle *end, gvp_told *told);
 uint32_t gvp_open(gvp_handle *end, uint32_t dir, uint64_t *number);
 uint32_t gvp_open_left(gvp_handle *end, uint32_t dir, uint64_t *count);
 uint32_t gvp_peek(gvp_handle *end, uint64_t stream, uint64_t *code, gvp_pieces *pieces);
@@ -224,8 +226,8 @@ uint32_t gvp_put_ack(const gvp_range *ranges, size_t ranges_len, uint64_t delay,
 uint32_t gvp_raise_limits(gvp_handle *end, const gvp_limits *limits);
 uint32_t gvp_read(gvp_handle *end, uint64_t stream, uint8_t *into, size_t into_len, uint64_t *number);
 uint32_t gvp_receive(gvp_handle *end, uint64_t number, const uint8_t *payload, size_t payload_len, gvp_closing_info *closing);
-uint32_t gvp_receive_telling(gvp_handle *end, uint64_t number, const uint8_t *payload, size_t payload_len, gvp_closing_info *closing,
-                             uint64_t *told, size_t told_len, size_t *count);
+uint32_t gvp_receive_with_acks(gvp_handle *end, uint64_t number, const uint8_t *payload, size_t payload_len, gvp_closing_info *closing,
+                               uint64_t *told, size_t told_len, size_t *count);
 uint32_t gvp_reserve(gvp_handle *end);
 uint32_t gvp_reset(gvp_handle *end, uint64_t stream, uint64_t code);
 uint32_t gvp_room(gvp_handle *end, uint64_t stream, uint64_t *count);
@@ -235,7 +237,7 @@ uint32_t gvp_set_send_buffer(gvp_handle *end, uint64_t stream, size_t size);
 uint32_t gvp_set_stream_window(gvp_handle *end, uint64_t stream, uint64_t window);
 uint32_t gvp_spent(gvp_handle *end, uint64_t *count);
 uint32_t gvp_stop(gvp_handle *end, uint64_t stream, uint64_t code);
-uint32_t gvp_stop_and_forget(gvp_handle *end, uint64_t stream, uint64_t code);
+uint32_t gvp_stop_and_discard(gvp_handle *end, uint64_t stream, uint64_t code);
 uint32_t gvp_stopped_with(gvp_handle *end, uint64_t stream, uint64_t *code);
 uint32_t gvp_stored(gvp_handle *end, uint64_t *count);
 uint32_t gvp_streams_left(gvp_handle *end, uint32_t dir, uint64_t *count);
@@ -243,12 +245,10 @@ uint32_t gvp_take_frame(gvp_handle *end, const gvp_frame *frame, const uint8_t *
 uint32_t gvp_take_frames(gvp_handle *end, const gvp_given *frames, size_t frames_len, uint32_t *taken);
 uint32_t gvp_taken(gvp_handle *end, uint64_t stream, uint64_t *count);
 uint32_t gvp_taken_sum(gvp_handle *end, uint64_t *count);
-uint32_t gvp_tell_closed(gvp_handle *end, uint32_t by, uint32_t kind, uint64_t code);
 uint32_t gvp_token_acked(gvp_handle *end, const gvp_token *token);
 uint32_t gvp_token_and(const gvp_token *token, const gvp_token *next, gvp_token *both);
 uint32_t gvp_token_lost(gvp_handle *end, const gvp_token *token);
 uint32_t gvp_token_of(gvp_handle *end, uint64_t number, gvp_token *token);
-uint32_t gvp_told_close(gvp_handle *end, gvp_told *told);
 uint32_t gvp_unsent(gvp_handle *end, uint64_t stream, uint64_t *count);
 uint32_t gvp_unsent_sum(gvp_handle *end, uint64_t *count);
 uint32_t gvp_wants(gvp_heard *heard, uint32_t dir);

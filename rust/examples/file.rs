@@ -51,7 +51,7 @@ impl Link {
         if let Some((number, payload)) = datagram[..len].split_first_chunk() {
             let acked = |number| _ = self.in_flight.remove(&number);
             self.end
-                .receive_telling(u64::from_be_bytes(*number), payload, acked)?;
+                .receive_with_acks(u64::from_be_bytes(*number), payload, acked)?;
         }
         Ok(true)
     }

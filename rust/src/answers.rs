@@ -34,10 +34,10 @@ pub enum CloseKind {
     Application,
 }
 
-/// A close that [`Endpoint::tell_closed`](crate::Endpoint::tell_closed) noted: one that never came through this endpoint.
+/// A close that [`Endpoint::note_closed`](crate::Endpoint::note_closed) noted: one that never came through this endpoint.
 #[derive(Clone, Copy, Debug, PartialEq, Eq)]
 #[allow(missing_docs)]
-pub struct ToldClose {
+pub struct NotedClose {
     pub by: Closer,
     /// The kind, without which the code can't be read.
     pub kind: CloseKind,
@@ -297,9 +297,9 @@ impl Closing {
     }
 }
 
-impl ToldClose {
-    pub(crate) fn of(close: calls::ToldClose) -> ToldClose {
-        ToldClose {
+impl NotedClose {
+    pub(crate) fn of(close: calls::NotedClose) -> NotedClose {
+        NotedClose {
             by: match close.by {
                 calls::Closer::Us => Closer::Us,
                 calls::Closer::Peer => Closer::Peer,
@@ -312,8 +312,8 @@ impl ToldClose {
         }
     }
 
-    pub(crate) fn inner(self) -> calls::ToldClose {
-        calls::ToldClose {
+    pub(crate) fn inner(self) -> calls::NotedClose {
+        calls::NotedClose {
             by: match self.by {
                 Closer::Us => calls::Closer::Us,
                 Closer::Peer => calls::Closer::Peer,

@@ -38,7 +38,7 @@ pub enum Event {
     ///
     /// This event and the next two come from [`take_frame`](crate::Endpoint::take_frame) and [`take_frames`](crate::Endpoint::take_frames)
     /// once an event was asked for. From [`receive`](crate::Endpoint::receive) they come only if
-    /// [`hear_blocked`](crate::Endpoint::hear_blocked) was chosen, since that reads payloads twice. A frame is compared with the limits
+    /// [`report_blocked`](crate::Endpoint::report_blocked) was chosen, since that reads payloads twice. A frame is compared with the limits
     /// after its whole packet. Of a repeated packet `receive` reports once; for single frames a repeat reports again, since nothing is kept
     /// of packets.
     DataBlocked,

@@ -30,7 +30,7 @@ pub enum RaiseFault {
 pub enum SetFault {
     /// The connection is closed, so limits mean nothing any more.
     Closed,
-    /// The value is out of the range that [`Endpoint::new_wide`](crate::Endpoint::new_wide) has for it.
+    /// The value is out of the range that [`Endpoint::with_tuning`](crate::Endpoint::with_tuning) has for it.
     OutOfRange,
     NoSuchStream,
     /// The stream has no such half here: it is unidirectional.

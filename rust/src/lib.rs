@@ -39,7 +39,7 @@
 //! | [`Made`], [`Received`] | a packet that was made, and what came of a payload |
 //! | [`Fill`], [`Filled`], [`Token`], [`Taken`] | frames and tokens, for a stack that owns its packet numbers and its ACKs |
 //! | [`Frame`], [`Frames`], [`Placed`], [`AckRanges`], [`EcnCounts`], [`WireFault`], [`FaultKind`] | the frames of a payload, which `frames`, `put` and `put_ack` read and write without an endpoint |
-//! | [`Closing`], [`ToldClose`], [`Closer`], [`CloseKind`] | why a connection is closed |
+//! | [`Closing`], [`NotedClose`], [`Closer`], [`CloseKind`] | why a connection is closed |
 //! | [`Held`] | how much memory an endpoint takes for bytes of streams |
 //! | [`SetupFault`], [`OpenFault`], [`UseFault`], [`MakeFault`], [`ReceiveFault`], [`LostFault`], [`TakeFault`], [`TokenFault`], [`EventFault`], [`SetFault`], [`RaiseFault`], [`PutFault`] | why a call was refused: each is an `Error`, and takes no memory |
 //!
@@ -118,8 +118,8 @@ mod streams;
 mod tuning;
 
 pub use answers::{
-    CloseKind, Closer, Closing, Consumed, Held, Made, Peek, Read, Received, RecvReport, RecvState,
-    SendReport, SendState, StreamReport, Taken, Token, ToldClose,
+    CloseKind, Closer, Closing, Consumed, Held, Made, NotedClose, Peek, Read, Received, RecvReport,
+    RecvState, SendReport, SendState, StreamReport, Taken, Token,
 };
 pub use endpoint::{Endpoint, MAX_PAYLOAD, MAX_ROOM, MIN_ROOM};
 pub use event::Event;

@@ -15,7 +15,7 @@ pub enum Share {
     Sixteenth,
 }
 
-/// What an application may choose about an endpoint: see [`Endpoint::new_wide`](crate::Endpoint::new_wide).
+/// What an application may choose about an endpoint: see [`Endpoint::with_tuning`](crate::Endpoint::with_tuning).
 ///
 /// [`Tuning::default`] is what [`Endpoint::new`](crate::Endpoint::new) has.
 ///
@@ -57,7 +57,7 @@ impl Tuning {
     /// // The count goes from 100 to 125, once 25 streams ended, then to 150.
     /// let settings = Settings::default().streams(100, 10_000);
     /// let tuning = Tuning::default().count_step(Some(Share::Quarter));
-    /// let end = Endpoint::new_wide(Role::Server, settings, tuning, settings.limits()).unwrap();
+    /// let end = Endpoint::with_tuning(Role::Server, settings, tuning, settings.limits()).unwrap();
     /// assert_eq!(end.granted_streams(Dir::Bidi), 100);
     /// ```
     #[must_use]
@@ -112,7 +112,7 @@ impl Tuning {
     ///
     /// let settings = Settings::default();
     /// let tuning = Tuning::default().send_window(Some(5));
-    /// let mut end = Endpoint::new_wide(Role::Client, settings, tuning, settings.limits()).expect("in range");
+    /// let mut end = Endpoint::with_tuning(Role::Client, settings, tuning, settings.limits()).expect("in range");
     /// let (one, other) = (end.open(Dir::Uni).expect("granted"), end.open(Dir::Bidi).expect("granted"));
     /// assert_eq!((end.write(one, b"abc"), end.write(other, b"def")), (Ok(3), Ok(2)));
     /// assert_eq!((end.room(one), end.write(one, b"g")), (0, Ok(0)));

@@ -9,7 +9,7 @@ fn begun(answers: bool) -> ([Endpoint; 2], StreamId) {
     let settings = Settings::small().streams(4, 8);
     let tuning = Tuning::default().answers_stops(answers);
     let mut ends = [Role::Client, Role::Server].map(|role| {
-        Endpoint::new_wide(role, settings, tuning, settings.limits()).expect("in range")
+        Endpoint::with_tuning(role, settings, tuning, settings.limits()).expect("in range")
     });
     let stream = ends[0].open(Dir::Uni).expect("granted");
     assert_eq!(ends[0].write(stream, b"abc"), Ok(3));

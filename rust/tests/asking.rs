@@ -329,7 +329,7 @@ fn newly_acknowledged_packets_are_told_by_what_is_outstanding() {
 // What a payload newly acknowledges, as it is told while the payload is taken in.
 fn told(end: &mut Endpoint, number: u64, payload: &[u8]) -> Vec<u64> {
     let mut numbers = Vec::new();
-    _ = end.receive_telling(number, payload, |number| numbers.push(number));
+    _ = end.receive_with_acks(number, payload, |number| numbers.push(number));
     numbers
 }
 
@@ -386,9 +386,9 @@ fn what_took_effect_alone_is_told() {
     let mut client = six_sent();
     let mut count = 0;
     let long = vec![0; 65_536];
-    let answer = client.receive_telling(0, &long, |_| count += 1);
+    let answer = client.receive_with_acks(0, &long, |_| count += 1);
     assert_eq!((answer, count), (Err(ReceiveFault::Invalid), 0));
-    let answer = client.receive_telling(1 << 62, &low, |_| count += 1);
+    let answer = client.receive_with_acks(1 << 62, &low, |_| count += 1);
     assert_eq!((answer, count), (Err(ReceiveFault::Invalid), 0));
 }
 

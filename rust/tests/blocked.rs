@@ -6,8 +6,8 @@ mod refusing;
 mod support;
 
 use gotsavena::{
-    CloseKind, Closer, Dir, Endpoint, Event, EventFault, Frame, OpenFault, Received, Settings,
-    StreamId, TakeFault, Taken, ToldClose, frames,
+    CloseKind, Closer, Dir, Endpoint, Event, EventFault, Frame, NotedClose, OpenFault, Received,
+    Settings, StreamId, TakeFault, Taken, frames,
 };
 use refusing::{ASKED, IS_CALLED, REFUSED};
 use support::two_ends;
@@ -141,7 +141,7 @@ fn each_stands_for_itself() {
 fn a_closed_end_tells_none() {
     let mut end = asked();
     assert_eq!(end.take_frames(&said(1000, 400, 1)), Ok(Taken::Unchanged));
-    end.tell_closed(ToldClose {
+    end.note_closed(NotedClose {
         by: Closer::Peer,
         kind: CloseKind::Application,
         code: 7,
@@ -156,7 +156,7 @@ fn who_asks_for_no_event_hears_of_none() {
     assert_eq!(news(&mut end), [Event::Opened(stream())]);
     // It may choose to before it asks.
     let [_, mut end] = two_ends(settings());
-    end.hear_blocked(true);
+    end.report_blocked(true);
     assert_eq!(end.take_frames(&said(1000, 400, 1)), Ok(Taken::Took));
     assert_eq!(news(&mut end)[1..], all_three());
 }
@@ -190,7 +190,7 @@ fn payloads_are_looked_through_where_that_is_chosen() {
     let came: Vec<_> = came.chain(of_streams.map(Event::Readable)).collect();
     for is_chosen in [false, true] {
         let [_, mut server] = two_ends(narrow());
-        server.hear_blocked(is_chosen);
+        server.report_blocked(is_chosen);
         assert_eq!(news(&mut server), []);
         stalled(&mut server, take);
         let told = if is_chosen { &all_three()[..] } else { &[] };
@@ -276,7 +276,7 @@ fn a_frame_without_memory_changes_nothing() {
 /// A server that looks payloads through, and whose peer may open two streams.
 fn looking() -> Endpoint {
     let [_, mut end] = two_ends(settings().streams(2, 8));
-    end.hear_blocked(true);
+    end.report_blocked(true);
     end
 }
 
@@ -363,12 +363,12 @@ fn what_was_said_waits_for_its_note() {
 #[test]
 fn a_closed_end_says_so_without_memory() {
     let mut end = looking();
-    let closed = ToldClose {
+    let closed = NotedClose {
         by: Closer::Peer,
         kind: CloseKind::Transport,
         code: 5,
     };
-    end.tell_closed(closed);
+    end.note_closed(closed);
     let (text, frame) = stands(STREAM);
     let (taken, was_asked) = refused(0, || end.receive(1, &text));
     assert_eq!((taken, was_asked), (Ok(Received::PeerClosed(5)), false));

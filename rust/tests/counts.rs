@@ -13,7 +13,7 @@ fn settings() -> Settings {
 
 fn tuned(role: Role, tuning: Tuning) -> Endpoint {
     let peer: PeerLimits = settings().limits();
-    Endpoint::new_wide(role, settings(), tuning, peer).expect("in range")
+    Endpoint::with_tuning(role, settings(), tuning, peer).expect("in range")
 }
 
 /// What is due goes across. Answers how many MAX_STREAMS frames it held.
@@ -83,7 +83,7 @@ fn all_granted_streams_may_be_open_at_once_and_end() {
             let tuning = Tuning::default().count_step(Some(step));
             let mut client = Endpoint::new(Role::Client, own, own.limits()).expect("in range");
             let mut server =
-                Endpoint::new_wide(Role::Server, own, tuning, own.limits()).expect("in range");
+                Endpoint::with_tuning(Role::Server, own, tuning, own.limits()).expect("in range");
             let mut opened = 0;
             while opened < 10 * grant + 1 {
                 let mut streams = Vec::new();

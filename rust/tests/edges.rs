@@ -43,7 +43,7 @@ fn a_stop_of_what_is_over_is_no_news() {
 fn next_writable_asks_the_streams_own_buffer() {
     let settings = Settings::small();
     let tuning = Tuning::default().send_window(Some(1));
-    let mut end = Endpoint::new_wide(Role::Client, settings, tuning, settings.limits())
+    let mut end = Endpoint::with_tuning(Role::Client, settings, tuning, settings.limits())
         .expect("within range");
     let [one, other] = [(); 2].map(|()| end.open(Dir::Bidi).expect("granted"));
     assert_eq!(end.write(one, b"a"), Ok(1));

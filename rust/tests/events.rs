@@ -42,7 +42,7 @@ fn within_credit(settings: Settings) -> [Endpoint; 2] {
 
 fn tuned(settings: Settings, tuning: Tuning) -> [Endpoint; 2] {
     [Role::Client, Role::Server].map(|role| {
-        Endpoint::new_wide(role, settings, tuning, settings.limits()).expect("in range")
+        Endpoint::with_tuning(role, settings, tuning, settings.limits()).expect("in range")
     })
 }
 
@@ -136,7 +136,7 @@ fn a_stopped_stream_is_readable_again_at_its_end() {
     pass(&mut ends, 0);
     assert_eq!(news(&mut ends[1]).len(), 4);
     ends[1].stop(streams[0], 1).expect("open");
-    ends[1].stop_and_forget(streams[1], 1).expect("open");
+    ends[1].stop_and_discard(streams[1], 1).expect("open");
     assert_eq!(news(&mut ends[1]), []);
     pass(&mut ends, 1);
     assert_eq!(
@@ -426,7 +426,7 @@ impl Run {
         let most = random.below(200) as usize;
         match random.below(20) {
             0 => _ = end.stop(stream, 6),
-            1 => _ = end.stop_and_forget(stream, 6),
+            1 => _ = end.stop_and_discard(stream, 6),
             2..=10 => _ = end.consume(stream, most),
             _ => _ = end.read(stream, &mut vec![0; most]),
         }

@@ -71,7 +71,7 @@ fn carry(seed: u64) {
         }
         if turn >= forgets && !forgotten {
             forgotten = true;
-            one.stop_and_forget(stream, 3).expect("open");
+            one.stop_and_discard(stream, 3).expect("open");
             other.stop(stream, 3).expect("open");
             let _told = other.read(stream, &mut [0; 10]).expect("open");
             alike(&one, &other, stream);
@@ -112,8 +112,8 @@ fn each_forgotten_stream_gives_its_place_to_another() {
             .expect("due");
         assert!(server.receive(made.number, &payload[..made.len]).is_ok());
         let before = server.granted_streams(Dir::Uni);
-        server.stop_and_forget(stream, round).expect("open");
-        server.stop_and_forget(stream, 99).expect("open");
+        server.stop_and_discard(stream, round).expect("open");
+        server.stop_and_discard(stream, 99).expect("open");
         assert_eq!(server.next_ended(stream), None);
         assert_eq!(server.granted_streams(Dir::Uni), before);
         let made = server
@@ -149,7 +149,7 @@ fn what_all_came_of_is_over_at_once() {
         .expect("open")
         .expect("due");
     assert!(server.receive(made.number, &payload[..made.len]).is_ok());
-    server.stop_and_forget(stream, 7).expect("open");
+    server.stop_and_discard(stream, 7).expect("open");
     assert_eq!(server.next_ended(stream), Some(stream));
     assert_eq!((server.stored(), server.noted()), (0, 0));
 }
@@ -159,15 +159,15 @@ fn only_a_stream_that_comes_in_can_be_forgotten() {
     let (mut client, mut servers) = ends_alike(Settings::small());
     let stream = client.open(Dir::Uni).expect("granted");
     assert_eq!(
-        client.stop_and_forget(stream, 1),
+        client.stop_and_discard(stream, 1),
         Err(UseFault::WrongDirection)
     );
     assert_eq!(
-        servers[0].stop_and_forget(stream, 1),
+        servers[0].stop_and_discard(stream, 1),
         Err(UseFault::NoSuchStream)
     );
     assert_eq!(
-        client.stop_and_forget(stream, 1 << 62),
+        client.stop_and_discard(stream, 1 << 62),
         Err(UseFault::Invalid)
     );
 }

@@ -257,11 +257,11 @@ mod io {
     use super::support::two_ends;
     use super::{ASKED, IS_CALLED, REFUSED};
     use gotsavena::{
-        CloseKind, Closer, Dir, Endpoint, Frame, Settings, StreamId, Taken, ToldClose,
+        CloseKind, Closer, Dir, Endpoint, Frame, NotedClose, Settings, StreamId, Taken,
     };
     use std::io::{self, ErrorKind, Read, Write};
 
-    const CLOSE: ToldClose = ToldClose {
+    const CLOSE: NotedClose = NotedClose {
         by: Closer::Us,
         kind: CloseKind::Application,
         code: 7,
@@ -309,7 +309,7 @@ mod io {
         assert_eq!(write(&mut end, foreign), (ErrorKind::InvalidInput, 0));
         assert_eq!(write(&mut end, none), (ErrorKind::NotFound, 0));
         assert_eq!(write(&mut end, whole).0, ErrorKind::OutOfMemory);
-        end.tell_closed(CLOSE);
+        end.note_closed(CLOSE);
         assert_eq!(write(&mut end, whole), (ErrorKind::NotConnected, 0));
     }
 
@@ -338,7 +338,7 @@ mod io {
         assert_eq!(read(&mut server, waits), (ErrorKind::WouldBlock, 0));
         assert_eq!(read(&mut server, own), (ErrorKind::InvalidInput, 0));
         assert_eq!(read(&mut server, none), (ErrorKind::NotFound, 0));
-        server.tell_closed(CLOSE);
+        server.note_closed(CLOSE);
         assert_eq!(read(&mut server, waits), (ErrorKind::NotConnected, 0));
     }
 }

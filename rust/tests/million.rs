@@ -25,7 +25,7 @@ fn two_ends() -> [Endpoint; 2] {
     let settings = Settings::default();
     let tuning = Tuning::default().count_step(Some(Share::Eighth));
     [Role::Client, Role::Server].map(|role| {
-        Endpoint::new_wide(role, settings, tuning, settings.limits()).expect("in range")
+        Endpoint::with_tuning(role, settings, tuning, settings.limits()).expect("in range")
     })
 }
 

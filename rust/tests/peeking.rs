@@ -128,7 +128,7 @@ fn a_closed_end_that_reads_on_shows_on() {
     let tuning = Tuning::default().reads_when_closed(true);
     let mut client = Endpoint::new(Role::Client, settings, settings.limits()).expect("in range");
     let mut server =
-        Endpoint::new_wide(Role::Server, settings, tuning, settings.limits()).expect("in range");
+        Endpoint::with_tuning(Role::Server, settings, tuning, settings.limits()).expect("in range");
     let stream = client.open(Dir::Uni).expect("granted");
     assert_eq!(client.write(stream, b"abc"), Ok(3));
     let mut payload = [0; 300];

@@ -380,7 +380,7 @@ fn plain_rounds_lead_every_run_to_rest() {
 
 /// A client of which this is chosen and that was told these limits, and a server.
 fn told(settings: Settings, tuning: Tuning, limits: PeerLimits) -> [Endpoint; 2] {
-    let client = Endpoint::new_wide(Role::Client, settings, tuning, limits);
+    let client = Endpoint::with_tuning(Role::Client, settings, tuning, limits);
     let server = Endpoint::new(Role::Server, settings, settings.limits());
     [client, server].map(|end| end.expect("in range"))
 }

@@ -11,7 +11,7 @@ use support::Random;
 fn bounded(window: u64, tuning: Tuning, settings: Settings) -> [Endpoint; 2] {
     let tuning = tuning.send_window(Some(window));
     [Role::Client, Role::Server].map(|role| {
-        Endpoint::new_wide(role, settings, tuning, settings.limits()).expect("in range")
+        Endpoint::with_tuning(role, settings, tuning, settings.limits()).expect("in range")
     })
 }
 
@@ -105,7 +105,7 @@ fn no_window_and_the_greatest_one_bound_nothing() {
     let settings = Settings::small().send_buffer(30);
     for window in [None, Some(u64::MAX)] {
         let tuning = Tuning::default().send_window(window);
-        let mut end = Endpoint::new_wide(Role::Client, settings, tuning, settings.limits())
+        let mut end = Endpoint::with_tuning(Role::Client, settings, tuning, settings.limits())
             .expect("in range");
         for _ in 0..3 {
             let stream = end.open(Dir::Uni).expect("granted");

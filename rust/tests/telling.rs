@@ -1,8 +1,8 @@
 //! A close that the endpoint didn't see itself is noted there.
 
 use gotsavena::{
-    CloseKind, Closer, Dir, Endpoint, Fill, Frame, MakeFault, OpenFault, Read, ReceiveFault,
-    Received, Role, Settings, TakeFault, ToldClose, Tuning, UseFault,
+    CloseKind, Closer, Dir, Endpoint, Fill, Frame, MakeFault, NotedClose, OpenFault, Read,
+    ReceiveFault, Received, Role, Settings, TakeFault, Tuning, UseFault,
 };
 
 fn end() -> Endpoint {
@@ -10,13 +10,13 @@ fn end() -> Endpoint {
     Endpoint::new(Role::Client, settings, settings.limits()).expect("within range")
 }
 
-const BY_PEER: ToldClose = ToldClose {
+const BY_PEER: NotedClose = NotedClose {
     by: Closer::Peer,
     kind: CloseKind::Application,
     code: 0x100,
 };
 
-const BY_US: ToldClose = ToldClose {
+const BY_US: NotedClose = NotedClose {
     by: Closer::Us,
     kind: CloseKind::Transport,
     code: u64::MAX,
@@ -27,8 +27,8 @@ fn the_end_is_closed() {
     let mut one = end();
     let stream = one.open(Dir::Uni).expect("granted");
     one.write(stream, b"abc").expect("room");
-    one.tell_closed(BY_PEER);
-    assert_eq!(one.told_close(), Some(BY_PEER));
+    one.note_closed(BY_PEER);
+    assert_eq!(one.noted_close(), Some(BY_PEER));
     assert_eq!((one.peer_closed(), one.closing()), (None, None));
     assert_eq!(one.close_payload(&mut [0; 128]), None);
     assert!(!one.is_sendable());
@@ -41,12 +41,12 @@ fn the_end_is_closed() {
 #[test]
 fn it_says_so_again() {
     let mut one = end();
-    one.tell_closed(BY_PEER);
+    one.note_closed(BY_PEER);
     assert_eq!(one.receive(0, &[1]), Ok(Received::PeerClosed(0x100)));
     let taken = one.take_frame(&Frame::Ping);
     assert_eq!(taken, Err(TakeFault::PeerClosed(0x100)));
     let mut other = end();
-    other.tell_closed(BY_US);
+    other.note_closed(BY_US);
     let Err(ReceiveFault::Closing(closing)) = other.receive(0, &[1]) else {
         panic!("this side closed");
     };
@@ -61,13 +61,13 @@ fn it_says_so_again() {
 #[test]
 fn one_that_closed_stays() {
     let mut one = end();
-    one.tell_closed(BY_US);
-    one.tell_closed(BY_PEER);
-    assert_eq!(one.told_close(), Some(BY_US));
+    one.note_closed(BY_US);
+    one.note_closed(BY_PEER);
+    assert_eq!(one.noted_close(), Some(BY_US));
     let mut other = end();
     other.receive(0, &[0x1c, 5, 0, 0]).expect("the peer closes");
-    other.tell_closed(BY_US);
-    assert_eq!((other.told_close(), other.peer_closed()), (None, Some(5)));
+    other.note_closed(BY_US);
+    assert_eq!((other.noted_close(), other.peer_closed()), (None, Some(5)));
 }
 
 #[test]
@@ -75,11 +75,11 @@ fn what_came_in_is_read_on_by_choice() {
     let settings = Settings::small();
     let tuning = Tuning::default().reads_when_closed(true);
     let limits = settings.limits();
-    let mut one = Endpoint::new_wide(Role::Server, settings, tuning, limits).expect("in range");
+    let mut one = Endpoint::with_tuning(Role::Server, settings, tuning, limits).expect("in range");
     // STREAM of stream 2, with its end.
     one.receive(0, &[0x0b, 2, 2, b'h', b'i']).expect("lawful");
     let stream = one.accept().expect("it came");
-    one.tell_closed(BY_PEER);
+    one.note_closed(BY_PEER);
     let mut read = [0; 8];
     assert_eq!(one.read(stream, &mut read), Ok(Read::Bytes(2)));
 }

@@ -218,7 +218,7 @@ fn a_fresh_end_takes_no_token_of_the_one_before() {
     let settings = Settings::default();
     let begun = |epoch| {
         let tuning = Tuning::default().epoch(epoch);
-        let mut end = Endpoint::new_wide(Role::Client, settings, tuning, settings.limits())?;
+        let mut end = Endpoint::with_tuning(Role::Client, settings, tuning, settings.limits())?;
         let stream = end.open(Dir::Uni).expect("granted");
         end.write(stream, b"hello").expect("room");
         let filled = end.fill(&mut [0; 100], &Fill::all()).expect("open");

@@ -110,7 +110,7 @@ fn transfer(window: usize, step: Share) -> u64 {
         .send_buffer(window);
     let tuning = Tuning::default().credit_step(step);
     let [mut client, mut server] = [Role::Client, Role::Server].map(|role| {
-        Endpoint::new_wide(role, settings, tuning, settings.limits()).expect("in range")
+        Endpoint::with_tuning(role, settings, tuning, settings.limits()).expect("in range")
     });
     let (mut there, mut back) = (Path::default(), Path::default());
     let stream = client.open(Dir::Uni).expect("a stream");
@@ -209,7 +209,7 @@ fn growing_transfer(window: u64) -> (u64, u64) {
         .send_buffer(SIZE);
     let tuning = Tuning::default().credit_step(Share::Eighth);
     let [mut client, mut server] = [Role::Client, Role::Server].map(|role| {
-        Endpoint::new_wide(role, settings, tuning, settings.limits()).expect("in range")
+        Endpoint::with_tuning(role, settings, tuning, settings.limits()).expect("in range")
     });
     let (mut there, mut back) = (Path::default(), Path::default());
     let stream = client.open(Dir::Uni).expect("a stream");
@@ -260,7 +260,7 @@ fn a_limit_moves_once_its_share_was_read() {
             .send_buffer(1 << 16);
         let tuning = Tuning::default().credit_step(step);
         let [mut client, mut server] = [Role::Client, Role::Server].map(|role| {
-            Endpoint::new_wide(role, settings, tuning, settings.limits()).expect("in range")
+            Endpoint::with_tuning(role, settings, tuning, settings.limits()).expect("in range")
         });
         let stream = client.open(Dir::Uni).expect("a stream");
         assert_eq!(client.write(stream, &[7; 1 << 16]), Ok(1 << 16));

@@ -25,7 +25,7 @@ fn small() -> Settings {
 
 fn prudent(role: Role, settings: Settings, peer: PeerLimits) -> Endpoint {
     let tuning = Tuning::default().within_credit(true);
-    Endpoint::new_wide(role, settings, tuning, peer).expect("in range")
+    Endpoint::with_tuning(role, settings, tuning, peer).expect("in range")
 }
 
 // How many bytes of a stream are kept: those from the lowest offset on that isn't acknowledged, and none after a reset.

@@ -191,13 +191,13 @@ static void forgotten(gv_endpoint *end) {
   static const uint8_t last[] = {0x0f, 0x03, 0x01, 0x01, 0x62}; /* its second byte is its last */
   const uint64_t big = UINT64_C(1) << 62;
   uint64_t number = 9;
-  want(gv_stop_and_forget(NULL, 3, 7), GV_INVALID, "forget of no end");
-  want(gv_stop_and_forget(end, big, 7), GV_INVALID, "forget no stream");
-  want(gv_stop_and_forget(end, 3, big), GV_INVALID, "forget with no code");
-  want(gv_stop_and_forget(end, 7, 7), GV_NO_SUCH_STREAM, "forget another");
+  want(gv_stop_and_discard(NULL, 3, 7), GV_INVALID, "forget of no end");
+  want(gv_stop_and_discard(end, big, 7), GV_INVALID, "forget no stream");
+  want(gv_stop_and_discard(end, 3, big), GV_INVALID, "forget with no code");
+  want(gv_stop_and_discard(end, 7, 7), GV_NO_SUCH_STREAM, "forget another");
   want(gv_open(end, GV_DIR_UNI, &number, NULL), GV_OK, "open");
-  want(gv_stop_and_forget(end, number, 7), GV_WRONG_DIRECTION, "forget what is sent");
-  want(gv_stop_and_forget(end, 3, 7), GV_OK, "forget");
+  want(gv_stop_and_discard(end, number, 7), GV_WRONG_DIRECTION, "forget what is sent");
+  want(gv_stop_and_discard(end, 3, 7), GV_OK, "forget");
   want(gv_next_ended(end, 0, &number), GV_NONE, "it isn't over");
   want(gv_receive(end, 1, last, sizeof last), GV_OK, "receive the end");
   want(gv_next_readable(end, 0, &number), GV_NONE, "nothing is to be read");
@@ -223,7 +223,7 @@ static void set_anew(void) {
   want(gv_set_grant(end, GV_DIR_BIDI, 1), GV_CONNECTION_CLOSED, "grant once closed");
   want(gv_set_send_buffer(end, 0, 1), GV_CONNECTION_CLOSED, "buffer once closed");
   want(gv_set_stream_window(end, 3, 1), GV_CONNECTION_CLOSED, "window of a stream once closed");
-  want(gv_stop_and_forget(end, 3, 7), GV_CONNECTION_CLOSED, "forget once closed");
+  want(gv_stop_and_discard(end, 3, 7), GV_CONNECTION_CLOSED, "forget once closed");
   want(gv_kept_sum(end, &number), GV_OK, "a closed end is asked");
   gv_endpoint_free(end);
 }
@@ -280,10 +280,10 @@ int main(void) {
   want(gv_token_lost(NULL, token_at(end, 0)), GV_INVALID, "lost of no end");
   want(gv_receive(end, big, &byte, 1), GV_INVALID, "receive");
   want(gv_receive(end, 5, NULL, 1), GV_INVALID, "receive from null");
-  want(gv_receive_telling(end, big, &byte, 1, count_one, &told), GV_INVALID, "receive and tell");
-  want(gv_receive_telling(end, 5, NULL, 1, count_one, &told), GV_INVALID, "receive from null and tell");
-  want(gv_receive_telling(end, 5, &byte, 1, NULL, &told), GV_INVALID, "receive and tell nobody");
-  want(gv_receive_telling(NULL, 5, &byte, 1, count_one, &told), GV_INVALID, "receive without an end");
+  want(gv_receive_with_acks(end, big, &byte, 1, count_one, &told), GV_INVALID, "receive and tell");
+  want(gv_receive_with_acks(end, 5, NULL, 1, count_one, &told), GV_INVALID, "receive from null and tell");
+  want(gv_receive_with_acks(end, 5, &byte, 1, NULL, &told), GV_INVALID, "receive and tell nobody");
+  want(gv_receive_with_acks(NULL, 5, &byte, 1, count_one, &told), GV_INVALID, "receive without an end");
   want(gv_receive(end, 5, &byte, 1), GV_OK, "receive a PING");
   want(gv_receive(end, 5, &byte, 1), GV_DUPLICATE, "receive it again");
   want(gv_make_packet(end, room, 127, &made), GV_INVALID, "small room");
@@ -370,7 +370,7 @@ int main(void) {
   want(gv_next_newly_acked(end, NULL, 0, 0, &number), GV_NONE, "acknowledged by nothing");
   want(gv_next_newly_acked(end, NULL, 1, 0, &number), GV_INVALID, "acknowledged by null");
   want(gv_next_newly_acked(end, ack_of_2, sizeof ack_of_2, 0, NULL), GV_INVALID, "acknowledged to null");
-  want(gv_receive_telling(end, 5, ack_of_2, sizeof ack_of_2, count_one, &told), GV_DUPLICATE, "receive the PING's number again");
+  want(gv_receive_with_acks(end, 5, ack_of_2, sizeof ack_of_2, count_one, &told), GV_DUPLICATE, "receive the PING's number again");
   want(told == 0 ? GV_OK : GV_INVALID, GV_OK, "nothing is told");
   want(gv_token_acked(end, token_at(end, 3)), GV_NOT_GIVEN, "acked past the last");
   want(gv_token_lost(end, token_at(end, 2)), GV_OK, "lost");

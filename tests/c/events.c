@@ -252,8 +252,8 @@ static void held_back(void) {
   hears(end, "", "and isn't looked through");
   want(gv_take_frame(end, &of_conn, &taken), GV_OK, "one frame");
   hears(end, "conn-blocked 0;", "of the limit that stands now");
-  want(gv_hear_blocked(NULL, true), GV_INVALID, "of no end");
-  want(gv_hear_blocked(end, true), GV_OK, "payloads are looked through");
+  want(gv_report_blocked(NULL, true), GV_INVALID, "of no end");
+  want(gv_report_blocked(end, true), GV_OK, "payloads are looked through");
   want(gv_receive(end, 2, payload, sizeof payload), GV_OK, "one is");
   want(gv_receive(end, 2, payload, sizeof payload), GV_DUPLICATE, "once");
   hears(end, "blocked 0;", "the connection's limit rose");
@@ -277,7 +277,7 @@ static bool two_payloads(int first, int second) {
   gv_endpoint *end = new_end(GV_ROLE_SERVER);
   uint64_t stream = 99;
   bool is_due = true;
-  want(gv_hear_blocked(end, true), GV_OK, "payloads are looked through");
+  want(gv_report_blocked(end, true), GV_OK, "payloads are looked through");
   gv_status one = say(end, 0, first);
   if (one == GV_NO_MEMORY) {
     want(gv_ack_is_due(end, &is_due), GV_OK, "an ACK");

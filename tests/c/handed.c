@@ -289,26 +289,26 @@ static void is_told(gv_endpoint *end) {
   uint64_t code = 0;
   uint8_t out[200];
   size_t len = 0;
-  want(gv_tell_closed(NULL, GV_CLOSER_US, GV_CLOSE_TRANSPORT, 0), GV_INVALID, "no end");
-  want(gv_tell_closed(end, (gv_closer)2, GV_CLOSE_TRANSPORT, 0), GV_INVALID, "no side");
-  want(gv_tell_closed(end, GV_CLOSER_US, (gv_close_kind)2, 0), GV_INVALID, "no kind");
-  want(gv_told_close(end, &by, &kind, &code), GV_NONE, "it wasn't told yet");
-  want(gv_tell_closed(end, GV_CLOSER_PEER, GV_CLOSE_APPLICATION, 0x100), GV_OK, "the peer closed");
-  want(gv_tell_closed(end, GV_CLOSER_US, GV_CLOSE_TRANSPORT, 1), GV_OK, "and is closed already");
+  want(gv_note_closed(NULL, GV_CLOSER_US, GV_CLOSE_TRANSPORT, 0), GV_INVALID, "no end");
+  want(gv_note_closed(end, (gv_closer)2, GV_CLOSE_TRANSPORT, 0), GV_INVALID, "no side");
+  want(gv_note_closed(end, GV_CLOSER_US, (gv_close_kind)2, 0), GV_INVALID, "no kind");
+  want(gv_noted_close(end, &by, &kind, &code), GV_NONE, "it wasn't told yet");
+  want(gv_note_closed(end, GV_CLOSER_PEER, GV_CLOSE_APPLICATION, 0x100), GV_OK, "the peer closed");
+  want(gv_note_closed(end, GV_CLOSER_US, GV_CLOSE_TRANSPORT, 1), GV_OK, "and is closed already");
   want(gv_take_frame(end, &first, &taken), GV_CLOSED_BY_PEER, "it says so again");
   want(gv_peer_closed(end, &code), GV_NONE, "but no frame did it");
   want(gv_closing(end, &why), GV_NONE, "nor this end");
   want(gv_close_payload(end, out, sizeof out, &len), GV_NONE, "so it has no payload");
-  want(gv_told_close(NULL, &by, &kind, &code), GV_INVALID, "of no end");
-  want(gv_told_close(end, NULL, &kind, &code), GV_INVALID, "the side to null");
-  want(gv_told_close(end, &by, NULL, &code), GV_INVALID, "the kind to null");
-  want(gv_told_close(end, &by, &kind, NULL), GV_INVALID, "the code to null");
+  want(gv_noted_close(NULL, &by, &kind, &code), GV_INVALID, "of no end");
+  want(gv_noted_close(end, NULL, &kind, &code), GV_INVALID, "the side to null");
+  want(gv_noted_close(end, &by, NULL, &code), GV_INVALID, "the kind to null");
+  want(gv_noted_close(end, &by, &kind, NULL), GV_INVALID, "the code to null");
   holds(by == GV_CLOSER_US && kind == GV_CLOSE_TRANSPORT && code == 0, "nothing was told");
-  want(gv_told_close(end, &by, &kind, &code), GV_OK, "what it was told");
+  want(gv_noted_close(end, &by, &kind, &code), GV_OK, "what it was told");
   holds(by == GV_CLOSER_PEER && kind == GV_CLOSE_APPLICATION && code == 0x100, "which it was, first");
   gv_endpoint *other = new_end();
-  want(gv_tell_closed(other, GV_CLOSER_US, GV_CLOSE_TRANSPORT, 1), GV_OK, "this side closed");
-  want(gv_told_close(other, &by, &kind, &code), GV_OK, "what that one was told");
+  want(gv_note_closed(other, GV_CLOSER_US, GV_CLOSE_TRANSPORT, 1), GV_OK, "this side closed");
+  want(gv_noted_close(other, &by, &kind, &code), GV_OK, "what that one was told");
   holds(by == GV_CLOSER_US && kind == GV_CLOSE_TRANSPORT && code == 1, "which it was");
   gv_endpoint_free(other);
 }
@@ -383,7 +383,7 @@ static void is_closed_by_peer(gv_endpoint *end) {
   want(gv_take_frame(end, &first, &taken), GV_CLOSED_BY_PEER, "it is closed");
   want(gv_peer_closed(end, &code), GV_OK, "with a code");
   holds(code == 5, "which it is");
-  want(gv_told_close(end, &by, &kind, &code), GV_NONE, "and nobody told it");
+  want(gv_noted_close(end, &by, &kind, &code), GV_NONE, "and nobody told it");
 }
 
 int main(void) {

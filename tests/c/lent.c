@@ -92,7 +92,7 @@ static void ask_all(const gv_endpoint *end) {
   (void)gv_closing(end, &closing);
   (void)gv_close_payload(end, out, sizeof out, &len);
   (void)gv_peer_closed(end, &number);
-  (void)gv_told_close(end, &by, &kind, &number);
+  (void)gv_noted_close(end, &by, &kind, &number);
 }
 
 static void refused(gv_endpoint *end) {

@@ -263,7 +263,7 @@ static void deliver(int side, uint64_t number) {
   gv_closing_info closing = {.size = sizeof closing};
   uint64_t code = 0;
   acks all = acks_of(1 - side, payload, it->len);
-  gv_status status = gv_receive_telling(end, number, payload, it->len, tell, &all);
+  gv_status status = gv_receive_with_acks(end, number, payload, it->len, tell, &all);
   for (uint64_t i = 0; status == GV_OK && i < all.count; i++) {
     check(names(gv_next_outstanding, end, i) == all.left[i], "what a payload newly acknowledges is outstanding no more");
     check(!all.newly[i], "what is newly acknowledged is told");

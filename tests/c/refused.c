@@ -117,7 +117,7 @@ static bool carry(gv_endpoint *from, gv_endpoint *to, acks *of_to) {
   if (status == GV_NONE) return false;
   want(status, GV_OK, "make");
   if (made.number % 3 != 1) {
-    AGAIN(status, gv_receive_telling(to, made.number, payload, made.len, tell, of_to));
+    AGAIN(status, gv_receive_with_acks(to, made.number, payload, made.len, tell, of_to));
     want(status, GV_OK, "receive");
   } else if (made.is_ack_eliciting) {
     AGAIN(status, gv_declare_lost(from, made.number));

@@ -107,7 +107,7 @@ impl Target for Theirs {
         Some(number)
     }
 
-    fn receive_telling(&mut self, number: u64, payload: &[u8]) -> u64 {
+    fn receive_with_acks(&mut self, number: u64, payload: &[u8]) -> u64 {
         let before = self.0.in_flight();
         self.receive(number, payload);
         (before - self.0.in_flight()) as u64

@@ -25,8 +25,8 @@ impl Target for Ours {
         };
         let tuning = Tuning::default().within_credit(setup.within_credit);
         let mut end =
-            Endpoint::new_wide(Role::Server, settings, tuning, peer).expect("they are in range");
-        end.hear_blocked(setup.within_credit);
+            Endpoint::with_tuning(Role::Server, settings, tuning, peer).expect("they are in range");
+        end.report_blocked(setup.within_credit);
         Ours(end)
     }
 
@@ -41,9 +41,9 @@ impl Target for Ours {
         made.map(|made| made.number)
     }
 
-    fn receive_telling(&mut self, number: u64, payload: &[u8]) -> u64 {
+    fn receive_with_acks(&mut self, number: u64, payload: &[u8]) -> u64 {
         let mut count = 0;
-        let answer = self.0.receive_telling(number, payload, |_| count += 1);
+        let answer = self.0.receive_with_acks(number, payload, |_| count += 1);
         assert_eq!(answer, Ok(Received::Done), "no rule was broken");
         count
     }

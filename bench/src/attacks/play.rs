@@ -33,7 +33,7 @@ pub trait Target {
     /// Makes the next packet and returns its number.
     fn make(&mut self, out: &mut [u8]) -> Option<u64>;
     /// Receives a payload and returns how many packets it newly acknowledges.
-    fn receive_telling(&mut self, number: u64, payload: &[u8]) -> u64;
+    fn receive_with_acks(&mut self, number: u64, payload: &[u8]) -> u64;
     fn open(&mut self, dir: Dir) -> StreamId;
     /// Writes these bytes, as many as are accepted.
     fn write(&mut self, stream: StreamId, bytes: &[u8]);
@@ -168,7 +168,7 @@ impl<T: Target> Play<T> {
     /// Delivers the payload, and checks how many packets it newly acknowledges.
     pub fn deliver_telling(&mut self, acked: u64) {
         let (payload, number, len) = (std::mem::take(&mut self.payload), self.next, self.len);
-        self.call(|end| assert_eq!(end.receive_telling(number, &payload[..len]), acked));
+        self.call(|end| assert_eq!(end.receive_with_acks(number, &payload[..len]), acked));
         self.payload = payload;
         self.next += 1;
         self.sent += len;

@@ -22,7 +22,7 @@ use Rattle.qs_calls.specs.declared.closing.Closing.{Closing}
 use Rattle.qs_c.specs.declared.structs.GvTold.{GvTold}
 use Rattle.qs_calls.specs.declared.closing.Closer.TheVariants.{Us, Peer}
 use Rattle.qs_calls.specs.declared.closing.CloseKind.TheVariants.{Transport, Application}
-use Rattle.qs_calls.specs.declared.closing.ToldClose.{ToldClose}
+use Rattle.qs_calls.specs.declared.closing.NotedClose.{NotedClose}
 use Rattle.qs_machine.specs.EndCodes.{closer_number, kind_number}
 
 abbrev pub settings_in : GvSettings → Settings
@@ -77,8 +77,8 @@ abbrev pub closing_of : Closing → GvClosing
 closing_of c = record { code = c.code; frame_type = c.frame_type; place = c.place }
 
 -- 0 stands for this side and the transport
-abbrev pub close_in : (by kind code : ℕ) → ToldClose
+abbrev pub close_in : (by kind code : ℕ) → NotedClose
 close_in by kind code = record { by = if nat_eq by 0 then Us else Peer; kind = if nat_eq kind 0 then Transport else Application; code = code }
 
-abbrev pub told_of : ToldClose → GvTold
+abbrev pub told_of : NotedClose → GvTold
 told_of c = record { by = closer_number c.by; kind = kind_number c.kind; code = c.code }

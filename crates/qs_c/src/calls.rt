@@ -9,7 +9,7 @@ ghost use Rattle.qs_calls.specs.declared.making.Made.{Made};
 ghost use Rattle.qs_calls.specs.declared.closing.Closing.{Closing};
 ghost use Rattle.qs_calls.specs.declared.closing.Received.{Received};
 ghost use Rattle.qs_calls.specs.declared.settings.RaiseFault.{RaiseFault};
-ghost use Rattle.qs_machine.specs.Owner.{WriteStep, FinishStep, ResetStep, StopStep, StopAndForgetStep, ReadStep, OpenStep, AcceptStep, AcceptOfStep};
+ghost use Rattle.qs_machine.specs.Owner.{WriteStep, FinishStep, ResetStep, StopStep, StopAndDiscardStep, ReadStep, OpenStep, AcceptStep, AcceptOfStep};
 ghost use Rattle.qs_machine.specs.Receiving.{ReceiveStep};
 ghost use Rattle.qs_machine.specs.Making.{MakeStep, MakeAckStep, ClaimStep, LoseStep, ClosePayload};
 ghost use Rattle.qs_machine.specs.Raising.{RaiseStep};
@@ -126,8 +126,8 @@ impl Thing {
         of_use(self.end.stop(id, code))
     }
 
-    pub(crate) fn stop_and_forget(&mut self, stream: u64, code: u64) -> u32
-        ensures { Tested (is_small stream && is_small code) self.old self.new (result ≡ 1) ((a : Result (Unit {0}) UseFault) × (result ≡ status_of use_status a) × StopAndForgetStep self.old stream code a self.new) }
+    pub(crate) fn stop_and_discard(&mut self, stream: u64, code: u64) -> u32
+        ensures { Tested (is_small stream && is_small code) self.old self.new (result ≡ 1) ((a : Result (Unit {0}) UseFault) × (result ≡ status_of use_status a) × StopAndDiscardStep self.old stream code a self.new) }
     {
         let Some(id) = StreamId::new(stream) else {
             return INVALID;
@@ -135,7 +135,7 @@ impl Thing {
         if code >= LIMIT {
             return INVALID;
         }
-        of_use(self.end.stop_and_forget(id, code))
+        of_use(self.end.stop_and_discard(id, code))
     }
 
     pub(crate) fn read(&mut self, stream: u64, into: &mut [u8], number: &mut u64) -> u32

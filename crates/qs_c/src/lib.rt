@@ -48,7 +48,7 @@ ghost use Rattle.qs_calls.specs.declared.making.Made.{Made};
 ghost use Rattle.qs_calls.specs.declared.closing.Closing.{Closing};
 ghost use Rattle.qs_calls.specs.declared.closing.Received.{Received};
 ghost use Rattle.qs_calls.specs.declared.settings.RaiseFault.{RaiseFault};
-ghost use Rattle.qs_machine.specs.Owner.{WriteStep, FinishStep, ResetStep, StopStep, StopAndForgetStep, ReadStep, OpenStep, AcceptStep, AcceptOfStep};
+ghost use Rattle.qs_machine.specs.Owner.{WriteStep, FinishStep, ResetStep, StopStep, StopAndDiscardStep, ReadStep, OpenStep, AcceptStep, AcceptOfStep};
 ghost use Rattle.qs_machine.specs.Receiving.{ReceiveStep};
 ghost use Rattle.qs_machine.specs.Making.{MakeStep, MakeAckStep, ClaimStep, LoseStep, ClosePayload};
 ghost use Rattle.qs_machine.specs.Raising.{RaiseStep};
@@ -72,7 +72,7 @@ use crate::frame::{GvFault, GvFrame};
 use crate::handle::Handle;
 use crate::lane::GvLane;
 use crate::structs::{GvClosing, GvLimits, GvMade, GvSettings, GvTuning};
-pub use closes::{gvp_tell_closed, gvp_told_close};
+pub use closes::{gvp_note_closed, gvp_noted_close};
 pub use consuming::gvp_consume;
 pub use events::{
     gvp_heard_drop, gvp_heard_new, gvp_next_news, gvp_wants, gvp_was_read, gvp_was_told,
@@ -85,7 +85,7 @@ pub use setting::{gvp_set_conn_window, gvp_set_grant, gvp_set_send_buffer, gvp_s
 pub use stack::{gvp_fill, gvp_take_frame};
 use std::alloc::Global;
 pub use sums::{gvp_kept_sum, gvp_taken, gvp_taken_sum, gvp_unsent_sum};
-pub use telling::gvp_receive_telling;
+pub use telling::gvp_receive_with_acks;
 pub use tokens::{gvp_token_acked, gvp_token_and, gvp_token_lost, gvp_token_of};
 
 /// Apart from `gvp_new`, so that making an endpoint can't fail for memory once its settings passed. A handle that holds one loses it.
@@ -251,18 +251,18 @@ pub extern "C" fn gvp_stop(alloc: Global, end: &mut Handle, stream: u64, code: u
 }
 
 #[unsafe(no_mangle)]
-pub extern "C" fn gvp_stop_and_forget(
+pub extern "C" fn gvp_stop_and_discard(
     alloc: Global,
     end: &mut Handle,
     stream: u64,
     code: u64,
 ) -> u32
-    ensures { Called end.old.cell.value end.new.cell.value (is_small stream && is_small code) (result ≡ 1) (λ e f. (a : Result (Unit {0}) UseFault) × (result ≡ status_of use_status a) × StopAndForgetStep e stream code a f) }
+    ensures { Called end.old.cell.value end.new.cell.value (is_small stream && is_small code) (result ≡ 1) (λ e f. (a : Result (Unit {0}) UseFault) × (result ≡ status_of use_status a) × StopAndDiscardStep e stream code a f) }
 {
     let Some(mut thing) = end.take(alloc) else {
         return INVALID;
     };
-    let status = thing.stop_and_forget(stream, code);
+    let status = thing.stop_and_discard(stream, code);
     end.put(thing);
     status
 }

@@ -1,7 +1,7 @@
 ghost use Rattle.std.specs.Prelude.{◌≡◌, Some, None, if◌then◌else◌};
 ghost use Rattle.qs_c.specs.Structs.{made_of, filled_of, numbers_of, token_in, closing_of, settings_in, is_share, share_of, may_be_share, share_if, is_tuning, window_if, tuning_in, limits_in, told_of};
 
-use qs_calls::{CloseKind, Closer, Filled, Token, ToldClose};
+use qs_calls::{CloseKind, Closer, Filled, NotedClose, Token};
 use qs_conn::{Closing, Made, PeerLimits, Settings, Share, Tuning};
 
 const SHARES: u32 = 4;
@@ -161,7 +161,7 @@ impl GvClosing {
 }
 
 impl GvTold {
-    pub(crate) fn of(close: ToldClose) -> GvTold
+    pub(crate) fn of(close: NotedClose) -> GvTold
         ensures { result ≡ told_of close }
     {
         GvTold {

@@ -30,7 +30,7 @@ pub enum CloseKind {
 /// A close that the endpoint didn't see, since the stack above the packets read or made it. Apart from what a frame did: such a close has
 /// no frame and no place.
 #[derive(Clone, Copy, Debug, PartialEq, Eq, Drop)]
-pub struct ToldClose {
+pub struct NotedClose {
     pub by: Closer,
     pub kind: CloseKind,
     pub code: u64,
@@ -41,7 +41,7 @@ pub struct ToldClose {
 pub enum Closed {
     ByUs(Closing),
     ByPeer(u64),
-    Told(ToldClose),
+    Told(NotedClose),
 }
 
 /// What came of a payload that did not close the connection.

@@ -15,7 +15,7 @@ mod token;
 mod uses;
 
 pub use answer::Answer;
-pub use closing::{CloseKind, Closed, Closer, Closing, Received, ToldClose};
+pub use closing::{CloseKind, Closed, Closer, Closing, NotedClose, Received};
 pub use event::{Act, Event, MAX_BYTES, MAX_ROOM, MIN_ROOM, Side};
 pub use filling::{Fill, Filled, MIN_FILL, NO_CAP};
 pub use making::{LostFault, Made, MakeFault};

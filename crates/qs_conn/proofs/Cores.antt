@@ -4,7 +4,7 @@ use Rattle.std.specs.FinMap as fmap
 use Rattle.std.proofs.lemmas.Bool.{true≢false}
 use Rattle.std.proofs.lemmas.Option.{none-some, same_Some}
 use Rattle.qs_ranges.specs.Numbers.{MAX_VARINT, NumberSet}
-use Rattle.qs_recv.specs.Lane.{RecvLane, after_read, stop, stop_and_forget, new_lane as new_recv_lane, MAX_WINDOW, set_window}
+use Rattle.qs_recv.specs.Lane.{RecvLane, after_read, stop, stop_and_discard, new_lane as new_recv_lane, MAX_WINDOW, set_window}
 use Rattle.qs_machine.specs.Due.{IsCurrent}
 use Rattle.qs_recv.specs.declared.credit.Share.{Share}
 use Rattle.qs_send.specs.Lane.{SendLane, Sending, new_lane as new_send_lane, answer_of, refusal, reset_refusal, write_lane, sent_lane, finish_lane, reset_lane, stop_taken, allow_lane, buffer_lane}
@@ -168,13 +168,13 @@ module _ (c : Core) (h : IsAtRest c) where
       (record c.carried { limits = limits }) (carried_windowed c.recvs c.outbox.sends c.outbox.outstanding c.carried core.carried now n w after limits fell)
 
   -- a stream is stopped and forgotten, and counted anew
-  pub rest_forgotten : (n code : ℕ) (now : Tables RecvLane) (marks : Tables Bool) (e : ByDir ℕ) (was is : Bool) → now ≡ updated c.recvs n (λ l. stop_and_forget l code) (lookup c.recvs n) → marks ≡ updated c.untold_recvs n (λ b. true) (lookup c.untold_recvs n) → was ≡ is_over c.limits.role c.recvs c.outbox.sends n
+  pub rest_forgotten : (n code : ℕ) (now : Tables RecvLane) (marks : Tables Bool) (e : ByDir ℕ) (was is : Bool) → now ≡ updated c.recvs n (λ l. stop_and_discard l code) (lookup c.recvs n) → marks ≡ updated c.untold_recvs n (λ b. true) (lookup c.untold_recvs n) → was ≡ is_over c.limits.role c.recvs c.outbox.sends n
       → is ≡ is_over c.limits.role now c.outbox.sends n → e ≡ recounted n was is c.ended → IsAtRest (record c { recvs = now; untold_recvs = marks; ended = e })
   rest_forgotten n code now marks e was is after are before behind to =
       rest_recvs now marks e (sound_after_forget c.limits.role c.limits.settings (present_of c.limits) c.recvs now c.limits.granted n code core.sound after)
       (fit_forgotten _ _ _ _ _ _ _ core.counts now n code e was is after before behind to)
-      (told_edited (TellsAt c.limits.role c.limits.settings) c.recvs c.outbox.outstanding c.outbox.acked c.untold_recvs core.told_in now marks n (λ l. stop_and_forget l code) after are)
-      (carried_recv c.recvs c.outbox.sends c.outbox.outstanding c.carried core.carried now n (λ l. stop_and_forget l code) after (λ l. stop_recv_limit l code) (λ l v. stop_stop l code v))
+      (told_edited (TellsAt c.limits.role c.limits.settings) c.recvs c.outbox.outstanding c.outbox.acked c.untold_recvs core.told_in now marks n (λ l. stop_and_discard l code) after are)
+      (carried_recv c.recvs c.outbox.sends c.outbox.outstanding c.carried core.carried now n (λ l. stop_and_discard l code) after (λ l. stop_recv_limit l code) (λ l v. stop_stop l code v))
 
   -- Streams open
 

@@ -4,7 +4,7 @@ use Rattle.std.specs.Prelude.{max, is_none, ◌==◌, Ok, IsOk}
 use Rattle.std.proofs.lemmas.Bool.{both_ways}
 use Rattle.std.proofs.lemmas.Option.{none-some, same_Some}
 use Rattle.qs_wire.specs.declared.stream_id.Role.{Role}
-use Rattle.qs_recv.specs.Lane.{RecvLane, stop, stop_and_forget, is_over as is_read_off, raise, after_read, take_stream, take_reset, check_stream, is_whole as recv_whole, new_lane as new_recv_lane, set_window}
+use Rattle.qs_recv.specs.Lane.{RecvLane, stop, stop_and_discard, is_over as is_read_off, raise, after_read, take_stream, take_reset, check_stream, is_whole as recv_whole, new_lane as new_recv_lane, set_window}
 use Rattle.qs_recv.specs.Lawful.{IsLawful}
 use Rattle.qs_recv.specs.Assembled.{discard, forget}
 use Rattle.qs_recv.specs.declared.credit.Share.{Share}
@@ -137,9 +137,9 @@ module _ (role : Role) (s : Settings) (recvs : Tables RecvLane) (sends : Tables 
       (told_updated recvs now n (λ l. set_window l w) h.told is (λ l there told. told))
 
   -- one of a stream that is forgotten
-  pub fit_forgotten : (now : Tables RecvLane) (n code : ℕ) (e' : ByDir ℕ) (was is : Bool) → now ≡ updated recvs n (λ l. stop_and_forget l code) (lookup recvs n) → was ≡ is_over role recvs sends n → is ≡ is_over role now sends n → e' ≡ recounted n was is e
+  pub fit_forgotten : (now : Tables RecvLane) (n code : ℕ) (e' : ByDir ℕ) (was is : Bool) → now ≡ updated recvs n (λ l. stop_and_discard l code) (lookup recvs n) → was ≡ is_over role recvs sends n → is ≡ is_over role now sends n → e' ≡ recounted n was is e
       → CountsFit role s now sends e' b u
-  fit_forgotten now n code e' was is after before behind to = recounts now n (λ l. stop_and_forget l code) e' was is after before behind to (λ l there told. forgotten_told l code)
+  fit_forgotten now n code e' was is after before behind to = recounts now n (λ l. stop_and_discard l code) e' was is after before behind to (λ l there told. forgotten_told l code)
 
   -- a reset came
   pub fit_broken : (now : Tables RecvLane) (n code size : ℕ) (e' : ByDir ℕ) (was is : Bool) → now ≡ updated recvs n (λ l. take_reset l code size) (lookup recvs n) → was ≡ is_over role recvs sends n → is ≡ is_over role now sends n → e' ≡ recounted n was is e

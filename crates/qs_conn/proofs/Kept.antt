@@ -5,7 +5,7 @@ use Rattle.std.proofs.lemmas.Bool.{true≢false}
 use Rattle.std.proofs.lemmas.Bool.Decides.{nat_tests}
 use Rattle.qs_ranges.specs.Numbers.{NumberSet, run_starts}
 use Rattle.qs_wire.specs.declared.stream_id.Role.{Role}
-use Rattle.qs_recv.specs.Lane.{RecvLane, new_lane, after_read, stop, stop_and_forget, MAX_WINDOW, set_window}
+use Rattle.qs_recv.specs.Lane.{RecvLane, new_lane, after_read, stop, stop_and_discard, MAX_WINDOW, set_window}
 use Rattle.qs_recv.specs.declared.credit.Share.{Share}
 use Rattle.qs_calls.specs.declared.settings.Settings.{Settings}
 use Rattle.qs_calls.specs.declared.settings.Tuning.{Tuning}
@@ -113,7 +113,7 @@ sound_after_read role s p recvs now g n size k after = subst (λ (t : Tables Rec
 pub sound_after_stop : (role : Role) (s : Settings) (p : Present) (recvs now : Tables RecvLane) (g n code : ℕ) → KeepsCredit role s p recvs g → now ≡ updated recvs n (λ l. stop l code) (lookup recvs n) → KeepsCredit role s p now g
 sound_after_stop role s p recvs now g n code k after = subst (λ (t : Tables RecvLane). KeepsCredit role s p t g) (sym after) (sound_stop n code (end_with role s p recvs g) k)
 
-pub sound_after_forget : (role : Role) (s : Settings) (p : Present) (recvs now : Tables RecvLane) (g n code : ℕ) → KeepsCredit role s p recvs g → now ≡ updated recvs n (λ l. stop_and_forget l code) (lookup recvs n) → KeepsCredit role s p now g
+pub sound_after_forget : (role : Role) (s : Settings) (p : Present) (recvs now : Tables RecvLane) (g n code : ℕ) → KeepsCredit role s p recvs g → now ≡ updated recvs n (λ l. stop_and_discard l code) (lookup recvs n) → KeepsCredit role s p now g
 sound_after_forget role s p recvs now g n code k after = subst (λ (t : Tables RecvLane). KeepsCredit role s p t g) (sym after) (sound_forget n code (end_with role s p recvs g) k)
 
 pub sound_after_window : (role : Role) (s : Settings) (p : Present) (recvs now : Tables RecvLane) (g n w : ℕ) → 1 ≤ w → w ≤ MAX_WINDOW → KeepsCredit role s p recvs g → now ≡ updated recvs n (λ l. set_window l w) (lookup recvs n) → KeepsCredit role s p now g

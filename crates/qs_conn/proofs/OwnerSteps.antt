@@ -2,7 +2,7 @@
 use Rattle.std.proofs.Common.{◌≡◌, ℕ, ◌<◌, Bool, true, false, List, [], length, take, Option, Some, None, is_some, Result, Ok, Err, refl, ap, ◌∙◌, inl, inr, subst, unwrap_or, rules, sym}
 use Rattle.std.specs.Prelude.{is_none}
 use Rattle.std.proofs.lemmas.Option.{none-some}
-use Rattle.qs_recv.specs.Lane.{RecvLane, read_answer, bytes_of, bytes_read, after_answer, after_read, stop, stop_and_forget}
+use Rattle.qs_recv.specs.Lane.{RecvLane, read_answer, bytes_of, bytes_read, after_answer, after_read, stop, stop_and_discard}
 use Rattle.qs_recv.specs.Peek.{IsPeek}
 use Rattle.qs_recv.specs.declared.half.Peek.{Peek}
 use Rattle.qs_recv.specs.declared.half.Read.{Read}
@@ -18,7 +18,7 @@ use Rattle.qs_machine.specs.Tables.{Tables, lookup, updated}
 use Rattle.qs_machine.specs.Ends.{End, send_lane, recv_lane, on_send, on_recv}
 use Rattle.qs_machine.specs.Credit.{settle}
 use Rattle.qs_machine.specs.Verdicts.{or_new}
-use Rattle.qs_machine.specs.Owner.{Certain, Uncertain, first_refusal, refuse_if, no_half, half_refusal, use_fault, send_refusal, recv_refusal, is_read_no_more, AsksToKeep, WriteStep, StopStep, StopAndForgetStep, ReadStep, ConsumeStep, is_end, accepted_by}
+use Rattle.qs_machine.specs.Owner.{Certain, Uncertain, first_refusal, refuse_if, no_half, half_refusal, use_fault, send_refusal, recv_refusal, is_read_no_more, AsksToKeep, WriteStep, StopStep, StopAndDiscardStep, ReadStep, ConsumeStep, is_end, accepted_by}
 use Rattle.qs_machine.specs.Sums.{or_none}
 use Rattle.qs_machine.proofs.TablesAfter.{updated_back}
 use Rattle.qs_machine.proofs.Again.{changed}
@@ -100,8 +100,8 @@ pub stop_done : (e : End) (n code : ℕ) (recvs : Tables RecvLane) (new : End) �
 stop_done e n code recvs new is after settled =
     passed _ e new (Ok tt) _ (recv_refusal_is (is_some e.closed) e n ∙ is) (refl, settled ∙ ap (λ t. settle (record e { recvs = t })) after)
 
-pub forget_done : (e : End) (n code : ℕ) (recvs : Tables RecvLane) (new : End) → no_receiver (is_some e.closed) e n ≡ None → recvs ≡ updated e.recvs n (λ l. stop_and_forget l code) (recv_lane e n)
-    → new ≡ settle (record e { recvs = recvs }) → StopAndForgetStep e n code (Ok tt) new
+pub forget_done : (e : End) (n code : ℕ) (recvs : Tables RecvLane) (new : End) → no_receiver (is_some e.closed) e n ≡ None → recvs ≡ updated e.recvs n (λ l. stop_and_discard l code) (recv_lane e n)
+    → new ≡ settle (record e { recvs = recvs }) → StopAndDiscardStep e n code (Ok tt) new
 forget_done e n code recvs new is after settled =
     passed _ e new (Ok tt) _ (recv_refusal_is (is_some e.closed) e n ∙ is) (refl, settled ∙ ap (λ t. settle (record e { recvs = t })) after)
 
@@ -155,10 +155,10 @@ pub stop_ok : (e now : End) (n code : ℕ) (recvs : Tables RecvLane) (new : End)
 stop_ok e now n code recvs new is none after settled =
     subst (λ (k : End). StopStep k n code (Ok tt) new) is (stop_done e n code recvs new (ap (λ k. no_receiver (is_some k.closed) k n) is ∙ none) after settled)
 
-pub forget_ok : (e now : End) (n code : ℕ) (recvs : Tables RecvLane) (new : End) → e ≡ now → no_receiver (is_some now.closed) now n ≡ None → recvs ≡ updated e.recvs n (λ l. stop_and_forget l code) (recv_lane e n)
-    → new ≡ settle (record e { recvs = recvs }) → StopAndForgetStep now n code (Ok tt) new
+pub forget_ok : (e now : End) (n code : ℕ) (recvs : Tables RecvLane) (new : End) → e ≡ now → no_receiver (is_some now.closed) now n ≡ None → recvs ≡ updated e.recvs n (λ l. stop_and_discard l code) (recv_lane e n)
+    → new ≡ settle (record e { recvs = recvs }) → StopAndDiscardStep now n code (Ok tt) new
 forget_ok e now n code recvs new is none after settled =
-    subst (λ (k : End). StopAndForgetStep k n code (Ok tt) new) is (forget_done e n code recvs new (ap (λ k. no_receiver (is_some k.closed) k n) is ∙ none) after settled)
+    subst (λ (k : End). StopAndDiscardStep k n code (Ok tt) new) is (forget_done e n code recvs new (ap (λ k. no_receiver (is_some k.closed) k n) is ∙ none) after settled)
 
 -- Bytes that are taken without a copy
 

@@ -4,7 +4,7 @@ use Rattle.std.specs.FinSet as set
 use Rattle.std.proofs.lemmas.Bool.{both_ways, and_parts, or_left, or_right}
 use Rattle.std.proofs.lemmas.Bool.Decides.{nat_tests}
 use Rattle.qs_ranges.proofs.Sets.{covers-of}
-use Rattle.qs_recv.specs.Lane.{RecvLane, new_lane, is_whole, whole_to, at_final_size, answer_by, read_answer, after_answer, after_read, stop_and_forget, is_over as recv_over, raise}
+use Rattle.qs_recv.specs.Lane.{RecvLane, new_lane, is_whole, whole_to, at_final_size, answer_by, read_answer, after_answer, after_read, stop_and_discard, is_over as recv_over, raise}
 use Rattle.qs_recv.specs.Assembled.{discard}
 use Rattle.qs_recv.specs.Lawful.{IsLawful}
 use Rattle.qs_recv.specs.declared.half.Read.{Read}
@@ -26,7 +26,7 @@ pub still_told : (l m : RecvLane) → IsTold l → m.told ≡ l.told → RecvSta
 still_told l m told same stays stopped is = elim (told (sym same ∙ is)) [ inl ended ↦ inl (stays ended) | inr off ↦ inr (stopped off) ]
 
 -- a half that is forgotten was stopped, or was over before
-pub forgotten_told : (l : RecvLane) (code : ℕ) → IsTold (stop_and_forget l code)
+pub forgotten_told : (l : RecvLane) (code : ℕ) → IsTold (stop_and_discard l code)
 forgotten_told l code is = go (is_some l.stop_code) (recv_over l) refl refl
   where
     go : (b o : Bool) → is_some l.stop_code ≡ b → recv_over l ≡ o

@@ -1,5 +1,5 @@
 -- Of private contracts.
--- What the private layers of `receive_telling` tell.
+-- What the private layers of `receive_with_acks` tell.
 use Rattle.std.specs.Prelude.{ℕ, not, List, [], reverse}
 use Rattle.std.specs.List.{filter, FoldsTo}
 use Rattle.std.specs.FinMap as fmap

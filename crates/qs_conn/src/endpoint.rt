@@ -132,7 +132,7 @@ impl Endpoint {
 
     /// The same with wider ranges: windows of streams and sending buffers of up to 2^30 bytes, a connection's window of up to 2^40, grants
     /// of up to 2^17 streams of a direction and lifetimes of up to 2^21; and tuned. What [`new`](Endpoint::new) makes this makes, too.
-    pub fn new_wide(
+    pub fn with_tuning(
         alloc: Global,
         role: Role,
         settings: Settings,

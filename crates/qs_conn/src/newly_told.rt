@@ -2,7 +2,7 @@
 ghost use Rattle.std.specs.Prelude.{ℕ, ⊤};
 
 pub trait Told {
-    // What may come of it: so a caller of `receive_telling` knows what its own code has seen.
+    // What may come of it: so a caller of `receive_with_acks` knows what its own code has seen.
     ghost tells: { Self → ℕ → Self → Type 0 };
 
     fn tell(&mut self, number: u64)

@@ -1,6 +1,6 @@
 ghost use Rattle.std.specs.Prelude.{◌≡◌, ◌+◌, ◌≤◌, ◌<◌, ◌^◌, ◌/◌, ◌%◌, ◌++◌, ℕ, length, drop, take, is_some, option_map, true, false, Some, None, OnOk, OnErr, IsOk, IfSome, IfNone, min, ◌-◌};
 ghost use Rattle.qs_ranges.specs.Numbers.{MAX_VARINT};
-ghost use Rattle.qs_recv.specs.Lane.{RecvLane, new_lane, check_stream, check_reset, check_bytes, highest, taken, take_stream, take_reset, read_answer, bytes_read, after_read, raise, stop, stop_and_forget, MAX_WINDOW, set_window};
+ghost use Rattle.qs_recv.specs.Lane.{RecvLane, new_lane, check_stream, check_reset, check_bytes, highest, taken, take_stream, take_reset, read_answer, bytes_read, after_read, raise, stop, stop_and_discard, MAX_WINDOW, set_window};
 ghost use Rattle.qs_machine.specs.Tables.{no_streams, table, with_table, lookup, updated, open_to, each, total, type_of};
 ghost use Rattle.qs_machine.specs.Memory.{HasNews};
 ghost use Rattle.qs_machine.specs.Changes.{half_changes, reset_changes};
@@ -247,13 +247,13 @@ impl RecvTables {
         self.edit(Place::of(stream), &mut [], |half, _into| half.stop(code))
     }
 
-    pub(crate) fn stop_and_forget(&mut self, stream: StreamId, code: u64)
+    pub(crate) fn stop_and_discard(&mut self, stream: StreamId, code: u64)
         requires open { is_some (lookup self.old stream) ≡ true }
         requires fits { code ≤ MAX_VARINT }
-        ensures { self.new ≡ updated self.old stream (λ l. stop_and_forget l code) (lookup self.old stream) }
+        ensures { self.new ≡ updated self.old stream (λ l. stop_and_discard l code) (lookup self.old stream) }
     {
         self.edit(Place::of(stream), &mut [], |half, _into| {
-            half.stop_and_forget(code)
+            half.stop_and_discard(code)
         })
     }
 

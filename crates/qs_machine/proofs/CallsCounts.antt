@@ -2,7 +2,7 @@
 use Rattle.std.proofs.Common.{◌≡◌, ℕ, ◌+◌, ◌&&◌, take, refl, sym, ap, subst, arith}
 use Rattle.std.proofs.lemmas.Bool.{cond_both}
 use Rattle.qs_wire.specs.declared.stream_id.Dir.TheVariants.{Bidi, Uni}
-use Rattle.qs_recv.specs.Lane.{RecvLane, new_lane as new_recv_lane, after_read, stop, raise, stop_and_forget, set_window}
+use Rattle.qs_recv.specs.Lane.{RecvLane, new_lane as new_recv_lane, after_read, stop, raise, stop_and_discard, set_window}
 use Rattle.qs_send.specs.declared.piece.Piece.{Piece}
 use Rattle.qs_calls.specs.declared.closing.Closed.{Closed}
 use Rattle.qs_calls.specs.declared.closing.Closed.TheVariants.{Told}
@@ -95,7 +95,7 @@ pub moves_change : (old : End) (call : Call) (c : Change) (e : End) → Comes ol
 moves_change old call (Wanted Uni count) e comes sound sent = moves_same e
 moves_change old call (Opened n) e comes sound sent = moves_opens n e
 moves_change old call (Stopped n code) e comes sound sent = moves_recv n (λ m. stop m code) e sound (λ l lawful. stop_after l code lawful)
-moves_change old call (Forgotten n code) e comes sound sent = moves_recv n (λ m. stop_and_forget m code) e sound (λ l lawful. forget_after l code lawful)
+moves_change old call (Forgotten n code) e comes sound sent = moves_recv n (λ m. stop_and_discard m code) e sound (λ l lawful. forget_after l code lawful)
 moves_change old call (WasRead n size) e comes sound sent = moves_recv n (λ m. after_read m size) e sound (λ l lawful. read_after l size lawful)
 moves_change old call (WasSet x) e comes sound sent = moves_set x e
 moves_change old call (Took f) e comes sound sent = moves_after e (frame_taken f e) (after_frame f e comes.0 sound sent)

@@ -4,7 +4,7 @@ use Rattle.std.proofs.lemmas.Bool.{cond_both, false≢true, and_right}
 use Rattle.std.proofs.lemmas.Bool.Decides.{nat_tests}
 use Rattle.qs_ranges.proofs.Sets.{end_of-empty}
 use Rattle.qs_wire.specs.declared.stream_id.Role.{Role}
-use Rattle.qs_recv.specs.Lane.{MAX_WINDOW, RecvLane, new_lane, highest, taken, raise, next_limit, check_stream, check_reset, take_stream, take_reset, is_whole, breaks_final_size, MAX_CONN_WINDOW, after_read, after_answer, read_answer, stop, stop_and_forget, is_over, set_window}
+use Rattle.qs_recv.specs.Lane.{MAX_WINDOW, RecvLane, new_lane, highest, taken, raise, next_limit, check_stream, check_reset, take_stream, take_reset, is_whole, breaks_final_size, MAX_CONN_WINDOW, after_read, after_answer, read_answer, stop, stop_and_discard, is_over, set_window}
 use Rattle.qs_recv.specs.declared.credit.Share.{Share}
 use Rattle.qs_recv.specs.Lawful.{IsLawful}
 use Rattle.qs_recv.proofs.LawfulLaws.{lawful_new, lawful_raise, highest-take_stream}
@@ -349,10 +349,10 @@ sound_set (StreamWindow n w) e allowed h =
     let small : w ≤ MAX_WINDOW = grind (arith, nat_tests, fits) in
     sound_window n w e some small h
 
-pub sound_forget : (n code : ℕ) (e : End) → IsInCredit e → IsInCredit (on_recv n (λ l. stop_and_forget l code) e)
+pub sound_forget : (n code : ℕ) (e : End) → IsInCredit e → IsInCredit (on_recv n (λ l. stop_and_discard l code) e)
 sound_forget n code e h =
     let stopped : RecvLane → RecvLane = λ l. record l { arrived = discard l.arrived; stop_code = Some code } in
-    keeps_updated e.role e.settings e.present e.recvs e.granted h n (λ l. stop_and_forget l code) (λ l is lawful.
+    keeps_updated e.role e.settings e.present e.recvs e.granted h n (λ l. stop_and_discard l code) (λ l is lawful.
     let g = grows_after_call l (ForgetWith code) lawful tt in
     (lawful_after_call l (ForgetWith code) lawful tt, same_either (λ (m : RecvLane). m.arrived.widest) (is_some l.stop_code || is_over l) l (stopped l) refl, g.taken_grows, omega (arith, same_either highest (is_some l.stop_code || is_over l) l (stopped l) refl, h.spent)))
 

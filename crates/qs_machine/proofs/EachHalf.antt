@@ -10,7 +10,7 @@ use Rattle.qs_machine.specs.Raising.{knows_limits, type_allowed, limits_raised}
 use Rattle.qs_machine.proofs.TableLaws.{with_same, with_other, lookup_in}
 use Rattle.qs_machine.proofs.TablesAfter.{KeptIn, kept_same, kept_twice, kept_updated, kept_open, kept_each}
 use Rattle.qs_wire.specs.declared.stream_id.Dir.TheVariants.{Uni}
-use Rattle.qs_recv.specs.Lane.{RecvLane, new_lane as new_recv_lane, take_stream, take_reset, after_read, stop, stop_and_forget, raise, set_window}
+use Rattle.qs_recv.specs.Lane.{RecvLane, new_lane as new_recv_lane, take_stream, take_reset, after_read, stop, stop_and_discard, raise, set_window}
 use Rattle.qs_send.specs.declared.piece.Item.TheVariants.{MaxStreamData, MaxStreams, ResetStream, StopSending, StreamDataBlocked, StreamsBlocked}
 use Rattle.qs_send.specs.declared.piece.Piece.{Piece}
 use Rattle.qs_send.specs.declared.piece.Piece.TheVariants.{Data, Told}
@@ -159,7 +159,7 @@ pub data RecvEdit : Type 0 where
 
 abbrev pub recv_edited : RecvEdit → RecvLane → RecvLane
 recv_edited (Stops code) l = stop l code
-recv_edited (Forgets code) l = stop_and_forget l code
+recv_edited (Forgets code) l = stop_and_discard l code
 recv_edited (Reads size) l = after_read l size
 recv_edited (Widens window) l = set_window l window
 recv_edited (Takes offset bytes fin) l = take_stream l offset bytes fin

@@ -7,7 +7,7 @@ use Rattle.std.proofs.lemmas.Bool.Decides.{nat_tests}
 use Rattle.qs_ranges.specs.Numbers.{missing_from}
 use Rattle.qs_ranges.proofs.Sets.{covers-is, covers-of, missing_from-with_later}
 use Rattle.qs_recv.specs.Assembled.{discard, forget}
-use Rattle.qs_recv.specs.Lane.{RecvLane, is_whole as recv_whole, whole_to, take_reset, after_read, after_answer, read_answer, stop, stop_and_forget, is_over, state as recv_state}
+use Rattle.qs_recv.specs.Lane.{RecvLane, is_whole as recv_whole, whole_to, take_reset, after_read, after_answer, read_answer, stop, stop_and_discard, is_over, state as recv_state}
 use Rattle.qs_recv.specs.declared.half.Read.{Read}
 use Rattle.qs_recv.specs.declared.half.Read.TheVariants as reads
 use Rattle.qs_send.specs.Lane.{SendLane, is_whole as send_whole, unacked_from, chunk_offsets, reset_refusal, reset_acked_lane, acked_lane, Sending, state as send_state}
@@ -68,7 +68,7 @@ stop_stays code l =
     cond_both (is_some l.stop_code || is_over l) l (record l { arrived = discard l.arrived; stop_code = Some code }) (RecvStays l) (λ _ h. h) (λ _ h. h)
 
 -- a half that is forgotten isn't told of its end anew
-pub forget_stays : (code : ℕ) (l : RecvLane) → RecvStays l (stop_and_forget l code)
+pub forget_stays : (code : ℕ) (l : RecvLane) → RecvStays l (stop_and_discard l code)
 forget_stays code l h = (and_parts (stop l code).told (is_some (stop l code).reset_code || recv_whole (stop l code)) (stop_stays code l h)).1
 
 -- Sending halves

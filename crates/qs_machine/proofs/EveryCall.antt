@@ -17,7 +17,7 @@ use Rattle.qs_wire.specs.Reading.{reading_of}
 use Rattle.qs_wire.specs.declared.fault.WireFault.{WireFault}
 use Rattle.qs_wire.specs.declared.stream_id.Dir.{Dir}
 use Rattle.qs_wire.specs.declared.stream_id.Dir.TheVariants.{Bidi, Uni}
-use Rattle.qs_recv.specs.Lane.{after_read, stop, stop_and_forget, RecvLane}
+use Rattle.qs_recv.specs.Lane.{after_read, stop, stop_and_discard, RecvLane}
 use Rattle.qs_recv.specs.declared.half.Read.{Read}
 use Rattle.qs_send.specs.Records.{IsCarried}
 use Rattle.qs_send.specs.declared.parts.SendFault.{SendFault}
@@ -27,7 +27,7 @@ use Rattle.qs_calls.specs.declared.closing.Closing.{Closing}
 use Rattle.qs_calls.specs.declared.closing.Closed.{Closed}
 use Rattle.qs_calls.specs.declared.closing.Closed.TheVariants.{ByUs, ByPeer}
 use Rattle.qs_calls.specs.declared.closing.Closed.TheVariants as closings
-use Rattle.qs_calls.specs.declared.closing.ToldClose.{ToldClose}
+use Rattle.qs_calls.specs.declared.closing.NotedClose.{NotedClose}
 use Rattle.qs_calls.specs.declared.closing.Received.{Received}
 use Rattle.qs_calls.specs.declared.closing.Received.TheVariants as received
 use Rattle.qs_calls.specs.declared.filling.Fill.{Fill}
@@ -53,13 +53,13 @@ use Rattle.qs_machine.specs.Verdicts.{verdict}
 use Rattle.qs_machine.specs.FrameStep.{frame_taken, acks, named}
 use Rattle.qs_machine.specs.Recording.{recorded}
 use Rattle.qs_machine.specs.Lawful.{MayPut, Fills, frame_put}
-use Rattle.qs_machine.specs.Receiving.{told_by, told_closed, ClosedReceive, AtEnd, RunsOut, Stops, GoesOn, Takes, ReceiveBy, TakesPayload, OpenReceive}
+use Rattle.qs_machine.specs.Receiving.{told_by, noted_closed, ClosedReceive, AtEnd, RunsOut, Stops, GoesOn, Takes, ReceiveBy, TakesPayload, OpenReceive}
 use Rattle.qs_machine.specs.Making.{MakeAt, MakeAckAt, make_refusal, claim_refusal, LoseStep, lose_refusal, first_lost, losses}
 use Rattle.qs_machine.specs.Filling.{FillAt}
 use Rattle.qs_machine.specs.Alone.{is_ours, TakesOne, TakeBy, TakesEach, TakeAllBy, token_refusal, only, LosesEach, TokenAckedStep, TokenLostStep}
 use Rattle.qs_machine.specs.Raising.{limits_raised, raise_refusal}
 use Rattle.qs_machine.specs.Setting.{Setting, SetStep, set_refusal, with_setting}
-use Rattle.qs_machine.specs.EndStep.{Call, Answer, EndStep, Open, Accept, AcceptOf, Write, Finish, Reset, Stop, ReadUpTo, Consume, Receive, TakeFrame, TakeFrames, TokenAcked, TokenLost, Make, MakeAck, FillIn, Lose, Claim, RaiseLimits, Set, StopAndForget, TellClosed}
+use Rattle.qs_machine.specs.EndStep.{Call, Answer, EndStep, Open, Accept, AcceptOf, Write, Finish, Reset, Stop, ReadUpTo, Consume, Receive, TakeFrame, TakeFrames, TokenAcked, TokenLost, Make, MakeAck, FillIn, Lose, Claim, RaiseLimits, Set, StopAndDiscard, NoteClosed}
 use Rattle.qs_machine.specs.Tables.{Tables}
 use Rattle.qs_machine.specs.Laws.{StaysOnceClosed, StaysButRead}
 
@@ -143,7 +143,7 @@ changed (Written n bytes l) e = on_send n (λ m. write_lane m bytes) e
 changed (Finished n) e = on_send n finish_lane e
 changed (WasReset n code) e = on_send n (λ m. reset_lane m code) e
 changed (Stopped n code) e = on_recv n (λ m. stop m code) e
-changed (Forgotten n code) e = on_recv n (λ m. stop_and_forget m code) e
+changed (Forgotten n code) e = on_recv n (λ m. stop_and_discard m code) e
 changed (WasRead n size) e = on_recv n (λ m. after_read m size) e
 changed (Raised limits) e = limits_raised limits e
 changed (WasSet x) e = with_setting x e
@@ -162,7 +162,7 @@ MovesStanding (Receive k payload) = ⊤
 MovesStanding (TakeFrame f) = ⊤
 MovesStanding (TakeFrames fs) = ⊤
 MovesStanding (RaiseLimits p) = ⊤
-MovesStanding (TellClosed close) = ⊤
+MovesStanding (NoteClosed close) = ⊤
 MovesStanding call = ⊥
 
 -- and beside these only a token that was acknowledged tells an end what its peer did
@@ -192,7 +192,7 @@ pub record Cases (old : End) (call : Call) (Q P : End → Type 0) : Type 0 where
   pub settles : (e : End) → Q e → P (settle e)
   pub loses : (k : ℕ) (p : Piece) (e : End) → IsCarried e.outstanding p → P e → P (first_lost k p e)
   pub claims : P (record old { next = old.next + 1 })
-  pub shuts : MovesStanding call → (close : ToldClose) → P (closes (closings.Told close) old)
+  pub shuts : MovesStanding call → (close : NotedClose) → P (closes (closings.Told close) old)
 
 -- a frame ends the processing: the end closes, or there is no memory
 pub stops_by : (P : Type 0) (p : PlacedValue) (f : Seen) (e : End) (result : Result Received Closing) (new : End) → Stops p f e result new
@@ -435,7 +435,7 @@ module _ (old : End) (call : Call) (Q P : End → Type 0) (c : Cases old call Q 
   read_by (Some fault) n size answer bytes new step = same new step.2
   read_by None n size answer bytes new (l, is, told, given, after) = edited (WasRead n size) new tt after
 
-  shut_by : MovesStanding call → (close : ToldClose) (new : End) → new ≡ told_closed close old → P new
+  shut_by : MovesStanding call → (close : NotedClose) (new : End) → new ≡ noted_closed close old → P new
   shut_by comes close new is = subst P (sym is) (by old.closed)
     where
       by : (o : Option Closed) → P (told_by o close old)
@@ -457,8 +457,8 @@ each_call old (Write n bytes) Q P c answer new step = write_by old (Write n byte
 each_call old (Finish n) Q P c answer new step = use_by old (Finish n) Q P c _ (send_refusal old n refusal) (Finished n) answer new tt step
 each_call old (Reset n code) Q P c answer new step = use_by old (Reset n code) Q P c _ (send_refusal old n reset_refusal) (WasReset n code) answer new tt step
 each_call old (Stop n code) Q P c answer new step = use_by old (Stop n code) Q P c _ (recv_refusal (is_some old.closed) old n) (Stopped n code) answer new tt step
-each_call old (StopAndForget n code) Q P c answer new step =
-    use_by old (StopAndForget n code) Q P c _ (recv_refusal (is_some old.closed) old n) (Forgotten n code) answer new tt step
+each_call old (StopAndDiscard n code) Q P c answer new step =
+    use_by old (StopAndDiscard n code) Q P c _ (recv_refusal (is_some old.closed) old n) (Forgotten n code) answer new tt step
 each_call old (ReadUpTo n size) Q P c answer new step = read_by old (ReadUpTo n size) Q P c (recv_refusal (is_read_no_more old) old n) n size answer.0 answer.1 new step
 each_call old (Consume n most) Q P c answer new step = consume_by old (Consume n most) Q P c n most answer.0 new step.0
 each_call old (Receive k payload) Q P c answer new step = receive_by old (Receive k payload) Q P c tt old.closed k payload answer new step
@@ -473,7 +473,7 @@ each_call old (Lose k) Q P c answer new step = lose_by old (Lose k) Q P c k old 
 each_call old Claim Q P c answer new step = claim_by old Claim Q P c answer new step
 each_call old (RaiseLimits p) Q P c answer new step = use_by old (RaiseLimits p) Q P c _ (raise_refusal old p) (Raised p) answer new tt step
 each_call old (Set x) Q P c answer new step = set_by old (Set x) Q P c x answer new step
-each_call old (TellClosed close) Q P c answer new step = shut_by old (TellClosed close) Q P c tt close new step
+each_call old (NoteClosed close) Q P c answer new step = shut_by old (NoteClosed close) Q P c tt close new step
 each_call old call Q P c answer new step = same old call Q P c new step.1
 
 -- A relation that holds across each change, and across two where it does across each, holds across every call.
@@ -537,7 +537,7 @@ take_all_again : (c : Option Closed) (fs : List FrameValue) (old : End) (answer 
 take_all_again None fs old answer new is h = absurd (false≢true is)
 take_all_again (Some closed) fs old answer new is h = h.1
 
-told_again : (c : Option Closed) (close : ToldClose) (old new : End) → is_some c ≡ true → new ≡ told_by c close old → new ≡ old
+told_again : (c : Option Closed) (close : NotedClose) (old new : End) → is_some c ≡ true → new ≡ told_by c close old → new ≡ old
 told_again None close old new is h = absurd (false≢true is)
 told_again (Some closed) close old new is h = h
 
@@ -553,7 +553,7 @@ closed_stays old (Write n bytes) answer new is h = (rw is at h).1
 closed_stays old (Finish n) answer new is h = (rw is at h).1
 closed_stays old (Reset n code) answer new is h = (rw is at h).1
 closed_stays old (Stop n code) answer new is h = (rw is at h).1
-closed_stays old (StopAndForget n code) answer new is h = (rw is at h).1
+closed_stays old (StopAndDiscard n code) answer new is h = (rw is at h).1
 closed_stays old (ReadUpTo n size) answer new is h = read_on (is_some old.closed) old.tuning.reads_when_closed _ old n size answer new is h
 closed_stays old (Consume n most) answer new is h = consumed_on (is_some old.closed) old.tuning.reads_when_closed _ old n most answer.0 new _ _ is h.0
 closed_stays old (Receive k payload) answer new is h = receive_again old.closed k payload old answer new is h
@@ -568,5 +568,5 @@ closed_stays old (Lose k) answer new is h = (rw is at h).1
 closed_stays old Claim answer new is h = by_refusal (new ≡ record old { next = new.next }) (claim_refusal old) old answer new _ h (but_number old new old.next) (λ done. but_number old new (old.next + 1) done.1)
 closed_stays old (RaiseLimits p) answer new is h = (rw is at h).1
 closed_stays old (Set x) answer new is h = (rw is at h).1
-closed_stays old (TellClosed close) answer new is h = told_again old.closed close old new is h
+closed_stays old (NoteClosed close) answer new is h = told_again old.closed close old new is h
 closed_stays old call answer new is h = h.1

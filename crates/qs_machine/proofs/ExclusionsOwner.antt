@@ -5,7 +5,7 @@ use Rattle.std.specs.FinSet as set
 use Rattle.std.specs.Ordering.{nat_cmp}
 use Rattle.std.proofs.lemmas.Option.{same_Some, none-some}
 use Rattle.std.proofs.lemmas.Bool.{false≢true, true≢false, and_right, both_ways}
-use Rattle.qs_recv.specs.Lane.{RecvLane, read_answer, after_answer, after_read, noted, is_whole, bytes_of, stop, stop_and_forget}
+use Rattle.qs_recv.specs.Lane.{RecvLane, read_answer, after_answer, after_read, noted, is_whole, bytes_of, stop, stop_and_discard}
 use Rattle.qs_recv.specs.declared.half.Read.{Read}
 use Rattle.qs_recv.specs.declared.half.Read.TheVariants as reads
 use Rattle.qs_send.specs.Lane.{SendLane, write_lane, refusal, reset_refusal, unacked_from}
@@ -463,7 +463,7 @@ readable =
       nothing_came = nothing_readable;
       told = λ h. false≢true (only_is (λ l. is_readable l ≡ true) (record all_came { told = true }) h.1);
       stopped = λ h. false≢true (only_is (λ l. is_readable l ≡ true) (stop three_came 7) h.1);
-      forgotten = λ h. false≢true (only_is (λ l. is_readable l ≡ true) (stop_and_forget all_came 7) h.1);
+      forgotten = λ h. false≢true (only_is (λ l. is_readable l ≡ true) (stop_and_discard all_came 7) h.1);
       closed = λ h. true≢false h.0;
       read_on = λ h. (let (m, found, le) = h.least 0 (omega arith) (refl, held_by (λ l. is_readable l ≡ true) (record fresh { final_size = Some 0; reset_code = Some 7 }) refl) in none-some m found);
       unopened = λ h. no_other (λ l. is_readable l ≡ true) all_came h.1;

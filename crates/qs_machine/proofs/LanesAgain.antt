@@ -11,7 +11,7 @@ use Rattle.qs_ranges.specs.Numbers.{NumberSet, ContainsRange, is_within, numbers
 use Rattle.qs_ranges.proofs.Sets.{covers-is, covers-of, below-end_of}
 use Rattle.qs_ranges.proofs.Algebra.{inside, with_range-covered}
 use Rattle.qs_recv.specs.Assembled.{Assembled, put, store, discard, forget}
-use Rattle.qs_recv.specs.Lane.{RecvLane, highest, highest_after, check_stream, check_reset, check_bytes, take_stream, take_reset, is_whole, whole_to, breaks_known, raise, stop, stop_and_forget, is_over, after_read, after_answer, read_answer, set_window}
+use Rattle.qs_recv.specs.Lane.{RecvLane, highest, highest_after, check_stream, check_reset, check_bytes, take_stream, take_reset, is_whole, whole_to, breaks_known, raise, stop, stop_and_discard, is_over, after_read, after_answer, read_answer, set_window}
 use Rattle.qs_recv.specs.declared.half.Read.{Read}
 use Rattle.qs_recv.specs.declared.half.Read.TheVariants as reads
 use Rattle.qs_recv.specs.Lawful.{IsLawful}
@@ -81,7 +81,7 @@ stop_after l code lawful =
     (cond_both (is_some l.stop_code || is_over l) l (record l { arrived = discard l.arrived; stop_code = Some code }) (λ m. is_some l.reset_code ≡ true → is_some m.reset_code ≡ true) (λ _ is. is) (λ _ is. is))
     (byte_before l (StopWith code)) (stop_stays code l)
 
-pub forget_after : (l : RecvLane) (code : ℕ) → IsLawful l → LaneAfter l (stop_and_forget l code)
+pub forget_after : (l : RecvLane) (code : ℕ) → IsLawful l → LaneAfter l (stop_and_discard l code)
 forget_after l code lawful =
     let s = stop_after l code lawful in
     record { limit = s.limit; received = s.received; size = s.size; reset = s.reset; stored = s.stored; ended = forget_stays code l }

@@ -9,7 +9,7 @@ use Rattle.qs_recv.specs.declared.half.Peek.{Peek}
 use Rattle.qs_send.specs.Lane.{SendLane, refusal, free_room, unacked_from}
 use Rattle.qs_send.specs.declared.piece.Item.{Item}
 use Rattle.qs_calls.specs.declared.closing.Closed.{Closed}
-use Rattle.qs_calls.specs.declared.closing.ToldClose.{ToldClose}
+use Rattle.qs_calls.specs.declared.closing.NotedClose.{NotedClose}
 use Rattle.qs_calls.specs.declared.closing.Closed.TheVariants.{ByUs, ByPeer, Told}
 use Rattle.qs_calls.specs.declared.uses.UseFault.{UseFault}
 use Rattle.qs_machine.specs.Tables.{total}
@@ -32,7 +32,7 @@ peer_closing (Some (ByPeer code)) = Some code
 peer_closing (Some (Told close)) = None
 
 -- the close that the end was told of, None where it closed otherwise or is open (RFC 9000, section 10.2)
-abbrev pub told_closing : Option Closed → Option ToldClose
+abbrev pub told_closing : Option Closed → Option NotedClose
 told_closing None = None
 told_closing (Some (ByUs closing)) = None
 told_closing (Some (ByPeer code)) = None

@@ -7,7 +7,7 @@ use Rattle.qs_wire.specs.declared.stream_id.Dir.{Dir}
 use Rattle.qs_recv.specs.declared.half.Read.{Read}
 use Rattle.qs_calls.specs.declared.closing.Closing.{Closing}
 use Rattle.qs_calls.specs.declared.closing.Received.{Received}
-use Rattle.qs_calls.specs.declared.closing.ToldClose.{ToldClose}
+use Rattle.qs_calls.specs.declared.closing.NotedClose.{NotedClose}
 use Rattle.qs_calls.specs.declared.filling.Fill.{Fill}
 use Rattle.qs_calls.specs.declared.filling.Filled.{Filled}
 use Rattle.qs_calls.specs.declared.making.Made.{Made}
@@ -26,8 +26,8 @@ use Rattle.qs_calls.specs.declared.uses.OpenFault.{OpenFault}
 use Rattle.qs_calls.specs.declared.uses.UseFault.{UseFault}
 use Rattle.qs_machine.specs.Ends.{End}
 use Rattle.qs_machine.specs.Credit.{spent, all_stored, granted_streams}
-use Rattle.qs_machine.specs.Owner.{OpenStep, AcceptStep, AcceptOfStep, WriteStep, FinishStep, ResetStep, StopStep, StopAndForgetStep, ReadStep, TakesBytes}
-use Rattle.qs_machine.specs.Receiving.{ReceiveStep, told_closed}
+use Rattle.qs_machine.specs.Owner.{OpenStep, AcceptStep, AcceptOfStep, WriteStep, FinishStep, ResetStep, StopStep, StopAndDiscardStep, ReadStep, TakesBytes}
+use Rattle.qs_machine.specs.Receiving.{ReceiveStep, noted_closed}
 use Rattle.qs_machine.specs.Making.{MakeStep, ClaimStep, LoseStep, ClosePayload, MakeAckStep}
 use Rattle.qs_machine.specs.Filling.{FillStep}
 use Rattle.qs_machine.specs.Alone.{TakeFrameStep, TakeFramesStep, TokenAckedStep, TokenLostStep}
@@ -44,7 +44,7 @@ pub data Call : Type 0 where
   Finish : (stream : ℕ) → Call
   Reset : (stream code : ℕ) → Call
   Stop : (stream code : ℕ) → Call
-  StopAndForget : (stream code : ℕ) → Call
+  StopAndDiscard : (stream code : ℕ) → Call
   ReadUpTo : (stream size : ℕ) → Call
   Consume : (stream most : ℕ) → Call
   Receive : (number : ℕ) (payload : List ℕ) → Call
@@ -59,7 +59,7 @@ pub data Call : Type 0 where
   Claim : Call
   RaiseLimits : (limits : PeerLimits) → Call
   Set : (setting : Setting) → Call
-  TellClosed : (close : ToldClose) → Call
+  NoteClosed : (close : NotedClose) → Call
   ClosingPayload : (slice : List ℕ) → Call
   Stored : Call
   Granted : Call
@@ -76,7 +76,7 @@ Answer (Write n bytes) = Result ℕ UseFault
 Answer (Finish n) = Result (Unit {0}) UseFault
 Answer (Reset n code) = Result (Unit {0}) UseFault
 Answer (Stop n code) = Result (Unit {0}) UseFault
-Answer (StopAndForget n code) = Result (Unit {0}) UseFault
+Answer (StopAndDiscard n code) = Result (Unit {0}) UseFault
 Answer (ReadUpTo n size) = Result Read UseFault × List ℕ
 Answer (Consume n most) = Result Consumed UseFault × List ℕ
 Answer (Receive k payload) = Result Received Closing
@@ -91,7 +91,7 @@ Answer (Lose k) = Result (Unit {0}) LostFault
 Answer Claim = Result ℕ MakeFault
 Answer (RaiseLimits p) = Result (Unit {0}) RaiseFault
 Answer (Set x) = Result (Unit {0}) SetFault
-Answer (TellClosed close) = Unit {0}
+Answer (NoteClosed close) = Unit {0}
 Answer (ClosingPayload slice) = Option ℕ × List ℕ
 Answer Stored = ℕ
 Answer Granted = ℕ
@@ -108,7 +108,7 @@ EndStep old (Write n bytes) answer new = WriteStep old n bytes answer new
 EndStep old (Finish n) answer new = FinishStep old n answer new
 EndStep old (Reset n code) answer new = ResetStep old n code answer new
 EndStep old (Stop n code) answer new = StopStep old n code answer new
-EndStep old (StopAndForget n code) answer new = StopAndForgetStep old n code answer new
+EndStep old (StopAndDiscard n code) answer new = StopAndDiscardStep old n code answer new
 EndStep old (ReadUpTo n size) answer new = ReadStep old n size answer.0 answer.1 new
 EndStep old (Consume n most) answer new = TakesBytes old n most answer.0 answer.1 new
 EndStep old (Receive k payload) answer new = ReceiveStep old k payload answer new
@@ -123,7 +123,7 @@ EndStep old (Lose k) answer new = LoseStep old k answer new
 EndStep old Claim answer new = ClaimStep old answer new
 EndStep old (RaiseLimits p) answer new = RaiseStep old p answer new
 EndStep old (Set x) answer new = SetStep old x answer new
-EndStep old (TellClosed close) answer new = new ≡ told_closed close old
+EndStep old (NoteClosed close) answer new = new ≡ noted_closed close old
 EndStep old (ClosingPayload slice) answer new = ClosePayload old slice answer.0 answer.1 × (new ≡ old)
 EndStep old Stored answer new = (answer ≡ all_stored old) × (new ≡ old)
 EndStep old Granted answer new = (answer ≡ old.granted) × (new ≡ old)

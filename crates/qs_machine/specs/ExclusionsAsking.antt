@@ -5,7 +5,7 @@ use Rattle.std.specs.FinMap as map
 use Rattle.qs_ranges.specs.Numbers.{numbers}
 use Rattle.qs_machine.specs.Asking.{IsPeeked, all_noted, credit_left, room, unsent, acked_below, taken, all_unsent, all_kept}
 use Rattle.qs_machine.specs.Credit.{all_taken}
-use Rattle.qs_recv.specs.Lane.{take_stream, take_reset, stop, stop_and_forget, RecvLane}
+use Rattle.qs_recv.specs.Lane.{take_stream, take_reset, stop, stop_and_discard, RecvLane}
 use Rattle.qs_calls.specs.declared.uses.UseFault.{UseFault}
 use Rattle.qs_recv.specs.Peek.{IsFront}
 use Rattle.qs_recv.specs.declared.half.Peek.{Peek}
@@ -86,11 +86,11 @@ pub record RunsAreNoted : Type 0 where
   -- also of a stream that was stopped
   pub after_stop : all_noted (server_with (stop (take_stream three_came 5 abc false) 0)) ≡ 2
   -- or forgotten
-  pub forgotten : all_noted (server_with (stop_and_forget (take_stream three_came 5 abc false) 0)) ≡ 2
+  pub forgotten : all_noted (server_with (stop_and_discard (take_stream three_came 5 abc false) 0)) ≡ 2
   -- and none of one that was reset, or of which the end was told, or would be
   pub after_reset : all_noted (server_with (take_reset three_came 0 8)) ≡ 0
   pub told : all_noted (server_with (record all_came { told = true })) ≡ 0
-  pub forgotten_end : all_noted (server_with (stop_and_forget all_came 0)) ≡ 0
+  pub forgotten_end : all_noted (server_with (stop_and_discard all_came 0)) ≡ 0
 
 -- how many bytes count as taken (sections 3.5 and 4.2)
 pub record BytesAreTaken : Type 0 where

@@ -1,7 +1,7 @@
 -- Of laws.
 -- Which streams no search among them answers (RFC 9000, sections 2.2, 2.4, 3 and 13.3).
 use Rattle.std.specs.Prelude.{◌≡◌, ℕ, ◌≤◌, true, None, Some}
-use Rattle.qs_recv.specs.Lane.{stop, stop_and_forget}
+use Rattle.qs_recv.specs.Lane.{stop, stop_and_discard}
 use Rattle.qs_machine.specs.News.{IsLeast, IsReadable, IsSendable, IsWritable, IsEnded}
 use Rattle.qs_machine.specs.SmallEnds.{client_with, server_with, begun, wrote, finished, reset_half, fresh, three_came, all_came}
 use Rattle.qs_machine.specs.ExclusionsOwner.{over, reading_on}
@@ -26,7 +26,7 @@ pub record NotReadable : Type 0 where
   -- that was stopped and whose end didn't come
   pub stopped : IsReadable (server_with (stop three_came 7)) 0 → ⊥
   -- that was forgotten, also where its end came
-  pub forgotten : IsReadable (server_with (stop_and_forget all_came 7)) 0 → ⊥
+  pub forgotten : IsReadable (server_with (stop_and_discard all_came 7)) 0 → ⊥
   -- of a closed end
   pub closed : IsReadable (over (server_with all_came)) 0 → ⊥
   -- though not where its owner chose to read on: a search doesn't pass over the reset that came

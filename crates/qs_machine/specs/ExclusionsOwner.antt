@@ -2,7 +2,7 @@
 -- Which answers an end's owner isn't given, and what its calls don't leave (RFC 9000, sections 2, 3 and 4).
 use Rattle.std.specs.Prelude.{◌≡◌, ℕ, ◌+◌, ◌^◌, Bool, true, false, List, [], ◌∷◌, Option, None, Some, is_some, option_map, Result, Ok, Err}
 use Rattle.qs_wire.specs.declared.stream_id.Dir.TheVariants.{Bidi, Uni}
-use Rattle.qs_recv.specs.Lane.{RecvLane, new_lane as new_recv_lane, take_stream, take_reset, stop, stop_and_forget}
+use Rattle.qs_recv.specs.Lane.{RecvLane, new_lane as new_recv_lane, take_stream, take_reset, stop, stop_and_discard}
 use Rattle.qs_recv.specs.declared.credit.Share.{Share}
 use Rattle.qs_recv.specs.declared.credit.Share.TheVariants.{Half, Quarter, Eighth}
 use Rattle.qs_recv.specs.declared.half.Read.TheVariants as reads
@@ -16,7 +16,7 @@ use Rattle.qs_calls.specs.declared.uses.UseFault.{UseFault}
 use Rattle.qs_calls.specs.declared.uses.UseFault.TheVariants.{NoSuchStream, NoMemory, Closed}
 use Rattle.qs_machine.specs.Ends.{End, first_present, send_lane, recv_lane, opens}
 use Rattle.qs_machine.specs.Credit.{settle, recv_ended}
-use Rattle.qs_machine.specs.Owner.{OpenStep, AcceptStep, AcceptOfStep, WriteStep, FinishStep, ResetStep, StopStep, ReadStep, ConsumeStep, StopAndForgetStep}
+use Rattle.qs_machine.specs.Owner.{OpenStep, AcceptStep, AcceptOfStep, WriteStep, FinishStep, ResetStep, StopStep, ReadStep, ConsumeStep, StopAndDiscardStep}
 use Rattle.qs_machine.specs.Raising.{limits_raised, RaiseStep}
 use Rattle.qs_machine.specs.Setting.{ConnWindow, Grant, StreamWindow, with_setting, SetStep}
 use Rattle.qs_machine.specs.Examples.{standard, server, client_of, told_reset}
@@ -206,23 +206,23 @@ pub record NoSuchReading : Type 0 where
 -- A stream isn't forgotten so, and what is forgotten ended with its end alone (sections 3.2 and 3.5)
 pub record NoSuchForgetting : Type 0 where
   -- once the end closed, also where its owner reads on
-  pub closed : (new : End) → StopAndForgetStep (over (server_with fresh)) 0 7 (Ok tt) new → ⊥
-  pub closed_on : (new : End) → StopAndForgetStep (reading_on (server_with fresh)) 0 7 (Ok tt) new → ⊥
+  pub closed : (new : End) → StopAndDiscardStep (over (server_with fresh)) 0 7 (Ok tt) new → ⊥
+  pub closed_on : (new : End) → StopAndDiscardStep (reading_on (server_with fresh)) 0 7 (Ok tt) new → ⊥
   -- where it isn't open
-  pub unopened : (new : End) → StopAndForgetStep (server_with fresh) 4 7 (Ok tt) new → ⊥
+  pub unopened : (new : End) → StopAndDiscardStep (server_with fresh) 4 7 (Ok tt) new → ⊥
   -- without a stop
-  pub not_stopped : (new : End) → StopAndForgetStep (server_with fresh) 0 7 (Ok tt) new → (l : RecvLane) → recv_lane new 0 ≡ Some l → l.stop_code ≡ None → ⊥
+  pub not_stopped : (new : End) → StopAndDiscardStep (server_with fresh) 0 7 (Ok tt) new → (l : RecvLane) → recv_lane new 0 ≡ Some l → l.stop_code ≡ None → ⊥
   -- with another code than the first
-  pub second_code : (new : End) → StopAndForgetStep (server_with (stop fresh 7)) 0 8 (Ok tt) new → (l : RecvLane) → recv_lane new 0 ≡ Some l → l.stop_code ≡ Some 8 → ⊥
+  pub second_code : (new : End) → StopAndDiscardStep (server_with (stop fresh 7)) 0 8 (Ok tt) new → (l : RecvLane) → recv_lane new 0 ≡ Some l → l.stop_code ≡ Some 8 → ⊥
   -- so that it waits to be read
-  pub waits : (new : End) → StopAndForgetStep (server_with fresh) 0 7 (Ok tt) new → (l : RecvLane) → recv_lane new 0 ≡ Some l → l.told ≡ false → ⊥
+  pub waits : (new : End) → StopAndDiscardStep (server_with fresh) 0 7 (Ok tt) new → (l : RecvLane) → recv_lane new 0 ≡ Some l → l.told ≡ false → ⊥
   -- it hasn't ended before its end came
-  pub too_early : recv_ended (stop_and_forget fresh 7) ≡ true → ⊥
+  pub too_early : recv_ended (stop_and_discard fresh 7) ≡ true → ⊥
   -- it has with its end, or with a reset
-  pub by_end : recv_ended (take_stream (stop_and_forget fresh 7) 0 abc true) ≡ true
-  pub by_reset : recv_ended (take_reset (stop_and_forget fresh 7) 0 8) ≡ true
+  pub by_end : recv_ended (take_stream (stop_and_discard fresh 7) 0 abc true) ≡ true
+  pub by_reset : recv_ended (take_reset (stop_and_discard fresh 7) 0 8) ≡ true
   -- or at once, where all came before
-  pub at_once : recv_ended (stop_and_forget all_came 7) ≡ true
+  pub at_once : recv_ended (stop_and_discard all_came 7) ≡ true
   -- one that was stopped alone hasn't
   pub stopped_alone : recv_ended (take_reset (stop fresh 7) 0 8) ≡ true → ⊥
 

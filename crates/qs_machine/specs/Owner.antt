@@ -4,7 +4,7 @@
 use Rattle.std.specs.Prelude.{◌≡◌, ℕ, ◌+◌, ◌*◌, ◌<◌, Bool, true, false, not, ◌&&◌, List, [], ◌⊎◌, length, take, max, Option, None, Some, is_some, Result, Ok, Err, nat_le, nat_lt, MatchBool, if◌then◌else◌, min}
 use Rattle.qs_wire.specs.declared.stream_id.Dir.{Dir}
 use Rattle.qs_wire.specs.declared.stream_id.Dir.TheVariants.{Bidi, Uni}
-use Rattle.qs_recv.specs.Lane.{RecvLane, read_answer, bytes_read, after_read, stop, stop_and_forget}
+use Rattle.qs_recv.specs.Lane.{RecvLane, read_answer, bytes_read, after_read, stop, stop_and_discard}
 use Rattle.qs_recv.specs.declared.half.Read.{Read}
 use Rattle.qs_recv.specs.declared.half.Read.TheVariants as reads
 use Rattle.qs_send.specs.Lane.{SendLane, accepted, refusal, reset_refusal, write_lane, finish_lane, reset_lane}
@@ -170,10 +170,10 @@ StopStep old n code answer new =
     ((answer ≡ Ok tt) × (new ≡ settle (on_recv n (λ m. stop m code) old)))
 
 -- the same, and nothing more is told of the stream (RFC 9000, sections 3.2 and 3.5)
-abbrev pub StopAndForgetStep : End → ℕ → ℕ → Result (Unit {0}) UseFault → End → Type 0
-StopAndForgetStep old n code answer new =
+abbrev pub StopAndDiscardStep : End → ℕ → ℕ → Result (Unit {0}) UseFault → End → Type 0
+StopAndDiscardStep old n code answer new =
     Certain (recv_refusal (is_some old.closed) old n) old answer new
-    ((answer ≡ Ok tt) × (new ≡ settle (on_recv n (λ m. stop_and_forget m code) old)))
+    ((answer ≡ Ok tt) × (new ≡ settle (on_recv n (λ m. stop_and_discard m code) old)))
 
 abbrev pub ReadBy : Option UseFault → End → ℕ → ℕ → Result Read UseFault → List ℕ → End → Type 0
 ReadBy (Some fault) old n size answer bytes new = (answer ≡ Err fault) × (bytes ≡ []) × (new ≡ old)

@@ -10,7 +10,7 @@ use Rattle.qs_calls.specs.declared.closing.Closing.{Closing}
 use Rattle.qs_calls.specs.declared.closing.Closed.{Closed}
 use Rattle.qs_calls.specs.declared.closing.Closer.{Closer}
 use Rattle.qs_calls.specs.declared.closing.Closer.TheVariants.{Us, Peer}
-use Rattle.qs_calls.specs.declared.closing.ToldClose.{ToldClose}
+use Rattle.qs_calls.specs.declared.closing.NotedClose.{NotedClose}
 use Rattle.qs_calls.specs.declared.closing.Closed.TheVariants.{ByUs, ByPeer, Told}
 use Rattle.qs_calls.specs.declared.closing.Received.{Received}
 use Rattle.qs_calls.specs.declared.closing.Received.TheVariants.{Done, Duplicate, BelowFloor, PeerClosed, NoMemory}
@@ -111,10 +111,10 @@ ReceiveStep old number payload result new = ReceiveBy old.closed number payload 
 
 -- A close that the owner saw or made itself (RFC 9000, section 10.2)
 
-abbrev pub told_by : Option Closed → ToldClose → End → End
+abbrev pub told_by : Option Closed → NotedClose → End → End
 told_by None close e = closes (Told close) e
 told_by (Some closed) close e = e
 
--- `tell_closed`: an open end closes, and one that closed stays as it is (RFC 9000, section 10.2)
-abbrev pub told_closed : ToldClose → End → End
-told_closed close e = told_by e.closed close e
+-- `note_closed`: an open end closes, and one that closed stays as it is (RFC 9000, section 10.2)
+abbrev pub noted_closed : NotedClose → End → End
+noted_closed close e = told_by e.closed close e

@@ -40,7 +40,7 @@ use Rattle.qs_machine.specs.Making.{MakeAt, MakeAckAt, make_refusal, claim_refus
 use Rattle.qs_machine.specs.Filling.{FillAt}
 use Rattle.qs_machine.specs.Alone.{is_ours, TakesOne, TakeBy, TakesEach, TakeAllBy, token_refusal, only, after_one, TokenAckedStep}
 use Rattle.qs_machine.specs.Owner.{AcceptStep, AcceptOfStep, AcceptOpen, AcceptOpenOf, GivesNone, GivesBidi, GivesUni, ReadBy, recv_refusal, is_read_no_more, first_refusal, refuse_if}
-use Rattle.qs_machine.specs.EndStep.{Call, Answer, EndStep, Open, Accept, AcceptOf, Write, Finish, Reset, Stop, StopAndForget, ReadUpTo, Consume, Receive, TakeFrame, TakeFrames, TokenAcked, TokenLost, Make, MakeAck, FillIn, Lose, Claim, RaiseLimits, Set, TellClosed}
+use Rattle.qs_machine.specs.EndStep.{Call, Answer, EndStep, Open, Accept, AcceptOf, Write, Finish, Reset, Stop, StopAndDiscard, ReadUpTo, Consume, Receive, TakeFrame, TakeFrames, TokenAcked, TokenLost, Make, MakeAck, FillIn, Lose, Claim, RaiseLimits, Set, NoteClosed}
 use Rattle.qs_machine.proofs.EveryCall.{by_refusal, if_allowed, by_test, stops_by, by_open, closed_same}
 use Rattle.qs_machine.proofs.Again.{seen_in, takes_prefix}
 use Rattle.qs_runs.proofs.Receives.{took_effect}
@@ -218,7 +218,7 @@ module _ (old : End) (P : End → Type 0) (c : Forms old P) where
   calm_call (Finish n) answer new calm step = absurd calm
   calm_call (Reset n code) answer new calm step = absurd calm
   calm_call (Stop n code) answer new calm step = absurd calm
-  calm_call (StopAndForget n code) answer new calm step = absurd calm
+  calm_call (StopAndDiscard n code) answer new calm step = absurd calm
   calm_call (ReadUpTo n size) answer new calm step = read_by (recv_refusal (is_read_no_more old) old n) n size answer.0 answer.1 new step
   calm_call (Consume n most) answer new calm step =
       by_refusal (P new) (recv_refusal (is_read_no_more old) old n) old answer.0 new _ step.0 (stays new) (λ (l, at, told, is). subst P (sym is) (c.consumes n most))
@@ -234,5 +234,5 @@ module _ (old : End) (P : End → Type 0) (c : Forms old P) where
   calm_call Claim answer new calm step = by_refusal (P new) (claim_refusal old) old answer new _ step (stays new) (λ done. subst P (sym done.1) c.claims)
   calm_call (RaiseLimits p) answer new calm step = absurd calm
   calm_call (Set x) answer new calm step = absurd calm
-  calm_call (TellClosed close) answer new calm step = absurd calm
+  calm_call (NoteClosed close) answer new calm step = absurd calm
   calm_call call answer new calm step = stays new step.1

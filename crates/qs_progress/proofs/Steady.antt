@@ -5,7 +5,7 @@ use Rattle.std.specs.Prelude.{⊤, nat_le}
 use Rattle.std.proofs.lemmas.Bool.{cases_eq, cond_both, false≢true}
 use Rattle.std.proofs.lemmas.Option.{slice_get-map}
 use Rattle.qs_wire.specs.declared.stream_id.Dir.TheVariants.{Uni}
-use Rattle.qs_recv.specs.Lane.{RecvLane, after_read, stop, stop_and_forget, raise, set_window, take_stream, take_reset, new_lane as new_recv_lane}
+use Rattle.qs_recv.specs.Lane.{RecvLane, after_read, stop, stop_and_discard, raise, set_window, take_stream, take_reset, new_lane as new_recv_lane}
 use Rattle.qs_send.specs.Lane.{SendLane, reset_refusal, broken_off, first_code, stop_taken, allow_lane, write_lane, finish_lane, reset_lane, acked_lane, reset_acked_lane, sent_lane, blocked_lane, buffer_lane, new_lane as new_send_lane}
 use Rattle.qs_send.specs.declared.piece.Item.TheVariants.{MaxData, MaxStreamData, MaxStreams, ResetStream, StopSending, StreamDataBlocked, StreamsBlocked}
 use Rattle.qs_send.specs.declared.piece.Piece.{Piece}
@@ -237,7 +237,7 @@ pairs_change old call (Written n bytes l) e comes = pairs_sends e (changed (Writ
 pairs_change old call (Finished n) e comes = pairs_sends e (changed (Finished n) e) refl refl (open_edited e.sends n finish_lane)
 pairs_change old call (WasReset n code) e comes = pairs_sends e (changed (WasReset n code) e) refl refl (open_edited e.sends n (λ m. reset_lane m code))
 pairs_change old call (Stopped n code) e comes = pairs_recv n (λ m. stop m code) e
-pairs_change old call (Forgotten n code) e comes = pairs_recv n (λ m. stop_and_forget m code) e
+pairs_change old call (Forgotten n code) e comes = pairs_recv n (λ m. stop_and_discard m code) e
 pairs_change old call (WasRead n size) e comes = pairs_recv n (λ m. after_read m size) e
 pairs_change old call (Raised p) e comes = pairs_sends e (changed (Raised p) e) refl refl (λ m h. still_open Any e.sends (limits_raised p e).sends m (kept_raised Any (λ l. tt) (λ l m k x y. tt) (λ limit l. tt) p e) h)
 pairs_change old call (WasSet (SendBuffer n size)) e comes = pairs_sends e (changed (WasSet (SendBuffer n size)) e) refl refl (open_edited e.sends n (λ m. buffer_lane m size))

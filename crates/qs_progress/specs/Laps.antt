@@ -6,7 +6,7 @@ use Rattle.std.specs.FinMap as fmap
 use Rattle.qs_send.specs.Records.{Among}
 use Rattle.qs_calls.specs.declared.event.Side.{Side}
 use Rattle.qs_machine.specs.News.{IsLeast, IsReadable}
-use Rattle.qs_machine.specs.EndStep.{Call, Open, Write, Finish, Reset, Stop, StopAndForget, TokenLost, Lose, RaiseLimits, Set, TellClosed}
+use Rattle.qs_machine.specs.EndStep.{Call, Open, Write, Finish, Reset, Stop, StopAndDiscard, TokenLost, Lose, RaiseLimits, Set, NoteClosed}
 use Rattle.qs_runs.specs.Logs.{Happening, History}
 use Rattle.qs_runs.specs.Worlds.{World, end_of, WorldStep}
 use Rattle.qs_rest.specs.Rest.{HasMore}
@@ -23,12 +23,12 @@ IsCalm (Write n bytes) = ⊥
 IsCalm (Finish n) = ⊥
 IsCalm (Reset n code) = ⊥
 IsCalm (Stop n code) = ⊥
-IsCalm (StopAndForget n code) = ⊥
+IsCalm (StopAndDiscard n code) = ⊥
 IsCalm (TokenLost t) = ⊥
 IsCalm (Lose k) = ⊥
 IsCalm (RaiseLimits p) = ⊥
 IsCalm (Set x) = ⊥
-IsCalm (TellClosed close) = ⊥
+IsCalm (NoteClosed close) = ⊥
 IsCalm call = ⊤
 
 -- these moments follow each other, up to the last one, by happenings of that kind

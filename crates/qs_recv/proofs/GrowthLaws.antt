@@ -9,7 +9,7 @@ use Rattle.std.proofs.lemmas.Bool.{cond_both, or_left}
 use Rattle.qs_ranges.specs.Numbers.{end_of}
 use Rattle.qs_ranges.proofs.Sets.{below-end_of}
 use Rattle.qs_recv.specs.Assembled.{Assembled, put, discard, forget, front_of}
-use Rattle.qs_recv.specs.Lane.{RecvLane, highest, check_stream, take_stream, check_reset, take_reset, is_whole, breaks_known, read_answer, after_answer, after_read, stop, stop_and_forget, is_over, raise, set_window}
+use Rattle.qs_recv.specs.Lane.{RecvLane, highest, check_stream, take_stream, check_reset, take_reset, is_whole, breaks_known, read_answer, after_answer, after_read, stop, stop_and_discard, is_over, raise, set_window}
 use Rattle.qs_recv.specs.Lawful.{IsLawful}
 use Rattle.qs_recv.specs.Laws.{IsSent, CarriesSent, LaneCall, TakeStream, TakeReset, ReadUpTo, StopWith, ForgetWith, RaiseLimit, SetWindow, after_call, IsAllowed, Grows}
 use Rattle.qs_recv.specs.declared.half.Read.{Read}
@@ -103,7 +103,7 @@ grows_stop lane code h =
       final_size_stays = λ size is. is;
     })
 
-grows_forgotten : (lane : RecvLane) (code : ℕ) → IsLawful lane → Grows lane (stop_and_forget lane code)
+grows_forgotten : (lane : RecvLane) (code : ℕ) → IsLawful lane → Grows lane (stop_and_discard lane code)
 grows_forgotten lane code h =
     let g = grows_stop lane code h in
     record {

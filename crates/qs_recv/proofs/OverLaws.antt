@@ -7,7 +7,7 @@ use Rattle.std.proofs.lemmas.Bool.Decides.{nat_tests}
 use Rattle.qs_ranges.specs.Numbers.{ContainsRange, numbers, covers, end_of}
 use Rattle.qs_ranges.proofs.Sets.{covers-of}
 use Rattle.qs_recv.specs.Assembled.{Assembled, put, front_of, forget, discard}
-use Rattle.qs_recv.specs.Lane.{RecvLane, highest, highest_after, is_whole, whole_to, is_over, breaks_known, check_stream, check_reset, take_stream, take_reset, read_answer, answer_by, at_final_size, bytes_read, bytes_of, after_read, after_answer, raise, next_limit, stop, stop_and_forget, taken}
+use Rattle.qs_recv.specs.Lane.{RecvLane, highest, highest_after, is_whole, whole_to, is_over, breaks_known, check_stream, check_reset, take_stream, take_reset, read_answer, answer_by, at_final_size, bytes_read, bytes_of, after_read, after_answer, raise, next_limit, stop, stop_and_discard, taken}
 use Rattle.qs_recv.specs.declared.half.Read.TheVariants.{Bytes, End, Wait}
 use Rattle.qs_recv.specs.Over.{IsOver}
 use Rattle.qs_recv.proofs.LawfulLaws.{unbroken, reset_unbroken}
@@ -78,5 +78,5 @@ module _ (l : RecvLane) (h : IsOver l) where
   pub over_stop : (code : ℕ) → stop l code ≡ l
   over_stop code = ap (λ b. cond b l (record l { arrived = discard l.arrived; stop_code = Some code })) (or_right (is_some l.stop_code) (is_over l) over_over)
 
-  pub over_forget : (code : ℕ) → stop_and_forget l code ≡ l
+  pub over_forget : (code : ℕ) → stop_and_discard l code ≡ l
   over_forget code = ap (λ (k : RecvLane). record k { told = true }) (over_stop code) ∙ ap (λ b. record l { told = b }) (sym h.told)

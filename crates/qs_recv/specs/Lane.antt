@@ -170,8 +170,8 @@ stop lane code =
 
 -- The same, and nothing more is told of the stream: it is read to its end as soon as that comes, or as a reset does (RFC 9000, sections 3.2
 -- and 3.5).
-abbrev pub stop_and_forget : RecvLane → ℕ → RecvLane
-stop_and_forget lane code = record (stop lane code) { told = true }
+abbrev pub stop_and_discard : RecvLane → ℕ → RecvLane
+stop_and_discard lane code = record (stop lane code) { told = true }
 
 -- Credit
 

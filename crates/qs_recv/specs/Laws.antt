@@ -5,7 +5,7 @@ use Rattle.std.specs.FinMap as map
 use Rattle.std.specs.FinSet as set
 use Rattle.qs_recv.specs.Assembled.{Assembled}
 use Rattle.qs_recv.specs.Bytes.{byte_at}
-use Rattle.qs_recv.specs.Lane.{MAX_WINDOW, RecvLane, new_lane, highest, taken, check_stream, check_bytes, take_stream, check_reset, take_reset, after_read, stop, stop_and_forget, raise, set_window}
+use Rattle.qs_recv.specs.Lane.{MAX_WINDOW, RecvLane, new_lane, highest, taken, check_stream, check_bytes, take_stream, check_reset, take_reset, after_read, stop, stop_and_discard, raise, set_window}
 use Rattle.qs_recv.specs.Lawful.{IsLawful}
 use Rattle.qs_recv.specs.declared.credit.Share.{Share}
 
@@ -26,7 +26,7 @@ after_call lane (TakeStream offset bytes fin) = take_stream lane offset bytes fi
 after_call lane (TakeReset code size) = take_reset lane code size
 after_call lane (ReadUpTo room) = after_read lane room
 after_call lane (StopWith code) = stop lane code
-after_call lane (ForgetWith code) = stop_and_forget lane code
+after_call lane (ForgetWith code) = stop_and_discard lane code
 after_call lane (RaiseLimit) = raise lane
 after_call lane (SetWindow window) = set_window lane window
 

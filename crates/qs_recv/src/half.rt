@@ -5,7 +5,7 @@ ghost use Rattle.qs_ranges.specs.Numbers.{MAX_VARINT, MissesRange, covers};
 ghost use Rattle.qs_recv.specs.Lawful.{IsLawful};
 ghost use Rattle.qs_recv.specs.Sound.{CodeFits};
 ghost use Rattle.qs_recv.specs.News.{is_readable};
-ghost use Rattle.qs_recv.specs.Lane.{new_lane, highest, highest_after, noted, taken, state, check_stream, check_bytes, take_stream, check_reset, take_reset, is_over, read_answer, bytes_read, after_read, stop, stop_and_forget, raise, raise_answer, set_window, MAX_WINDOW};
+ghost use Rattle.qs_recv.specs.Lane.{new_lane, highest, highest_after, noted, taken, state, check_stream, check_bytes, take_stream, check_reset, take_reset, is_over, read_answer, bytes_read, after_read, stop, stop_and_discard, raise, raise_answer, set_window, MAX_WINDOW};
 ghost use Rattle.qs_recv.specs.Changes.{stream_changes};
 ghost use Rattle.qs_recv.specs.Peek.{IsPeek};
 ghost use Rattle.qs_recv.specs.Room.{IsRoomOf};
@@ -358,15 +358,15 @@ impl<A: Assembly> RecvHalf<A> {
 
     /// Stops it for a reader that won't ask again: it counts as read to its end as soon as that or a reset comes (sections 3.2 and 3.5).
     #[tactic(auto, using(crate::proofs::OverLaws::over_forget))]
-    pub fn stop_and_forget(&mut self, code: u64)
+    pub fn stop_and_discard(&mut self, code: u64)
         requires { code ≤ MAX_VARINT }
-        ensures after { self.new ≡ stop_and_forget self.old code }
+        ensures after { self.new ≡ stop_and_discard self.old code }
         ensures same_highest { highest self.new ≡ highest self.old }
     {
         match &mut self.parts {
             Parts::Kept(Kept::Over(over)) => over.is_over(),
-            Parts::Kept(Kept::Rest(rest)) => rest.stop_and_forget(code),
-            Parts::Live(live) => live.stop_and_forget(code),
+            Parts::Kept(Kept::Rest(rest)) => rest.stop_and_discard(code),
+            Parts::Live(live) => live.stop_and_discard(code),
         }
     }
 

@@ -5,7 +5,7 @@ ghost use Rattle.qs_ranges.specs.Numbers.{MAX_VARINT, MissesRange, covers};
 ghost use Rattle.qs_recv.specs.Lawful.{IsLawful};
 ghost use Rattle.qs_recv.specs.Sound.{CodeFits};
 ghost use Rattle.qs_recv.specs.News.{is_readable};
-ghost use Rattle.qs_recv.specs.Lane.{highest, highest_after, noted, taken, state, check_stream, check_bytes, take_stream, check_reset, take_reset, is_whole, is_over, at_final_size, breaks_final_size, read_answer, bytes_read, after_read, stop, stop_and_forget, raise, raise_answer, set_window, MAX_WINDOW};
+ghost use Rattle.qs_recv.specs.Lane.{highest, highest_after, noted, taken, state, check_stream, check_bytes, take_stream, check_reset, take_reset, is_whole, is_over, at_final_size, breaks_final_size, read_answer, bytes_read, after_read, stop, stop_and_discard, raise, raise_answer, set_window, MAX_WINDOW};
 ghost use Rattle.qs_recv.specs.Changes.{stream_changes};
 ghost use Rattle.qs_recv.specs.Peek.{IsPeek};
 ghost use Rattle.qs_recv.specs.Room.{IsRoomOf};
@@ -315,9 +315,9 @@ impl<A: Assembly> LiveHalf<A> {
         }
     }
 
-    pub(crate) fn stop_and_forget(&mut self, code: u64)
+    pub(crate) fn stop_and_discard(&mut self, code: u64)
         requires { code ≤ MAX_VARINT }
-        ensures after { self.new ≡ stop_and_forget self.old code }
+        ensures after { self.new ≡ stop_and_discard self.old code }
         ensures same_highest { highest self.new ≡ highest self.old }
     {
         self.stop(code);

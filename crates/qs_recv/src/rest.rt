@@ -8,7 +8,7 @@ ghost use Rattle.qs_recv.specs.Rest.{EndsAt, IsAtRest, given};
 ghost use Rattle.qs_recv.specs.Peek.{IsPeek};
 ghost use Rattle.qs_recv.specs.News.{is_readable};
 ghost use Rattle.qs_recv.specs.Sound.{CodeFits};
-ghost use Rattle.qs_recv.specs.Lane.{new_lane, highest, highest_after, noted, taken, state, is_whole, is_over, check_stream, check_reset, take_stream, take_reset, read_answer, bytes_read, after_read, stop, stop_and_forget, raise, raise_answer, set_window, MAX_WINDOW};
+ghost use Rattle.qs_recv.specs.Lane.{new_lane, highest, highest_after, noted, taken, state, is_whole, is_over, check_stream, check_reset, take_stream, take_reset, read_answer, bytes_read, after_read, stop, stop_and_discard, raise, raise_answer, set_window, MAX_WINDOW};
 
 use crate::credit::{Share, limit_with, next_limit};
 use crate::half::{Peek, Read, RecvState, Sizes, Standing};
@@ -161,9 +161,9 @@ impl Rest {
     }
 
     /// Setting `told` with the stop is all: a half is over once its reader knows the end, and that reader doesn't ask.
-    pub(crate) fn stop_and_forget(&mut self, code: u64)
+    pub(crate) fn stop_and_discard(&mut self, code: u64)
         requires { code ≤ MAX_VARINT }
-        ensures after { self.new ≡ stop_and_forget self.old code }
+        ensures after { self.new ≡ stop_and_discard self.old code }
         ensures same_highest { highest self.new ≡ highest self.old }
     {
         self.stop(code);

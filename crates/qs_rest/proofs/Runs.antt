@@ -33,7 +33,7 @@ use Rattle.qs_machine.specs.Plains.{frames_in}
 use Rattle.qs_machine.specs.Alone.{token_refusal}
 use Rattle.qs_machine.specs.FrameStep.{AckedPiece, acks, named, held, frame_taken}
 use Rattle.qs_machine.specs.Raising.{RaiseStep, knows_limits, limits_raised, raise_refusal}
-use Rattle.qs_machine.specs.EndStep.{Call, Answer, EndStep, Receive, TakeFrame, TakeFrames, TokenAcked, RaiseLimits, TellClosed}
+use Rattle.qs_machine.specs.EndStep.{Call, Answer, EndStep, Receive, TakeFrame, TakeFrames, TokenAcked, RaiseLimits, NoteClosed}
 use Rattle.qs_machine.specs.SettledLimits.{LimitsAreSettled}
 use Rattle.qs_machine.specs.Standing.{IsSound, CountsAreSettled}
 use Rattle.qs_machine.specs.Repeats.{SentWasWritten}
@@ -269,7 +269,7 @@ module _ (xs ys : List Effect) (e new : End) (sound : IsSound e) (sent : SentWas
       moved_rests (TakeFrames fs) given is c.moved c.done
   call_rests (TokenAcked t) given heard is = token_rests t given is
   call_rests (RaiseLimits limits) given heard is = goes_on (RaiseLimits limits) given tt (raise_rests old e new limits given sound sent ok is)
-  call_rests (TellClosed close) given heard is = moved_rests (TellClosed close) given is (subst (Moved old e) (sym is) (by_closed e.closed)) tt
+  call_rests (NoteClosed close) given heard is = moved_rests (NoteClosed close) given is (subst (Moved old e) (sym is) (by_closed e.closed)) tt
     where
       by_closed : (o : Option Closed) → Moved old e (told_by o close e)
       by_closed (Some closed) = moved_same old e (slots old e ok) ok.acked

@@ -6,7 +6,7 @@ use Rattle.std.proofs.lemmas.Bool.Decides.{nat_tests}
 use Rattle.std.specs.FinSet as set
 use Rattle.qs_ranges.specs.Numbers.{MAX_VARINT, end_of}
 use Rattle.qs_ranges.proofs.Sets.{covers-is}
-use Rattle.qs_recv.specs.Lane.{RecvLane, highest, taken, step, next_limit, is_whole, whole_to, read_answer, at_final_size, new_lane as new_recv_lane, take_stream, take_reset, answer_by, after_answer, after_read, stop, stop_and_forget, is_over, raise, set_window}
+use Rattle.qs_recv.specs.Lane.{RecvLane, highest, taken, step, next_limit, is_whole, whole_to, read_answer, at_final_size, new_lane as new_recv_lane, take_stream, take_reset, answer_by, after_answer, after_read, stop, stop_and_discard, is_over, raise, set_window}
 use Rattle.qs_recv.specs.declared.credit.Share.{Share}
 use Rattle.qs_recv.specs.Lawful.{IsLawful}
 use Rattle.qs_recv.proofs.LawfulLaws.{taken_within}
@@ -238,7 +238,7 @@ new_told w share told = absurd (false≢true told)
 stop_told : (code : ℕ) (l : RecvLane) → ToldTrue l → ToldTrue (stop l code)
 stop_told code l h = cond_both (is_some l.stop_code || is_over l) l (record l { arrived = discard l.arrived; stop_code = Some code }) ToldTrue (λ _. h) (λ _ told. inr (inl refl))
 
-forget_told : (code : ℕ) (l : RecvLane) → ToldTrue l → ToldTrue (stop_and_forget l code)
+forget_told : (code : ℕ) (l : RecvLane) → ToldTrue l → ToldTrue (stop_and_discard l code)
 forget_told code l h told = go (is_some l.stop_code) (is_over l) refl refl
   where
     go : (a o : Bool) → is_some l.stop_code ≡ a → is_over l ≡ o → IsToldOf (record (cond (a || o) l (record l { arrived = discard l.arrived; stop_code = Some code })) { told = true })
@@ -397,7 +397,7 @@ told_change : (old : End) (call : Call) (c : Change) (e : End) → Comes old cal
 told_change old call (Wanted Uni count) e comes sound sent all = all
 told_change old call (Opened n) e comes sound sent all = told_opens n e all
 told_change old call (Stopped n code) e comes sound sent all = told_updated e.recvs n (λ m. stop m code) all (stop_told code)
-told_change old call (Forgotten n code) e comes sound sent all = told_updated e.recvs n (λ m. stop_and_forget m code) all (forget_told code)
+told_change old call (Forgotten n code) e comes sound sent all = told_updated e.recvs n (λ m. stop_and_discard m code) all (forget_told code)
 told_change old call (WasRead n size) e comes sound sent all = told_updated e.recvs n (λ m. after_read m size) all (answer_told size)
 told_change old call (WasSet (SendBuffer n size)) e comes sound sent all = all
 told_change old call (WasSet (Grant Uni n)) e comes sound sent all = all

@@ -33,7 +33,7 @@ use Rattle.qs_machine.proofs.EveryCall.{ends_by, by_open}
 use Rattle.qs_machine.proofs.Again.{settle_twice}
 use Rattle.qs_machine.proofs.Plains.{plain_stops}
 use Rattle.qs_machine.proofs.SettledLimits.{new_ends_settled}
-use Rattle.qs_runs.specs.Logs.{History, other, made, payload, was_told_closed, ping_text}
+use Rattle.qs_runs.specs.Logs.{History, other, made, payload, was_noted_closed, ping_text}
 use Rattle.qs_runs.specs.Worlds.{World, end_of, May, Run}
 use Rattle.qs_machine.specs.Plains.{frames_in, but_plain}
 use Rattle.qs_runs.specs.Invariant.{WorldOk, role_of, settings_of}
@@ -129,9 +129,9 @@ claims_tell_nothing a b h v w s number run =
       recorded = λ bytes result ping untold open_end step. recorded bytes result ping untold open_end step.step (step.may open_end);
     }
   where
-    recorded : (bytes : List ℕ) (result : Result Received Closing) → payload s number h ≡ Some ping_text → was_told_closed s h ≡ false → (end_of v (other s)).closed ≡ None → ReceiveStep (end_of v (other s)) number bytes result (end_of w (other s)) → May h v (other s) (Receive number bytes) →
+    recorded : (bytes : List ℕ) (result : Result Received Closing) → payload s number h ≡ Some ping_text → was_noted_closed s h ≡ false → (end_of v (other s)).closed ≡ None → ReceiveStep (end_of v (other s)) number bytes result (end_of w (other s)) → May h v (other s) (Receive number bytes) →
         OnlyRecords number (any_asks (frames_in bytes)) result (end_of v (other s)) (end_of w (other s))
-    recorded bytes result ping untold open_end step (inr close) = absurd (true≢false (sym close.0 ∙ back_again (λ t. was_told_closed t h ≡ false) s untold))
+    recorded bytes result ping untold open_end step (inr close) = absurd (true≢false (sym close.0 ∙ back_again (λ t. was_noted_closed t h ≡ false) s untold))
     recorded bytes result ping untold open_end step (inl (text, is, differ)) =
         plain_received number bytes (end_of v (other s)) (end_of w (other s)) result open_end (run_settled a b h v run (other s)) differ.reads
         (differ.same ∙ ap (λ t. but_plain (frames_in t)) (same_Some text ping_text (sym is ∙ back_again (λ t. payload t number h ≡ Some ping_text) s ping)) ∙ ping_plain) step

@@ -96,7 +96,7 @@ tokens =
       in_part = refl;
       not_at_the_peer = refl;
       none_made_by_it = refl;
-      told_closed = λ close. refl;
+      noted_closed = λ close. refl;
       not_told = λ close. refl;
     }
 

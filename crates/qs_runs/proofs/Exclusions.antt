@@ -20,7 +20,7 @@ use Rattle.qs_send.specs.declared.parts.SendState.TheVariants.{DataRecvd, DataSe
 use Rattle.qs_send.specs.declared.piece.Item.TheVariants.{MaxData, DataBlocked, StreamsBlocked, StreamDataBlocked}
 use Rattle.qs_calls.specs.declared.closing.Closed.TheVariants.{ByPeer}
 use Rattle.qs_calls.specs.declared.closing.Received.TheVariants.{NoMemory}
-use Rattle.qs_calls.specs.declared.closing.ToldClose.{ToldClose}
+use Rattle.qs_calls.specs.declared.closing.NotedClose.{NotedClose}
 use Rattle.qs_calls.specs.declared.token.TakeFault.TheVariants as faults
 use Rattle.qs_calls.specs.declared.event.Side.{Side}
 use Rattle.qs_calls.specs.declared.event.Side.TheVariants.{A, B}
@@ -34,7 +34,7 @@ use Rattle.qs_machine.specs.Examples.{standard}
 use Rattle.qs_machine.specs.SmallEnds.{server_with, abc, sent, fresh, all_came}
 use Rattle.qs_machine.specs.EndStep.{Receive, TakeFrames}
 use Rattle.qs_machine.proofs.Claims.{gave}
-use Rattle.qs_runs.specs.Logs.{History, other, effects, payload, taken, was_told_closed, must_land, HasMade, HasLanded}
+use Rattle.qs_runs.specs.Logs.{History, other, effects, payload, taken, was_noted_closed, must_land, HasMade, HasLanded}
 use Rattle.qs_runs.specs.Worlds.{World, IsPayload, May}
 use Rattle.qs_runs.specs.Agree.{IsOld}
 use Rattle.qs_runs.specs.Exclusions.{ReadIsNoPrefix, WholeIsMissing, SizesDiffer, WorldsDiffer, NewsIsNotOld, StepsSpend, two_frames, sent_two, took, came_as, PayloadsThatCome, closing, told_A, ClosesThatCome, FramesThatCome, TokensThatAreAcked, OtherSteps, blocked, BlockedFramesLand, Differ, OtherBytesCome, LimitsAreAbove, NoneBegin, Exclusions, acknowledged, first_of_three}
@@ -168,7 +168,7 @@ unfolding effects
 sent_payload = refl
 
 -- where the peer was told of no close its payload comes
-only_payload : (h : History) (w : World) (s : Side) (k : ℕ) (bytes : List ℕ) → was_told_closed (other s) h ≡ false → May h w s (Receive k bytes) → IsPayload h (other s) k bytes
+only_payload : (h : History) (w : World) (s : Side) (k : ℕ) (bytes : List ℕ) → was_noted_closed (other s) h ≡ false → May h w s (Receive k bytes) → IsPayload h (other s) k bytes
 only_payload h w s k bytes none (inl made) = made
 only_payload h w s k bytes none (inr close) = absurd (false≢true (sym none ∙ close.0))
 
@@ -200,12 +200,12 @@ closes_with (Close code ∷ fs) = length fs
 closes_with fs = 2
 
 -- what comes of an end that made nothing is a close
-only_close : (w : World) (close : ToldClose) (bytes : List ℕ) → May (told_A close) w B (Receive 0 bytes) → closes_with (but_plain (frames_in bytes)) ≡ 0
+only_close : (w : World) (close : NotedClose) (bytes : List ℕ) → May (told_A close) w B (Receive 0 bytes) → closes_with (but_plain (frames_in bytes)) ≡ 0
 unfolding effects
 only_close w close bytes (inl (text, is, d)) = absurd (none-some text is)
 only_close w close bytes (inr (told, code, is)) = ap closes_with is
 
-closes : (w : World) (close : ToldClose) → ClosesThatCome w close
+closes : (w : World) (close : NotedClose) → ClosesThatCome w close
 unfolding effects reading_from frames_at frame_at number_of_type_at body_at number_at varint_at short_len counted_at plain_at
 closes w close =
     record {

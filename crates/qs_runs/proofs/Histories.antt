@@ -33,10 +33,10 @@ use Rattle.qs_machine.specs.Alone.{is_ours, TakeBy, TakeAllBy}
 use Rattle.qs_machine.specs.Receiving.{ReceiveBy}
 use Rattle.qs_calls.specs.declared.closing.Closed.{Closed}
 use Rattle.qs_calls.specs.declared.closing.Closed.TheVariants as closings
-use Rattle.qs_machine.specs.EndStep.{Call, Answer, EndStep, Write, Stop, StopAndForget, ReadUpTo, Consume, Receive, TakeFrame, TakeFrames, TokenAcked, Make, MakeAck, FillIn, Claim, TellClosed}
+use Rattle.qs_machine.specs.EndStep.{Call, Answer, EndStep, Write, Stop, StopAndDiscard, ReadUpTo, Consume, Receive, TakeFrame, TakeFrames, TokenAcked, Make, MakeAck, FillIn, Claim, NoteClosed}
 use Rattle.qs_machine.proofs.Pieces.{All_at, All_append}
 use Rattle.qs_machine.proofs.Plains.{differ_covers, differ_turned, close_comes}
-use Rattle.qs_runs.specs.Logs.{Happening, History, Effect, Wrote, Gave, Ended, Stopped, Sent, Came, CameAlone, Acked, ToldClosed, other, same_side, if_ok, read_effects, sent_effects, came_effects, acked_effects, effects_of, effects, wrote_in, gave_in, stops_in, ends_first, sent_in, comes_in, took_in, acks_in, is_in, made, payload, taken, closes_in, was_told_closed, must_land, HasMade, HasLanded}
+use Rattle.qs_runs.specs.Logs.{Happening, History, Effect, Wrote, Gave, Ended, Stopped, Sent, Came, CameAlone, Acked, NotedClosed, other, same_side, if_ok, read_effects, sent_effects, came_effects, acked_effects, effects_of, effects, wrote_in, gave_in, stops_in, ends_first, sent_in, comes_in, took_in, acks_in, is_in, made, payload, taken, closes_in, was_noted_closed, must_land, HasMade, HasLanded}
 use Rattle.qs_runs.specs.Worlds.{World, end_of, IsFrom, IsPayload, May}
 use Rattle.qs_runs.specs.Invariant.{HasNoFault, WorldOk}
 use Rattle.qs_runs.specs.Pasts.{Past, past_of, past, packets_in, Holds, Tells, WasConfirmed, Landed}
@@ -132,7 +132,7 @@ module _ (xs ys : List Effect) where
   one_is (Came k bytes) = λ i. record (with_effect (Came k bytes) before) { mine = no_packets i; bytes = λ m. append-nil (before.bytes m) i; gave = λ m. append-nil (before.gave m) i }
   one_is (CameAlone frames) = λ i. record (with_effect (CameAlone frames) before) { mine = no_packets i; bytes = λ m. append-nil (before.bytes m) i; gave = λ m. append-nil (before.gave m) i }
   one_is (Acked token) = λ i. record (with_effect (Acked token) before) { mine = no_packets i; bytes = λ m. append-nil (before.bytes m) i; gave = λ m. append-nil (before.gave m) i; taken = append-nil before.taken i }
-  one_is ToldClosed = λ i. record before { mine = no_packets i; bytes = λ m. append-nil (before.bytes m) i; gave = λ m. append-nil (before.gave m) i; taken = append-nil before.taken i }
+  one_is NotedClosed = λ i. record before { mine = no_packets i; bytes = λ m. append-nil (before.bytes m) i; gave = λ m. append-nil (before.gave m) i; taken = append-nil before.taken i }
 
   past_one : (x : Effect) → past_of (xs ++ x ∷ []) ys ≡ with_effect x before
   past_one x =
@@ -260,7 +260,7 @@ none_acked t (Err fault) = refl
 pub none_sent : (call : Call) (answer : Answer call) → (Sends call → ⊥) → flat_map sent_in (effects_of call answer) ≡ []
 none_sent (Write n bytes) answer quiet = none_if_ok answer _ (λ count. refl)
 none_sent (Stop n code) answer quiet = none_if_ok answer _ (λ done. refl)
-none_sent (StopAndForget n code) answer quiet = none_if_ok answer _ (λ done. refl)
+none_sent (StopAndDiscard n code) answer quiet = none_if_ok answer _ (λ done. refl)
 none_sent (ReadUpTo n size) answer quiet = none_if_ok answer.0 _ (λ told. none_read n told answer.1)
 none_sent (Consume n most) answer quiet = none_if_ok answer.0 _ (λ told. none_consumed n told.read answer.1 told.at_end)
 none_sent (Receive k bytes) answer quiet = none_if_ok answer _ (none_came k bytes)
@@ -356,8 +356,8 @@ pub still_landed : (x : Happening) (h : History) (s : Side) (k : ℕ) → HasLan
 still_landed x h s k (text, is, all) = (text, still_made x h s k text is, λ f a land. still_taken x h (other s) f (all f a land))
 
 -- and what an end was told of a close
-pub still_closed : (x : Happening) (h : History) (s : Side) → was_told_closed s h ≡ true → was_told_closed s (x ∷ h) ≡ true
-still_closed x h s = two_sides (λ t. was_told_closed t h ≡ true → was_told_closed t (x ∷ h) ≡ true) x.end
+pub still_closed : (x : Happening) (h : History) (s : Side) → was_noted_closed s h ≡ true → was_noted_closed s (x ∷ h) ≡ true
+still_closed x h s = two_sides (λ t. was_noted_closed t h ≡ true → was_noted_closed t (x ∷ h) ≡ true) x.end
     (λ is. ap (list_any closes_in) (effects_here x h) ∙ list_any-append closes_in (effects x.end h) (did x h) ∙ or_left _ _ is)
     (λ is. ap (list_any closes_in) (effects_there x h) ∙ is) s
 
@@ -393,14 +393,14 @@ deaf_sent None text = tt
 deaf_effects : (call : Call) (answer : Answer call) → (Hears call → ⊥) → Deaf (effects_of call answer)
 deaf_effects (Write n bytes) answer deaf = deaf_if_ok answer _ (λ count. (refl, tt))
 deaf_effects (Stop n code) answer deaf = deaf_if_ok answer _ (λ done. (refl, tt))
-deaf_effects (StopAndForget n code) answer deaf = deaf_if_ok answer _ (λ done. (refl, tt))
+deaf_effects (StopAndDiscard n code) answer deaf = deaf_if_ok answer _ (λ done. (refl, tt))
 deaf_effects (ReadUpTo n size) answer deaf = deaf_if_ok answer.0 _ (λ told. deaf_read n told answer.1)
 deaf_effects (Consume n most) answer deaf = deaf_if_ok answer.0 _ (λ told. All_append _ (read_effects n told.read answer.1) (if told.at_end then Ended n ∷ [] else []) (deaf_read n told.read answer.1) (deaf_end n told.at_end))
 deaf_effects (Make first delay room) answer deaf = deaf_if_ok answer.0 _ (λ packet. deaf_sent packet answer.1)
 deaf_effects (MakeAck delay room) answer deaf = deaf_if_ok answer.0 _ (λ packet. deaf_sent packet answer.1)
 deaf_effects (FillIn want room) answer deaf = deaf_if_ok answer.0 _ (λ filled. deaf_sent filled answer.1)
 deaf_effects Claim answer deaf = deaf_if_ok answer _ (λ number. (refl, tt))
-deaf_effects (TellClosed close) answer deaf = (refl, tt)
+deaf_effects (NoteClosed close) answer deaf = (refl, tt)
 deaf_effects (Receive k bytes) answer deaf = absurd (deaf tt)
 deaf_effects (TakeFrame f) answer deaf = absurd (deaf tt)
 deaf_effects (TakeFrames fs) answer deaf = absurd (deaf tt)

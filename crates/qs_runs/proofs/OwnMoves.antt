@@ -17,7 +17,7 @@ use Rattle.std.proofs.lemmas.Bool.{eq-eqb, ne_eqb, leb-false, cases_lt}
 use Rattle.qs_wire.specs.declared.stream_id.Dir.{Dir}
 use Rattle.qs_wire.specs.declared.stream_id.Dir.TheVariants.{Bidi, Uni}
 use Rattle.qs_recv.specs.Assembled.{front, front_of}
-use Rattle.qs_recv.specs.Lane.{RecvLane, read_answer, bytes_of, bytes_read, after_answer, after_read, stop, stop_and_forget, is_over}
+use Rattle.qs_recv.specs.Lane.{RecvLane, read_answer, bytes_of, bytes_read, after_answer, after_read, stop, stop_and_discard, is_over}
 use Rattle.qs_recv.specs.declared.half.Read.{Read}
 use Rattle.qs_recv.specs.declared.half.Read.TheVariants as reads
 use Rattle.qs_send.specs.Lane.{SendLane, refusal, reset_refusal, write_lane, finish_lane, reset_lane, buffer_lane, allow_lane}
@@ -37,13 +37,13 @@ use Rattle.qs_machine.specs.Tables.{lookup, update, updated, Tables, table}
 use Rattle.qs_machine.specs.Credit.{settle, all_taken}
 use Rattle.qs_machine.specs.Seen.{Seen, seen_all, Control}
 use Rattle.qs_machine.specs.Due.{known_count}
-use Rattle.qs_machine.specs.Owner.{first_refusal, refuse_if, send_refusal, recv_refusal, is_read_no_more, half_refusal, no_half, opened_count, own_type, peer_type, with_wanted, OpenStep, IsBlocked, IsOpened, AcceptStep, AcceptOfStep, GivesNone, GivesBidi, GivesUni, AcceptOpen, AcceptOpenOf, WriteStep, FinishStep, ResetStep, StopStep, ReadStep, ReadBy, next_stream, accepted_by, consumed, is_end as is_told_end, Certain, StopAndForgetStep}
+use Rattle.qs_machine.specs.Owner.{first_refusal, refuse_if, send_refusal, recv_refusal, is_read_no_more, half_refusal, no_half, opened_count, own_type, peer_type, with_wanted, OpenStep, IsBlocked, IsOpened, AcceptStep, AcceptOfStep, GivesNone, GivesBidi, GivesUni, AcceptOpen, AcceptOpenOf, WriteStep, FinishStep, ResetStep, StopStep, ReadStep, ReadBy, next_stream, accepted_by, consumed, is_end as is_told_end, Certain, StopAndDiscardStep}
 use Rattle.qs_machine.specs.Alone.{token_refusal, TokenLostStep, LosesEach}
 use Rattle.qs_calls.specs.declared.closing.Closed.{Closed as ClosedEnd}
-use Rattle.qs_calls.specs.declared.closing.ToldClose.{ToldClose}
+use Rattle.qs_calls.specs.declared.closing.NotedClose.{NotedClose}
 use Rattle.qs_machine.specs.Receiving.{told_by}
 use Rattle.qs_machine.specs.Laws.{StaysOnceClosed}
-use Rattle.qs_machine.specs.EndStep.{Call, Answer, EndStep, Open, Accept, AcceptOf, Write, Finish, Reset, Stop, StopAndForget, ReadUpTo, Consume, Receive, TakeFrame, TakeFrames, TokenAcked, TokenLost, Make, MakeAck, FillIn, Lose, Claim, RaiseLimits, Set, TellClosed, ClosingPayload, Stored, Granted, Spent, GrantedStreams, Report}
+use Rattle.qs_machine.specs.EndStep.{Call, Answer, EndStep, Open, Accept, AcceptOf, Write, Finish, Reset, Stop, StopAndDiscard, ReadUpTo, Consume, Receive, TakeFrame, TakeFrames, TokenAcked, TokenLost, Make, MakeAck, FillIn, Lose, Claim, RaiseLimits, Set, NoteClosed, ClosingPayload, Stored, Granted, Spent, GrantedStreams, Report}
 use Rattle.qs_runs.specs.Logs.{Stopped, Ended, Sent, if_ok, read_effects, effects_of}
 use Rattle.qs_runs.proofs.Past.{with_effect, with_effects, effects_joined}
 use Rattle.qs_machine.specs.Owner.{AreTaken, TakesBytes}
@@ -231,9 +231,9 @@ module _ (p : Past) (e new : End) (ok : EndOk p e) where
   stop_moves n code answer step =
       stops_by n (λ m. stop m code) answer step (λ l h. (stop_ok p n (first_window e n) l h code (is_some l.stop_code || is_over l), stop_grows p n (first_window e n) l h code (is_some l.stop_code || is_over l)))
 
-  forget_moves : (n code : ℕ) (answer : Result (Unit {0}) UseFault) → StopAndForgetStep e n code answer new → EndOk (with_effects (effects_of (StopAndForget n code) answer) p) new
+  forget_moves : (n code : ℕ) (answer : Result (Unit {0}) UseFault) → StopAndDiscardStep e n code answer new → EndOk (with_effects (effects_of (StopAndDiscard n code) answer) p) new
   forget_moves n code answer step =
-      stops_by n (λ m. stop_and_forget m code) answer step (λ l h. (
+      stops_by n (λ m. stop_and_discard m code) answer step (λ l h. (
         (let stopped = stop_ok p n (first_window e n) l h code (is_some l.stop_code || is_over l) in recv_alike stopped (omega arith) stopped.ended),
         told_grows l _ (stop_grows p n (first_window e n) l h code (is_some l.stop_code || is_over l)),
       ))
@@ -531,7 +531,7 @@ Sends (FillIn want room) = ⊤
 Sends Claim = ⊤
 Sends call = ⊥
 
-told_moves : (p : Past) (e : End) (close : ToldClose) (o : Option ClosedEnd) → EndOk p e → EndOk p (told_by o close e)
+told_moves : (p : Past) (e : End) (close : NotedClose) (o : Option ClosedEnd) → EndOk p e → EndOk p (told_by o close e)
 told_moves p e close (Some closed) ok = ok
 told_moves p e close None ok = record { sends = ok.sends; recvs = ok.recvs; packets = ok.packets; taken = ok.taken; credit = ok.credit; streams = ok.streams }
 
@@ -543,7 +543,7 @@ own_moves p e new (Write n bytes) answer deaf quiet ok step = write_moves p e ne
 own_moves p e new (Finish n) answer deaf quiet ok step = finish_moves p e new ok n answer step
 own_moves p e new (Reset n code) answer deaf quiet ok step = reset_moves p e new ok n code answer step
 own_moves p e new (Stop n code) answer deaf quiet ok step = stop_moves p e new ok n code answer step
-own_moves p e new (StopAndForget n code) answer deaf quiet ok step = forget_moves p e new ok n code answer step
+own_moves p e new (StopAndDiscard n code) answer deaf quiet ok step = forget_moves p e new ok n code answer step
 own_moves p e new (ReadUpTo n size) answer deaf quiet ok step = read_moves p e new ok n size answer step
 own_moves p e new (Consume n most) answer deaf quiet ok step = consume_moves p e new ok n most answer.1 answer.0 step
 own_moves p e new (Receive k bytes) answer deaf quiet ok step = absurd (deaf tt)
@@ -558,7 +558,7 @@ own_moves p e new (Lose k) answer deaf quiet ok step = lose_moves p e new ok k a
 own_moves p e new Claim answer deaf quiet ok step = absurd (quiet tt)
 own_moves p e new (RaiseLimits limits) answer deaf quiet ok step = raise_moves p e new limits answer ok step
 own_moves p e new (Set x) answer deaf quiet ok step = set_moves p e new x answer ok step
-own_moves p e new (TellClosed close) answer deaf quiet ok step = subst (EndOk p) (sym step) (told_moves p e close e.closed ok)
+own_moves p e new (NoteClosed close) answer deaf quiet ok step = subst (EndOk p) (sym step) (told_moves p e close e.closed ok)
 own_moves p e new (ClosingPayload slice) answer deaf quiet ok step = ended_by p e new step.1 ok
 own_moves p e new Stored answer deaf quiet ok step = ended_by p e new step.1 ok
 own_moves p e new Granted answer deaf quiet ok step = ended_by p e new step.1 ok

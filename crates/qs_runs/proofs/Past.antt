@@ -2,7 +2,7 @@
 use Rattle.std.proofs.Common.{◌≡◌, ℕ, Bool, true, not, ◌&&◌, ◌==◌, if◌then◌else◌, List, [], ◌∷◌, ◌++◌, inl, inr, refl, sym, ◌∙◌, append-nil, append_assoc}
 use Rattle.qs_machine.specs.Seen.{Seen, seen_all}
 use Rattle.qs_machine.specs.Plains.{frames_in}
-use Rattle.qs_runs.specs.Logs.{Effect, Wrote, Gave, Ended, Stopped, Sent, Came, CameAlone, Acked, ToldClosed, is_in}
+use Rattle.qs_runs.specs.Logs.{Effect, Wrote, Gave, Ended, Stopped, Sent, Came, CameAlone, Acked, NotedClosed, is_in}
 use Rattle.qs_runs.specs.Pasts.{Past, Packets, Holds, Tells, TellsOffset, TellsByte, TellsEnd, TellsAck, WasConfirmed, IsNamed, packets_in}
 use Rattle.qs_runs.proofs.Lists.{slice_get-append}
 
@@ -41,7 +41,7 @@ with_effect (Sent text) p = record p { mine = p.mine ++ frames_in text ∷ [] }
 with_effect (Came k bytes) p = record p { processed = λ j. if j == k then true else p.processed j; taken = p.taken ++ frames_in bytes }
 with_effect (CameAlone frames) p = record p { taken = p.taken ++ seen_all frames }
 with_effect (Acked token) p = record p { tokens = λ j. if is_in token j then true else p.tokens j }
-with_effect ToldClosed p = p
+with_effect NotedClosed p = p
 
 -- and with several, in order
 abbrev pub with_effects : List Effect → Past → Past
@@ -63,4 +63,4 @@ effects_made (Stopped n ∷ xs) p = effects_made xs (with_effect (Stopped n) p)
 effects_made (Came k bytes ∷ xs) p = effects_made xs (with_effect (Came k bytes) p)
 effects_made (CameAlone frames ∷ xs) p = effects_made xs (with_effect (CameAlone frames) p)
 effects_made (Acked token ∷ xs) p = effects_made xs (with_effect (Acked token) p)
-effects_made (ToldClosed ∷ xs) p = effects_made xs p
+effects_made (NotedClosed ∷ xs) p = effects_made xs p

@@ -25,7 +25,7 @@ use Rattle.qs_machine.specs.Recording.{recorded, has_too_many, lowest_end, least
 use Rattle.qs_machine.proofs.RunLaws.{least_above}
 use Rattle.qs_machine.proofs.EveryCall.{no_fault_there, by_open, same_either, relates, Change, changed, Comes, HearsPeer, Wanted, Opened, Stopped as WasStopped, Forgotten, WasRead, WasSet, Took as WasTaken, Acked as WasAckedBy, Put, Settled}
 use Rattle.qs_runs.specs.Logs.{Came, Acked, effects_of, acked_effects, is_in}
-use Rattle.qs_machine.specs.EndStep.{Call, Answer, EndStep, Receive, TakeFrame, TakeFrames, TokenAcked, RaiseLimits, TellClosed}
+use Rattle.qs_machine.specs.EndStep.{Call, Answer, EndStep, Receive, TakeFrame, TakeFrames, TokenAcked, RaiseLimits, NoteClosed}
 use Rattle.qs_machine.specs.Raising.{limits_raised, raise_refusal}
 use Rattle.qs_machine.specs.Setting.{SendBuffer, StreamWindow, Grant}
 use Rattle.qs_recv.specs.declared.half.Read.{Read}
@@ -45,7 +45,7 @@ use Rattle.qs_runs.proofs.Frames.{Effect, MayCome, come_keeps, frame_keeps, new_
 use Rattle.qs_runs.proofs.OwnMoves.{ended_by}
 use Rattle.std.proofs.lemmas.Option.{none-some, same_Some}
 use Rattle.std.specs.Bool.{⊤}
-use Rattle.qs_recv.specs.Lane.{after_answer, after_read, read_answer, stop, stop_and_forget, set_window, is_over, RecvLane, raise, highest, take_stream, take_reset, is_whole, check_stream, check_reset}
+use Rattle.qs_recv.specs.Lane.{after_answer, after_read, read_answer, stop, stop_and_discard, set_window, is_over, RecvLane, raise, highest, take_stream, take_reset, is_whole, check_stream, check_reset}
 use Rattle.qs_send.specs.Lane.{SendLane}
 use Rattle.qs_send.specs.Records.{Among}
 use Rattle.qs_calls.specs.declared.token.Token.{Token}
@@ -572,7 +572,7 @@ change_spends : (old : End) (call : Call) (c : Change) (e : End) → (HearsPeer 
 change_spends old call (Wanted Uni count) e deaf comes = refl
 change_spends old call (Opened n) e deaf comes = spent_opened e n false
 change_spends old call (WasStopped n code) e deaf comes = edit_spends n (λ m. stop m code) e (λ l. highest_stop l code)
-change_spends old call (Forgotten n code) e deaf comes = edit_spends n (λ m. stop_and_forget m code) e (λ l. highest_stop l code)
+change_spends old call (Forgotten n code) e deaf comes = edit_spends n (λ m. stop_and_discard m code) e (λ l. highest_stop l code)
 change_spends old call (WasRead n size) e deaf comes = edit_spends n (λ m. after_read m size) e (λ l. highest_read (read_answer l size) l size)
 change_spends old call (WasSet (StreamWindow n w)) e deaf comes = edit_spends n (λ m. set_window m w) e (λ l. refl)
 change_spends old call (WasSet (SendBuffer n size)) e deaf comes = refl
@@ -603,7 +603,7 @@ pub none_spent : (e new : End) (call : Call) (answer : Answer call) → (Hands c
 none_spent e new (TokenAcked t) answer idle step = token_spends e new t answer step
 none_spent e new (RaiseLimits q) answer idle step =
     elim (certain_cases (raise_refusal e q) e answer new _ step) [ inl (fault, is, same) ↦ ap spent same | inr (allowed, (is, same)) ↦ ap spent same ∙ settle_spends (limits_raised q e) ]
-none_spent e new (TellClosed close) answer idle step = ap spent step ∙ by e.closed
+none_spent e new (NoteClosed close) answer idle step = ap spent step ∙ by e.closed
   where
     by : (o : Option Closed) → spent (told_by o close e) ≡ spent e
     by None = refl

@@ -11,7 +11,7 @@ use Rattle.qs_calls.specs.declared.closing.Closed.{Closed}
 use Rattle.qs_calls.specs.declared.closing.Closed.TheVariants.{ByPeer}
 use Rattle.qs_calls.specs.declared.closing.Closing.{Closing}
 use Rattle.qs_calls.specs.declared.closing.Received.{Received}
-use Rattle.qs_calls.specs.declared.closing.ToldClose.{ToldClose}
+use Rattle.qs_calls.specs.declared.closing.NotedClose.{NotedClose}
 use Rattle.qs_calls.specs.declared.settings.Settings.{Settings}
 use Rattle.qs_calls.specs.declared.settings.Tuning.{Tuning}
 use Rattle.qs_calls.specs.declared.settings.PeerLimits.{PeerLimits}
@@ -29,7 +29,7 @@ use Rattle.qs_machine.specs.Seen.{Seen, seen_all}
 use Rattle.qs_machine.specs.Plains.{frames_in}
 use Rattle.qs_machine.specs.Alone.{is_ours}
 use Rattle.qs_machine.specs.Raising.{greater_limits, raise_refusal}
-use Rattle.qs_machine.specs.EndStep.{Call, Answer, EndStep, Receive, TakeFrame, TakeFrames, TokenAcked, RaiseLimits, TellClosed}
+use Rattle.qs_machine.specs.EndStep.{Call, Answer, EndStep, Receive, TakeFrame, TakeFrames, TokenAcked, RaiseLimits, NoteClosed}
 use Rattle.qs_machine.specs.Standing.{IsSound}
 use Rattle.qs_machine.specs.Repeats.{SentWasWritten}
 use Rattle.qs_machine.proofs.Counts.{new_ends_sound}
@@ -38,7 +38,7 @@ use Rattle.qs_machine.proofs.CallsCounts.{sound_end, counts_call}
 use Rattle.qs_machine.proofs.EveryCall.{closed_stays}
 use Rattle.qs_machine.proofs.Plains.{close_comes}
 use Rattle.qs_machine.proofs.Pieces.{All_append}
-use Rattle.qs_runs.specs.Logs.{Happening, History, Effect, ToldClosed, other, effects, effects_of, sent_in, took_in, comes_in, acks_in, closes_in, processed, taken, was_acked, was_told_closed, made, HasMade, HasLanded}
+use Rattle.qs_runs.specs.Logs.{Happening, History, Effect, NotedClosed, other, effects, effects_of, sent_in, took_in, comes_in, acks_in, closes_in, processed, taken, was_acked, was_noted_closed, made, HasMade, HasLanded}
 use Rattle.qs_runs.specs.Worlds.{World, AreGranted, Begins, IsPayload, IsClose, IsFrom, May, end_of, WorldStep, Run}
 use Rattle.qs_runs.specs.Agree.{StaysOpen}
 use Rattle.qs_runs.specs.Events.{Log, happened, EventRun}
@@ -196,11 +196,11 @@ module _ (granted : PeerLimits → Type 0) (told : Bool) (e : End) (peer : grant
   open_raise None r allowed = refl
   open_raise (Some closed) r allowed = absurd (none-some _ (sym allowed))
 
-  told_stays : (close : ToldClose) (o : Option Closed) → Stays granted told e (told_by o close e) (ToldClosed ∷ [])
+  told_stays : (close : NotedClose) (o : Option Closed) → Stays granted told e (told_by o close e) (NotedClosed ∷ [])
   told_stays close o = by o
     where
-      by : (o : Option Closed) → Stays granted told e (told_by o close e) (ToldClosed ∷ [])
-      by (Some closed) = all_stays e (ToldClosed ∷ []) refl
+      by : (o : Option Closed) → Stays granted told e (told_by o close e) (NotedClosed ∷ [])
+      by (Some closed) = all_stays e (NotedClosed ∷ []) refl
       by None = record { role = refl; settings = refl; peer = peer; closed = λ none. absurd (true≢false none) }
 
   -- a call in which an end hears nothing of its peer
@@ -210,7 +210,7 @@ module _ (granted : PeerLimits → Type 0) (told : Bool) (e : End) (peer : grant
         | inl (fault, is, same) ↦ all_stays new [] (ap fixed same)
         | inr (allowed, (is, same)) ↦ subst (λ f. Stays granted told e f []) (sym same) (record { role = refl; settings = refl; peer = may q refl (open_raise e.closed _ allowed); closed = λ none. inl refl })
       ]
-  own_stays new (TellClosed close) answer deaf may step = subst (λ f. Stays granted told e f (ToldClosed ∷ [])) (sym step) (told_stays close e.closed)
+  own_stays new (NoteClosed close) answer deaf may step = subst (λ f. Stays granted told e f (NotedClosed ∷ [])) (sym step) (told_stays close e.closed)
   own_stays new (Receive k bytes) answer deaf may step = absurd (deaf tt)
   own_stays new (TakeFrame f) answer deaf may step = absurd (deaf tt)
   own_stays new (TakeFrames fs) answer deaf may step = absurd (deaf tt)
@@ -234,7 +234,7 @@ module _ (a b : Settings) (h : History) (v w : World) (s : Side) (ok : WorldOk a
 
   -- what a call of this side leaves
   abbrev LeavesAll : End → List Effect → Type 0
-  LeavesAll now xs = Leaves (past s h) old now xs × Stays (λ p. AreGranted p (settings_of a b (other s))) (was_told_closed (other s) h) old now xs
+  LeavesAll now xs = Leaves (past s h) old now xs × Stays (λ p. AreGranted p (settings_of a b (other s))) (was_noted_closed (other s) h) old now xs
 
   -- what comes to an open end of what its peer made
   module _ (open_end : old.closed ≡ None) where
@@ -373,7 +373,7 @@ module _ (a b : Settings) (h : History) (v w : World) (x : Happening) (ok : Worl
   landed_now B k is = landed_by A k is
 
   -- an end that stays as open as it was
-  still_open : (s : Side) → was_told_closed s h ≡ false → (end_of w s).closed ≡ (end_of v s).closed → ((end_of w s).closed ≡ None) ⊎ ((was_told_closed (other s) (x ∷ h) ≡ true) × (code : ℕ) × ((end_of w s).closed ≡ Some (ByPeer code)))
+  still_open : (s : Side) → was_noted_closed s h ≡ false → (end_of w s).closed ≡ (end_of v s).closed → ((end_of w s).closed ≡ None) ⊎ ((was_noted_closed (other s) (x ∷ h) ≡ true) × (code : ℕ) × ((end_of w s).closed ≡ Some (ByPeer code)))
   still_open s untold same = elim (ok.unclosed s untold) [ inl none ↦ inl (same ∙ none) | inr (told, code, is) ↦ inr (still_closed x h (other s) told, code, same ∙ is) ]
 
   lands : Lands (x ∷ h) w

@@ -15,7 +15,7 @@ use Rattle.qs_machine.specs.Credit.{spent, all_sent}
 use Rattle.qs_machine.specs.Seen.{Seen, Stream, Control, seen, seen_all}
 use Rattle.qs_machine.specs.Plains.{frames_in}
 use Rattle.qs_machine.specs.EndStep.{Call, Receive, TakeFrame, TakeFrames}
-use Rattle.qs_runs.specs.Logs.{Happening, History, other, written, read, read_whole, processed, was_told_closed}
+use Rattle.qs_runs.specs.Logs.{Happening, History, other, written, read, read_whole, processed, was_noted_closed}
 use Rattle.qs_runs.specs.Worlds.{World, end_of, WorldStep, Run}
 
 -- xs is how ys begins (RFC 9000, section 2.2)
@@ -48,7 +48,7 @@ CreditAgrees w s = spent (end_of w s) ≤ all_sent (end_of w (other s))
 
 -- an end that was told of no close is open, or its peer was told of one, and it saw that peer's close (RFC 9000, section 10.2)
 abbrev pub StaysOpen : History → World → Side → Type 0
-StaysOpen h w s = was_told_closed s h ≡ false → ((end_of w s).closed ≡ None) ⊎ ((was_told_closed (other s) h ≡ true) × (code : ℕ) × ((end_of w s).closed ≡ Some (ByPeer code)))
+StaysOpen h w s = was_noted_closed s h ≡ false → ((end_of w s).closed ≡ None) ⊎ ((was_noted_closed (other s) h ≡ true) × (code : ℕ) × ((end_of w s).closed ≡ Some (ByPeer code)))
 
 -- what agrees in a world with this history (RFC 9000, sections 2.2, 3, 4 and 10.2)
 pub record Agree (h : History) (w : World) : Type 0 where

@@ -9,7 +9,7 @@ use Rattle.qs_machine.specs.Seen.{any_asks}
 use Rattle.qs_machine.specs.Repeats.{OnlyRecords}
 use Rattle.qs_machine.specs.Plains.{frames_in}
 use Rattle.qs_machine.specs.EndStep.{Claim, Receive}
-use Rattle.qs_runs.specs.Logs.{Happening, History, other, payload, was_told_closed, ping_text}
+use Rattle.qs_runs.specs.Logs.{Happening, History, other, payload, was_noted_closed, ping_text}
 use Rattle.qs_runs.specs.Worlds.{World, end_of, WorldStep, Run}
 
 -- an end claimed a number
@@ -26,7 +26,7 @@ pub record ClaimsTellNothing (a b : Settings) (h : History) (v w : World) (s : S
   pub ping : WorldStep h v (claimed s number) w → payload s number (claimed s number ∷ h) ≡ Some ping_text
   -- and what comes under it, of an end that was told of no close, has no fault, and nothing changes but that its number is recorded: be it the
   -- PING, or plain frames in its place or beside it (sections 13.1, 13.2.1 and 19)
-  pub recorded : (bytes : List ℕ) (result : Result Received Closing) → payload s number h ≡ Some ping_text → was_told_closed s h ≡ false → (end_of v (other s)).closed ≡ None →
+  pub recorded : (bytes : List ℕ) (result : Result Received Closing) → payload s number h ≡ Some ping_text → was_noted_closed s h ≡ false → (end_of v (other s)).closed ≡ None →
       WorldStep h v (came s number bytes result) w → OnlyRecords number (any_asks (frames_in bytes)) result (end_of v (other s)) (end_of w (other s))
 
 abbrev pub ClaimsAlwaysTellNothing : Type 0

@@ -8,7 +8,7 @@ use Rattle.qs_send.specs.declared.piece.Item.TheVariants.{MaxData}
 use Rattle.qs_calls.specs.declared.settings.PeerLimits.{PeerLimits}
 use Rattle.qs_calls.specs.declared.closing.Received.{Received}
 use Rattle.qs_calls.specs.declared.closing.Received.TheVariants.{Done, Duplicate}
-use Rattle.qs_calls.specs.declared.closing.ToldClose.{ToldClose}
+use Rattle.qs_calls.specs.declared.closing.NotedClose.{NotedClose}
 use Rattle.qs_calls.specs.declared.filling.Fill.{Fill}
 use Rattle.qs_calls.specs.declared.filling.Filled.{Filled}
 use Rattle.qs_calls.specs.declared.making.MakeFault.TheVariants.{Exhausted}
@@ -22,10 +22,10 @@ use Rattle.qs_calls.specs.declared.event.Side.TheVariants.{A, B}
 use Rattle.qs_machine.specs.SmallEnds.{abc}
 use Rattle.qs_machine.specs.Seen.{Control, Plain}
 use Rattle.qs_machine.specs.Setting.{Setting}
-use Rattle.qs_machine.specs.EndStep.{Call, Answer, AcceptOf, Write, Stop, StopAndForget, ReadUpTo, Consume, Receive, TakeFrame, TakeFrames, TokenAcked, TokenLost, Make, MakeAck, FillIn, Claim, RaiseLimits, Set, TellClosed}
+use Rattle.qs_machine.specs.EndStep.{Call, Answer, AcceptOf, Write, Stop, StopAndDiscard, ReadUpTo, Consume, Receive, TakeFrame, TakeFrames, TokenAcked, TokenLost, Make, MakeAck, FillIn, Claim, RaiseLimits, Set, NoteClosed}
 use Rattle.qs_calls.specs.declared.settings.Settings.{Settings}
 use Rattle.qs_runs.specs.Worlds.{World, end_of, Run}
-use Rattle.qs_runs.specs.Logs.{Happening, History, written, read, read_whole, stopped, made, payload, processed, taken, was_acked, was_told_closed}
+use Rattle.qs_runs.specs.Logs.{Happening, History, written, read, read_whole, stopped, made, payload, processed, taken, was_acked, was_noted_closed}
 
 -- a call of an end, with its answer
 abbrev pub at : Side → (call : Call) → Answer call → Happening
@@ -112,12 +112,12 @@ pub record EndsAreTold : Type 0 where
   -- not one that had stopped before, or forgotten the stream
   pub stopped_before : read_whole B 0 (told_end B ∷ stop B ∷ []) ≡ false
   pub taken_then : read_whole B 0 (took_out B abc true ∷ stop B ∷ []) ≡ false
-  pub forgotten_before : read_whole B 0 (told_end B ∷ at B (StopAndForget 0 7) (Ok tt) ∷ []) ≡ false
+  pub forgotten_before : read_whole B 0 (told_end B ∷ at B (StopAndDiscard 0 7) (Ok tt) ∷ []) ≡ false
   -- one that stopped another stream was, and one that stopped afterwards
   pub other_stopped : read_whole B 0 (told_end B ∷ at B (Stop 4 7) (Ok tt) ∷ []) ≡ true
   pub stopped_after : read_whole B 0 (stop B ∷ told_end B ∷ []) ≡ true
   -- a stream that is forgotten is stopped, and none by a call that was refused
-  pub forgotten : stopped B 0 (at B (StopAndForget 0 7) (Ok tt) ∷ []) ≡ true
+  pub forgotten : stopped B 0 (at B (StopAndDiscard 0 7) (Ok tt) ∷ []) ≡ true
   pub refused : stopped B 0 (at B (Stop 0 7) (Err NoSuchStream) ∷ []) ≡ false
 
 -- What is made and comes
@@ -142,7 +142,7 @@ pub record PacketsAreRead (text : List ℕ) : Type 0 where
   pub none_raised : (limits : PeerLimits) → made A (at A (RaiseLimits limits) (Ok tt) ∷ []) ≡ []
   pub none_set : (setting : Setting) → made A (at A (Set setting) (Ok tt) ∷ []) ≡ []
   -- nor by a stream that is forgotten, or given out of one direction
-  pub none_forgot : made A (at A (StopAndForget 0 7) (Ok tt) ∷ []) ≡ []
+  pub none_forgot : made A (at A (StopAndDiscard 0 7) (Ok tt) ∷ []) ≡ []
   pub none_given : (d : Dir) (result : Option ℕ) → made A (at A (AcceptOf d) result ∷ []) ≡ []
 
 -- A is told that the packets of this token were acknowledged
@@ -175,8 +175,8 @@ pub record TokensAreRead : Type 0 where
   -- which makes nothing
   pub none_made_by_it : made A (token_acked (token 3 3) ∷ []) ≡ []
   -- a close is told to one end
-  pub told_closed : (close : ToldClose) → was_told_closed A (at A (TellClosed close) tt ∷ []) ≡ true
-  pub not_told : (close : ToldClose) → was_told_closed B (at A (TellClosed close) tt ∷ []) ≡ false
+  pub noted_closed : (close : NotedClose) → was_noted_closed A (at A (NoteClosed close) tt ∷ []) ≡ true
+  pub not_told : (close : NotedClose) → was_noted_closed B (at A (NoteClosed close) tt ∷ []) ≡ false
 
 -- A PING that is handed in alone is answered NotOurs, and the run goes on in the same world (RFC 9000, section 19.2).
 abbrev pub PingComesAlone : Type 0

@@ -13,7 +13,7 @@ use Rattle.qs_calls.specs.Settings.{limits_of}
 use Rattle.qs_calls.specs.declared.closing.Closing.{Closing}
 use Rattle.qs_calls.specs.declared.closing.Closed.TheVariants.{ByUs, ByPeer}
 use Rattle.qs_calls.specs.declared.closing.Received.TheVariants.{Done, NoMemory}
-use Rattle.qs_calls.specs.declared.closing.ToldClose.{ToldClose}
+use Rattle.qs_calls.specs.declared.closing.NotedClose.{NotedClose}
 use Rattle.qs_calls.specs.declared.settings.PeerLimits.{PeerLimits}
 use Rattle.qs_calls.specs.declared.token.Taken.TheVariants.{Took}
 use Rattle.qs_calls.specs.declared.token.TakeFault.TheVariants as faults
@@ -23,8 +23,8 @@ use Rattle.qs_machine.specs.Seen.{Seen, Stream, Control, Plain}
 use Rattle.qs_machine.specs.Plains.{DifferInPlain, frames_in}
 use Rattle.qs_machine.specs.Examples.{standard, server, client_of}
 use Rattle.qs_machine.specs.SmallEnds.{client_with, server_with, abc, wrote as wrote_half, sent, fresh, all_came}
-use Rattle.qs_machine.specs.EndStep.{Call, Answer, Accept, Receive, TakeFrame, TakeFrames, TokenAcked, Make, Claim, RaiseLimits, TellClosed}
-use Rattle.qs_runs.specs.Logs.{Happening, History, was_told_closed, HasLanded, ping_text}
+use Rattle.qs_machine.specs.EndStep.{Call, Answer, Accept, Receive, TakeFrame, TakeFrames, TokenAcked, Make, Claim, RaiseLimits, NoteClosed}
+use Rattle.qs_runs.specs.Logs.{Happening, History, was_noted_closed, HasLanded, ping_text}
 use Rattle.qs_runs.specs.Worlds.{World, WorldStep, May, AreGranted, Begins}
 use Rattle.qs_runs.specs.Agree.{PrefixAgrees, WholeAgrees, FinalSizesAgree, Agree, IsOld, StepAgrees}
 use Rattle.qs_runs.specs.Examples.{at, wrote, got, told_end, took_out, story, packet, came, token}
@@ -80,9 +80,9 @@ pub record WorldsDiffer : Type 0 where
   -- where more is spent than was sent (section 4.1)
   pub credit : (h : History) → Agree h (both (client_with wrote_half) (server_with all_came)) → ⊥
   -- where the client closed by itself, and wasn't told to
-  pub client_closed : (h : History) (closing : Closing) → was_told_closed A h ≡ false → Agree h (both (record (client_of standard) { closed = Some (ByUs closing) }) (server standard)) → ⊥
+  pub client_closed : (h : History) (closing : Closing) → was_noted_closed A h ≡ false → Agree h (both (record (client_of standard) { closed = Some (ByUs closing) }) (server standard)) → ⊥
   -- or the server saw a close, and neither end was told of one
-  pub server_closed : (h : History) → was_told_closed B h ≡ false → was_told_closed A h ≡ false → Agree h (both (client_of standard) (record (server standard) { closed = Some (ByPeer 0) })) → ⊥
+  pub server_closed : (h : History) → was_noted_closed B h ≡ false → was_noted_closed A h ≡ false → Agree h (both (client_of standard) (record (server standard) { closed = Some (ByPeer 0) })) → ⊥
 
 -- It is news (sections 2.2 and 4.5)
 pub record NewsIsNotOld : Type 0 where
@@ -155,11 +155,11 @@ abbrev pub closing : List ℕ
 closing = 0x1d ∷ 0 ∷ 0 ∷ []
 
 -- A was told of a close
-abbrev pub told_A : ToldClose → History
-told_A close = at A (TellClosed close) tt ∷ []
+abbrev pub told_A : NotedClose → History
+told_A close = at A (NoteClosed close) tt ∷ []
 
 -- A payload comes with a close (`Receive`)
-pub record ClosesThatCome (w : World) (close : ToldClose) : Type 0 where
+pub record ClosesThatCome (w : World) (close : NotedClose) : Type 0 where
   -- of an end that was told of none
   pub untold : May [] w B (Receive 0 closing) → ⊥
   -- nor be it that the end that it comes to was
@@ -214,13 +214,13 @@ pub record TokensThatAreAcked (w : World) (epoch : w.a.tuning.epoch ≡ 0) : Typ
   -- and a token of another epoch may be told: it isn't taken
   pub foreign : May [] w A (TokenAcked (record { epoch = 1; first = 0; number = 0 }))
 
--- Limits are taken in (`RaiseLimits`), an end is told of a close (`TellClosed`), and each step
+-- Limits are taken in (`RaiseLimits`), an end is told of a close (`NoteClosed`), and each step
 pub record OtherSteps (h : History) (v w : World) : Type 0 where
   -- that the peer doesn't grant
   pub ungranted : (p : PeerLimits) → (AreGranted p v.b.settings → ⊥) → May h v A (RaiseLimits p) → ⊥
   pub ungranted_there : (p : PeerLimits) → (AreGranted p v.a.settings → ⊥) → May h v B (RaiseLimits p) → ⊥
   -- an end may be told of a close at any time
-  pub told : (close : ToldClose) → May h v A (TellClosed close)
+  pub told : (close : NotedClose) → May h v A (NoteClosed close)
   -- the other end changes, whatever the call
   pub other_end : (call : Call) (answer : Answer call) → (w.b ≡ v.b → ⊥) → WorldStep h v (record { end = A; call = call; answer = answer }) w → ⊥
   pub other_end_there : (call : Call) (answer : Answer call) → (w.a ≡ v.a → ⊥) → WorldStep h v (record { end = B; call = call; answer = answer }) w → ⊥
@@ -293,7 +293,7 @@ pub record Exclusions : Type 0 where
   pub news : NewsIsNotOld
   pub spent : (text : List ℕ) → StepsSpend text
   pub payloads : (w : World) → PayloadsThatCome w
-  pub closes : (w : World) (close : ToldClose) → ClosesThatCome w close
+  pub closes : (w : World) (close : NotedClose) → ClosesThatCome w close
   pub frames : (w : World) → FramesThatCome w
   pub tokens : (w : World) (epoch : w.a.tuning.epoch ≡ 0) → TokensThatAreAcked w epoch
   pub blocked : BlockedFramesLand

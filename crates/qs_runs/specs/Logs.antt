@@ -18,7 +18,7 @@ use Rattle.qs_wire.specs.Layout.{FrameValue}
 use Rattle.qs_machine.specs.Seen.{Seen, Control, seen_all}
 use Rattle.qs_machine.specs.Alone.{is_ours}
 use Rattle.qs_machine.specs.Plains.{frames_in}
-use Rattle.qs_machine.specs.EndStep.{Call, Answer, Open, Accept, AcceptOf, Write, Finish, Reset, Stop, StopAndForget, ReadUpTo, Consume, Receive, TakeFrame, TakeFrames, TokenAcked, TokenLost, Make, MakeAck, FillIn, Lose, Claim, RaiseLimits, Set, TellClosed, ClosingPayload, Stored, Granted, Spent, GrantedStreams, Report}
+use Rattle.qs_machine.specs.EndStep.{Call, Answer, Open, Accept, AcceptOf, Write, Finish, Reset, Stop, StopAndDiscard, ReadUpTo, Consume, Receive, TakeFrame, TakeFrames, TokenAcked, TokenLost, Make, MakeAck, FillIn, Lose, Claim, RaiseLimits, Set, NoteClosed, ClosingPayload, Stored, Granted, Spent, GrantedStreams, Report}
 
 -- one call of an end, with its answer
 pub record Happening : Type 0 where
@@ -52,7 +52,7 @@ pub data Effect : Type 0 where
   Came : (number : ℕ) (bytes : List ℕ) → Effect
   CameAlone : (frames : List FrameValue) → Effect
   Acked : (token : Token) → Effect
-  ToldClosed : Effect
+  NotedClosed : Effect
 
 -- of a call that was refused there are none
 abbrev pub if_ok : {R F : Type 0} → Result R F → (R → List Effect) → List Effect
@@ -101,7 +101,7 @@ effects_of (Write n bytes) answer = if_ok answer (λ count. Wrote n (take count 
 effects_of (Finish n) answer = []
 effects_of (Reset n code) answer = []
 effects_of (Stop n code) answer = if_ok answer (λ done. Stopped n ∷ [])
-effects_of (StopAndForget n code) answer = if_ok answer (λ done. Stopped n ∷ [])
+effects_of (StopAndDiscard n code) answer = if_ok answer (λ done. Stopped n ∷ [])
 effects_of (ReadUpTo n size) answer = if_ok answer.0 (λ told. read_effects n told answer.1)
 effects_of (Consume n most) answer = if_ok answer.0 (λ told. read_effects n told.read answer.1 ++ (if told.at_end then Ended n ∷ [] else []))
 effects_of (Receive k bytes) answer = if_ok answer (came_effects k bytes)
@@ -116,7 +116,7 @@ effects_of (Lose k) answer = []
 effects_of Claim answer = if_ok answer (λ number. Sent ping_text ∷ [])
 effects_of (RaiseLimits p) answer = []
 effects_of (Set x) answer = []
-effects_of (TellClosed close) answer = ToldClosed ∷ []
+effects_of (NoteClosed close) answer = NotedClosed ∷ []
 effects_of (ClosingPayload slice) answer = []
 effects_of Stored answer = []
 effects_of Granted answer = []
@@ -207,12 +207,12 @@ abbrev pub was_acked : Side → ℕ → History → Bool
 was_acked s k h = list_any (acks_in k) (effects s h)
 
 abbrev pub closes_in : Effect → Bool
-closes_in ToldClosed = true
+closes_in NotedClosed = true
 closes_in x = false
 
 -- one end was told of a close that its owner saw or made (RFC 9000, section 10.2)
-abbrev pub was_told_closed : Side → History → Bool
-was_told_closed s h = list_any closes_in (effects s h)
+abbrev pub was_noted_closed : Side → History → Bool
+was_noted_closed s h = list_any closes_in (effects s h)
 
 -- the frame stood in a payload of one end
 abbrev pub HasMade : History → Side → Seen → Type 0

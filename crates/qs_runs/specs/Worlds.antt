@@ -14,8 +14,8 @@ use Rattle.qs_machine.specs.Ends.{End, wide_end_made}
 use Rattle.qs_machine.specs.Seen.{Seen, Close, seen, seen_all}
 use Rattle.qs_machine.specs.Alone.{is_ours}
 use Rattle.qs_machine.specs.Plains.{frames_in, but_plain, DifferInPlain}
-use Rattle.qs_machine.specs.EndStep.{Call, EndStep, Open, Accept, AcceptOf, Write, Finish, Reset, Stop, StopAndForget, ReadUpTo, Consume, Receive, TakeFrame, TakeFrames, TokenAcked, TokenLost, Make, MakeAck, FillIn, Lose, Claim, RaiseLimits, Set, TellClosed, ClosingPayload, Stored, Granted, Spent, GrantedStreams, Report}
-use Rattle.qs_runs.specs.Logs.{Happening, History, other, payload, was_told_closed, HasMade, HasLanded, is_in}
+use Rattle.qs_machine.specs.EndStep.{Call, EndStep, Open, Accept, AcceptOf, Write, Finish, Reset, Stop, StopAndDiscard, ReadUpTo, Consume, Receive, TakeFrame, TakeFrames, TokenAcked, TokenLost, Make, MakeAck, FillIn, Lose, Claim, RaiseLimits, Set, NoteClosed, ClosingPayload, Stored, Granted, Spent, GrantedStreams, Report}
+use Rattle.qs_runs.specs.Logs.{Happening, History, other, payload, was_noted_closed, HasMade, HasLanded, is_in}
 
 pub record World : Type 0 where
   pub a : End
@@ -52,7 +52,7 @@ IsPayload h s k bytes = (text : List ℕ) × (payload s k h ≡ Some text) × Di
 
 -- the bytes are a CONNECTION_CLOSE, but for plain frames, of an end that was told of a close (RFC 9000, section 10.2)
 abbrev pub IsClose : History → Side → List ℕ → Type 0
-IsClose h s bytes = (was_told_closed s h ≡ true) × (code : ℕ) × (but_plain (frames_in bytes) ≡ Close code ∷ [])
+IsClose h s bytes = (was_noted_closed s h ≡ true) × (code : ℕ) × (but_plain (frames_in bytes) ≡ Close code ∷ [])
 
 -- a frame of streams or of flow control stood in a payload of one end; one of another kind is the layer beneath's own affair (RFC 9000,
 -- section 12.4)
@@ -71,7 +71,7 @@ May h w s (Write n bytes) = ⊤
 May h w s (Finish n) = ⊤
 May h w s (Reset n code) = ⊤
 May h w s (Stop n code) = ⊤
-May h w s (StopAndForget n code) = ⊤
+May h w s (StopAndDiscard n code) = ⊤
 May h w s (ReadUpTo n size) = ⊤
 May h w s (Consume n most) = ⊤
 May h w s (Receive k bytes) = IsPayload h (other s) k bytes ⊎ IsClose h (other s) bytes
@@ -86,7 +86,7 @@ May h w s (Lose k) = ⊤
 May h w s Claim = ⊤
 May h w s (RaiseLimits p) = AreGranted p (end_of w (other s)).settings
 May h w s (Set x) = ⊤
-May h w s (TellClosed close) = ⊤
+May h w s (NoteClosed close) = ⊤
 May h w s (ClosingPayload slice) = ⊤
 May h w s Stored = ⊤
 May h w s Granted = ⊤

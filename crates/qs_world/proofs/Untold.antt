@@ -12,7 +12,7 @@ use Rattle.qs_calls.specs.declared.answer.Answer.{Answer}
 use Rattle.qs_calls.specs.declared.answer.Answer.TheVariants as answers
 use Rattle.qs_recv.specs.declared.half.Read.{Read}
 use Rattle.qs_recv.specs.declared.half.Read.TheVariants as reads
-use Rattle.qs_runs.specs.Logs.{Happening, History, Effect, other, same_side, effects, effects_of, if_ok, came_effects, read_effects, sent_effects, closes_in, made, payload, was_told_closed}
+use Rattle.qs_runs.specs.Logs.{Happening, History, Effect, other, same_side, effects, effects_of, if_ok, came_effects, read_effects, sent_effects, closes_in, made, payload, was_noted_closed}
 use Rattle.qs_runs.specs.Events.{Log, call_of, calls, happened}
 use Rattle.qs_machine.specs.EndStep.{Receive}
 
@@ -64,11 +64,11 @@ event_closes h t s acts.Claim (answers.Claim r) = answered (same_side t s) r _ (
 event_closes h t s (acts.Deliver k) (answers.Deliver r) = delivery_closes t s k r (payload s k h)
 event_closes h t s act answer = refl
 
-pub never_told : (t : Side) (log : Log) → was_told_closed t (happened log) ≡ false
+pub never_told : (t : Side) (log : Log) → was_noted_closed t (happened log) ≡ false
 unfolding effects
 never_told t [] = refl
 never_told t (x ∷ log) = goes (call_of (happened log) x.0.end x.0.act x.1) (never_told t log) (event_closes (happened log) t x.0.end x.0.act x.1)
   where
-    goes : (o : Option Happening) → was_told_closed t (happened log) ≡ false → closes_at t o ≡ false → was_told_closed t (elim o [ None ↦ happened log | Some y ↦ y ∷ happened log ]) ≡ false
+    goes : (o : Option Happening) → was_noted_closed t (happened log) ≡ false → closes_at t o ≡ false → was_noted_closed t (elim o [ None ↦ happened log | Some y ↦ y ∷ happened log ]) ≡ false
     goes None before none = before
     goes (Some y) before none = list_any-append closes_in (effects t (happened log)) (if same_side t y.end then effects_of y.call y.answer else []) ∙ ap (λ b. b || list_any closes_in (if same_side t y.end then effects_of y.call y.answer else [])) before ∙ none

@@ -78,7 +78,7 @@ impl RecvStream<'_> {
         if !self.state.is_read(self.id) {
             return Err(UnknownStream(()));
         }
-        let stopped = self.state.end.stop_and_forget(ours(self.id), error_code.into());
+        let stopped = self.state.end.stop_and_discard(ours(self.id), error_code.into());
         stopped.map_err(|_| UnknownStream(()))
     }
 }

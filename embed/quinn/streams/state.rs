@@ -71,7 +71,7 @@ fn new_end(side: Side, settings: Settings, send_window: u64, epoch: u64) -> Endp
         .credit_step(Share::Eighth)
         .reads_when_closed(true);
     // The peer's limits come with the handshake, or are remembered.
-    Endpoint::new_wide(role, settings, tuning, PeerLimits::default()).expect("in range")
+    Endpoint::with_tuning(role, settings, tuning, PeerLimits::default()).expect("in range")
 }
 
 impl StreamsState {

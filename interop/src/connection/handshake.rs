@@ -68,7 +68,7 @@ impl Connection {
             settings, tuning, ..
         } = self.config;
         let end =
-            Endpoint::new_wide(self.role, settings, tuning, peer.limits).map_err(|fault| {
+            Endpoint::with_tuning(self.role, settings, tuning, peer.limits).map_err(|fault| {
                 let code = fault.code().unwrap_or(INTERNAL_ERROR);
                 Fault::new(code, 0, &fault.to_string())
             })?;

@@ -91,7 +91,9 @@ exports! {
     gvp_next_readable(end: &mut Handle, from: u64, stream: &mut u64) = (Global, end, from, stream);
     gvp_next_sendable(end: &mut Handle, from: u64, stream: &mut u64) = (Global, end, from, stream);
     gvp_next_writable(end: &mut Handle, from: u64, stream: &mut u64) = (Global, end, from, stream);
+    gvp_note_closed(end: &mut Handle, by: u32, kind: u32, code: u64) = (Global, end, by, kind, code);
     gvp_noted(end: &mut Handle, count: &mut u64) = (Global, end, count);
+    gvp_noted_close(end: &mut Handle, told: &mut GvTold) = (Global, end, told);
     gvp_open(end: &mut Handle, dir: u32, number: &mut u64) = (Global, end, dir, number);
     gvp_open_left(end: &mut Handle, dir: u32, count: &mut u64) = (Global, end, dir, count);
     gvp_peer_closed(end: &mut Handle, code: &mut u64) = (Global, end, code);
@@ -104,7 +106,7 @@ exports! {
         = (Global, end, stream, write!(into, into_len), number);
     gvp_receive(end: &mut Handle, number: u64, payload: *const u8, payload_len: usize, closing: &mut GvClosing)
         = (Global, end, number, read!(payload, payload_len), closing);
-    gvp_receive_telling(end: &mut Handle, number: u64, payload: *const u8, payload_len: usize, closing: &mut GvClosing, told: *mut u64, told_len: usize, count: &mut usize)
+    gvp_receive_with_acks(end: &mut Handle, number: u64, payload: *const u8, payload_len: usize, closing: &mut GvClosing, told: *mut u64, told_len: usize, count: &mut usize)
         = (Global, end, number, read!(payload, payload_len), closing, write!(told, told_len), count);
     gvp_reserve(end: &mut Handle) = (Global, end);
     gvp_reset(end: &mut Handle, stream: u64, code: u64) = (Global, end, stream, code);
@@ -115,7 +117,7 @@ exports! {
     gvp_set_stream_window(end: &mut Handle, stream: u64, window: u64) = (Global, end, stream, window);
     gvp_spent(end: &mut Handle, count: &mut u64) = (Global, end, count);
     gvp_stop(end: &mut Handle, stream: u64, code: u64) = (Global, end, stream, code);
-    gvp_stop_and_forget(end: &mut Handle, stream: u64, code: u64) = (Global, end, stream, code);
+    gvp_stop_and_discard(end: &mut Handle, stream: u64, code: u64) = (Global, end, stream, code);
     gvp_stopped_with(end: &mut Handle, stream: u64, code: &mut u64) = (Global, end, stream, code);
     gvp_stored(end: &mut Handle, count: &mut u64) = (Global, end, count);
     gvp_streams_left(end: &mut Handle, dir: u32, count: &mut u64) = (Global, end, dir, count);
@@ -125,12 +127,10 @@ exports! {
         = (Global, end, read!(frames, frames_len), taken);
     gvp_taken(end: &mut Handle, stream: u64, count: &mut u64) = (Global, end, stream, count);
     gvp_taken_sum(end: &mut Handle, count: &mut u64) = (Global, end, count);
-    gvp_tell_closed(end: &mut Handle, by: u32, kind: u32, code: u64) = (Global, end, by, kind, code);
     gvp_token_acked(end: &mut Handle, token: &GvToken) = (Global, end, token);
     gvp_token_and(token: &GvToken, next: &GvToken, both: &mut GvToken) = (token, next, both);
     gvp_token_lost(end: &mut Handle, token: &GvToken) = (Global, end, token);
     gvp_token_of(end: &mut Handle, number: u64, token: &mut GvToken) = (Global, end, number, token);
-    gvp_told_close(end: &mut Handle, told: &mut GvTold) = (Global, end, told);
     gvp_unsent(end: &mut Handle, stream: u64, count: &mut u64) = (Global, end, stream, count);
     gvp_unsent_sum(end: &mut Handle, count: &mut u64) = (Global, end, count);
     gvp_wants(heard: &mut ListenerHandle, dir: u32) = (Global, heard, dir);

@@ -94,7 +94,7 @@ impl Link {
             };
             let (number, mut acked) = (u64::from_be_bytes(*number), Vec::new());
             let told = |number| acked.push(number);
-            match self.end.receive_telling(number, payload, told) {
+            match self.end.receive_with_acks(number, payload, told) {
                 Ok(_) | Err(ReceiveFault::Invalid) => self.note_acked(&acked)?,
                 Err(ReceiveFault::Closing(closing)) => return Err(closing.into()),
                 Err(fault) => return Err(fault.into()),

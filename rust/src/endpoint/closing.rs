@@ -1,5 +1,5 @@
 use super::Endpoint;
-use crate::answers::{Closing, ToldClose};
+use crate::answers::{Closing, NotedClose};
 
 /// # Closing
 impl Endpoint {
@@ -65,42 +65,42 @@ impl Endpoint {
     /// Notes a close that this endpoint didn't see: the stack's own, the application's, or the peer's if the stack reads CONNECTION_CLOSE
     /// itself (RFC 9000, sections 10.2 and 19.19). Without it streams would go on as if the connection were open.
     ///
-    /// The endpoint is then closed as after any close, and [`told_close`](Endpoint::told_close) returns what was noted. There is no
+    /// The endpoint is then closed as after any close, and [`noted_close`](Endpoint::noted_close) returns what was noted. There is no
     /// [`close_payload`](Endpoint::close_payload): such a stack sends its close itself. `receive` and `take_frame` return it again: a close
     /// of the peer's by its code, one of this side as a [`Closing`](crate::Closing) of frame type 0 at place 0. An endpoint that closed
     /// before stays as it is, since the first close is the one that peers know.
     ///
     /// ```
-    /// use gotsavena::{CloseKind, Closer, Endpoint, Role, Settings, ToldClose, UseFault, Dir, OpenFault};
+    /// use gotsavena::{CloseKind, Closer, Endpoint, Role, Settings, NotedClose, UseFault, Dir, OpenFault};
     ///
     /// let own = Settings::small();
     /// let mut end = Endpoint::new(Role::Client, own, own.limits())?;
     /// // H3_NO_ERROR, not a TLS alert.
-    /// let close = ToldClose { by: Closer::Peer, kind: CloseKind::Application, code: 0x100 };
-    /// end.tell_closed(close);
-    /// assert_eq!((end.told_close(), end.peer_closed()), (Some(close), None));
+    /// let close = NotedClose { by: Closer::Peer, kind: CloseKind::Application, code: 0x100 };
+    /// end.note_closed(close);
+    /// assert_eq!((end.noted_close(), end.peer_closed()), (Some(close), None));
     /// assert_eq!(end.open(Dir::Uni), Err(OpenFault::Closed));
     /// # Ok::<(), gotsavena::SetupFault>(())
     /// ```
-    pub fn tell_closed(&mut self, close: ToldClose) {
-        self.inner.tell_closed(close.inner());
+    pub fn note_closed(&mut self, close: NotedClose) {
+        self.inner.note_closed(close.inner());
     }
 
-    /// The close that [`tell_closed`](Endpoint::tell_closed) noted; `None` if it is open, or closed in another way.
+    /// The close that [`note_closed`](Endpoint::note_closed) noted; `None` if it is open, or closed in another way.
     ///
     /// ```
-    /// # use gotsavena::{CloseKind, Closer, Endpoint, Role, Settings, ToldClose};
+    /// # use gotsavena::{CloseKind, Closer, Endpoint, Role, Settings, NotedClose};
     /// # let settings = Settings::default();
     /// # let mut client = Endpoint::new(Role::Client, settings, settings.limits())?;
     /// # let mut payload = [0; 1200];
-    /// assert_eq!(client.told_close(), None);
-    /// let close = ToldClose { by: Closer::Us, kind: CloseKind::Transport, code: 0 };
-    /// client.tell_closed(close);
-    /// assert_eq!(client.told_close(), Some(close));
+    /// assert_eq!(client.noted_close(), None);
+    /// let close = NotedClose { by: Closer::Us, kind: CloseKind::Transport, code: 0 };
+    /// client.note_closed(close);
+    /// assert_eq!(client.noted_close(), Some(close));
     /// # Ok::<(), Box<dyn std::error::Error>>(())
     /// ```
     #[must_use]
-    pub fn told_close(&self) -> Option<ToldClose> {
-        self.inner.told_close().map(ToldClose::of)
+    pub fn noted_close(&self) -> Option<NotedClose> {
+        self.inner.noted_close().map(NotedClose::of)
     }
 }

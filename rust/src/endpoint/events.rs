@@ -71,7 +71,7 @@ impl Endpoint {
         }
     }
 
-    /// Chooses whether [`receive`](Endpoint::receive) and [`receive_telling`](Endpoint::receive_telling) look through each payload for
+    /// Chooses whether [`receive`](Endpoint::receive) and [`receive_with_acks`](Endpoint::receive_with_acks) look through each payload for
     /// blocked frames of the peer (RFC 9000, sections 19.12 to 19.14): the events [`DataBlocked`](Event::DataBlocked),
     /// [`StreamDataBlocked`](Event::StreamDataBlocked) and [`StreamsBlocked`](Event::StreamsBlocked). Not by default: it costs a second
     /// reading of each payload, and a third if there is such a frame. [`take_frame`](Endpoint::take_frame) and
@@ -88,7 +88,7 @@ impl Endpoint {
     /// let settings = Settings::default().conn_window(4);
     /// let mut client = Endpoint::new(Role::Client, settings, settings.limits())?;
     /// let mut server = Endpoint::new(Role::Server, settings, settings.limits())?;
-    /// server.hear_blocked(true);
+    /// server.report_blocked(true);
     /// let stream = client.open(Dir::Uni)?;
     /// client.write(stream, b"hello, world")?;
     ///
@@ -107,7 +107,7 @@ impl Endpoint {
     /// assert_eq!((server.granted(), server.stored()), (16, 12));
     /// # Ok::<(), Box<dyn std::error::Error>>(())
     /// ```
-    pub fn hear_blocked(&mut self, is_chosen: bool) {
+    pub fn report_blocked(&mut self, is_chosen: bool) {
         self.hearing.looks = is_chosen;
     }
 }

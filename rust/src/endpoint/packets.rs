@@ -72,11 +72,11 @@ impl Endpoint {
     /// let ack = server.make_packet(&mut payload)?.expect("an ACK is due");
     ///
     /// let mut acked = Vec::new();
-    /// client.receive_telling(ack.number, &payload[..ack.len], |number| acked.push(number))?;
+    /// client.receive_with_acks(ack.number, &payload[..ack.len], |number| acked.push(number))?;
     /// assert_eq!(acked, [made.number]);
     /// # Ok::<(), Box<dyn std::error::Error>>(())
     /// ```
-    pub fn receive_telling(
+    pub fn receive_with_acks(
         &mut self,
         number: u64,
         payload: &[u8],
@@ -87,7 +87,7 @@ impl Endpoint {
         }
         let mut telling = Telling(&mut told);
         self.hearing_through(payload, |end| {
-            answer_of(end.receive_telling(number, payload, &mut telling))
+            answer_of(end.receive_with_acks(number, payload, &mut telling))
         })
     }
 
@@ -368,7 +368,7 @@ impl Endpoint {
 
     /// The lowest number at or above `from` of an outstanding packet that an ACK of the payload names. [`Endpoint::receive`] of that
     /// payload will acknowledge it (RFC 9000, section 13.3), so ask before it: afterwards they are gone. `None` if there is none.
-    /// [`Endpoint::receive_telling`] names all of them in one reading, and is better.
+    /// [`Endpoint::receive_with_acks`] names all of them in one reading, and is better.
     ///
     /// The reading ends at the first bytes that are no frame, and at a CONNECTION_CLOSE, as `receive` does. Nothing else of the payload is
     /// checked: not whether its number was processed before, nor whether a frame breaks a rule.

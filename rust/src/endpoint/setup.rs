@@ -28,7 +28,7 @@ impl Endpoint {
     /// `OutOfRange` if a setting or a limit of the peer is out of range; `TooManyStreams` if the peer grants more than 2^60 streams of a
     /// direction, which has an error code of its own (section 4.6).
     pub fn new(role: Role, settings: Settings, peer: PeerLimits) -> Result<Endpoint, SetupFault> {
-        Endpoint::new_wide(role, settings, Tuning::default(), peer)
+        Endpoint::with_tuning(role, settings, Tuning::default(), peer)
     }
 
     /// The same with [`Tuning`]: choices that change when limits move and what calls accept, and no rule of the standard.
@@ -38,21 +38,21 @@ impl Endpoint {
     ///
     /// let settings = Settings::default().stream_windows(1 << 24).conn_window(1 << 24);
     /// let tuning = Tuning::default().credit_step(Share::Eighth);
-    /// let end = Endpoint::new_wide(Role::Server, settings, tuning, settings.limits()).unwrap();
+    /// let end = Endpoint::with_tuning(Role::Server, settings, tuning, settings.limits()).unwrap();
     /// assert_eq!(end.granted(), 1 << 24);
     /// ```
     ///
     /// # Errors
     ///
     /// Those of [`new`](Endpoint::new).
-    pub fn new_wide(
+    pub fn with_tuning(
         role: Role,
         settings: Settings,
         tuning: Tuning,
         peer: PeerLimits,
     ) -> Result<Endpoint, SetupFault> {
         let (settings, peer) = (settings.inner(), peer.inner());
-        match conn::Endpoint::new_wide(Global, role.inner(), settings, tuning.inner(), peer) {
+        match conn::Endpoint::with_tuning(Global, role.inner(), settings, tuning.inner(), peer) {
             Ok(inner) => Ok(Endpoint {
                 inner,
                 hearing: Hearing::new(),

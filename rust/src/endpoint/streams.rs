@@ -387,7 +387,7 @@ impl Endpoint {
     /// let stream = client.open(Dir::Uni)?;
     /// client.write(stream, b"a request")?;
     /// carry(&mut client, &mut server)?;
-    /// server.stop_and_forget(stream, 7)?;
+    /// server.stop_and_discard(stream, 7)?;
     /// // The client is asked to stop, and resets its stream; nobody reads that.
     /// carry(&mut server, &mut client)?;
     /// carry(&mut client, &mut server)?;
@@ -398,12 +398,12 @@ impl Endpoint {
     /// # Errors
     ///
     /// Those of [`Endpoint::stop`].
-    pub fn stop_and_forget(&mut self, stream: StreamId, code: u64) -> Result<(), UseFault> {
+    pub fn stop_and_discard(&mut self, stream: StreamId, code: u64) -> Result<(), UseFault> {
         if code > MAX_VARINT {
             return Err(UseFault::Invalid);
         }
         self.inner
-            .stop_and_forget(stream.inner(), code)
+            .stop_and_discard(stream.inner(), code)
             .map_err(UseFault::of)
     }
 

@@ -158,7 +158,7 @@ impl Player {
         let before = outstanding(&self.ends[side]);
         let mut told = Vec::with_capacity(before.len());
         let received = self.call(side, |end| {
-            end.receive_telling(number, payload, |number| told.push(number))
+            end.receive_with_acks(number, payload, |number| told.push(number))
         });
         let after = outstanding(&self.ends[side]);
         let gone = before.iter().filter(|number| !after.contains(number));

@@ -3,7 +3,7 @@
 use gotsavena::{Endpoint, Received, Role, Settings};
 
 fn end(role: Role, settings: Settings) -> Endpoint {
-    Endpoint::new_wide(role, settings, Default::default(), settings.limits()).expect("in range")
+    Endpoint::with_tuning(role, settings, Default::default(), settings.limits()).expect("in range")
 }
 
 /// A client and its server.

@@ -13,7 +13,7 @@ use super::receiving::told_of_us;
 use super::{Endpoint, is_uni};
 use crate::newly_told::Silent;
 use crate::seen::{SeenFrame, has_text, is_ours, seen, type_number};
-use qs_calls::{Closed, Closer, Closing, TakeFault, Taken, ToldClose};
+use qs_calls::{Closed, Closer, Closing, NotedClose, TakeFault, Taken};
 use qs_send::Item;
 use qs_wire::{Frame, StreamId};
 
@@ -241,7 +241,7 @@ impl Endpoint {
 }
 
 // In the words that the call has, so that a stack needs no other way for it.
-fn told_fault(close: ToldClose) -> TakeFault
+fn told_fault(close: NotedClose) -> TakeFault
     ensures { result ≡ told_fault close.by close.code }
 {
     match close.by {

@@ -7,7 +7,7 @@ ghost use Rattle.qs_machine.specs.Sums.{or_none};
 ghost use Rattle.qs_conn.specs.Sending.{credit_room};
 
 use super::Endpoint;
-use qs_calls::{Closed, ToldClose, UseFault};
+use qs_calls::{Closed, NotedClose, UseFault};
 use qs_recv::Peek;
 use qs_wire::{Dir, StreamId};
 
@@ -33,8 +33,8 @@ impl Endpoint {
         }
     }
 
-    /// The close that `tell_closed` noted, `None` if it closed in another way or is open (RFC 9000, section 10.2).
-    pub fn told_close(&self) -> Option<ToldClose>
+    /// The close that `note_closed` noted, `None` if it closed in another way or is open (RFC 9000, section 10.2).
+    pub fn noted_close(&self) -> Option<NotedClose>
         ensures { result ≡ told_closing self.now.closed }
     {
         match self.closed {

@@ -7,7 +7,7 @@ ghost use Rattle.qs_machine.specs.Sums.{or_none};
 ghost use Rattle.qs_conn.specs.Sending.{offered, let_go};
 ghost use Rattle.qs_recv.specs.declared.credit.Share.TheVariants as shares;
 ghost use Rattle.qs_machine.specs.Verdicts.{or_new};
-ghost use Rattle.qs_machine.specs.Owner.{WriteStep, FinishStep, ResetStep, StopStep, StopAndForgetStep, ReadStep, ConsumeStep, is_read_no_more, is_end, no_half, use_fault};
+ghost use Rattle.qs_machine.specs.Owner.{WriteStep, FinishStep, ResetStep, StopStep, StopAndDiscardStep, ReadStep, ConsumeStep, is_read_no_more, is_end, no_half, use_fault};
 ghost use Rattle.qs_machine.specs.Reports.{lane_report, own_closing};
 ghost use Rattle.qs_conn.specs.Layers.{no_sender, no_receiver};
 
@@ -204,18 +204,18 @@ impl Endpoint {
     /// Refused, and then unchanged: as `stop` is.
     ///
     /// ```text
-    /// end.stop_and_forget(stream, 7)?;
+    /// end.stop_and_discard(stream, 7)?;
     /// ```
     #[tactic(auto, using(crate::proofs::OwnerSteps::forget_ok))]
-    pub fn stop_and_forget(&mut self, stream: StreamId, code: u64) -> Result<(), UseFault>
+    pub fn stop_and_discard(&mut self, stream: StreamId, code: u64) -> Result<(), UseFault>
         requires { code < 2 ^ 62 }
-        ensures { StopAndForgetStep self.old stream code result self.new }
+        ensures { StopAndDiscardStep self.old stream code result self.new }
     {
         if let Some(fault) = self.no_receiver(stream) {
             return Err(fault);
         }
         let was = self.core.is_over(stream);
-        self.core.recvs.stop_and_forget(stream, code);
+        self.core.recvs.stop_and_discard(stream, code);
         let is = self.core.is_over(stream);
         self.core.ended.recount(stream, was, is);
         self.core.untold_recvs.set(stream, true);

@@ -14,7 +14,7 @@ ghost use Rattle.qs_conn.specs.NewlyTold.{told_of};
 use super::Endpoint;
 use crate::newly_told::{Silent, Told};
 use crate::seen::{SeenFrame, asks_ack, seen};
-use qs_calls::{Closed, Closer, Closing, Received, ToldClose};
+use qs_calls::{Closed, Closer, Closing, NotedClose, Received};
 use qs_wire::{Frames, Placed, WireFault};
 
 /// What one frame does to the processing of its payload. If it goes on, the frame may ask for an ACK, which counts only when all frames
@@ -46,7 +46,7 @@ impl Endpoint {
         requires { number < 2 ^ 62 }
         ensures { ReceiveStep self.old number payload.now result self.new }
     {
-        self.receive_telling(number, payload, &mut Silent)
+        self.receive_with_acks(number, payload, &mut Silent)
     }
 
     /// As `receive`, and `told` is called for each packet that the payload newly acknowledges, once: one that was outstanding, that an ACK
@@ -56,7 +56,7 @@ impl Endpoint {
     ///
     /// After `NoMemory` none was named that is still outstanding: the same payload may come again, and names the others.
     #[tactic(auto, using(crate::proofs::Payloads::is_received, crate::proofs::TurnsTold::nothing_told))]
-    pub fn receive_telling<T: Told>(
+    pub fn receive_with_acks<T: Told>(
         &mut self,
         number: u64,
         payload: &[u8],
@@ -177,7 +177,7 @@ impl Endpoint {
 }
 
 // In the words that `receive` has, so that a stack needs no other way for it.
-fn told_receive(close: ToldClose) -> Result<Received, Closing>
+fn told_receive(close: NotedClose) -> Result<Received, Closing>
     ensures { result ≡ told_receive close.by close.code }
 {
     match close.by {

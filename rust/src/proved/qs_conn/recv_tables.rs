@@ -165,10 +165,10 @@ impl RecvTables {
     }
 
     #[inline]
-    pub(crate) fn stop_and_forget(&mut self, stream: StreamId, code: u64) {
+    pub(crate) fn stop_and_discard(&mut self, stream: StreamId, code: u64) {
         debug_assert!(code <= 0x3fff_ffff_ffff_ffff);
         self.edit(Place::of(stream), &mut [], |half, _into| {
-            half.stop_and_forget(code)
+            half.stop_and_discard(code)
         })
     }
 

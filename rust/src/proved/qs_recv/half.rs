@@ -289,12 +289,12 @@ impl<A: Assembly> RecvHalf<A> {
 
     /// Stops it for a reader that won't ask again: it counts as read to its end as soon as that or a reset comes (sections 3.2 and 3.5).
     #[inline]
-    pub fn stop_and_forget(&mut self, code: u64) {
+    pub fn stop_and_discard(&mut self, code: u64) {
         debug_assert!(code <= 0x3fff_ffff_ffff_ffff);
         match &mut self.parts {
             Parts::Kept(Kept::Over(over)) => over.is_over(),
-            Parts::Kept(Kept::Rest(rest)) => rest.stop_and_forget(code),
-            Parts::Live(live) => live.stop_and_forget(code),
+            Parts::Kept(Kept::Rest(rest)) => rest.stop_and_discard(code),
+            Parts::Live(live) => live.stop_and_discard(code),
         }
     }
 

@@ -248,7 +248,7 @@ impl<A: Assembly> LiveHalf<A> {
     }
 
     #[inline]
-    pub(crate) fn stop_and_forget(&mut self, code: u64) {
+    pub(crate) fn stop_and_discard(&mut self, code: u64) {
         debug_assert!(code <= 0x3fff_ffff_ffff_ffff);
         self.stop(code);
         self.told = true;

@@ -117,7 +117,7 @@ impl Rest {
 
     /// Setting `told` with the stop is all: a half is over once its reader knows the end, and that reader doesn't ask.
     #[inline]
-    pub(crate) fn stop_and_forget(&mut self, code: u64) {
+    pub(crate) fn stop_and_discard(&mut self, code: u64) {
         debug_assert!(code <= 0x3fff_ffff_ffff_ffff);
         self.stop(code);
         self.told = true;

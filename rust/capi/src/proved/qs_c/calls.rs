@@ -91,14 +91,14 @@ impl Thing {
         of_use(self.end.stop(id, code))
     }
 
-    pub(crate) fn stop_and_forget(&mut self, stream: u64, code: u64) -> u32 {
+    pub(crate) fn stop_and_discard(&mut self, stream: u64, code: u64) -> u32 {
         let Some(id) = StreamId::new(stream) else {
             return INVALID;
         };
         if code >= LIMIT {
             return INVALID;
         }
-        of_use(self.end.stop_and_forget(id, code))
+        of_use(self.end.stop_and_discard(id, code))
     }
 
     pub(crate) fn read(&mut self, stream: u64, into: &mut [u8], number: &mut u64) -> u32 {

@@ -41,7 +41,7 @@ use crate::proved::qs_c::frame::{GvFault, GvFrame};
 use crate::proved::qs_c::handle::Handle;
 use crate::proved::qs_c::lane::GvLane;
 use crate::proved::qs_c::structs::{GvClosing, GvLimits, GvMade, GvSettings, GvTuning};
-pub use closes::{gvp_tell_closed, gvp_told_close};
+pub use closes::{gvp_note_closed, gvp_noted_close};
 pub use consuming::gvp_consume;
 pub use events::{
     gvp_heard_drop, gvp_heard_new, gvp_next_news, gvp_wants, gvp_was_read, gvp_was_told,
@@ -54,7 +54,7 @@ pub use setting::{gvp_set_conn_window, gvp_set_grant, gvp_set_send_buffer, gvp_s
 pub use stack::{gvp_fill, gvp_take_frame};
 use crate::shim::alloc::Global;
 pub use sums::{gvp_kept_sum, gvp_taken, gvp_taken_sum, gvp_unsent_sum};
-pub use telling::gvp_receive_telling;
+pub use telling::gvp_receive_with_acks;
 pub use tokens::{gvp_token_acked, gvp_token_and, gvp_token_lost, gvp_token_of};
 
 /// Apart from `gvp_new`, so that making an endpoint can't fail for memory once its settings passed. A handle that holds one loses it.
@@ -183,7 +183,7 @@ pub fn gvp_stop(alloc: Global, end: &mut Handle, stream: u64, code: u64) -> u32 
     status
 }
 
-pub fn gvp_stop_and_forget(
+pub fn gvp_stop_and_discard(
     alloc: Global,
     end: &mut Handle,
     stream: u64,
@@ -192,7 +192,7 @@ pub fn gvp_stop_and_forget(
     let Some(mut thing) = end.take(alloc) else {
         return INVALID;
     };
-    let status = thing.stop_and_forget(stream, code);
+    let status = thing.stop_and_discard(stream, code);
     end.put(thing);
     status
 }

@@ -58,7 +58,7 @@ impl Thing {
         let Some(chosen) = tuning.tuning() else {
             return INVALID;
         };
-        match Endpoint::new_wide(alloc, side, settings.settings(), chosen, peer.limits()) {
+        match Endpoint::with_tuning(alloc, side, settings.settings(), chosen, peer.limits()) {
             Ok(made) => self.begin(made),
             Err(fault) => of_setup(fault),
         }

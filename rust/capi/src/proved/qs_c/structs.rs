@@ -1,5 +1,5 @@
 // Made from crates/qs_c/src/structs.rt by rust/erase; not edited by hand.
-use crate::proved::qs_calls::{CloseKind, Closer, Filled, Token, ToldClose};
+use crate::proved::qs_calls::{CloseKind, Closer, Filled, NotedClose, Token};
 use crate::proved::qs_conn::{Closing, Made, PeerLimits, Settings, Share, Tuning};
 
 const SHARES: u32 = 4;
@@ -149,7 +149,7 @@ impl GvClosing {
 }
 
 impl GvTold {
-    pub(crate) fn of(close: ToldClose) -> GvTold {
+    pub(crate) fn of(close: NotedClose) -> GvTold {
         GvTold {
             by: match close.by {
                 Closer::Us => 0,

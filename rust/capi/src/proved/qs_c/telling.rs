@@ -27,7 +27,7 @@ impl Told for Notes<'_> {
 
 /// As `gvp_receive`, and writes the numbers of the packets that the payload newly acknowledges. If `told` hasn't a place for each number
 /// from the lowest outstanding to the highest, nothing changes: a number that finds no place would be lost.
-pub fn gvp_receive_telling(
+pub fn gvp_receive_with_acks(
     alloc: Global,
     end: &mut Handle,
     number: u64,
@@ -39,13 +39,13 @@ pub fn gvp_receive_telling(
     let Some(mut thing) = end.take(alloc) else {
         return INVALID;
     };
-    let status = thing.receive_telling(number, payload, closing, told, count);
+    let status = thing.receive_with_acks(number, payload, closing, told, count);
     end.put(thing);
     status
 }
 
 impl Thing {
-    pub(crate) fn receive_telling(
+    pub(crate) fn receive_with_acks(
         &mut self,
         number: u64,
         payload: &[u8],
@@ -63,7 +63,7 @@ impl Thing {
             room: told,
             count: 0,
         };
-        let answer = self.end.receive_telling(number, payload, &mut notes);
+        let answer = self.end.receive_with_acks(number, payload, &mut notes);
         *count = notes.count;
         of_received(answer, closing)
     }

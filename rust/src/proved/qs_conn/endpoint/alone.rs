@@ -5,7 +5,7 @@ use super::receiving::told_of_us;
 use super::{Endpoint, is_uni};
 use crate::proved::qs_conn::newly_told::Silent;
 use crate::proved::qs_conn::seen::{SeenFrame, has_text, is_ours, seen, type_number};
-use crate::proved::qs_calls::{Closed, Closer, Closing, TakeFault, Taken, ToldClose};
+use crate::proved::qs_calls::{Closed, Closer, Closing, NotedClose, TakeFault, Taken};
 use crate::proved::qs_send::Item;
 use crate::proved::qs_wire::{Frame, StreamId};
 
@@ -204,7 +204,7 @@ impl Endpoint {
 }
 
 // In the words that the call has, so that a stack needs no other way for it.
-fn told_fault(close: ToldClose) -> TakeFault {
+fn told_fault(close: NotedClose) -> TakeFault {
     match close.by {
         Closer::Us => TakeFault::Closing(told_of_us(close.code)),
         Closer::Peer => TakeFault::PeerClosed(close.code),

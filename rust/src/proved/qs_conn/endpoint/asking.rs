@@ -2,7 +2,7 @@
 //! What the application and the transport may ask of an endpoint. Nothing changes.
 
 use super::Endpoint;
-use crate::proved::qs_calls::{Closed, ToldClose, UseFault};
+use crate::proved::qs_calls::{Closed, NotedClose, UseFault};
 use crate::proved::qs_recv::Peek;
 use crate::proved::qs_wire::{Dir, StreamId};
 
@@ -26,9 +26,9 @@ impl Endpoint {
         }
     }
 
-    /// The close that `tell_closed` noted, `None` if it closed in another way or is open (RFC 9000, section 10.2).
+    /// The close that `note_closed` noted, `None` if it closed in another way or is open (RFC 9000, section 10.2).
     #[inline]
-    pub fn told_close(&self) -> Option<ToldClose> {
+    pub fn noted_close(&self) -> Option<NotedClose> {
         match self.closed {
             Some(Closed::Told(close)) => Some(close),
             _ => None,

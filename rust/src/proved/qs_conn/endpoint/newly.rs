@@ -6,7 +6,7 @@ use crate::proved::qs_conn::ack_names::next_named;
 
 impl Endpoint {
     /// The lowest number at or above `from` of an outstanding packet that an ACK of the payload names, by one reading of the payload for
-    /// each answer; `receive_telling` names all in one. `receive` of that payload will acknowledge it (RFC 9000, section 13.3), so ask
+    /// each answer; `receive_with_acks` names all in one. `receive` of that payload will acknowledge it (RFC 9000, section 13.3), so ask
     /// before it. `None` if there is none.
     ///
     /// The reading ends no later than that of `receive`: at the first bytes that are no frame, and at a CONNECTION_CLOSE. Nothing else of

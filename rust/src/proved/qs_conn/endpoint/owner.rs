@@ -171,16 +171,16 @@ impl Endpoint {
     /// Refused, and then unchanged: as `stop` is.
     ///
     /// ```text
-    /// end.stop_and_forget(stream, 7)?;
+    /// end.stop_and_discard(stream, 7)?;
     /// ```
     #[inline]
-    pub fn stop_and_forget(&mut self, stream: StreamId, code: u64) -> Result<(), UseFault> {
+    pub fn stop_and_discard(&mut self, stream: StreamId, code: u64) -> Result<(), UseFault> {
         debug_assert!(code < 1 << 62);
         if let Some(fault) = self.no_receiver(stream) {
             return Err(fault);
         }
         let was = self.core.is_over(stream);
-        self.core.recvs.stop_and_forget(stream, code);
+        self.core.recvs.stop_and_discard(stream, code);
         let is = self.core.is_over(stream);
         self.core.ended.recount(stream, was, is);
         self.core.untold_recvs.set(stream, true);

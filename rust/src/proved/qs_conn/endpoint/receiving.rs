@@ -2,7 +2,7 @@
 use super::Endpoint;
 use crate::proved::qs_conn::newly_told::{Silent, Told};
 use crate::proved::qs_conn::seen::{SeenFrame, asks_ack, seen};
-use crate::proved::qs_calls::{Closed, Closer, Closing, Received, ToldClose};
+use crate::proved::qs_calls::{Closed, Closer, Closing, NotedClose, Received};
 use crate::proved::qs_wire::{Frames, Placed, WireFault};
 
 /// What one frame does to the processing of its payload. If it goes on, the frame may ask for an ACK, which counts only when all frames
@@ -32,7 +32,7 @@ impl Endpoint {
     #[inline]
     pub fn receive(&mut self, number: u64, payload: &[u8]) -> Result<Received, Closing> {
         debug_assert!(number < 1 << 62);
-        self.receive_telling(number, payload, &mut Silent)
+        self.receive_with_acks(number, payload, &mut Silent)
     }
 
     /// As `receive`, and `told` is called for each packet that the payload newly acknowledges, once: one that was outstanding, that an ACK
@@ -42,7 +42,7 @@ impl Endpoint {
     ///
     /// After `NoMemory` none was named that is still outstanding: the same payload may come again, and names the others.
     #[inline]
-    pub fn receive_telling<T: Told>(
+    pub fn receive_with_acks<T: Told>(
         &mut self,
         number: u64,
         payload: &[u8],
@@ -134,7 +134,7 @@ impl Endpoint {
 }
 
 // In the words that `receive` has, so that a stack needs no other way for it.
-fn told_receive(close: ToldClose) -> Result<Received, Closing> {
+fn told_receive(close: NotedClose) -> Result<Received, Closing> {
     match close.by {
         Closer::Us => Err(told_of_us(close.code)),
         Closer::Peer => Ok(Received::PeerClosed(close.code)),

@@ -13,5 +13,5 @@ returns-in-Ok c =
     (settings_in c.args.settings.now) (limits_in c.args.peer.now)
     (sym c.in-Some.is ∙ c.role_of.ensures)
     (sym c.in-Some-tuning.is ∙ c.tuning.ensures)
-    (sym c.in-Ok.is ∙ c.new_wide.ensures ∙ ap (λ s. wide_end_made side s chosen c.limits.result) c.settings.ensures ∙ ap (λ p. wide_end_made side (settings_in c.args.settings.now) chosen p) c.limits.ensures)
+    (sym c.in-Ok.is ∙ c.with_tuning.ensures ∙ ap (λ s. wide_end_made side s chosen c.limits.result) c.settings.ensures ∙ ap (λ p. wide_end_made side (settings_in c.args.settings.now) chosen p) c.limits.ensures)
     c.begin.ensures

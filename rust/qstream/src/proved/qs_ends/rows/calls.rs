@@ -238,7 +238,7 @@ fn stop(end: &mut Endpoint, words: Words, answer: &mut String) -> Result<(), Row
 
 fn forget(end: &mut Endpoint, words: Words, answer: &mut String) -> Result<(), RowFault> {
     let code = number(words[2])?;
-    let done = end.stop_and_forget(stream(words[1])?, code);
+    let done = end.stop_and_discard(stream(words[1])?, code);
     tell_done(answer, done)
 }
 
