@@ -99,7 +99,7 @@ impl Outbox {
         self.first(packet.number)
     }
 
-    #[inline]
+    #[inline(always)]
     pub(crate) fn ack_kept(&mut self, packet: KeptPacket, piece: Piece) -> Result<(), NoMemory>
         requires idle { IsIdle self.old }
         requires first { first_piece (fmap.get (held_out packet.late self.old) packet.number) ≡ Some piece }

@@ -62,7 +62,7 @@ impl Outbox {
         self.first(packet.number)
     }
 
-    #[inline]
+    #[inline(always)]
     pub(crate) fn ack_kept(&mut self, packet: KeptPacket, piece: Piece) -> Result<(), NoMemory> {
         let _next = self.next;
         piece_acked(&mut self.types, &mut self.told, &piece)?;
