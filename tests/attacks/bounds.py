@@ -273,8 +273,9 @@ BOUNDS = {
         growth_why="a mark tells whether the limit is outstanding",
         count=5840,
     ),
+    # At 1,024 glibc consolidates its heap among the payloads that are counted: 100,000 instructions, once.
     "stop-downwards": Bound(
-        sizes=(64, 256, 1024),
+        sizes=(64, 256, 1000),
         heap=510_000,
         heap_why="the records of the streams, and what is live of each until its reset is acknowledged",
         growth=0.02,

@@ -142,6 +142,7 @@ impl Marks {
         }
     }
 
+    #[inline(never)]
     pub(crate) fn next_both(&self, others: &Marks, from: usize) -> Option<usize>
         ensures { IsNextMark (both self.now others.now) from result }
     {

@@ -373,7 +373,7 @@ impl SendLanes {
         self.marks.next(task, from)
     }
 
-    #[inline(never)]
+    #[inline(always)]
     pub(crate) fn next_sought(&self, search: Search, told: &ToldMarks, from: usize) -> Option<usize>
         ensures least { IsLeast (IsSoughtAt search self.now told.now) from result }
         ensures small { IfSome result (λ n. n < 2 ^ 60) }

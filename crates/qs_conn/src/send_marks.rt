@@ -186,6 +186,7 @@ impl SendMarks {
         self.of(task).next(from)
     }
 
+    #[inline(always)]
     pub(crate) fn next_sought(&self, search: Search, told: &ToldMarks, from: usize) -> Option<usize>
         ensures { IsNextMark (sought_of search (marks_of self.now search.task) told.now) from result }
     {

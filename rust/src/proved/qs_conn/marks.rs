@@ -105,7 +105,7 @@ impl Marks {
         }
     }
 
-    #[inline]
+    #[inline(never)]
     pub(crate) fn next_both(&self, others: &Marks, from: usize) -> Option<usize> {
         let summary = Both {
             marks: &self.words,

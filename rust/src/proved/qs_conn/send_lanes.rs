@@ -250,7 +250,7 @@ impl SendLanes {
         self.marks.next(task, from)
     }
 
-    #[inline(never)]
+    #[inline(always)]
     pub(crate) fn next_sought(&self, search: Search, told: &ToldMarks, from: usize) -> Option<usize> {
         self.marks.next_sought(search, told, from)
     }

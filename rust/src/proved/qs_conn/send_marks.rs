@@ -159,7 +159,7 @@ impl SendMarks {
         self.of(task).next(from)
     }
 
-    #[inline]
+    #[inline(always)]
     pub(crate) fn next_sought(&self, search: Search, told: &ToldMarks, from: usize) -> Option<usize> {
         let marks = self.of(search.task);
         if !search.is_told {
