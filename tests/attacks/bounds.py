@@ -34,9 +34,7 @@ BESIDE = {
     # and two pages take more than four times what their bytes span, which is proved to be the most.
     "edges-apart": Beside(count=3.2, pages=2.2),
     "drawn-up": Beside(count=3.2),
-    # 3.91 while a search asked by one look whether a row has a mark at all. Since one search serves all rows it is a call for each: it is to
-    # fall below 4 again.
-    "said-beside-limits": Beside(count=4.4),
+    "said-beside-limits": Beside(count=4),
     "stops-beside-limits": Beside(count=4),
 }
 
@@ -255,7 +253,7 @@ BOUNDS = {
         heap_why="what is live of each stream, with its ten bytes",
         growth=0.01,
         growth_why="no writer is looked at whose stream has no credit",
-        count=211_000,
+        count=185_000,
     ),
     "stops-beside-limits": Bound(
         sizes=(100, 640, 4096),

@@ -70,9 +70,11 @@ impl Hearing {
         self.note_said(end)?;
         let wanted = self.wanted;
         let notes = self.notes()?;
-        for (dir, is_wanted) in [wire::Dir::Bidi, wire::Dir::Uni].into_iter().zip(wanted) {
-            if is_wanted {
-                notes.heard.wants(dir);
+        if wanted != [false; 2] {
+            for (dir, is_wanted) in [wire::Dir::Bidi, wire::Dir::Uni].into_iter().zip(wanted) {
+                if is_wanted {
+                    notes.heard.wants(dir);
+                }
             }
         }
         let news = notes.heard.next_news(end);
@@ -164,8 +166,18 @@ impl Hearing {
         }
     }
 
-    // A stream whose length became known meanwhile waits for no limit, so it is left out.
+    #[inline]
     fn note_said(&mut self, end: &conn::Endpoint) -> Result<(), NoMemory> {
+        // Mostly nothing waits here.
+        if self.said.is_empty() && self.said.capacity() <= FEW_SAID {
+            return Ok(());
+        }
+        self.note_all_said(end)
+    }
+
+    // A stream whose length became known meanwhile waits for no limit, so it is left out.
+    #[inline(never)]
+    fn note_all_said(&mut self, end: &conn::Endpoint) -> Result<(), NoMemory> {
         while let Some(stream) = self.said.as_slice().last() {
             let frame = wire::Frame::StreamDataBlocked {
                 stream: stream.inner(),
@@ -181,20 +193,21 @@ impl Hearing {
     }
 
     // Made with the first note: most endpoints never need it.
+    #[inline]
     fn notes(&mut self) -> Result<&mut Notes, NoMemory> {
         match &mut self.notes {
             Some(notes) => Ok(notes),
-            none => {
-                let notes = Notes {
-                    heard: conn::Heard::new(Global),
-                    has_told: false,
-                    short: [NO_STREAM; 64],
-                };
-                match Box::new(Global, notes) {
-                    Ok(notes) => Ok(none.insert(notes)),
-                    Err(_refused) => Err(NoMemory),
-                }
-            }
+            none => Ok(none.insert(new_notes()?)),
         }
     }
+}
+
+#[cold]
+fn new_notes() -> Result<Box<Notes>, NoMemory> {
+    let notes = Notes {
+        heard: conn::Heard::new(Global),
+        has_told: false,
+        short: [NO_STREAM; 64],
+    };
+    Box::new(Global, notes).map_err(|_refused| NoMemory)
 }
