@@ -19,3 +19,4 @@ pub mod Trails
 pub mod More
 pub mod Pairs
 pub mod Comes
+pub mod ExclusionsLaps

@@ -2,6 +2,7 @@ pub mod Score
 pub mod Within
 pub mod Bound
 pub mod Exclusions
+pub mod ExclusionsLaps
 pub mod Laps
 pub mod Outstanding
 pub mod Going

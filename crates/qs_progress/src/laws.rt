@@ -7,6 +7,7 @@ ghost use Rattle.qs_progress.specs.Outstanding.{WhatIsOutStays};
 ghost use Rattle.qs_progress.specs.Going.{WhatGoesOutIsNew};
 ghost use Rattle.qs_progress.specs.Comes.{RestComes};
 ghost use Rattle.qs_progress.specs.Exclusions.{Exclusions};
+ghost use Rattle.qs_progress.specs.ExclusionsLaps.{LapExclusions};
 
 /// What is done stays done: whatever happens, an end's score never falls, once it was told its peer's true limits.
 pub fn what_is_done_stays()
@@ -42,4 +43,10 @@ pub fn rest_comes()
 /// What a score counts, and what it doesn't: small ends with theirs, and one whose score falls where it takes in higher limits of its peer.
 pub fn exclusions()
     ensures { Exclusions }
+{}
+
+/// A lap, that doesn't begin at rest, and for each part of one a case that is none for want of it; a limit that is acknowledged isn't told
+/// again, and no ACK asks for one.
+pub fn lap_exclusions()
+    ensures { LapExclusions }
 {}

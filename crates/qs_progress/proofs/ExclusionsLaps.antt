@@ -1,0 +1,172 @@
+-- Which small trails are laps, and which aren't.
+use Rattle.std.proofs.Common.{◌≡◌, ℕ, ◌+◌, true, false, List, [], ◌∷◌, length, Some, refl, sym, ap, ◌∙◌, subst, arith, inl, inr}
+use Rattle.std.proofs.lemmas.Option.{none-some, same_Some}
+use Rattle.std.proofs.lemmas.Bool.{false≢true, true≢false}
+use Rattle.qs_wire.specs.declared.stream_id.Role.TheVariants.{Server}
+use Rattle.qs_recv.specs.News.{is_readable}
+use Rattle.qs_send.specs.Records.{Among}
+use Rattle.qs_send.specs.declared.piece.Item.{Item}
+use Rattle.qs_send.specs.declared.piece.Item.TheVariants.{MaxData, MaxStreamData, MaxStreams, ResetStream, StopSending, DataBlocked, StreamDataBlocked, StreamsBlocked}
+use Rattle.qs_send.proofs.Carrying.{carried-empty}
+use Rattle.qs_wire.specs.declared.stream_id.Dir.TheVariants.{Bidi, Uni}
+use Rattle.qs_calls.specs.declared.event.Side.{Side}
+use Rattle.qs_calls.specs.declared.event.Side.TheVariants.{A, B}
+use Rattle.qs_machine.specs.Tables.{lookup, total, each, update}
+use Rattle.qs_machine.specs.Ends.{End, no_items}
+use Rattle.qs_machine.specs.Due.{IsDueItem}
+use Rattle.qs_machine.specs.News.{IsReadable}
+use Rattle.qs_machine.specs.EndStep.{Call, Open, Write, Finish, Reset, Stop, StopAndDiscard, TokenLost, Lose, RaiseLimits, Set, NoteClosed}
+use Rattle.qs_machine.specs.Examples.{standard, server}
+use Rattle.qs_machine.specs.SmallEnds.{raised}
+use Rattle.qs_machine.proofs.Counts.{no_lane}
+use Rattle.qs_machine.proofs.SmallEndsLaws.{only_open}
+use Rattle.qs_runs.specs.Logs.{Happening, History}
+use Rattle.qs_runs.specs.Worlds.{end_of, WorldStep}
+use Rattle.qs_rest.specs.Rest.{HasMore, AtRest}
+use Rattle.qs_rest.proofs.Exclusions.{exclusions as rest_exclusions}
+use Rattle.qs_progress.specs.Laps.{Moment, IsCalm, Trail, Sometime, Lap}
+use Rattle.qs_progress.specs.ExclusionsLaps.{ended_half, reads_end, before, after, Follows, MakesNoLap, IsNoLap, GoesOut, LapExclusions}
+
+-- A lap
+
+rests : (s : Side) → AtRest (end_of after.ends s)
+rests A = rest_exclusions.rests.told_end
+rests B = rest_exclusions.rests.new Server
+
+none_readable : (s : Side) (n : ℕ) → IsReadable (end_of after.ends s) n → ⊥
+none_readable A n (shut, (l, at, tells)) =
+    let same : l ≡ ended_half true = only_open (ended_half true) l n at in
+    false≢true (subst (λ x. is_readable x ≡ true) same tells)
+none_readable B n (shut, (l, at, tells)) = none-some l (sym (no_lane n) ∙ at)
+
+reads_step : WorldStep before.log before.ends reads_end after.ends
+unfolding lookup total each update
+reads_step = record { step = (ended_half false, refl, refl, refl, refl); still = refl; may = λ none. tt }
+
+none_made : (s : Side) → (end_of before.ends s).next ≡ 0
+none_made A = refl
+none_made B = refl
+
+reads_lap : Lap before after
+reads_lap =
+    record {
+      moments = after ∷ [];
+      calm = ((reads_end, tt, refl, reads_step), refl);
+      landed = λ s k low. absurd (omega (arith, low, none_made s));
+      spent = λ s. (after, inl refl, (rests s).quiet);
+      read = λ s. (after, inl refl, record { found = λ n is. absurd (none-some n is); least = λ n from readable. absurd (none_readable s n readable) });
+    }
+
+-- No lap
+
+-- a trail logs one thing for each of its moments
+logged : (Is : Call → Type 0) (ms : List Moment) (old new : Moment) → Trail Is old ms new → length new.log ≡ length ms + length old.log
+logged Is [] old new is =
+    let same : length new.log ≡ length old.log = ap (λ (m : Moment). length m.log) is in
+    omega (arith, same)
+logged Is (m ∷ ms) old new ((x, calm, log, step), rest) =
+    let first : length m.log ≡ length (x ∷ old.log) = ap length log in
+    let later = logged Is ms m new rest in
+    omega (arith, first, later)
+
+abbrev first_of : Happening → History → Happening
+first_of x [] = x
+first_of x (y ∷ h) = y
+
+-- what happened in between was calm, and the last moment is the only one
+only_one : (x : Happening) (ms : List Moment) (old new : Moment) → Follows x old new → Trail IsCalm old ms new → IsCalm x.call × (ms ≡ new ∷ [])
+only_one x [] old new follows trail =
+    let more : length new.log ≡ length (x ∷ old.log) = ap length follows in
+    absurd (omega (arith, more, logged IsCalm [] old new trail))
+only_one x (m ∷ []) old new follows ((y, calm, log, step), is) =
+    let same : y ≡ x = ap (first_of x) (sym log ∙ ap (λ (k : Moment). k.log) (sym is) ∙ follows) in
+    (subst (λ (h : Happening). IsCalm h.call) same calm, ap (λ k. k ∷ []) (sym is))
+only_one x (m ∷ k ∷ ms) old new follows trail =
+    let more : length new.log ≡ length (x ∷ old.log) = ap length follows in
+    absurd (omega (arith, more, logged IsCalm (m ∷ k ∷ ms) old new trail))
+
+no_lap : (call : Call) → (IsCalm call → ⊥) → MakesNoLap call
+no_lap call none s answer old new follows lap = none (only_one (record { end = s; call = call; answer = answer }) lap.moments old new follows lap.calm).0
+
+module _ (x : Happening) (old new : Moment) (s : Side) (follows : Follows x old new) (lap : Lap old new) where
+  no_more : HasMore (end_of new.ends s) → ⊥
+  no_more more =
+      let (m, among, quiet) = lap.spent s in
+      let one = (only_one x lap.moments old new follows lap.calm).1 in
+      quiet (subst (λ (k : Moment). HasMore (end_of k.ends s)) (sym (at m (subst (Among m) one among))) more)
+    where
+      at : (m : Moment) → Among m (new ∷ []) → m ≡ new
+      at m (inl is) = is
+      at m (inr none) = absurd none
+
+  none_unread : (n : ℕ) → IsReadable (end_of new.ends s) n → ⊥
+  none_unread n more =
+      let (m, among, least) = lap.read s in
+      let one = (only_one x lap.moments old new follows lap.calm).1 in
+      let (k, is, low) = least.least n (omega arith) (subst (λ (k : Moment). IsReadable (end_of k.ends s) n) (sym (at m (subst (Among m) one among))) more) in
+      none-some k is
+    where
+      at : (m : Moment) → Among m (new ∷ []) → m ≡ new
+      at m (inl is) = is
+      at m (inr none) = absurd none
+
+nothing_happens : (m : Moment) → Lap m m → ⊥
+nothing_happens m lap = go lap.moments lap.calm (lap.spent A)
+  where
+    go : (ms : List Moment) → Trail IsCalm m ms m → Sometime (λ w. HasMore (end_of w A) → ⊥) ms → ⊥
+    go [] trail (k, among, quiet) = among
+    go (k ∷ ms) trail spent = omega (arith, logged IsCalm (k ∷ ms) m m trail)
+
+no_laps : IsNoLap
+no_laps =
+    record {
+      number = λ k. no_lap (Lose k) (λ calm. calm);
+      token = λ t. no_lap (TokenLost t) (λ calm. calm);
+      opens = λ d. no_lap (Open d) (λ calm. calm);
+      writes = λ n bytes. no_lap (Write n bytes) (λ calm. calm);
+      finishes = λ n. no_lap (Finish n) (λ calm. calm);
+      resets = λ n code. no_lap (Reset n code) (λ calm. calm);
+      stops = λ n code. no_lap (Stop n code) (λ calm. calm);
+      discards = λ n code. no_lap (StopAndDiscard n code) (λ calm. calm);
+      raises = λ p. no_lap (RaiseLimits p) (λ calm. calm);
+      sets = λ x. no_lap (Set x) (λ calm. calm);
+      closes = λ c. no_lap (NoteClosed c) (λ calm. calm);
+      outstanding = λ old new s k low there lap. true≢false (sym there ∙ lap.landed s k low);
+      more = λ x old new s follows more lap. no_more x old new s follows lap more;
+      unread = λ x old new s n follows more lap. none_unread x old new s follows lap n more;
+      nothing = nothing_happens;
+    }
+
+-- What goes out
+
+abbrev told : ℕ → End
+told m = record raised { acked = record no_items { max_data = Some m } }
+
+-- but the limit nothing is due that wasn't before it was raised
+due_before : (i : Item) → IsDueItem (told 5000) i → HasMore (server standard)
+due_before (MaxData m) ((same, above), uncovered) = absurd (uncovered (inr (ap Some (sym same))))
+due_before (MaxStreamData n m) due = inl (MaxStreamData n m, due)
+due_before (MaxStreams Bidi m) due = inl (MaxStreams Bidi m, due)
+due_before (MaxStreams Uni m) due = inl (MaxStreams Uni m, due)
+due_before (ResetStream n code size) due = inl (ResetStream n code size, due)
+due_before (StopSending n code) due = inl (StopSending n code, due)
+due_before (DataBlocked m) ((same, all, (n, l, wants)), uncovered) = absurd (none-some l (sym (no_lane n) ∙ wants.lane))
+due_before (StreamDataBlocked n m) due = inl (StreamDataBlocked n m, due)
+due_before (StreamsBlocked Bidi m) due = inl (StreamsBlocked Bidi m, due)
+due_before (StreamsBlocked Uni m) due = inl (StreamsBlocked Uni m, due)
+
+not_again : HasMore (told 5000) → ⊥
+not_again (inl (i, due)) = (rest_exclusions.rests.new Server).quiet (due_before i due)
+not_again (inr (n, (l, at, goes))) = none-some l (sym (no_lane n) ∙ at)
+
+goes_out : GoesOut
+goes_out =
+    record {
+      older = inl (MaxData 5000, ((refl, omega arith), λ covered. elim covered [ inl flies ↦ carried-empty _ flies | inr acked ↦ (let same : 4500 ≡ 5000 = same_Some 4500 5000 acked in omega (arith, same)) ]));
+      again = not_again;
+      ack = rest_exclusions.rests.ack.quiet;
+      asks = λ largest ranges is. false≢true is;
+    }
+
+pub lap_exclusions : LapExclusions
+lap_exclusions = record { laps = record { reads = reads_lap; begins = λ rest. rest_exclusions.others.untold_end.1 (rest A) }; others = no_laps; out = goes_out }
