@@ -1,4 +1,5 @@
--- Rest comes: of two laps in a row, of which the second doesn't begin at rest, something is done for good.
+-- Rest comes: of two laps in a row, of which the second doesn't begin at rest, something is done for good. And with it comes all that holds
+-- at rest.
 use Rattle.std.proofs.Common.{◌≡◌, ℕ, ◌+◌, ◌*◌, ◌≤◌, Bool, true, false, List, [], ◌∷◌, sym, subst, arith}
 use Rattle.std.specs.Prelude.{⊤}
 use Rattle.qs_calls.specs.declared.settings.Settings.{Settings}
@@ -7,9 +8,12 @@ use Rattle.qs_machine.specs.EndStep.{Call}
 use Rattle.qs_runs.specs.Logs.{Happening}
 use Rattle.qs_runs.specs.Worlds.{World, WorldStep, Run}
 use Rattle.qs_rest.proofs.FirstLimits.{first_limits_stay}
+use Rattle.qs_rest.proofs.Resting.{each_limit_known}
+use Rattle.qs_rest.proofs.Streams.{each_credit_whole, each_reset_final}
+use Rattle.qs_rest.proofs.Delivered.{each_credit_ahead, each_delivered}
 use Rattle.qs_progress.specs.Score.{score}
 use Rattle.qs_progress.specs.Laps.{Moment, IsCalm, Trail, Lap}
-use Rattle.qs_progress.specs.Comes.{BothOpen, IsReached, Course, laps_in, stretches_in, RestComes}
+use Rattle.qs_progress.specs.Comes.{BothRest, BothOpen, IsReached, Course, laps_in, stretches_in, RestComes, IsComplete, AllComes}
 use Rattle.qs_progress.proofs.Score.{what_is_done_stays}
 use Rattle.qs_progress.proofs.Bound.{is_below}
 use Rattle.qs_progress.proofs.Trails.{trail_open}
@@ -19,7 +23,11 @@ use Rattle.qs_progress.proofs.Pairs.{laps_raise}
 abbrev both : World → ℕ
 both w = score w.a + score w.b
 
-course_open : (parts : List Bool) (old new : Moment) → Course parts old new → BothOpen new.ends → BothOpen old.ends
+-- both ends are at rest
+abbrev Rests : Moment → Type 0
+Rests m = BothRest m.ends
+
+course_open : (parts : List Bool) (old new : Moment) → Course Rests parts old new → BothOpen new.ends → BothOpen old.ends
 course_open [] old new is open_end = subst (λ (m : Moment). BothOpen m.ends) is open_end
 course_open (true ∷ parts) old new (begins, mid, lap, rest) open_end = trail_open IsCalm lap.moments old mid lap.calm (course_open parts mid new rest open_end)
 course_open (false ∷ parts) old new (ms, mid, stretch, rest) open_end = trail_open (λ call. ⊤) ms old mid stretch (course_open parts mid new rest open_end)
@@ -42,7 +50,7 @@ module _ (a b : Settings) where
   lap : (old new : Moment) → IsReached a b old → Lap old new → IsReached a b new × (both old.ends ≤ both new.ends)
   lap old new r l = trail IsCalm l.moments old new r l.calm
 
-  courses : (parts : List Bool) (old new : Moment) → IsReached a b old → Course parts old new → BothOpen new.ends → IsReached a b new × (laps_in parts + 2 * both old.ends ≤ 2 * both new.ends + stretches_in parts + 1)
+  courses : (parts : List Bool) (old new : Moment) → IsReached a b old → Course Rests parts old new → BothOpen new.ends → IsReached a b new × (laps_in parts + 2 * both old.ends ≤ 2 * both new.ends + stretches_in parts + 1)
   courses [] old new r is open_end = subst (λ m. IsReached a b m × (0 + 2 * both old.ends ≤ 2 * both m.ends + 0 + 1)) (sym is) (r, omega arith)
   courses (true ∷ []) old new r (begins, mid, first, is) open_end =
       let (there, more) = lap old mid r first in
@@ -63,8 +71,30 @@ module _ (a b : Settings) where
       let (there, later) = courses parts next new at_next rest open_end in
       (there, omega (arith, more, later))
 
+  -- At rest all is delivered
+
+  complete : (m : Moment) → IsReached a b m → Rests m → IsComplete m
+  complete m r rests =
+      record {
+        known = λ s. each_limit_known a b m.log m.ends r.run rests s (r.told s);
+        credit = each_credit_whole a b m.log m.ends r.run rests;
+        ahead = λ s. each_credit_ahead a b m.log m.ends r.run rests s (r.told s);
+        resets = each_reset_final a b m.log m.ends r.run rests;
+        delivered = λ s. each_delivered a b m.log m.ends r.run rests s (r.told s);
+      }
+
+  rest_misses : (parts : List Bool) (old new : Moment) → IsReached a b old → Course IsComplete parts old new → Course Rests parts old new
+  rest_misses [] old new r is = is
+  rest_misses (true ∷ parts) old new r (begins, mid, first, rest) =
+      (λ rests. begins (complete old r rests), mid, first, rest_misses parts mid new (lap old mid r first).0 rest)
+  rest_misses (false ∷ parts) old new r (ms, mid, stretch, rest) =
+      (ms, mid, stretch, rest_misses parts mid new (trail (λ call. ⊤) ms old mid r stretch).0 rest)
+
 pub rest_comes : RestComes
 rest_comes a b parts old new r course open_end =
     let (there, counted) = courses a b parts old new r course open_end in
     let few = is_below a b new.log new.ends there.run there.told in
     omega (arith, counted, few)
+
+pub all_comes : AllComes
+all_comes a b parts old new r course open_end = rest_comes a b parts old new r (rest_misses a b parts old new r course) open_end

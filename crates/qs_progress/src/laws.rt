@@ -5,7 +5,7 @@ ghost use Rattle.qs_progress.specs.Within.{ItemsAreWithin};
 ghost use Rattle.qs_progress.specs.Bound.{DoneIsBounded};
 ghost use Rattle.qs_progress.specs.Outstanding.{WhatIsOutStays};
 ghost use Rattle.qs_progress.specs.Going.{WhatGoesOutIsNew};
-ghost use Rattle.qs_progress.specs.Comes.{RestComes};
+ghost use Rattle.qs_progress.specs.Comes.{RestComes, AllComes};
 ghost use Rattle.qs_progress.specs.Exclusions.{Exclusions};
 ghost use Rattle.qs_progress.specs.ExclusionsLaps.{LapExclusions};
 
@@ -38,6 +38,11 @@ pub fn what_goes_out_is_new()
 /// Rest comes: in every run, from each moment on, a number bounds how many laps don't begin at rest.
 pub fn rest_comes()
     ensures { RestComes }
+{}
+
+/// And so does all that holds at rest: the same number bounds how many laps begin where not all was delivered, or credit isn't whole.
+pub fn all_comes()
+    ensures { AllComes }
 {}
 
 /// What a score counts, and what it doesn't: small ends with theirs, and one whose score falls where it takes in higher limits of its peer.
