@@ -1,9 +1,14 @@
 -- Which small trails are laps, and which aren't.
-use Rattle.std.proofs.Common.{◌≡◌, ℕ, ◌+◌, true, false, List, [], ◌∷◌, length, Some, refl, sym, ap, ◌∙◌, subst, arith, inl, inr}
+use Rattle.std.proofs.Common.{◌≡◌, ℕ, ◌+◌, max, true, false, List, [], ◌∷◌, length, Option, Some, None, nat_cmp, refl, sym, ap, ◌∙◌, subst, arith, inl, inr}
 use Rattle.std.proofs.lemmas.Option.{none-some, same_Some}
-use Rattle.std.proofs.lemmas.Bool.{false≢true, true≢false}
+use Rattle.std.proofs.lemmas.Bool.{false≢true, true≢false, or_left}
+use Rattle.std.proofs.lemmas.Bool.Decides.{nat_tests}
+use Rattle.std.specs.FinMap as fmap
+use Rattle.std.specs.FinSet as set
+use Rattle.std.specs.Cmp.{nat_cmp_total}
 use Rattle.qs_wire.specs.declared.stream_id.Role.TheVariants.{Server}
 use Rattle.qs_recv.specs.News.{is_readable}
+use Rattle.qs_send.specs.Lane.{SendLane, reset_acked_lane}
 use Rattle.qs_send.specs.Records.{Among}
 use Rattle.qs_send.specs.declared.piece.Item.{Item}
 use Rattle.qs_send.specs.declared.piece.Item.TheVariants.{MaxData, MaxStreamData, MaxStreams, ResetStream, StopSending, DataBlocked, StreamDataBlocked, StreamsBlocked}
@@ -11,13 +16,16 @@ use Rattle.qs_send.proofs.Carrying.{carried-empty}
 use Rattle.qs_wire.specs.declared.stream_id.Dir.TheVariants.{Bidi, Uni}
 use Rattle.qs_calls.specs.declared.event.Side.{Side}
 use Rattle.qs_calls.specs.declared.event.Side.TheVariants.{A, B}
-use Rattle.qs_machine.specs.Tables.{lookup, total, each, update}
-use Rattle.qs_machine.specs.Ends.{End, no_items}
-use Rattle.qs_machine.specs.Due.{IsDueItem}
+use Rattle.qs_machine.specs.Tables.{lookup, total, each, update, updated}
+use Rattle.qs_machine.specs.Ends.{End, AckedItems, no_items, on_send}
+use Rattle.qs_machine.specs.Due.{IsCurrent, IsAcked, IsDueItem}
+use Rattle.qs_machine.specs.FrameStep.{greatest, or_zero, greatest_of, item_acked}
 use Rattle.qs_machine.specs.News.{IsReadable}
 use Rattle.qs_machine.specs.EndStep.{Call, Open, Write, Finish, Reset, Stop, StopAndDiscard, TokenLost, Lose, RaiseLimits, Set, NoteClosed}
 use Rattle.qs_machine.specs.Examples.{standard, server}
 use Rattle.qs_machine.specs.SmallEnds.{raised}
+use Rattle.qs_machine.proofs.Again.{changed}
+use Rattle.qs_machine.proofs.Carried.{get_new, tied_itself}
 use Rattle.qs_machine.proofs.Counts.{no_lane}
 use Rattle.qs_machine.proofs.SmallEndsLaws.{only_open}
 use Rattle.qs_runs.specs.Logs.{Happening, History}
@@ -159,11 +167,38 @@ not_again : HasMore (told 5000) → ⊥
 not_again (inl (i, due)) = (rest_exclusions.rests.new Server).quiet (due_before i due)
 not_again (inr (n, (l, at, goes))) = none-some l (sym (no_lane n) ∙ at)
 
+-- where none was, an acknowledged item is so with its value
+greatest_first : (o : Option ℕ) (m : ℕ) → o ≡ None → greatest o m ≡ Some m
+greatest_first o m none = ap (λ x. greatest x m) none
+
+greatest_of_first : (values : fmap.FinMap nat_cmp ℕ) (n m : ℕ) → values ≡ fmap.empty → fmap.get (greatest_of values n m) n ≡ Some m
+greatest_of_first values n m none =
+    let first : fmap.get values n ≡ None = ap (λ v. fmap.get v n) none ∙ fmap.get-empty nat_cmp n in
+    let least : max 0 m ≡ m = grind (arith, nat_tests) in
+    get_new values n (max (or_zero (fmap.get values n)) m) ∙ ap (λ o. Some (max (or_zero o) m)) first ∙ ap Some least
+
+reset_now : (n : ℕ) (e : End) (o : Option SendLane) → lookup e.sends n ≡ o → (l : SendLane) → lookup (updated e.sends n reset_acked_lane o) n ≡ Some l → IsAcked (on_send n reset_acked_lane e) (ResetStream n 0 0)
+reset_now n e None is l there = absurd (none-some l (sym is ∙ there))
+reset_now n e (Some k) is l there = (reset_acked_lane k, changed e.sends n reset_acked_lane k is, refl)
+
+acked_now : (i : Item) (e : End) → e.acked ≡ no_items → IsCurrent (item_acked i e) i → IsAcked (item_acked i e) i
+acked_now (MaxData m) e none is = greatest_first e.acked.max_data m (ap (λ (a : AckedItems). a.max_data) none)
+acked_now (MaxStreamData n m) e none is = greatest_of_first e.acked.max_stream_data n m (ap (λ (a : AckedItems). a.max_stream_data) none)
+acked_now (MaxStreams Bidi m) e none is = greatest_first e.acked.bidi_streams m (ap (λ (a : AckedItems). a.bidi_streams) none)
+acked_now (MaxStreams Uni m) e none is = greatest_first e.acked.uni_streams m (ap (λ (a : AckedItems). a.uni_streams) none)
+acked_now (ResetStream n code size) e none (l, there, reset) = reset_now n e (lookup e.sends n) refl l there
+acked_now (StopSending n code) e none is = set.contains-insert nat_cmp_total e.acked.stop_sending n n ∙ or_left _ _ (tied_itself n)
+acked_now (DataBlocked m) e none is = greatest_first e.acked.data_blocked m (ap (λ (a : AckedItems). a.data_blocked) none)
+acked_now (StreamDataBlocked n m) e none is = greatest_of_first e.acked.stream_data_blocked n m (ap (λ (a : AckedItems). a.stream_data_blocked) none)
+acked_now (StreamsBlocked Bidi m) e none is = greatest_first e.acked.bidi_blocked m (ap (λ (a : AckedItems). a.bidi_blocked) none)
+acked_now (StreamsBlocked Uni m) e none is = greatest_first e.acked.uni_blocked m (ap (λ (a : AckedItems). a.uni_blocked) none)
+
 goes_out : GoesOut
 goes_out =
     record {
       older = inl (MaxData 5000, ((refl, omega arith), λ covered. elim covered [ inl flies ↦ carried-empty _ flies | inr acked ↦ (let same : 4500 ≡ 5000 = same_Some 4500 5000 acked in omega (arith, same)) ]));
       again = not_again;
+      acked = λ i e none due. due.1 (inr (acked_now i e none due.0));
       ack = rest_exclusions.rests.ack.quiet;
       asks = λ largest ranges is. false≢true is;
     }

@@ -5,13 +5,16 @@ use Rattle.std.specs.FinMap as fmap
 use Rattle.qs_wire.specs.declared.stream_id.Dir.{Dir}
 use Rattle.qs_recv.specs.Lane.{RecvLane, take_stream}
 use Rattle.qs_recv.specs.declared.half.Read.TheVariants as reads
+use Rattle.qs_send.specs.declared.piece.Item.{Item}
 use Rattle.qs_calls.specs.declared.closing.NotedClose.{NotedClose}
 use Rattle.qs_calls.specs.declared.settings.PeerLimits.{PeerLimits}
 use Rattle.qs_calls.specs.declared.token.Token.{Token}
 use Rattle.qs_calls.specs.declared.event.Side.{Side}
 use Rattle.qs_calls.specs.declared.event.Side.TheVariants.{A}
-use Rattle.qs_machine.specs.Ends.{no_items}
+use Rattle.qs_machine.specs.Ends.{End, no_items}
 use Rattle.qs_machine.specs.Seen.{Ack, asks_ack}
+use Rattle.qs_machine.specs.FrameStep.{item_acked}
+use Rattle.qs_machine.specs.Due.{IsDueItem}
 use Rattle.qs_machine.specs.Setting.{Setting}
 use Rattle.qs_machine.specs.News.{IsReadable}
 use Rattle.qs_machine.specs.EndStep.{Call, Answer, Open, Write, Finish, Reset, Stop, StopAndDiscard, ReadUpTo, TokenLost, Lose, RaiseLimits, Set, NoteClosed}
@@ -82,8 +85,9 @@ pub record IsNoLap : Type 0 where
 pub record GoesOut : Type 0 where
   -- a limit that an older value of is acknowledged
   pub older : HasMore (record raised { acked = record no_items { max_data = Some 4500 } })
-  -- but not once it is acknowledged itself
+  -- but not once it is acknowledged itself; and so of each item
   pub again : HasMore (record raised { acked = record no_items { max_data = Some 5000 } }) → ⊥
+  pub acked : (i : Item) (e : End) → e.acked ≡ no_items → IsDueItem (item_acked i e) i → ⊥
   -- nor an ACK, that would ask for one
   pub ack : HasMore (record (client_of standard) { ack_due = true }) → ⊥
   pub asks : (largest : ℕ) (ranges : List (ℕ × ℕ)) → asks_ack (Ack largest ranges) ≡ true → ⊥
