@@ -1,13 +1,11 @@
 -- Rest comes: of two laps in a row, of which the second doesn't begin at rest, something is done for good. And with it comes all that holds
 -- at rest.
-use Rattle.std.proofs.Common.{◌≡◌, ℕ, ◌+◌, ◌*◌, ◌≤◌, Bool, true, false, List, [], ◌∷◌, sym, subst, arith}
+use Rattle.std.proofs.Common.{ℕ, ◌+◌, ◌*◌, ◌≤◌, Bool, true, false, List, [], ◌∷◌, sym, subst, arith}
 use Rattle.std.specs.Prelude.{⊤}
 use Rattle.qs_calls.specs.declared.settings.Settings.{Settings}
 use Rattle.qs_calls.specs.declared.event.Side.TheVariants.{A, B}
 use Rattle.qs_machine.specs.EndStep.{Call}
-use Rattle.qs_runs.specs.Logs.{Happening}
-use Rattle.qs_runs.specs.Worlds.{World, WorldStep, Run}
-use Rattle.qs_rest.proofs.FirstLimits.{first_limits_stay}
+use Rattle.qs_runs.specs.Worlds.{World}
 use Rattle.qs_rest.proofs.Resting.{each_limit_known}
 use Rattle.qs_rest.proofs.Streams.{each_credit_whole, each_reset_final}
 use Rattle.qs_rest.proofs.Delivered.{each_credit_ahead, each_delivered}
@@ -16,7 +14,7 @@ use Rattle.qs_progress.specs.Laps.{Moment, IsCalm, Trail, Lap}
 use Rattle.qs_progress.specs.Comes.{BothRest, BothOpen, IsReached, Course, laps_in, stretches_in, RestComes, IsComplete, AllComes}
 use Rattle.qs_progress.proofs.Score.{what_is_done_stays}
 use Rattle.qs_progress.proofs.Bound.{is_below}
-use Rattle.qs_progress.proofs.Trails.{trail_open}
+use Rattle.qs_progress.proofs.Trails.{trail_open, reached}
 use Rattle.qs_progress.proofs.Pairs.{laps_raise}
 
 -- what both ends did
@@ -35,16 +33,12 @@ course_open (false ∷ parts) old new (ms, mid, stretch, rest) open_end = trail_
 -- Trails
 
 module _ (a b : Settings) where
-  reached : (old new : Moment) (x : Happening) → IsReached a b old → new.log ≡ x ∷ old.log → WorldStep old.log old.ends x new.ends → IsReached a b new
-  reached old new x r logged step =
-      record { run = subst (λ h. Run a b h new.ends) (sym logged) (old.ends, r.run, step); told = λ s. first_limits_stay a b old.log old.ends new.ends x r.run step s (r.told s) }
-
   trail : (Is : Call → Type 0) (ms : List Moment) (old new : Moment) → IsReached a b old → Trail Is old ms new → IsReached a b new × (both old.ends ≤ both new.ends)
   trail Is [] old new r is = subst (λ m. IsReached a b m × (both old.ends ≤ both m.ends)) (sym is) (r, omega arith)
   trail Is (m ∷ ms) old new r ((x, kind, logged, step), rest) =
       let first = what_is_done_stays a b old.log old.ends m.ends x r.run step A (r.told A) in
       let second = what_is_done_stays a b old.log old.ends m.ends x r.run step B (r.told B) in
-      let (there, later) = trail Is ms m new (reached old m x r logged step) rest in
+      let (there, later) = trail Is ms m new (reached a b old m x r logged step) rest in
       (there, omega (arith, first, second, later))
 
   lap : (old new : Moment) → IsReached a b old → Lap old new → IsReached a b new × (both old.ends ≤ both new.ends)

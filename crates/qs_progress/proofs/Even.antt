@@ -74,7 +74,7 @@ told_even least p q d low le even = go (nat_le least p) refl (nat_le least q) re
     go true under true is false ex few = (omega (arith, few, low, le), ex)
 
 -- a stream that has a half is counted
-index_below : {X : Type 0} (xs : List X) (i : ℕ) (x : X) → slice_get xs i ≡ Some x → i < length xs
+pub index_below : {X : Type 0} (xs : List X) (i : ℕ) (x : X) → slice_get xs i ≡ Some x → i < length xs
 index_below [] i x is = absurd (none-some x is)
 index_below (y ∷ xs) zero x is = omega arith
 index_below (y ∷ xs) (suc i) x is = (let lt = index_below xs i x is in omega (arith, lt))

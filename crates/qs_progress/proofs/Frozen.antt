@@ -1,7 +1,7 @@
 -- Frames that come and raise no score change nothing but records.
-use Rattle.std.proofs.Common.{◌≡◌, ℕ, ◌+◌, ◌≤◌, Bool, true, false, not, ◌&&◌, ◌||◌, cond, List, [], ◌∷◌, ◌⊎◌, length, Option, Some, None, is_some, refl, sym, ap, ◌∙◌, subst, arith, inl, inr}
+use Rattle.std.proofs.Common.{◌≡◌, ℕ, ◌+◌, ◌≤◌, Bool, true, false, not, ◌&&◌, ◌||◌, cond, List, [], ◌∷◌, ◌⊎◌, length, Some, None, is_some, refl, sym, ap, ◌∙◌, subst, arith, inl, inr}
 use Rattle.std.specs.FinSet as set
-use Rattle.std.proofs.lemmas.Bool.{or_cases, or_left, or_right, true≢false, both_ways}
+use Rattle.std.proofs.lemmas.Bool.{or_cases, or_left, or_right, true≢false}
 use Rattle.std.proofs.lemmas.Option.{same_Some}
 use Rattle.qs_ranges.specs.Numbers.{contains-with_range, is_within}
 use Rattle.std.proofs.lemmas.Bool.Decides.{nat_tests}
@@ -29,6 +29,7 @@ use Rattle.qs_machine.proofs.EndsAfter.{IsAfter, HalfAfter, after_twice, mid_str
 use Rattle.qs_machine.proofs.Again.{WasOpened, IsStopped, opens_it, opened_back, recv_back, send_back, stopped_back, allow_back, changed, first_goes, one_left, all_left}
 use Rattle.qs_progress.specs.Score.{first_count, score}
 use Rattle.qs_progress.proofs.Score.{Goes}
+use Rattle.qs_progress.proofs.Outstanding.{the_one}
 use Rattle.qs_progress.proofs.Even.{members_even, open_even, broken_even, limit_even, received_even, size_even, code_even, known_even, known_count_even}
 use Rattle.qs_progress.proofs.Alike.{but_records, SendsAlike, alike_at, alike_back, slots_same, slots_twice, alike_acks, acks_rest}
 
@@ -43,10 +44,6 @@ pub record IsSteady (e : End) : Type 0 where
 none_and : (b : Bool) → (b && false) ≡ false
 none_and true = refl
 none_and false = refl
-
-the_one : {X : Type 0} (o : Option X) → is_some o ≡ true → (x : X) × (o ≡ Some x)
-the_one None none = absurd (both_ways false refl none)
-the_one (Some x) some = (x, refl)
 
 module _ (old new : End) (g : Goes old new) (even : score new ≤ score old) (steady : IsSteady old) (kept : KeptIn LaneAfter old.recvs new.recvs) where
   module _ (e : End) (same : but_records e ≡ but_records old) (alike : SendsAlike old.sends e.sends) where

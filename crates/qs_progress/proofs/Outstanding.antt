@@ -125,9 +125,9 @@ homes_after a b x h late p is = home_stays {R = HalfAfter} a.sends b.sends x.sen
 
 -- What an ACK takes is acknowledged
 
-the_half : (o : Option SendLane) → is_some o ≡ true → (l : SendLane) × (o ≡ Some l)
-the_half None h = absurd (both_ways false refl h)
-the_half (Some l) h = (l, refl)
+pub the_one : {X : Type 0} (o : Option X) → is_some o ≡ true → (x : X) × (o ≡ Some x)
+the_one None none = absurd (both_ways false refl none)
+the_one (Some x) some = (x, refl)
 
 greatest_now : (o : Option ℕ) (m : ℕ) → reaches (greatest o m) m ≡ true
 greatest_now None m = grind (arith, nat_tests)
@@ -138,7 +138,7 @@ greatest_of_now values n m = ap (λ o. reaches o m) (get_new values n (max (or_z
 
 reached_now : (p : Piece) (e : End) → HasHome e.sends p → IsReached (piece_acked p e) p
 reached_now (Data n c) e home =
-    let (l, is) = the_half (lookup e.sends n) home in (
+    let (l, is) = the_one (lookup e.sends n) home in (
       acked_lane l c,
       changed e.sends n (λ k. acked_lane k c) l is,
       (λ q low high. let here : is_within c.offset (c.offset + c.len) q ≡ true = grind (arith, nat_tests) in contains-with_range l.acked c.offset (c.offset + c.len) q ∙ or_right _ _ here),
@@ -148,7 +148,7 @@ reached_now (Told (MaxData m)) e home = greatest_now e.acked.max_data m
 reached_now (Told (MaxStreamData n m)) e home = greatest_of_now e.acked.max_stream_data n m
 reached_now (Told (MaxStreams Bidi m)) e home = greatest_now e.acked.bidi_streams m
 reached_now (Told (MaxStreams Uni m)) e home = greatest_now e.acked.uni_streams m
-reached_now (Told (ResetStream n code size)) e home = let (l, is) = the_half (lookup e.sends n) home in (reset_acked_lane l, changed e.sends n reset_acked_lane l is, refl)
+reached_now (Told (ResetStream n code size)) e home = let (l, is) = the_one (lookup e.sends n) home in (reset_acked_lane l, changed e.sends n reset_acked_lane l is, refl)
 reached_now (Told (StopSending n code)) e home = set.contains-insert nat_cmp_total e.acked.stop_sending n n ∙ or_left _ _ (tied_itself n)
 reached_now (Told (DataBlocked m)) e home = greatest_now e.acked.data_blocked m
 reached_now (Told (StreamDataBlocked n m)) e home = greatest_of_now e.acked.stream_data_blocked n m

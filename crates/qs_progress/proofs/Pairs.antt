@@ -1,5 +1,5 @@
 -- Two laps in a row, of which the second doesn't begin at rest, raise a score.
-use Rattle.std.proofs.Common.{◌≡◌, ℕ, ◌+◌, ◌<◌, ◌≤◌, Bool, true, false, not, ◌&&◌, List, [], ◌∷◌, ◌⊎◌, length, slice_get, Some, None, is_some, refl, sym, ap, ◌∙◌, subst, arith, inl, inr, zero, suc}
+use Rattle.std.proofs.Common.{◌≡◌, ℕ, ◌+◌, ◌<◌, ◌≤◌, Bool, true, false, not, ◌&&◌, List, [], ◌∷◌, ◌⊎◌, length, Some, None, is_some, refl, sym, ap, ◌∙◌, subst, arith, inl, inr}
 use Rattle.std.proofs.lemmas.Bool.{cases_lt, true≢false}
 use Rattle.std.proofs.lemmas.Option.{none-some}
 use Rattle.qs_wire.specs.declared.stream_id.Dir.{Dir}
@@ -22,13 +22,12 @@ use Rattle.qs_machine.proofs.CallsCounts.{lanes_call}
 use Rattle.qs_machine.proofs.Again.{all_left}
 use Rattle.qs_runs.specs.Logs.{Happening, other}
 use Rattle.qs_runs.specs.Pasts.{Packets, PieceOf, past}
-use Rattle.qs_runs.specs.Worlds.{end_of, WorldStep, Run}
+use Rattle.qs_runs.specs.Worlds.{end_of, WorldStep}
 use Rattle.qs_runs.proofs.Histories.{two_sides}
 use Rattle.qs_runs.proofs.Runs.{run_keeps}
 use Rattle.qs_rest.specs.Rest.{AtRest}
 use Rattle.qs_rest.proofs.Runs.{every_run_keeps}
 use Rattle.qs_rest.proofs.Telling.{no_news}
-use Rattle.qs_rest.proofs.FirstLimits.{first_limits_stay}
 use Rattle.qs_progress.specs.Score.{score, first_count}
 use Rattle.qs_progress.specs.Laps.{Moment, IsCalm, Trail, Lap}
 use Rattle.qs_progress.specs.Outstanding.{IsIn}
@@ -36,13 +35,14 @@ use Rattle.qs_progress.specs.Comes.{BothRest, BothOpen, IsReached}
 use Rattle.qs_progress.proofs.Score.{Goes, goes_call, peer_stays, what_is_done_stays}
 use Rattle.qs_progress.proofs.Items.{ItemsGrow}
 use Rattle.qs_progress.proofs.Within.{items_are_within}
+use Rattle.qs_progress.proofs.Even.{index_below}
 use Rattle.qs_progress.proofs.CalmCalls.{Forms, calm_call}
 use Rattle.qs_progress.proofs.Outstanding.{AcksStay, stay_same, stay_twice, what_is_out_stays}
 use Rattle.qs_progress.proofs.Undone.{IsUndone, undone_unreached, acks_edits, undone_stays}
 use Rattle.qs_progress.proofs.Alike.{slots_same, slots_twice}
 use Rattle.qs_progress.proofs.Steps.{Quiet, PutsOut, IsReady, Result, forms, ends_after}
 use Rattle.qs_progress.proofs.More.{more_back}
-use Rattle.qs_progress.proofs.Trails.{trail_open}
+use Rattle.qs_progress.proofs.Trails.{trail_open, reached}
 use Rattle.qs_progress.proofs.Steady.{runs_pair, runs_reset}
 
 quiet_same : (e : End) → Quiet e e
@@ -72,20 +72,11 @@ next_forms old ready =
           omega (arith, first, second);
     }
 
-index_in : {X : Type 0} (xs : List X) (i : ℕ) (x : X) → slice_get xs i ≡ Some x → i < length xs
-index_in [] i x is = absurd (none-some x is)
-index_in (y ∷ xs) zero x is = omega arith
-index_in (y ∷ xs) (suc i) x is = (let lt = index_in xs i x is in omega (arith, lt))
-
 stood_in : (mine : Packets) (k : ℕ) (p : Piece) → PieceOf mine k p → k < length mine
-stood_in mine k (Data n c) (bytes, (fs, at, among), same) = index_in mine k fs at
-stood_in mine k (Told i) (fs, at, among) = index_in mine k fs at
+stood_in mine k (Data n c) (bytes, (fs, at, among), same) = index_below mine k fs at
+stood_in mine k (Told i) (fs, at, among) = index_below mine k fs at
 
 module _ (a b : Settings) where
-  reached : (old new : Moment) (x : Happening) → IsReached a b old → new.log ≡ x ∷ old.log → WorldStep old.log old.ends x new.ends → IsReached a b new
-  reached old new x r logged step =
-      record { run = subst (λ h. Run a b h new.ends) (sym logged) (old.ends, r.run, step); told = λ s. first_limits_stay a b old.log old.ends new.ends x r.run step s (r.told s) }
-
   module _ (s : Side) where
     abbrev at : Moment → End
     at m = end_of m.ends s
@@ -161,7 +152,7 @@ module _ (a b : Settings) where
     leads [] old new r is = subst (λ m. IsReached a b m × Leads (at old) (at m)) (sym is) (r, record { next = omega arith; grows = omega arith; items = λ i h. h; keeps = λ even k p here undone. (here, undone) })
     leads (m ∷ ms) old new r ((x, calm, logged, step), rest) =
         let first = moves old m x r calm step in
-        let (there, later) = leads ms m new (reached old m x r logged step) rest in
+        let (there, later) = leads ms m new (reached a b old m x r logged step) rest in
         let up = first.grows in
         let more = later.grows in
         let nexts = first.next in
@@ -183,7 +174,7 @@ module _ (a b : Settings) where
     stays_quiet [] old mid r is even never = subst (λ m. Quiet (at old) (at m)) (sym is) (quiet_same (at old))
     stays_quiet (m ∷ ms) old mid r ((x, calm, logged, step), rest) even never =
         let first = moves old m x r calm step in
-        let r_m = reached old m x r logged step in
+        let r_m = reached a b old m x r logged step in
         let (there, later) = leads ms m mid r_m rest in
         let up = first.grows in
         let more = later.grows in
@@ -198,7 +189,7 @@ module _ (a b : Settings) where
     from_moment [] old mid m r is among = absurd among
     from_moment (n ∷ ms) old mid m r ((x, calm, logged, step), rest) among =
         let first = moves old n x r calm step in
-        let r_n = reached old n x r logged step in
+        let r_n = reached a b old n x r logged step in
         let up = first.grows in
         elim among [
           | inl is ↦ subst (λ y. (rest : List Moment) × IsReached a b y × Trail IsCalm y rest mid × (score (at old) ≤ score (at y))) (sym is) (ms, r_n, rest, up)

@@ -1,4 +1,4 @@
--- An end that closed stays so; so one that is open was.
+-- An end that closed stays so; so one that is open was. And a run goes on.
 use Rattle.std.proofs.Common.{◌≡◌, true, List, [], ◌∷◌, Option, Some, None, is_some, refl, sym, ap, ◌∙◌, subst}
 use Rattle.std.proofs.lemmas.Bool.{false≢true}
 use Rattle.qs_wire.specs.declared.stream_id.Dir.TheVariants.{Uni}
@@ -9,10 +9,13 @@ use Rattle.qs_machine.specs.Setting.{Grant, SendBuffer, StreamWindow}
 use Rattle.qs_machine.specs.EndStep.{Call, Answer as CallAnswer, EndStep}
 use Rattle.qs_machine.proofs.EveryCall.{Change, changed, Comes, relates, Wanted, WasSet, Took, Acked, Put, Shut}
 use Rattle.qs_machine.proofs.Leaves.{acks_leave, put_leaves, frame_leaves}
-use Rattle.qs_runs.specs.Worlds.{end_of}
+use Rattle.qs_calls.specs.declared.settings.Settings.{Settings}
+use Rattle.qs_runs.specs.Logs.{Happening}
+use Rattle.qs_runs.specs.Worlds.{end_of, WorldStep, Run}
 use Rattle.qs_runs.proofs.Stays.{each_side}
+use Rattle.qs_rest.proofs.FirstLimits.{first_limits_stay}
 use Rattle.qs_progress.specs.Laps.{Moment, Trail}
-use Rattle.qs_progress.specs.Comes.{BothOpen}
+use Rattle.qs_progress.specs.Comes.{BothOpen, IsReached}
 
 abbrev StaysShut : End → End → Type 0
 StaysShut e f = is_some e.closed ≡ true → is_some f.closed ≡ true
@@ -47,3 +50,7 @@ trail_open Is (m ∷ ms) old new ((x, kind, logged, step), rest) open_end s =
     open_before (end_of old.ends s) (end_of m.ends s)
     (each_side StaysShut (λ e shut. shut) old.ends m.ends (λ t call answer made. shut_call (end_of old.ends t) call answer (end_of m.ends t) made) old.log x step s)
     (trail_open Is ms m new rest open_end s)
+
+pub reached : (a b : Settings) (old new : Moment) (x : Happening) → IsReached a b old → new.log ≡ x ∷ old.log → WorldStep old.log old.ends x new.ends → IsReached a b new
+reached a b old new x r logged step =
+    record { run = subst (λ h. Run a b h new.ends) (sym logged) (old.ends, r.run, step); told = λ s. first_limits_stay a b old.log old.ends new.ends x r.run step s (r.told s) }
