@@ -1,16 +1,16 @@
 -- Where the bytes of a frame stand.
-use Rattle.std.proofs.Common.{◌≡◌, ℕ, zero, suc, ◌+◌, ◌-◌, ◌*◌, ◌^◌, ◌<◌, ◌≤◌, Bool, true, false, eqb, leb, ◌&&◌, List, [], ◌∷◌, ◌++◌, length, take, drop, Option, Some, None, Ok, refl, sym, ap, subst, ◌∙◌, append_assoc, arith}
+use Rattle.std.proofs.Common.{◌≡◌, ℕ, zero, suc, ◌+◌, ◌-◌, ◌*◌, ◌^◌, ◌<◌, ◌≤◌, Bool, true, false, List, [], ◌∷◌, ◌++◌, length, take, drop, Option, Some, None, Ok, refl, sym, ap, subst, ◌∙◌, append_assoc, arith}
 use Rattle.std.specs.Prelude.{is_some, if◌then◌else◌}
 use Rattle.std.proofs.lemmas.Bool.{le-ltb}
 use Rattle.std.proofs.lemmas.List.{length-append, take_at, drop_at, drop-drop}
 use Rattle.qs_wire.specs.declared.frame.EcnCounts.{EcnCounts}
 use Rattle.qs_wire.specs.Varint.{Spells, short, varint_at, numbers_of}
-use Rattle.qs_wire.specs.Layout.{FrameValue, ack, stream, new_connection_id, Field, number, number_if, counted_if, plain, identifier, ack_ranges, ecn_if, Values, layout, frame_of, bit, number_of_type, type_of}
-use Rattle.qs_wire.specs.Grammar.{ShapeText, FieldsText, CountedText, NumbersText, counts_of, IsIdentifierLength}
+use Rattle.qs_wire.specs.Layout.{FrameValue, ack, stream, new_connection_id, Field, number, number_if, counted_if, plain, identifier, ack_ranges, ecn_if, Values, layout, frame_of, bit, number_of_type}
+use Rattle.qs_wire.specs.Grammar.{FieldsText, CountedText, NumbersText, counts_of, IsIdentifierLength}
 use Rattle.qs_wire.specs.Reading.{frame_at}
 use Rattle.qs_wire.proofs.Numbers.{IsBytes, varint_again, short_spells, short_byte}
 use Rattle.qs_wire.proofs.Ranges.{numbers_of-next, numbers_of-none}
-use Rattle.qs_wire.proofs.Types.{by_test, type_again, type_below}
+use Rattle.qs_wire.proofs.Types.{EachType, at_type, type_below}
 use Rattle.qs_wire.proofs.Shapes.{frame_takes}
 use Rattle.qs_c.specs.Frames.{Has}
 use Rattle.qs_c.specs.Places.{skip_then, skip_of, lead_of, laid_of, Sizes, sized, sizes_of}
@@ -254,12 +254,17 @@ ncid_fields n vs body after bytes lead is h =
 
 -- ---- all types
 
-at_type : {F : Type 0} (lay : F → List Field) (fo : (t : F) → Values (lay t) → FrameValue) (num : F → ℕ) (n : ℕ) (body after bytes : List ℕ) (c t : F) → Some c ≡ Some t → num t ≡ n
-    → (num c ≡ n → (vs : Values (lay c)) → FieldsText (lay c) vs body after → IsLaid n (fo c vs) after bytes)
-    → (vs : Values (lay t)) → FieldsText (lay t) vs body after → IsLaid n (fo t vs) after bytes
-at_type {F} lay fo num n body after bytes c t is e k =
-    let same : c ≡ t = cc in
-    subst (λ (s : F). (vs : Values (lay s)) → FieldsText (lay s) vs body after → IsLaid n (fo s vs) after bytes) same (k (ap num same ∙ e))
+bare : (n : ℕ) (body after bytes : List ℕ) → FrontIs n body after bytes → (vs : Values []) → FieldsText [] vs body after → Skips 1 bytes after
+bare n body after bytes is vs h = typed 0 n body after bytes after is (last body after h)
+
+one_number : (n : ℕ) (body after bytes : List ℕ) → FrontIs n body after bytes → (vs : Values (number ∷ [])) → FieldsText (number ∷ []) vs body after → Skips 2 bytes after
+one_number n body after bytes is vs h = typed 1 n body after bytes after is (one 0 vs.0 h.0 h.1 body after after h.2 h.3 (last h.1 after h.4))
+
+two_numbers : (n : ℕ) (body after bytes : List ℕ) → FrontIs n body after bytes → (vs : Values (number ∷ number ∷ [])) → FieldsText (number ∷ number ∷ []) vs body after → Skips 3 bytes after
+two_numbers n body after bytes is vs h = typed 2 n body after bytes after is (one 1 vs.0 h.0 h.1 body after after h.2 h.3 (one 0 vs.1.0 h.4.0 h.4.1 h.1 after after h.4.2 h.4.3 (last h.4.1 after h.4.4)))
+
+eight_bytes : (n : ℕ) (body after bytes : List ℕ) → FrontIs n body after bytes → (vs : Values (plain 8 ∷ [])) → FieldsText (plain 8 ∷ []) vs body after → Skips 1 bytes (vs.0 ++ after)
+eight_bytes n body after bytes is vs h = typed 0 n body after bytes _ is (skips_none _ _ (plain_end vs.0 h.0 h.1 body after h.2 h.3.1 h.4))
 
 stream_laid : (off len fin : Bool) (n : ℕ) (vs : Values (stream_fields off len)) (body after bytes : List ℕ) → 0x08 + 4 * bit off + 2 * bit len + bit fin ≡ n → FrontIs n body after bytes
     → FieldsText (stream_fields off len) vs body after → IsLaid n (stream vs.0 vs.1.0 fin vs.1.1.0) after bytes
@@ -267,49 +272,43 @@ stream_laid off len fin n vs body after bytes m is h =
     simple n (suc (suc (bit off + bit len))) _ bytes vs.1.1.0 after (sym (ap lead_of m) ∙ stream_lead off len fin) refl (λ _ _ b. b)
     (typed (suc (bit off + bit len)) n body after bytes _ is (stream_skips off len vs body after h))
 
--- the frame that a shape tells
-shape_laid : (n : ℕ) (frame : FrameValue) (text after bytes : List ℕ) → (s : ShapeText frame text after) → number_of_type s.type ≡ n → type_of n ≡ Some s.type → FrontIs n s.body after bytes
-    → IsLaid n frame after bytes
-shape_laid n frame text after bytes s num e is = subst (λ (f : FrameValue). IsLaid n f after bytes) s.is_frame (go s.values s.fields)
-  where
-    body : List ℕ
-    body = s.body
-
-    go : (vs : Values (layout s.type)) → FieldsText (layout s.type) vs body after → IsLaid n (frame_of s.type vs) after bytes
-    go =
-        by_test (eqb n 0x00) _ _ (Some s.type) _ e (λ _ f. at_type layout frame_of number_of_type n body after bytes _ s.type f num (λ m vs h. simple n 1 _ bytes [] after (sym (ap lead_of m)) refl (λ _ _ b. b) (typed 0 n body after bytes after is (last body after h)))) (λ _ e.
-        by_test (eqb n 0x01) _ _ (Some s.type) _ e (λ _ f. at_type layout frame_of number_of_type n body after bytes _ s.type f num (λ m vs h. simple n 1 _ bytes [] after (sym (ap lead_of m)) refl (λ _ _ b. b) (typed 0 n body after bytes after is (last body after h)))) (λ _ e.
-        by_test (eqb n 0x02) _ _ (Some s.type) _ e (λ _ f. at_type layout frame_of number_of_type n body after bytes _ s.type f num (λ m vs h. ack_fields false n vs body after bytes (sym (ap lead_of m)) is h)) (λ _ e.
-        by_test (eqb n 0x03) _ _ (Some s.type) _ e (λ _ f. at_type layout frame_of number_of_type n body after bytes _ s.type f num (λ m vs h. ack_fields true n vs body after bytes (sym (ap lead_of m)) is h)) (λ _ e.
-        by_test (eqb n 0x04) _ _ (Some s.type) _ e (λ _ f. at_type layout frame_of number_of_type n body after bytes _ s.type f num (λ m vs h. simple n 4 _ bytes [] after (sym (ap lead_of m)) refl (λ _ _ b. b) (typed 3 n body after bytes after is (one 2 vs.0 h.0 h.1 body after after h.2 h.3 (one 1 vs.1.0 h.4.0 h.4.1 h.1 after after h.4.2 h.4.3 (one 0 vs.1.1.0 h.4.4.0 h.4.4.1 h.4.1 after after h.4.4.2 h.4.4.3 (last h.4.4.1 after h.4.4.4))))))) (λ _ e.
-        by_test (eqb n 0x05) _ _ (Some s.type) _ e (λ _ f. at_type layout frame_of number_of_type n body after bytes _ s.type f num (λ m vs h. simple n 3 _ bytes [] after (sym (ap lead_of m)) refl (λ _ _ b. b) (typed 2 n body after bytes after is (one 1 vs.0 h.0 h.1 body after after h.2 h.3 (one 0 vs.1.0 h.4.0 h.4.1 h.1 after after h.4.2 h.4.3 (last h.4.1 after h.4.4)))))) (λ _ e.
-        by_test (eqb n 0x06) _ _ (Some s.type) _ e (λ _ f. at_type layout frame_of number_of_type n body after bytes _ s.type f num (λ m vs h. simple n 3 _ bytes vs.1.0 after (sym (ap lead_of m)) refl (λ _ _ b. b) (typed 2 n body after bytes _ is (one 1 vs.0 h.0 h.1 body after _ h.2 h.3 (counted_end vs.1.0 h.4.0 h.4.1 h.1 after h.4.2 h.4.3 h.4.4))))) (λ _ e.
-        by_test (eqb n 0x07) _ _ (Some s.type) _ e (λ _ f. at_type layout frame_of number_of_type n body after bytes _ s.type f num (λ m vs h. simple n 2 _ bytes vs.0 after (sym (ap lead_of m)) refl (λ _ _ b. b) (typed 1 n body after bytes _ is (counted_end vs.0 h.0 h.1 body after h.2 h.3 h.4)))) (λ _ e.
-        by_test (leb 0x08 n && leb n 0x0f) _ _ (Some s.type) _ e (λ _ f. at_type layout frame_of number_of_type n body after bytes _ s.type f num (λ m vs h. stream_laid _ _ _ n vs body after bytes m is h)) (λ _ e.
-        by_test (eqb n 0x10) _ _ (Some s.type) _ e (λ _ f. at_type layout frame_of number_of_type n body after bytes _ s.type f num (λ m vs h. simple n 2 _ bytes [] after (sym (ap lead_of m)) refl (λ _ _ b. b) (typed 1 n body after bytes after is (one 0 vs.0 h.0 h.1 body after after h.2 h.3 (last h.1 after h.4))))) (λ _ e.
-        by_test (eqb n 0x11) _ _ (Some s.type) _ e (λ _ f. at_type layout frame_of number_of_type n body after bytes _ s.type f num (λ m vs h. simple n 3 _ bytes [] after (sym (ap lead_of m)) refl (λ _ _ b. b) (typed 2 n body after bytes after is (one 1 vs.0 h.0 h.1 body after after h.2 h.3 (one 0 vs.1.0 h.4.0 h.4.1 h.1 after after h.4.2 h.4.3 (last h.4.1 after h.4.4)))))) (λ _ e.
-        by_test (eqb n 0x12) _ _ (Some s.type) _ e (λ _ f. at_type layout frame_of number_of_type n body after bytes _ s.type f num (λ m vs h. simple n 2 _ bytes [] after (sym (ap lead_of m)) refl (λ _ _ b. b) (typed 1 n body after bytes after is (one 0 vs.0 h.0 h.1 body after after h.2 h.3 (last h.1 after h.4))))) (λ _ e.
-        by_test (eqb n 0x13) _ _ (Some s.type) _ e (λ _ f. at_type layout frame_of number_of_type n body after bytes _ s.type f num (λ m vs h. simple n 2 _ bytes [] after (sym (ap lead_of m)) refl (λ _ _ b. b) (typed 1 n body after bytes after is (one 0 vs.0 h.0 h.1 body after after h.2 h.3 (last h.1 after h.4))))) (λ _ e.
-        by_test (eqb n 0x14) _ _ (Some s.type) _ e (λ _ f. at_type layout frame_of number_of_type n body after bytes _ s.type f num (λ m vs h. simple n 2 _ bytes [] after (sym (ap lead_of m)) refl (λ _ _ b. b) (typed 1 n body after bytes after is (one 0 vs.0 h.0 h.1 body after after h.2 h.3 (last h.1 after h.4))))) (λ _ e.
-        by_test (eqb n 0x15) _ _ (Some s.type) _ e (λ _ f. at_type layout frame_of number_of_type n body after bytes _ s.type f num (λ m vs h. simple n 3 _ bytes [] after (sym (ap lead_of m)) refl (λ _ _ b. b) (typed 2 n body after bytes after is (one 1 vs.0 h.0 h.1 body after after h.2 h.3 (one 0 vs.1.0 h.4.0 h.4.1 h.1 after after h.4.2 h.4.3 (last h.4.1 after h.4.4)))))) (λ _ e.
-        by_test (eqb n 0x16) _ _ (Some s.type) _ e (λ _ f. at_type layout frame_of number_of_type n body after bytes _ s.type f num (λ m vs h. simple n 2 _ bytes [] after (sym (ap lead_of m)) refl (λ _ _ b. b) (typed 1 n body after bytes after is (one 0 vs.0 h.0 h.1 body after after h.2 h.3 (last h.1 after h.4))))) (λ _ e.
-        by_test (eqb n 0x17) _ _ (Some s.type) _ e (λ _ f. at_type layout frame_of number_of_type n body after bytes _ s.type f num (λ m vs h. simple n 2 _ bytes [] after (sym (ap lead_of m)) refl (λ _ _ b. b) (typed 1 n body after bytes after is (one 0 vs.0 h.0 h.1 body after after h.2 h.3 (last h.1 after h.4))))) (λ _ e.
-        by_test (eqb n 0x18) _ _ (Some s.type) _ e (λ _ f. at_type layout frame_of number_of_type n body after bytes _ s.type f num (λ m vs h. ncid_fields n vs body after bytes (sym (ap lead_of m)) is h)) (λ _ e.
-        by_test (eqb n 0x19) _ _ (Some s.type) _ e (λ _ f. at_type layout frame_of number_of_type n body after bytes _ s.type f num (λ m vs h. simple n 2 _ bytes [] after (sym (ap lead_of m)) refl (λ _ _ b. b) (typed 1 n body after bytes after is (one 0 vs.0 h.0 h.1 body after after h.2 h.3 (last h.1 after h.4))))) (λ _ e.
-        by_test (eqb n 0x1a) _ _ (Some s.type) _ e (λ _ f. at_type layout frame_of number_of_type n body after bytes _ s.type f num (λ m vs h. simple n 1 _ bytes vs.0 after (sym (ap lead_of m)) refl (λ _ _ b. b) (typed 0 n body after bytes _ is (skips_none _ _ (plain_end vs.0 h.0 h.1 body after h.2 h.3.1 h.4))))) (λ _ e.
-        by_test (eqb n 0x1b) _ _ (Some s.type) _ e (λ _ f. at_type layout frame_of number_of_type n body after bytes _ s.type f num (λ m vs h. simple n 1 _ bytes vs.0 after (sym (ap lead_of m)) refl (λ _ _ b. b) (typed 0 n body after bytes _ is (skips_none _ _ (plain_end vs.0 h.0 h.1 body after h.2 h.3.1 h.4))))) (λ _ e.
-        by_test (eqb n 0x1c) _ _ (Some s.type) _ e (λ _ f. at_type layout frame_of number_of_type n body after bytes _ s.type f num (λ m vs h. simple n 4 _ bytes vs.1.1.0 after (sym (ap lead_of m)) refl (λ _ _ b. b) (typed 3 n body after bytes _ is (one 2 vs.0 h.0 h.1 body after _ h.2 h.3 (one 1 vs.1.0 h.4.0 h.4.1 h.1 after _ h.4.2 h.4.3 (counted_end vs.1.1.0 h.4.4.0 h.4.4.1 h.4.1 after h.4.4.2 h.4.4.3 h.4.4.4)))))) (λ _ e.
-        by_test (eqb n 0x1d) _ _ (Some s.type) _ e (λ _ f. at_type layout frame_of number_of_type n body after bytes _ s.type f num (λ m vs h. simple n 3 _ bytes vs.1.0 after (sym (ap lead_of m)) refl (λ _ _ b. b) (typed 2 n body after bytes _ is (one 1 vs.0 h.0 h.1 body after _ h.2 h.3 (counted_end vs.1.0 h.4.0 h.4.1 h.1 after h.4.2 h.4.3 h.4.4))))) (λ _ e.
-        by_test (eqb n 0x1e) _ _ (Some s.type) _ e (λ _ f. at_type layout frame_of number_of_type n body after bytes _ s.type f num (λ m vs h. simple n 1 _ bytes [] after (sym (ap lead_of m)) refl (λ _ _ b. b) (typed 0 n body after bytes after is (last body after h)))) (λ _ e.
-        absurd cc))))))))))))))))))))))))
+-- the frame that a type's fields tell
+each_laid : (n : ℕ) (body after bytes : List ℕ) → FrontIs n body after bytes
+    → EachType (λ t. number_of_type t ≡ n → (vs : Values (layout t)) → FieldsText (layout t) vs body after → IsLaid n (frame_of t vs) after bytes)
+each_laid n body after bytes is =
+    record {
+      padding = λ m vs h. simple n 1 _ bytes [] after (sym (ap lead_of m)) refl (λ _ _ b. b) (bare n body after bytes is vs h);
+      ping = λ m vs h. simple n 1 _ bytes [] after (sym (ap lead_of m)) refl (λ _ _ b. b) (bare n body after bytes is vs h);
+      ack = λ m vs h. ack_fields false n vs body after bytes (sym (ap lead_of m)) is h;
+      ack_with_counts = λ m vs h. ack_fields true n vs body after bytes (sym (ap lead_of m)) is h;
+      reset_stream = λ m vs h. simple n 4 _ bytes [] after (sym (ap lead_of m)) refl (λ _ _ b. b) (typed 3 n body after bytes after is (one 2 vs.0 h.0 h.1 body after after h.2 h.3 (one 1 vs.1.0 h.4.0 h.4.1 h.1 after after h.4.2 h.4.3 (one 0 vs.1.1.0 h.4.4.0 h.4.4.1 h.4.1 after after h.4.4.2 h.4.4.3 (last h.4.4.1 after h.4.4.4)))));
+      stop_sending = λ m vs h. simple n 3 _ bytes [] after (sym (ap lead_of m)) refl (λ _ _ b. b) (two_numbers n body after bytes is vs h);
+      crypto = λ m vs h. simple n 3 _ bytes vs.1.0 after (sym (ap lead_of m)) refl (λ _ _ b. b) (typed 2 n body after bytes _ is (one 1 vs.0 h.0 h.1 body after _ h.2 h.3 (counted_end vs.1.0 h.4.0 h.4.1 h.1 after h.4.2 h.4.3 h.4.4)));
+      new_token = λ m vs h. simple n 2 _ bytes vs.0 after (sym (ap lead_of m)) refl (λ _ _ b. b) (typed 1 n body after bytes _ is (counted_end vs.0 h.0 h.1 body after h.2 h.3 h.4));
+      stream = λ off len fin m vs h. stream_laid off len fin n vs body after bytes m is h;
+      max_data = λ m vs h. simple n 2 _ bytes [] after (sym (ap lead_of m)) refl (λ _ _ b. b) (one_number n body after bytes is vs h);
+      max_stream_data = λ m vs h. simple n 3 _ bytes [] after (sym (ap lead_of m)) refl (λ _ _ b. b) (two_numbers n body after bytes is vs h);
+      max_streams_bidi = λ m vs h. simple n 2 _ bytes [] after (sym (ap lead_of m)) refl (λ _ _ b. b) (one_number n body after bytes is vs h);
+      max_streams_uni = λ m vs h. simple n 2 _ bytes [] after (sym (ap lead_of m)) refl (λ _ _ b. b) (one_number n body after bytes is vs h);
+      data_blocked = λ m vs h. simple n 2 _ bytes [] after (sym (ap lead_of m)) refl (λ _ _ b. b) (one_number n body after bytes is vs h);
+      stream_data_blocked = λ m vs h. simple n 3 _ bytes [] after (sym (ap lead_of m)) refl (λ _ _ b. b) (two_numbers n body after bytes is vs h);
+      streams_blocked_bidi = λ m vs h. simple n 2 _ bytes [] after (sym (ap lead_of m)) refl (λ _ _ b. b) (one_number n body after bytes is vs h);
+      streams_blocked_uni = λ m vs h. simple n 2 _ bytes [] after (sym (ap lead_of m)) refl (λ _ _ b. b) (one_number n body after bytes is vs h);
+      new_connection_id = λ m vs h. ncid_fields n vs body after bytes (sym (ap lead_of m)) is h;
+      retire_connection_id = λ m vs h. simple n 2 _ bytes [] after (sym (ap lead_of m)) refl (λ _ _ b. b) (one_number n body after bytes is vs h);
+      path_challenge = λ m vs h. simple n 1 _ bytes vs.0 after (sym (ap lead_of m)) refl (λ _ _ b. b) (eight_bytes n body after bytes is vs h);
+      path_response = λ m vs h. simple n 1 _ bytes vs.0 after (sym (ap lead_of m)) refl (λ _ _ b. b) (eight_bytes n body after bytes is vs h);
+      connection_close = λ m vs h. simple n 4 _ bytes vs.1.1.0 after (sym (ap lead_of m)) refl (λ _ _ b. b) (typed 3 n body after bytes _ is (one 2 vs.0 h.0 h.1 body after _ h.2 h.3 (one 1 vs.1.0 h.4.0 h.4.1 h.1 after _ h.4.2 h.4.3 (counted_end vs.1.1.0 h.4.4.0 h.4.4.1 h.4.1 after h.4.4.2 h.4.4.3 h.4.4.4))));
+      application_close = λ m vs h. simple n 3 _ bytes vs.1.0 after (sym (ap lead_of m)) refl (λ _ _ b. b) (typed 2 n body after bytes _ is (one 1 vs.0 h.0 h.1 body after _ h.2 h.3 (counted_end vs.1.0 h.4.0 h.4.1 h.1 after h.4.2 h.4.3 h.4.4)));
+      handshake_done = λ m vs h. simple n 1 _ bytes [] after (sym (ap lead_of m)) refl (λ _ _ b. b) (bare n body after bytes is vs h);
+    }
 
 pub frame_laid : (bytes : List ℕ) (x : ℕ × FrameValue × List ℕ) → IsBytes bytes → frame_at bytes ≡ Ok x → IsLaid x.0 x.1 x.2 bytes
 frame_laid bytes x fits e =
     let t = frame_takes bytes x fits e in
     let s = t.taken.shape in
     let number_is = t.numbered in
-    let known = ap type_of (sym number_is) ∙ type_again s.type in
     let below : x.0 < 2 ^ 62 = subst (λ (k : ℕ). k < 2 ^ 62) number_is (type_below s.type) in
     let front : bytes ≡ short x.0 ++ (s.body ++ x.2) =
     t.taken.parts ∙ ap (λ (u : List ℕ). u ++ x.2) s.parts ∙ append_assoc (short (number_of_type s.type)) s.body x.2 ∙ ap (λ (k : ℕ). short k ++ (s.body ++ x.2)) number_is in
-    shape_laid x.0 x.1 t.taken.text x.2 bytes s number_is known (below, front)
+    subst (λ (f : FrameValue). IsLaid x.0 f x.2 bytes) s.is_frame (at_type (each_laid x.0 s.body x.2 bytes (below, front)) s.type number_is s.values s.fields)

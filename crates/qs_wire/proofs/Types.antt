@@ -1,11 +1,12 @@
 -- A type and its number.
-use Rattle.std.proofs.Common.{◌≡◌, ℕ, zero, suc, ◌+◌, ◌-◌, ◌^◌, ◌<◌, ◌≤◌, Bool, true, false, cond, eqb, ltb, leb, not, ◌&&◌, Option, Some, None, is_some, length, refl, sym, ap, subst, ◌∙◌, arith, bit_and}
-use Rattle.std.proofs.lemmas.Bool.{eqb-true, leb-true, and_parts, lt-ltb, le-ltb, ltb-true, ltb-false}
+use Rattle.std.proofs.Common.{◌≡◌, ℕ, zero, suc, ◌+◌, ◌^◌, ◌<◌, ◌≤◌, Bool, true, false, cond, eqb, ltb, ◌&&◌, List, [], ◌∷◌, Some, None, inl, inr, slice_get, length, refl, sym, ap, ◌∙◌, arith}
+use Rattle.std.proofs.lemmas.Option.{none-some, same_Some, slice_get_cases, slice_get_past}
+use Rattle.std.proofs.lemmas.Bool.{eqb-true, and_parts, lt-ltb, le-ltb, ltb-true, ltb-false}
 use Rattle.qs_wire.specs.declared.frame_type.FrameType.{FrameType}
-use Rattle.qs_wire.specs.declared.frame_type.FrameType.TheVariants.{Ack, Stream, MaxStreams, StreamsBlocked}
+use Rattle.qs_wire.specs.declared.frame_type.FrameType.TheVariants.{Padding, Ping, Ack, ResetStream, StopSending, Crypto, NewToken, Stream, MaxData, MaxStreamData, MaxStreams, DataBlocked, StreamDataBlocked, StreamsBlocked, NewConnectionId, RetireConnectionId, PathChallenge, PathResponse, ConnectionClose, ApplicationClose, HandshakeDone}
 use Rattle.qs_wire.specs.declared.stream_id.Dir.{Dir}
 use Rattle.qs_wire.specs.declared.stream_id.Dir.TheVariants.{Bidi, Uni}
-use Rattle.qs_wire.specs.Layout.{FrameValue, stream, crypto, ack, max_streams, streams_blocked, taken, bit, dir_bit, type_of, number_of_type}
+use Rattle.qs_wire.specs.Layout.{FrameValue, stream, crypto, ack, max_streams, streams_blocked, taken, bit, dir_bit, types, type_of, number_of_type}
 use Rattle.qs_wire.specs.Grammar.{Meets}
 use Rattle.qs_wire.specs.Reading.{breach_of}
 
@@ -45,86 +46,87 @@ type_most _ = omega arith
 pub type_below : (t : FrameType) → number_of_type t < 2 ^ 62
 type_below t = omega (arith, type_most t)
 
+-- A value for each type: by it a crate above goes by cases of a type, whose names it can't use.
+pub record EachType (P : FrameType → Type 0) : Type 0 where
+  pub padding : P Padding
+  pub ping : P Ping
+  pub ack : P (Ack false)
+  pub ack_with_counts : P (Ack true)
+  pub reset_stream : P ResetStream
+  pub stop_sending : P StopSending
+  pub crypto : P Crypto
+  pub new_token : P NewToken
+  pub stream : (off len fin : Bool) → P (Stream off len fin)
+  pub max_data : P MaxData
+  pub max_stream_data : P MaxStreamData
+  pub max_streams_bidi : P (MaxStreams Bidi)
+  pub max_streams_uni : P (MaxStreams Uni)
+  pub data_blocked : P DataBlocked
+  pub stream_data_blocked : P StreamDataBlocked
+  pub streams_blocked_bidi : P (StreamsBlocked Bidi)
+  pub streams_blocked_uni : P (StreamsBlocked Uni)
+  pub new_connection_id : P NewConnectionId
+  pub retire_connection_id : P RetireConnectionId
+  pub path_challenge : P PathChallenge
+  pub path_response : P PathResponse
+  pub connection_close : P ConnectionClose
+  pub application_close : P ApplicationClose
+  pub handshake_done : P HandshakeDone
+
+pub at_type : {P : FrameType → Type 0} → EachType P → (t : FrameType) → P t
+at_type e Padding = e.padding
+at_type e Ping = e.ping
+at_type e (Ack false) = e.ack
+at_type e (Ack true) = e.ack_with_counts
+at_type e ResetStream = e.reset_stream
+at_type e StopSending = e.stop_sending
+at_type e Crypto = e.crypto
+at_type e NewToken = e.new_token
+at_type e (Stream off len fin) = e.stream off len fin
+at_type e MaxData = e.max_data
+at_type e MaxStreamData = e.max_stream_data
+at_type e (MaxStreams Bidi) = e.max_streams_bidi
+at_type e (MaxStreams Uni) = e.max_streams_uni
+at_type e DataBlocked = e.data_blocked
+at_type e StreamDataBlocked = e.stream_data_blocked
+at_type e (StreamsBlocked Bidi) = e.streams_blocked_bidi
+at_type e (StreamsBlocked Uni) = e.streams_blocked_uni
+at_type e NewConnectionId = e.new_connection_id
+at_type e RetireConnectionId = e.retire_connection_id
+at_type e PathChallenge = e.path_challenge
+at_type e PathResponse = e.path_response
+at_type e ConnectionClose = e.connection_close
+at_type e ApplicationClose = e.application_close
+at_type e HandshakeDone = e.handshake_done
+
 -- by how a test went
 pub by_test : {X : Type 0} (b : Bool) (x y z : X) (P : Type 0) → cond b x y ≡ z → (b ≡ true → x ≡ z → P) → (b ≡ false → y ≡ z → P) → P
 by_test true x y z P e on_true on_false = on_true refl e
 by_test false x y z P e on_true on_false = on_false refl e
 
-same_number : (s t : FrameType) (n : ℕ) → Some s ≡ Some t → number_of_type s ≡ n → number_of_type t ≡ n
-same_number s t n e h = let is : t ≡ s = cc in ap number_of_type is ∙ h
+-- each type of the list has its place's number
+abbrev are_in_place : List FrameType → ℕ → Bool
+are_in_place [] k = true
+are_in_place (t ∷ ts) k = eqb (number_of_type t) k && are_in_place ts (suc k)
 
--- n is one of the eight from 8 on
-by_eight : (P : ℕ → Type 0) → P 8 → P 9 → P 10 → P 11 → P 12 → P 13 → P 14 → P 15 → (n : ℕ) → 8 ≤ n → n ≤ 15 → P n
-by_eight P a b c d e f g h n low high =
-    at n (n - 8) (omega arith) (omega arith)
-  where
-    at : (n k : ℕ) → n ≡ k + 8 → k < 8 → P n
-    at n zero is lt = subst P (sym is) a
-    at n (suc zero) is lt = subst P (sym is) b
-    at n (suc (suc zero)) is lt = subst P (sym is) c
-    at n (suc (suc (suc zero))) is lt = subst P (sym is) d
-    at n (suc (suc (suc (suc zero)))) is lt = subst P (sym is) e
-    at n (suc (suc (suc (suc (suc zero))))) is lt = subst P (sym is) f
-    at n (suc (suc (suc (suc (suc (suc zero)))))) is lt = subst P (sym is) g
-    at n (suc (suc (suc (suc (suc (suc (suc zero))))))) is lt = subst P (sym is) h
-    at n (suc (suc (suc (suc (suc (suc (suc (suc k)))))))) is lt = absurd (omega arith)
-
-stream_number : (n : ℕ) → 8 ≤ n → n ≤ 15 → number_of_type (Stream (not (eqb (bit_and n 4) 0)) (not (eqb (bit_and n 2) 0)) (not (eqb (bit_and n 1) 0))) ≡ n
-stream_number = by_eight (λ n. number_of_type (Stream (not (eqb (bit_and n 4) 0)) (not (eqb (bit_and n 2) 0)) (not (eqb (bit_and n 1) 0))) ≡ n) refl refl refl refl refl refl refl refl
+in_place : (ts : List FrameType) (k : ℕ) → are_in_place ts k ≡ true → (n : ℕ) (t : FrameType) → slice_get ts n ≡ Some t → number_of_type t ≡ k + n
+in_place [] k all n t is = absurd (none-some t is)
+in_place (s ∷ ts) k all zero t is =
+    let at = eqb-true (number_of_type s) k (and_parts (eqb (number_of_type s) k) (are_in_place ts (suc k)) all).0 in
+    omega (arith, at, ap number_of_type (same_Some s t is))
+in_place (s ∷ ts) k all (suc n) t is =
+    let all_after = (and_parts (eqb (number_of_type s) k) (are_in_place ts (suc k)) all).1 in
+    omega (arith, in_place ts (suc k) all_after n t is)
 
 pub number_back : (n : ℕ) (t : FrameType) → type_of n ≡ Some t → number_of_type t ≡ n
-number_back n t e =
-    by_test (eqb n 0x00) _ _ (Some t) _ e (λ is f. same_number _ t n f (sym (eqb-true n 0x00 is))) (λ _ e.
-    by_test (eqb n 0x01) _ _ (Some t) _ e (λ is f. same_number _ t n f (sym (eqb-true n 0x01 is))) (λ _ e.
-    by_test (eqb n 0x02) _ _ (Some t) _ e (λ is f. same_number _ t n f (sym (eqb-true n 0x02 is))) (λ _ e.
-    by_test (eqb n 0x03) _ _ (Some t) _ e (λ is f. same_number _ t n f (sym (eqb-true n 0x03 is))) (λ _ e.
-    by_test (eqb n 0x04) _ _ (Some t) _ e (λ is f. same_number _ t n f (sym (eqb-true n 0x04 is))) (λ _ e.
-    by_test (eqb n 0x05) _ _ (Some t) _ e (λ is f. same_number _ t n f (sym (eqb-true n 0x05 is))) (λ _ e.
-    by_test (eqb n 0x06) _ _ (Some t) _ e (λ is f. same_number _ t n f (sym (eqb-true n 0x06 is))) (λ _ e.
-    by_test (eqb n 0x07) _ _ (Some t) _ e (λ is f. same_number _ t n f (sym (eqb-true n 0x07 is))) (λ _ e.
-    by_test (leb 0x08 n && leb n 0x0f) _ _ (Some t) _ e (λ is f.
-    let range = and_parts (leb 8 n) (leb n 15) is in
-    same_number _ t n f (stream_number n (leb-true 8 n range.0) (leb-true n 15 range.1))) (λ _ e.
-    by_test (eqb n 0x10) _ _ (Some t) _ e (λ is f. same_number _ t n f (sym (eqb-true n 0x10 is))) (λ _ e.
-    by_test (eqb n 0x11) _ _ (Some t) _ e (λ is f. same_number _ t n f (sym (eqb-true n 0x11 is))) (λ _ e.
-    by_test (eqb n 0x12) _ _ (Some t) _ e (λ is f. same_number _ t n f (sym (eqb-true n 0x12 is))) (λ _ e.
-    by_test (eqb n 0x13) _ _ (Some t) _ e (λ is f. same_number _ t n f (sym (eqb-true n 0x13 is))) (λ _ e.
-    by_test (eqb n 0x14) _ _ (Some t) _ e (λ is f. same_number _ t n f (sym (eqb-true n 0x14 is))) (λ _ e.
-    by_test (eqb n 0x15) _ _ (Some t) _ e (λ is f. same_number _ t n f (sym (eqb-true n 0x15 is))) (λ _ e.
-    by_test (eqb n 0x16) _ _ (Some t) _ e (λ is f. same_number _ t n f (sym (eqb-true n 0x16 is))) (λ _ e.
-    by_test (eqb n 0x17) _ _ (Some t) _ e (λ is f. same_number _ t n f (sym (eqb-true n 0x17 is))) (λ _ e.
-    by_test (eqb n 0x18) _ _ (Some t) _ e (λ is f. same_number _ t n f (sym (eqb-true n 0x18 is))) (λ _ e.
-    by_test (eqb n 0x19) _ _ (Some t) _ e (λ is f. same_number _ t n f (sym (eqb-true n 0x19 is))) (λ _ e.
-    by_test (eqb n 0x1a) _ _ (Some t) _ e (λ is f. same_number _ t n f (sym (eqb-true n 0x1a is))) (λ _ e.
-    by_test (eqb n 0x1b) _ _ (Some t) _ e (λ is f. same_number _ t n f (sym (eqb-true n 0x1b is))) (λ _ e.
-    by_test (eqb n 0x1c) _ _ (Some t) _ e (λ is f. same_number _ t n f (sym (eqb-true n 0x1c is))) (λ _ e.
-    by_test (eqb n 0x1d) _ _ (Some t) _ e (λ is f. same_number _ t n f (sym (eqb-true n 0x1d is))) (λ _ e.
-    by_test (eqb n 0x1e) _ _ (Some t) _ e (λ is f. same_number _ t n f (sym (eqb-true n 0x1e is))) (λ _ e.
-    absurd cc))))))))))))))))))))))))
-
--- each number below this has a type
-abbrev has_all : ℕ → Bool
-has_all zero = true
-has_all (suc k) = is_some (type_of k) && has_all k
-
-no_type_past : (k : ℕ) → has_all k ≡ true → (n : ℕ) → type_of n ≡ None → k ≤ n
-no_type_past zero h n e = omega arith
-no_type_past (suc k) h n e =
-    let parts = and_parts (is_some (type_of k)) (has_all k) h in
-    let least : k ≤ n = no_type_past k parts.1 n e in
-    let differ : n ≡ k → ⊥ = λ same. let none : is_some (type_of k) ≡ false = ap (λ (m : ℕ). is_some (type_of m)) (sym same) ∙ ap is_some e in let there = parts.0 in absurd cc in
-    omega (arith, differ)
+number_back n t e = omega (arith, in_place types 0 refl n t e)
 
 -- the numbers without a type are those above all types' numbers
 pub above_all : (n : ℕ) → type_of n ≡ None → 0x1e < n
-above_all n e = omega (arith, no_type_past 0x1f refl n e)
+above_all n e = elim (slice_get_cases types n).1 [ inl (t, lt, is, at) ↦ absurd (none-some t (sym e ∙ is)) | inr (le, none) ↦ le ]
 
 pub none_above : (n : ℕ) → 0x1e < n → type_of n ≡ None
-none_above n lt = at (type_of n) refl
-  where
-    at : (o : Option FrameType) → type_of n ≡ o → o ≡ None
-    at None e = refl
-    at (Some t) e = absurd (omega (arith, number_back n t e, type_most t))
+none_above n lt = slice_get_past types n lt
 
 -- ---- what a frame's values have to meet
 

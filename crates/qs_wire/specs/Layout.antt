@@ -1,6 +1,6 @@
 -- Trusted.
 -- The frames, and the fields of each (RFC 9000, section 19, for the whole file).
-use Rattle.std.specs.Prelude.{ℕ, ◌+◌, ◌-◌, ◌*◌, ◌==◌, Bool, true, false, List, [], ◌∷◌, Option, Some, None, nat_le, ◌&&◌, not, bit_and, if◌then◌else◌}
+use Rattle.std.specs.Prelude.{ℕ, ◌+◌, ◌-◌, ◌*◌, Bool, true, false, List, [], ◌∷◌, Option, slice_get}
 use Rattle.qs_wire.specs.declared.frame.EcnCounts.{EcnCounts}
 use Rattle.qs_wire.specs.declared.frame.Frame.{Frame}
 use Rattle.qs_wire.specs.declared.frame.Frame.TheVariants as frames
@@ -134,33 +134,18 @@ number_of_type ConnectionClose = 0x1c
 number_of_type ApplicationClose = 0x1d
 number_of_type HandshakeDone = 0x1e
 
+-- all types, in the order of their numbers, of which none from 0x00 to 0x1e is left out
+abbrev pub types : List FrameType
+types =
+    Padding ∷ Ping ∷ Ack false ∷ Ack true ∷ ResetStream ∷ StopSending ∷ Crypto ∷ NewToken
+    ∷ Stream false false false ∷ Stream false false true ∷ Stream false true false ∷ Stream false true true
+    ∷ Stream true false false ∷ Stream true false true ∷ Stream true true false ∷ Stream true true true
+    ∷ MaxData ∷ MaxStreamData ∷ MaxStreams Bidi ∷ MaxStreams Uni ∷ DataBlocked ∷ StreamDataBlocked ∷ StreamsBlocked Bidi ∷ StreamsBlocked Uni
+    ∷ NewConnectionId ∷ RetireConnectionId ∷ PathChallenge ∷ PathResponse ∷ ConnectionClose ∷ ApplicationClose ∷ HandshakeDone ∷ []
+
 -- the type of a number
 abbrev pub type_of : ℕ → Option FrameType
-type_of t =
-    if t == 0x00 then Some Padding else (
-    if t == 0x01 then Some Ping else (
-    if t == 0x02 then Some (Ack false) else (
-    if t == 0x03 then Some (Ack true) else (
-    if t == 0x04 then Some ResetStream else (
-    if t == 0x05 then Some StopSending else (
-    if t == 0x06 then Some Crypto else (
-    if t == 0x07 then Some NewToken else (
-    if nat_le 0x08 t && nat_le t 0x0f then Some (Stream (not (bit_and t 4 == 0)) (not (bit_and t 2 == 0)) (not (bit_and t 1 == 0))) else (
-    if t == 0x10 then Some MaxData else (
-    if t == 0x11 then Some MaxStreamData else (
-    if t == 0x12 then Some (MaxStreams Bidi) else (
-    if t == 0x13 then Some (MaxStreams Uni) else (
-    if t == 0x14 then Some DataBlocked else (
-    if t == 0x15 then Some StreamDataBlocked else (
-    if t == 0x16 then Some (StreamsBlocked Bidi) else (
-    if t == 0x17 then Some (StreamsBlocked Uni) else (
-    if t == 0x18 then Some NewConnectionId else (
-    if t == 0x19 then Some RetireConnectionId else (
-    if t == 0x1a then Some PathChallenge else (
-    if t == 0x1b then Some PathResponse else (
-    if t == 0x1c then Some ConnectionClose else (
-    if t == 0x1d then Some ApplicationClose else (
-    if t == 0x1e then Some HandshakeDone else None)))))))))))))))))))))))
+type_of t = slice_get types t
 
 -- the fields of each type, in order
 abbrev pub layout : FrameType → List Field
