@@ -510,7 +510,7 @@ impl<A: Assembly> RecvHalf<A> {
     /// How many bytes of memory it takes to store some, as the assembly counts them: at most 4,096, or while some are stored four times the
     /// highest offset less what was consumed; none once the end was read, or if bytes are discarded.
     pub fn held(&self) -> u64
-        ensures exact { 0 < map.len self.now.arrived.stored → IsRoomOf A.holds A.size self.now.arrived result }
+        ensures exact { IsRoomOf A.holds A.size self.now.arrived result }
         ensures room { map.len self.now.arrived.stored ≤ result }
         ensures least { 0 < map.len self.now.arrived.stored → A.least self.now.arrived ≤ result }
         ensures bound { result ≤ max 4096 (4 * (highest self.now - taken self.now)) }
@@ -519,8 +519,15 @@ impl<A: Assembly> RecvHalf<A> {
         ensures gone { IsTrue self.now.arrived.discarding → result ≡ 0 }
     {
         match &self.parts {
-            Parts::Kept(Kept::Over(over)) => over.rest().stored(),
-            Parts::Kept(Kept::Rest(rest)) => rest.stored(),
+            Parts::Kept(Kept::Over(over)) => {
+                let rest = over.rest();
+                self.learn_no_room(&rest);
+                rest.stored()
+            }
+            Parts::Kept(Kept::Rest(rest)) => {
+                self.learn_no_room(rest);
+                rest.stored()
+            }
             Parts::Live(live) => live.held(),
         }
     }
@@ -604,6 +611,13 @@ impl<A: Assembly> RecvHalf<A> {
         ensures { result ≡ rest.now }
     {
         LiveHalf::revived(self.alloc, rest)
+    }
+
+    // A half at rest takes no memory, as an assembly doesn't that holds the same.
+    fn learn_no_room(&self, rest: &Rest)
+        ensures { IsRoomOf A.holds A.size rest.now.arrived 0 }
+    {
+        let _assembly = LiveHalf::<A>::assembly_at_rest(self.alloc, rest);
     }
 }
 

@@ -56,16 +56,8 @@ impl<A: Assembly> LiveHalf<A> {
     pub(crate) fn revived(alloc: Global, rest: &Rest) -> Self
         ensures { result ≡ rest.now }
     {
-        let widest = rest.windows.widest as u64;
-        let discarding = rest.discards();
         LiveHalf {
-            assembly: A::at_rest(
-                alloc,
-                widest,
-                rest.read_count,
-                rest.received_end,
-                discarding,
-            ),
+            assembly: Self::assembly_at_rest(alloc, rest),
             read_count: rest.read_count,
             received_end: rest.received_end,
             limit: rest.limit,
@@ -78,6 +70,19 @@ impl<A: Assembly> LiveHalf<A> {
             is_stopped: rest.is_stopped,
             told: rest.told,
         }
+    }
+
+    pub(crate) fn assembly_at_rest(alloc: Global, rest: &Rest) -> A
+        ensures same { A.holds result ≡ rest.now.arrived }
+        ensures small { A.size result ≡ 0 }
+    {
+        A::at_rest(
+            alloc,
+            rest.windows.widest as u64,
+            rest.read_count,
+            rest.received_end,
+            rest.discards(),
+        )
     }
 
     /// The box stays if a smaller one was refused, and goes on as a half at rest.
@@ -476,7 +481,7 @@ impl<A: Assembly> LiveHalf<A> {
     }
 
     pub(crate) fn held(&self) -> u64
-        ensures exact { 0 < map.len self.now.arrived.stored → IsRoomOf A.holds A.size self.now.arrived result }
+        ensures exact { IsRoomOf A.holds A.size self.now.arrived result }
         ensures room { map.len self.now.arrived.stored ≤ result }
         ensures least { 0 < map.len self.now.arrived.stored → A.least self.now.arrived ≤ result }
         ensures bound { result ≤ max 4096 (4 * (highest self.now - taken self.now)) }

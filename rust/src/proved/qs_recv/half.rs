@@ -410,8 +410,13 @@ impl<A: Assembly> RecvHalf<A> {
     #[inline]
     pub fn held(&self) -> u64 {
         match &self.parts {
-            Parts::Kept(Kept::Over(over)) => over.rest().stored(),
-            Parts::Kept(Kept::Rest(rest)) => rest.stored(),
+            Parts::Kept(Kept::Over(over)) => {
+                let rest = over.rest();
+                rest.stored()
+            }
+            Parts::Kept(Kept::Rest(rest)) => {
+                rest.stored()
+            }
             Parts::Live(live) => live.held(),
         }
     }
@@ -484,6 +489,7 @@ impl<A: Assembly> RecvHalf<A> {
     fn revived(&self, rest: &Rest) -> LiveHalf<A> {
         LiveHalf::revived(self.alloc, rest)
     }
+
 }
 
 impl<A: Peeking> RecvHalf<A> {

@@ -29,16 +29,8 @@ impl<A: Assembly> LiveHalf<A> {
     /// For a question to a half at rest; it takes no memory.
     #[inline]
     pub(crate) fn revived(alloc: Global, rest: &Rest) -> Self {
-        let widest = rest.windows.widest as u64;
-        let discarding = rest.discards();
         LiveHalf {
-            assembly: A::at_rest(
-                alloc,
-                widest,
-                rest.read_count,
-                rest.received_end,
-                discarding,
-            ),
+            assembly: Self::assembly_at_rest(alloc, rest),
             read_count: rest.read_count,
             received_end: rest.received_end,
             limit: rest.limit,
@@ -51,6 +43,17 @@ impl<A: Assembly> LiveHalf<A> {
             is_stopped: rest.is_stopped,
             told: rest.told,
         }
+    }
+
+    #[inline]
+    pub(crate) fn assembly_at_rest(alloc: Global, rest: &Rest) -> A {
+        A::at_rest(
+            alloc,
+            rest.windows.widest as u64,
+            rest.read_count,
+            rest.received_end,
+            rest.discards(),
+        )
     }
 
     /// The box stays if a smaller one was refused, and goes on as a half at rest.

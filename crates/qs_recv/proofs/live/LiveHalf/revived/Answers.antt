@@ -1,20 +1,8 @@
 use Rattle.std.proofs.Common.{refl}
-use Rattle.qs_recv.proofs.RestLaws.{came_at_rest, end_at_rest, let_go_at_rest, sound_at_rest}
+use Rattle.qs_recv.proofs.RestLaws.{let_go_at_rest, sound_at_rest}
 use Rattle.qs_recv.proofs.live.LiveHalf.revived.Goals as goal
-
-pub at_rest-requires-clause-in_range : goal.at_rest-requires-clause-in_range
-at_rest-requires-clause-in_range g c = end_at_rest _ _ _ _ _ _ _ _ c.rest.invariant
-
-pub at_rest-requires-clause-came : goal.at_rest-requires-clause-came
-at_rest-requires-clause-came g c = came_at_rest _ _ _ _ _ _ _ _ c.rest.invariant
 
 pub invariant_of-result : goal.invariant_of-result
 invariant_of-result g c =
-    let off = rw (← c.rest.view_is) at c.discards-discarding.ensures in
-    rw (c.at_rest.ensures.nothing, off)
-    (sound_at_rest _ _ _ _ _ _ _ _ c.rest.invariant, let_go_at_rest _ _ _ _ refl c.at_rest.ensures.small c.rest.invariant)
-
-pub returns : goal.returns
-returns g c =
-    let off = rw (← c.rest.view_is) at c.discards-discarding.ensures in
-    rw (← c.rest.view_is, c.at_rest.ensures.nothing, off) refl
+    let same = rw (← c.rest.view_is) at c.assembly_at_rest.ensures.same in
+    rw same (sound_at_rest _ _ _ _ _ _ _ _ c.rest.invariant, let_go_at_rest _ _ _ _ refl c.assembly_at_rest.ensures.small c.rest.invariant)
