@@ -1,5 +1,5 @@
 -- What the rings and the buffers of an end take, all together.
-use Rattle.std.proofs.Common.{◌≡◌, ℕ, ◌+◌, ◌-◌, ◌*◌, ◌^◌, ◌<◌, ◌≤◌, ◌==◌, Bool, true, false, not, cond, min, max, List, [], ◌∷◌, map, Option, None, Some, refl, arith}
+use Rattle.std.proofs.Common.{◌≡◌, ℕ, ◌+◌, ◌-◌, ◌*◌, ◌<◌, ◌≤◌, ◌==◌, Bool, true, false, not, cond, max, List, [], ◌∷◌, map, Option, None, Some, refl, arith}
 use Rattle.std.specs.List.{sum_by}
 use Rattle.std.proofs.lemmas.List.Sums.{sum_by-cons}
 use Rattle.qs_wire.specs.declared.stream_id.Role.{Role}
@@ -16,9 +16,12 @@ use Rattle.qs_machine.specs.Credit.{spent, all_taken}
 use Rattle.qs_machine.specs.Outgoing.{lanes_of}
 use Rattle.qs_machine.specs.Standing.{HasLawfulLane, IsInCredit}
 use Rattle.qs_machine.specs.Sums.{stored_on}
+use Rattle.qs_machine.proofs.Counts.{within_credit}
 use Rattle.qs_machine.proofs.TableLaws.{value, total_le, total_both}
 use Rattle.qs_conn.specs.declared.held.Held.{Held}
 use Rattle.qs_conn.specs.Held.{keeps, least_held, most_held, most_buffered, half_count, IsHeldBy}
+use Rattle.qs_conn.specs.Rooms.{IsRoom, IsBuffer, IsSumOf, lists}
+use Rattle.qs_conn.proofs.Rooms.{all_within}
 
 module _ {X : Type 0} (f : X → ℕ) where
   -- a page for each that counts
@@ -65,18 +68,22 @@ half_least lane n least = go (stored_on lane == 0) refl
     go true is = omega arith
     go false is = (let some = eqb-false (stored_on lane) 0 is in least (omega (arith, some)))
 
-pub is_held : (e : End) (held : Held) → IsInCredit e → total stored_on e.recvs ≤ held.receiving → min (total least_held e.recvs) (2 ^ 64 - 1) ≤ held.receiving → held.receiving ≤ total most_held e.recvs
-    → min (total kept_on e.sends) (2 ^ 64 - 1) ≤ held.sending → held.sending ≤ total most_buffered e.sends → IsHeldBy e held
-is_held e held h stored least most kept buffers =
+-- the public bounds, from what all halves take
+pub is_held : (e : End) (held : Held) → IsInCredit e → IsSumOf (IsSumOf IsRoom) (lists e.recvs) held.receiving → IsSumOf (IsSumOf IsBuffer) (lists e.sends) held.sending → IsHeldBy e held
+is_held e held h receiving sending =
+    let stored = all_within IsRoom stored_on most_held (λ l n r. (omega (arith, r.stored), r.most)) e.recvs held.receiving receiving in
+    let least = all_within IsRoom least_held most_held (λ l n r. (omega (arith, r.least), r.most)) e.recvs held.receiving receiving in
+    let kept = all_within IsBuffer kept_on most_buffered (λ l n r. (omega (arith, r.kept), r.most)) e.sends held.sending sending in
+    let within = (within_credit (record e { granted_bidi = 0; granted_uni = 0 }) (h, (omega arith, omega arith))).stored in
     let all = most_of_all e h in
     record {
-      stored = stored;
-      least = least;
-      rings = most;
-      spent = omega (arith, most, all);
-      window = omega (arith, most, all, h.spent, h.in_window);
-      kept = kept;
-      buffers = buffers;
+      stored = omega (arith, stored, within, h.in_window, h.present.small);
+      least = least.0;
+      rings = least.1;
+      spent = omega (arith, least.1, all);
+      window = omega (arith, least.1, all, h.spent, h.in_window);
+      kept = kept.0;
+      buffers = kept.1;
     }
 
 -- what is asked of lanes, asked of halves

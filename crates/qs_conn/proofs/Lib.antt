@@ -27,6 +27,7 @@ pub mod MadePackets
 pub mod Halves
 pub mod Hearing
 pub mod Helds
+pub mod Rooms
 pub mod PacketOrder
 pub mod Passing
 pub mod OutboxAcks

@@ -18,6 +18,7 @@ pub mod OwnCarried
 pub mod Named
 pub mod Seen
 pub mod Held
+pub mod Rooms
 pub mod Settled
 pub mod Middle
 pub mod NewlyTold

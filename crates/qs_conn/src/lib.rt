@@ -11,6 +11,7 @@ mod endpoint;
 mod filling;
 mod heard;
 mod held;
+mod holds;
 mod limits;
 mod marks;
 mod middle;

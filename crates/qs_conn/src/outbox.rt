@@ -7,11 +7,12 @@ ghost use Rattle.qs_machine.specs.Asking.{kept_on, stop_of};
 ghost use Rattle.qs_machine.specs.Reports.{send_report};
 ghost use Rattle.qs_machine.specs.Sums.{or_none};
 ghost use Rattle.qs_conn.specs.Ended.{send_over};
-ghost use Rattle.qs_conn.specs.Held.{most_buffered};
+ghost use Rattle.qs_conn.specs.Rooms.{IsBuffer, IsSumOf, lists};
 ghost use Rattle.qs_conn.specs.Promised.{promised_on};
 ghost use Rattle.qs_machine.specs.Credit.{unsent_on};
 ghost use Rattle.qs_machine.specs.Outgoing.{AreApartIn, no_packets, with_sends, on_lane, sent_sum, HasSending, AreOfOpen};
 
+use crate::holds::sum_held;
 use crate::piece_room::PieceRoom;
 use crate::places::{index_of, type_of};
 use crate::send_lanes::SendLanes;
@@ -218,12 +219,9 @@ impl Outbox {
     }
 
     pub(crate) fn held(&self) -> u64
-        ensures kept { min (total kept_on self.now.sends) (2 ^ 64 - 1) ≤ result }
-        ensures most { result ≤ total most_buffered self.now.sends }
+        ensures { IsSumOf (IsSumOf IsBuffer) (lists self.now.sends) result }
     {
-        let bidi = self.types[0].held().saturating_add(self.types[1].held());
-        let uni = self.types[2].held().saturating_add(self.types[3].held());
-        bidi.saturating_add(uni)
+        sum_held(&self.types)
     }
 
     pub(crate) fn open_to(

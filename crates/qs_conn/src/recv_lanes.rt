@@ -1,17 +1,17 @@
-ghost use Rattle.std.specs.Prelude.{◌≡◌, ◌+◌, ◌-◌, ◌≤◌, ◌<◌, ◌^◌, ◌++◌, ◌∷◌, [], length, map, min, take, slice_get, slice_index_or, false, None, Some, IfSome, IfNone, OnOk, OnErr};
-ghost use Rattle.std.specs.List.{sum_by};
+ghost use Rattle.std.specs.Prelude.{◌≡◌, ◌+◌, ◌-◌, ◌≤◌, ◌<◌, ◌^◌, ◌++◌, ◌∷◌, [], length, map, take, slice_get, slice_index_or, false, None, Some, IfSome, IfNone, OnOk, OnErr};
 ghost use Rattle.qs_ranges.specs.Numbers.{MAX_VARINT};
 ghost use Rattle.qs_recv.specs.Lane.{MAX_WINDOW, RecvLane, new_lane, raise};
 ghost use Rattle.qs_recv.specs.Lawful.{IsLawful};
 ghost use Rattle.qs_machine.specs.Tables.{widened};
-ghost use Rattle.qs_machine.specs.Sums.{changed, tally_of, tally_on, stored_on, IsPaid, EachLawful};
-ghost use Rattle.qs_conn.specs.Held.{least_held, most_held};
+ghost use Rattle.qs_machine.specs.Sums.{changed, tally_of, tally_on, IsPaid, EachLawful};
+ghost use Rattle.qs_conn.specs.Rooms.{IsRoom, IsSumOf};
 ghost use Rattle.qs_conn.specs.Touches.{AreSettled};
 ghost use Rattle.qs_conn.specs.RecvEdits.{OnceInto, OnceTakesInto, LeavesCalm, IsEdited, wrapped, with_parts};
 ghost use Rattle.qs_conn.specs.Untold.{HasMore, IsRaisedMarked, AreRaisedMarked};
 ghost use Rattle.qs_conn.specs.RecvTasks.{has};
 ghost use Rattle.qs_conn.specs.Carried.{StayExactOf};
 
+use crate::holds::{Holds, sum_held};
 use crate::marks::Marks;
 use crate::recv_marks::{RecvMarks, RecvTask};
 use crate::touches::Touches;
@@ -94,15 +94,6 @@ impl RecvLanes {
         ensures lawful { EachLawful self.now }
     {
         self.tally
-    }
-
-    /// By a walk: a sum would have to be kept at each call.
-    pub(crate) fn held(&self) -> u64
-        ensures stored { min (sum_by stored_on self.now) (2 ^ 64 - 1) ≤ result }
-        ensures least { min (sum_by least_held self.now) (2 ^ 64 - 1) ≤ result }
-        ensures most { result ≤ sum_by most_held self.now }
-    {
-        held_of(&self.halves)
     }
 
     pub(crate) fn open_to(
@@ -206,6 +197,23 @@ impl RecvLanes {
     }
 }
 
+impl Holds for Half {
+    ghost IsHeld = { IsRoom };
+
+    #[tactic(auto, using(crate::proofs::Helds::half_least))]
+    fn held(&self) -> u64 {
+        RecvHalf::held(self)
+    }
+}
+
+impl Holds for RecvLanes {
+    ghost IsHeld = { IsSumOf IsRoom };
+
+    fn held(&self) -> u64 {
+        sum_held(&self.halves)
+    }
+}
+
 fn open_one(
     halves: &mut Vec<Half>,
     alloc: Global,
@@ -235,20 +243,6 @@ fn measure(half: &Half) -> Tally
         stored: sizes.stored,
         noted: sizes.noted,
     }
-}
-
-#[tactic(auto, using(crate::proofs::Helds::half_least))]
-fn held_of(halves: &[Half]) -> u64
-    ensures stored { min (sum_by stored_on halves.now) (2 ^ 64 - 1) ≤ result }
-    ensures least { min (sum_by least_held halves.now) (2 ^ 64 - 1) ≤ result }
-    ensures most { result ≤ sum_by most_held halves.now }
-{
-    let mut held: u64 = 0;
-    for index in 0..halves.len() {
-        let half = &halves[index];
-        held = held.saturating_add(half.held());
-    }
-    held
 }
 
 // The sums once a lane's part became another, modulo 2^64.

@@ -1,4 +1,4 @@
-ghost use Rattle.std.specs.Prelude.{◌≡◌, ◌+◌, ◌≤◌, ◌<◌, ◌^◌, ◌/◌, ◌%◌, ◌++◌, ℕ, length, drop, take, is_some, option_map, true, false, Some, None, OnOk, OnErr, IsOk, IfSome, IfNone, min, ◌-◌};
+ghost use Rattle.std.specs.Prelude.{◌≡◌, ◌+◌, ◌≤◌, ◌<◌, ◌^◌, ◌/◌, ◌%◌, ◌++◌, ℕ, length, drop, take, is_some, option_map, true, false, Some, None, OnOk, OnErr, IsOk, IfSome, IfNone, ◌-◌};
 ghost use Rattle.qs_ranges.specs.Numbers.{MAX_VARINT};
 ghost use Rattle.qs_recv.specs.Lane.{RecvLane, new_lane, check_stream, check_reset, check_bytes, highest, taken, take_stream, take_reset, read_answer, bytes_read, after_read, raise, stop, stop_and_discard, MAX_WINDOW, set_window};
 ghost use Rattle.qs_machine.specs.Tables.{no_streams, table, with_table, lookup, updated, open_to, each, total, type_of};
@@ -8,9 +8,9 @@ ghost use Rattle.qs_recv.specs.Changes.{stream_changes};
 ghost use Rattle.qs_recv.specs.Peek.{IsPeek};
 ghost use Rattle.qs_machine.specs.Reports.{recv_report};
 ghost use Rattle.qs_machine.specs.Verdicts.{or_new};
-ghost use Rattle.qs_machine.specs.Sums.{stored_on, tally_on};
+ghost use Rattle.qs_machine.specs.Sums.{tally_on};
 ghost use Rattle.qs_conn.specs.Ended.{recv_over};
-ghost use Rattle.qs_conn.specs.Held.{least_held, most_held};
+ghost use Rattle.qs_conn.specs.Rooms.{IsRoom, IsSumOf, lists};
 ghost use Rattle.qs_conn.specs.Layers.{limit_to_tell, stop_to_tell};
 ghost use Rattle.qs_machine.specs.News.{IsLeast, IsHeld};
 ghost use Rattle.qs_conn.specs.Marks.{is_marked, IsHeldOf, IsUntold, IsUntoldOf};
@@ -20,6 +20,7 @@ ghost use Rattle.qs_conn.specs.Carried.{StayExact};
 ghost use Rattle.qs_conn.specs.RecvEdits.{OnceInto, OnceTakesInto, LeavesCalm, IsEditedIn, IsTallyOf, added};
 ghost use Rattle.qs_conn.specs.RecvTasks.{HasOne, HasNone, has_one};
 
+use crate::holds::sum_held;
 use crate::marks::Marks;
 use crate::places::{Place, index_from, index_of, least_stream, type_of};
 use crate::recv_lanes::{Half, RecvLanes};
@@ -416,15 +417,9 @@ impl RecvTables {
     }
 
     pub(crate) fn held(&self) -> u64
-        requires { total highest self.now < 2 ^ 62 }
-        ensures stored { total stored_on self.now ≤ result }
-        ensures least { min (total least_held self.now) (2 ^ 64 - 1) ≤ result }
-        ensures most { result ≤ total most_held self.now }
+        ensures { IsSumOf (IsSumOf IsRoom) (lists self.now) result }
     {
-        let _tally = self.tally();
-        let bidi = self.types[0].held().saturating_add(self.types[1].held());
-        let uni = self.types[2].held().saturating_add(self.types[3].held());
-        bidi.saturating_add(uni)
+        sum_held(&self.types)
     }
 
     pub(crate) fn raise_all(&mut self, untold: &mut Untold, carried: &mut Untold)

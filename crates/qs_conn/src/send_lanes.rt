@@ -1,4 +1,4 @@
-ghost use Rattle.std.specs.Prelude.{◌≡◌, ◌+◌, ◌-◌, ◌*◌, ◌≤◌, ◌<◌, ◌^◌, [], true, length, min, take, slice_get, slice_index_or, slice_set, unwrap_or, ℕ, false, None, Some, OnOk, OnErr, IfOk, IfErr, IfSome};
+ghost use Rattle.std.specs.Prelude.{◌≡◌, ◌+◌, ◌-◌, ◌*◌, ◌≤◌, ◌<◌, ◌^◌, [], true, length, take, slice_get, slice_index_or, slice_set, unwrap_or, ℕ, false, None, Some, OnOk, OnErr, IfOk, IfErr, IfSome};
 ghost use Rattle.std.specs.List.{sum_by};
 ghost use Rattle.qs_ranges.specs.Numbers.{MAX_VARINT};
 ghost use Rattle.qs_send.specs.Lane.{Sending, new_sending, accepted, refusal, reset_refusal, answer_of, state, after_write, after_finish, after_reset, after_stop, after_reset_acked, after_blocked, after_allow, after_buffer, after_sent, after_acked, after_lost};
@@ -9,7 +9,7 @@ ghost use Rattle.qs_machine.specs.Memory.{ChunkMayRunOut};
 ghost use Rattle.qs_machine.specs.Sums.{changed, no_sending};
 ghost use Rattle.qs_machine.specs.News.{IsLeast};
 ghost use Rattle.qs_machine.specs.Asking.{kept_on};
-ghost use Rattle.qs_conn.specs.Held.{most_buffered};
+ghost use Rattle.qs_conn.specs.Rooms.{IsBuffer, IsSumOf};
 ghost use Rattle.std.specs.Fn.{FnOnceTakesAtMut, FnOnceReturnsAtMut};
 ghost use Rattle.qs_send.specs.Halves.{IsOver, half_at};
 ghost use Rattle.qs_conn.specs.Edits.{IsEdited};
@@ -18,6 +18,7 @@ ghost use Rattle.qs_conn.specs.Marks.{AreMarked, IsAt};
 ghost use Rattle.qs_conn.specs.declared.send_marks.Task.TheVariants as tasks;
 ghost use Rattle.qs_conn.specs.Tasks.{AreMarksOf, HasTask, IsQuiet, IsSoughtAt, Stays, counted, has, marks_of};
 
+use crate::holds::Holds;
 use crate::marks::Marks;
 use crate::send_marks::{Moves, Search, SendMarks, Task};
 use crate::told_marks::ToldMarks;
@@ -90,19 +91,6 @@ impl SendLanes {
         ensures small { result ≤ 2 ^ 60 }
     {
         self.halves.len()
-    }
-
-    /// By a walk, so that no call has a sum more to keep.
-    pub(crate) fn held(&self) -> u64
-        ensures kept { min (sum_by (λ s. kept_on s.lane) self.now) (2 ^ 64 - 1) ≤ result }
-        ensures most { result ≤ sum_by (λ s. most_buffered s.lane) self.now }
-    {
-        let mut held: u64 = 0;
-        for index in 0..self.halves.len() {
-            let half = self.halves.at(index);
-            held = held.saturating_add(half.held());
-        }
-        held
     }
 
     pub(crate) fn promised(&self) -> u128
@@ -379,6 +367,20 @@ impl SendLanes {
         ensures small { IfSome result (λ n. n < 2 ^ 60) }
     {
         self.marks.next_sought(search, told, from)
+    }
+}
+
+impl Holds for SendLanes {
+    ghost IsHeld = { IsSumOf (λ s. IsBuffer s.lane) };
+
+    #[tactic(auto, using(crate::proofs::Rooms::sum_none, crate::proofs::Rooms::sum_more))]
+    fn held(&self) -> u64 {
+        let mut held: u64 = 0;
+        for index in 0..self.halves.len() {
+            let half = self.halves.at(index);
+            held = held.saturating_add(half.held());
+        }
+        held
     }
 }
 

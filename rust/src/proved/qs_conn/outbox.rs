@@ -1,6 +1,7 @@
 // Made from crates/qs_conn/src/outbox.rt by rust/erase; not edited by hand.
 use crate::shim::Vec;
 
+use crate::proved::qs_conn::holds::sum_held;
 use crate::proved::qs_conn::piece_room::PieceRoom;
 use crate::proved::qs_conn::places::{index_of, type_of};
 use crate::proved::qs_conn::send_lanes::SendLanes;
@@ -141,9 +142,7 @@ impl Outbox {
 
     #[inline]
     pub(crate) fn held(&self) -> u64 {
-        let bidi = self.types[0].held().saturating_add(self.types[1].held());
-        let uni = self.types[2].held().saturating_add(self.types[3].held());
-        bidi.saturating_add(uni)
+        sum_held(&self.types)
     }
 
     #[inline]

@@ -1,6 +1,7 @@
 // Made from crates/qs_conn/src/recv_lanes.rt by rust/erase; not edited by hand.
 use crate::shim::Vec;
 
+use crate::proved::qs_conn::holds::{Holds, sum_held};
 use crate::proved::qs_conn::marks::Marks;
 use crate::proved::qs_conn::recv_marks::{RecvMarks, RecvTask};
 use crate::proved::qs_conn::touches::Touches;
@@ -56,12 +57,6 @@ impl RecvLanes {
     #[inline(always)]
     pub(crate) fn tally(&self) -> Tally {
         self.tally
-    }
-
-    /// By a walk: a sum would have to be kept at each call.
-    #[inline]
-    pub(crate) fn held(&self) -> u64 {
-        held_of(&self.halves)
     }
 
     #[inline]
@@ -148,6 +143,18 @@ impl RecvLanes {
     }
 }
 
+impl Holds for Half {
+    fn held(&self) -> u64 {
+        RecvHalf::held(self)
+    }
+}
+
+impl Holds for RecvLanes {
+    fn held(&self) -> u64 {
+        sum_held(&self.halves)
+    }
+}
+
 fn open_one(
     halves: &mut Vec<Half>,
     alloc: Global,
@@ -169,15 +176,6 @@ fn measure(half: &Half) -> Tally {
         stored: sizes.stored,
         noted: sizes.noted,
     }
-}
-
-fn held_of(halves: &[Half]) -> u64 {
-    let mut held: u64 = 0;
-    for index in 0..halves.len() {
-        let half = &halves[index];
-        held = held.saturating_add(half.held());
-    }
-    held
 }
 
 // The sums once a lane's part became another, modulo 2^64.

@@ -1,4 +1,5 @@
 // Made from crates/qs_conn/src/recv_tables.rt by rust/erase; not edited by hand.
+use crate::proved::qs_conn::holds::sum_held;
 use crate::proved::qs_conn::marks::Marks;
 use crate::proved::qs_conn::places::{Place, index_from, index_of, least_stream, type_of};
 use crate::proved::qs_conn::recv_lanes::{Half, RecvLanes};
@@ -296,10 +297,7 @@ impl RecvTables {
 
     #[inline]
     pub(crate) fn held(&self) -> u64 {
-        let _tally = self.tally();
-        let bidi = self.types[0].held().saturating_add(self.types[1].held());
-        let uni = self.types[2].held().saturating_add(self.types[3].held());
-        bidi.saturating_add(uni)
+        sum_held(&self.types)
     }
 
     #[inline]

@@ -1,4 +1,5 @@
 // Made from crates/qs_conn/src/send_lanes.rt by rust/erase; not edited by hand.
+use crate::proved::qs_conn::holds::Holds;
 use crate::proved::qs_conn::marks::Marks;
 use crate::proved::qs_conn::send_marks::{Moves, Search, SendMarks, Task};
 use crate::proved::qs_conn::told_marks::ToldMarks;
@@ -48,17 +49,6 @@ impl SendLanes {
     #[inline(always)]
     pub(crate) fn len(&self) -> usize {
         self.halves.len()
-    }
-
-    /// By a walk, so that no call has a sum more to keep.
-    #[inline]
-    pub(crate) fn held(&self) -> u64 {
-        let mut held: u64 = 0;
-        for index in 0..self.halves.len() {
-            let half = self.halves.at(index);
-            held = held.saturating_add(half.held());
-        }
-        held
     }
 
     #[inline]
@@ -253,6 +243,17 @@ impl SendLanes {
     #[inline(always)]
     pub(crate) fn next_sought(&self, search: Search, told: &ToldMarks, from: usize) -> Option<usize> {
         self.marks.next_sought(search, told, from)
+    }
+}
+
+impl Holds for SendLanes {
+    fn held(&self) -> u64 {
+        let mut held: u64 = 0;
+        for index in 0..self.halves.len() {
+            let half = self.halves.at(index);
+            held = held.saturating_add(half.held());
+        }
+        held
     }
 }
 

@@ -2,4 +2,4 @@ use Rattle.qs_conn.proofs.Helds.{is_held}
 use Rattle.qs_conn.proofs.endpoint.Endpoint.held.Goals as goal
 
 pub returns : goal.returns
-returns c = rw (← c.self.view_is) (is_held _ _ c.self.invariant.rest.core.sound c.held.ensures.stored c.held.ensures.least c.held.ensures.most c.held-2.ensures.kept c.held-2.ensures.most)
+returns c = rw (← c.self.view_is) (is_held _ _ c.self.invariant.rest.core.sound c.held.ensures c.held-2.ensures)

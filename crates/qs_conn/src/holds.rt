@@ -1,0 +1,23 @@
+//! What takes memory, and how much that is all together.
+ghost use Rattle.std.specs.Prelude.{ℕ};
+ghost use Rattle.qs_conn.specs.Rooms.{IsSumOf};
+
+pub(crate) trait Holds {
+    /// So many bytes it may take.
+    ghost IsHeld: { Self → ℕ → Type 0 };
+
+    fn held(&self) -> u64
+        ensures { IsHeld self.now result };
+}
+
+// Of a part nothing is known but what it says, so that is what is summed. By a walk: a sum would have to be kept at each call.
+#[tactic(auto, using(crate::proofs::Rooms::sum_none, crate::proofs::Rooms::sum_more))]
+pub(crate) fn sum_held<T: Holds>(parts: &[T]) -> u64
+    ensures { IsSumOf T.IsHeld parts.now result }
+{
+    let mut held: u64 = 0;
+    for part in parts {
+        held = held.saturating_add(part.held());
+    }
+    held
+}
