@@ -437,6 +437,15 @@ fn priorities() {
 }
 
 #[test]
+fn prioritized_streams() {
+    let name = "1,000 streams of 2 KB by priority";
+    let play_of = Play { name, streams: [1_000, 0], size: |_| 2_000, priority: Some(priority_of), ..PLAIN };
+    play(play_of, |config| {
+        config.max_concurrent_uni_streams(1_000u32.into()).max_concurrent_bidi_streams(1_000u32.into());
+    });
+}
+
+#[test]
 fn a_reset_that_is_lost() {
     let (mut pair, halves) = begin(&PLAIN, |_| {});
     let (client, server) = (&halves[0], &halves[1]);
