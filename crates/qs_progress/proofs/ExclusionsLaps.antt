@@ -37,17 +37,17 @@ use Rattle.qs_progress.specs.ExclusionsLaps.{ended_half, reads_end, before, afte
 
 -- A lap
 
-rests : (s : Side) → AtRest (end_of after.ends s)
+pub rests : (s : Side) → AtRest (end_of after.ends s)
 rests A = rest_exclusions.rests.told_end
 rests B = rest_exclusions.rests.new Server
 
-none_readable : (s : Side) (n : ℕ) → IsReadable (end_of after.ends s) n → ⊥
+pub none_readable : (s : Side) (n : ℕ) → IsReadable (end_of after.ends s) n → ⊥
 none_readable A n (shut, (l, at, tells)) =
     let same : l ≡ ended_half true = only_open (ended_half true) l n at in
     false≢true (subst (λ x. is_readable x ≡ true) same tells)
 none_readable B n (shut, (l, at, tells)) = none-some l (sym (no_lane n) ∙ at)
 
-reads_step : WorldStep before.log before.ends reads_end after.ends
+pub reads_step : WorldStep before.log before.ends reads_end after.ends
 unfolding lookup total each update
 reads_step = record { step = (ended_half false, refl, refl, refl, refl); still = refl; may = λ none. tt }
 
@@ -77,7 +77,7 @@ logged Is (m ∷ ms) old new ((x, calm, log, step), rest) =
     let later = logged Is ms m new rest in
     omega (arith, first, later)
 
-abbrev first_of : Happening → History → Happening
+abbrev pub first_of : Happening → History → Happening
 first_of x [] = x
 first_of x (y ∷ h) = y
 

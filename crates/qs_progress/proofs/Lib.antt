@@ -19,4 +19,10 @@ pub mod Trails
 pub mod More
 pub mod Pairs
 pub mod Comes
+pub mod TopRun
+pub mod Kept
+pub mod Passing
+pub mod Turns
+pub mod ComesInRounds
 pub mod ExclusionsLaps
+pub mod ExclusionsRounds

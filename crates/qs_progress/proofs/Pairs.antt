@@ -25,11 +25,11 @@ use Rattle.qs_runs.specs.Pasts.{Packets, PieceOf, past}
 use Rattle.qs_runs.specs.Worlds.{end_of, WorldStep}
 use Rattle.qs_runs.proofs.Histories.{two_sides}
 use Rattle.qs_runs.proofs.Runs.{run_keeps}
-use Rattle.qs_rest.specs.Rest.{AtRest}
+use Rattle.qs_rest.specs.Rest.{AtRest, HasMore}
 use Rattle.qs_rest.proofs.Runs.{every_run_keeps}
 use Rattle.qs_rest.proofs.Telling.{no_news}
 use Rattle.qs_progress.specs.Score.{score, first_count}
-use Rattle.qs_progress.specs.Laps.{Moment, IsCalm, Trail, Lap}
+use Rattle.qs_progress.specs.Laps.{Moment, IsCalm, Trail, Sometime, Lap}
 use Rattle.qs_progress.specs.Outstanding.{IsIn}
 use Rattle.qs_progress.specs.Comes.{BothRest, BothOpen, IsReached}
 use Rattle.qs_progress.proofs.Score.{Goes, goes_call, peer_stays, what_is_done_stays}
@@ -72,7 +72,7 @@ next_forms old ready =
           omega (arith, first, second);
     }
 
-stood_in : (mine : Packets) (k : ℕ) (p : Piece) → PieceOf mine k p → k < length mine
+pub stood_in : (mine : Packets) (k : ℕ) (p : Piece) → PieceOf mine k p → k < length mine
 stood_in mine k (Data n c) (bytes, (fs, at, among), same) = index_below mine k fs at
 stood_in mine k (Told i) (fs, at, among) = index_below mine k fs at
 
@@ -142,13 +142,13 @@ module _ (a b : Settings) where
             }
 
     -- and of a trail
-    record Leads (e f : End) : Type 0 where
-      next : e.next ≤ f.next
-      grows : score e ≤ score f
-      items : ItemsGrow e.acked f.acked
-      keeps : score f ≤ score e → Keeps e f
+    pub record Leads (e f : End) : Type 0 where
+      pub next : e.next ≤ f.next
+      pub grows : score e ≤ score f
+      pub items : ItemsGrow e.acked f.acked
+      pub keeps : score f ≤ score e → Keeps e f
 
-    leads : (ms : List Moment) (old new : Moment) → IsReached a b old → Trail IsCalm old ms new → IsReached a b new × Leads (at old) (at new)
+    pub leads : (ms : List Moment) (old new : Moment) → IsReached a b old → Trail IsCalm old ms new → IsReached a b new × Leads (at old) (at new)
     leads [] old new r is = subst (λ m. IsReached a b m × Leads (at old) (at m)) (sym is) (r, record { next = omega arith; grows = omega arith; items = λ i h. h; keeps = λ even k p here undone. (here, undone) })
     leads (m ∷ ms) old new r ((x, calm, logged, step), rest) =
         let first = moves old m x r calm step in
@@ -196,50 +196,99 @@ module _ (a b : Settings) where
           | inr later ↦ (let (after, r_m, tail, more) = from_moment ms n mid m r_n rest later in (after, r_m, tail, omega (arith, up, more)))
         ]
 
-    module _ (old mid new : Moment) (r : IsReached a b old) (first : Lap old mid) (second : Lap mid new) (open_end : BothOpen new.ends) (even_first : score (at mid) ≤ score (at old)) (even_second : score (at new) ≤ score (at mid)) where
-      r_mid : IsReached a b mid
-      r_mid = (leads first.moments old mid r first.calm).0
+    -- one of its moments, or the first one, leads on to the end
+    from_any : (ms : List Moment) (old mid m : Moment) → IsReached a b old → Trail IsCalm old ms mid → Among m (old ∷ ms) → (rest : List Moment) × IsReached a b m × Trail IsCalm m rest mid × (score (at old) ≤ score (at m))
+    from_any ms old mid m r trail (inl is) = subst (λ y. (rest : List Moment) × IsReached a b y × Trail IsCalm y rest mid × (score (at old) ≤ score (at y))) (sym is) (ms, r, trail, omega arith)
+    from_any ms old mid m r trail (inr later) = from_moment ms old mid m r trail later
 
-      -- what went out in the first lap would have been acknowledged by the end of the second
+    -- Two calm trails, the second from where the first ended, or where this end is the same. What was outstanding as each began isn't at its
+    -- end; and at some moment of the first there was no more to send, and at some moment no more to read.
+    pub record Legs (old mid again new : Moment) : Type 0 where
+      pub begins : IsReached a b old
+      pub goes_on : IsReached a b again
+      pub same : at again ≡ at mid
+      pub firsts : List Moment
+      pub seconds : List Moment
+      pub first : Trail IsCalm old firsts mid
+      pub second : Trail IsCalm again seconds new
+      pub landed_first : (k : ℕ) (p : Piece) → k < (at old).next → IsIn (at mid).outstanding k p → ⊥
+      pub landed : (k : ℕ) (p : Piece) → k < (at mid).next → IsIn (at new).outstanding k p → ⊥
+      pub spent : Sometime (λ w. HasMore (end_of w s) → ⊥) (old ∷ firsts)
+      pub read : Sometime (λ w. IsLeast (IsReadable (end_of w s)) 0 None) (old ∷ firsts)
+      pub unclosed : BothOpen mid.ends
+      pub even_first : score (at mid) ≤ score (at old)
+      pub even : score (at new) ≤ score (at mid)
+
+    module _ (old mid again new : Moment) (legs : Legs old mid again new) where
+      r_mid : IsReached a b mid
+      r_mid = (leads legs.firsts old mid legs.begins legs.first).0
+
+      -- what went out in the first trail would have been acknowledged by the end of the second
       never : (m : Moment) (rest : List Moment) → IsReached a b m → Trail IsCalm m rest mid → (k : ℕ) (p : Piece) → k < (at mid).next → IsIn (at m).outstanding k p → IsUndone (at m) p → score (at mid) ≤ score (at m) → ⊥
       never m rest r_m trail k p lt here undone even =
           let (there, yet) = (leads rest m mid r_m trail).1.keeps even k p here undone in
-          let ((ps, still, among), open_yet) = (leads second.moments mid new r_mid second.calm).1.keeps even_second k p there yet in
-          true≢false (sym (ap is_some still) ∙ second.landed s k lt)
+          let even_again = subst (λ (e : End). score (at new) ≤ score e) (sym legs.same) legs.even in
+          let (still, open_yet) = (leads legs.seconds again new legs.goes_on legs.second).1.keeps even_again k p (subst (λ (e : End). IsIn e.outstanding k p) (sym legs.same) there) (subst (λ e. IsUndone e p) (sym legs.same) yet) in
+          legs.landed k p lt still
 
-      -- from a moment of the first lap on
-      since : (m : Moment) → Among m first.moments → IsReached a b m × Quiet (at m) (at mid) × Leads (at m) (at mid) × (score (at mid) ≤ score (at m))
+      -- from a moment of the first trail on
+      since : (m : Moment) → Among m (old ∷ legs.firsts) → IsReached a b m × Quiet (at m) (at mid) × Leads (at m) (at mid)
       since m among =
-          let (rest, r_m, trail, up) = from_moment first.moments old mid m r first.calm among in
-          let even : score (at mid) ≤ score (at m) = omega (arith, even_first, up) in
-          (r_m, stays_quiet rest m mid r_m trail even never, (leads rest m mid r_m trail).1, even)
+          let (rest, r_m, trail, up) = from_any legs.firsts old mid m legs.begins legs.first among in
+          let even : score (at mid) ≤ score (at m) = (let least = legs.even_first in omega (arith, least, up)) in
+          (r_m, stays_quiet rest m mid r_m trail even never, (leads rest m mid r_m trail).1)
+
+      keeps_all : (m : Moment) (among : Among m (old ∷ legs.firsts)) (k : ℕ) (p : Piece) → IsIn (at m).outstanding k p → IsUndone (at m) p → IsIn (at mid).outstanding k p
+      keeps_all m among k p here undone =
+          let (rest, r_m, trail, up) = from_any legs.firsts old mid m legs.begins legs.first among in
+          let least = legs.even_first in
+          ((leads rest m mid r_m trail).1.keeps (omega (arith, least, up)) k p here undone).0
 
       pub rests : AtRest (at mid)
       rests =
           record {
             quiet = λ more.
-                let (m, among, none) = first.spent s in
-                let (r_m, quiet, led, even) = since m among in
-                none (more_back (at m) (at mid) quiet led.items (ready m r_m) (ready mid r_mid) (λ k p here undone. (led.keeps even k p here undone).0) more);
+                let (m, among, none) = legs.spent in
+                let (r_m, quiet, led) = since m among in
+                none (more_back (at m) (at mid) quiet led.items (ready m r_m) (ready mid r_mid) (keeps_all m among) more);
             landed = λ p (k, ps, there, among).
-                let ok = run_keeps a b old.log old.ends r.run in
-                let (qs, before, was) = (stays_quiet first.moments old mid r first.calm even_first never).carried k p (ps, there, among) in
+                let ok = run_keeps a b old.log old.ends legs.begins.run in
+                let (qs, before, was) = (stays_quiet legs.firsts old mid legs.begins legs.first legs.even_first never).carried k p (ps, there, among) in
                 let below = stood_in (past s old.log).mine k p ((ok.ends s).packets.records k qs p before was) in
-                let lt : k < (at old).next = omega (arith, below, (ok.ends s).packets.count) in
-                true≢false (sym (ap is_some there) ∙ first.landed s k lt);
+                legs.landed_first k p (omega (arith, below, (ok.ends s).packets.count)) (ps, there, among);
             told = λ n l there.
-                let (m, among, least) = first.read s in
-                let (r_m, quiet, led, even) = since m among in
+                let (m, among, least) = legs.read in
+                let (r_m, quiet, led) = since m among in
                 no_news l ((every_run_keeps a b mid.log mid.ends r_mid.run s).told n l there) (unread m among least n l (ap (λ (e : End). lookup e.recvs n) (sym quiet.rest) ∙ there) (is_readable l) refl);
           }
         where
-          unread : (m : Moment) → Among m first.moments → IsLeast (IsReadable (at m)) 0 None → (n : ℕ) (l : RecvLane) → lookup (at m).recvs n ≡ Some l → (c : Bool) → is_readable l ≡ c → is_readable l ≡ false
+          unread : (m : Moment) → Among m (old ∷ legs.firsts) → IsLeast (IsReadable (at m)) 0 None → (n : ℕ) (l : RecvLane) → lookup (at m).recvs n ≡ Some l → (c : Bool) → is_readable l ≡ c → is_readable l ≡ false
           unread m among least n l is false same = same
           unread m among least n l is true same =
-              let (rest, r_m, trail, up) = from_moment first.moments old mid m r first.calm among in
-              let unclosed : (at m).closed ≡ None = trail_open IsCalm rest m mid trail (trail_open IsCalm second.moments mid new second.calm open_end) s in
+              let (rest, r_m, trail, up) = from_any legs.firsts old mid m legs.begins legs.first among in
+              let unclosed : (at m).closed ≡ None = trail_open IsCalm rest m mid trail legs.unclosed s in
               let (n2, found, le) = least.least n (omega arith) (ap (λ c. is_some c && not (at m).tuning.reads_when_closed) unclosed, (l, is, same)) in
               absurd (none-some n2 found)
+
+    -- two laps are such trails
+    laps : (old mid new : Moment) → IsReached a b old → Lap old mid → Lap mid new → BothOpen new.ends → score (at mid) ≤ score (at old) → score (at new) ≤ score (at mid) → Legs old mid mid new
+    laps old mid new r first second open_end even_first even =
+        record {
+          begins = r;
+          goes_on = (leads first.moments old mid r first.calm).0;
+          same = refl;
+          firsts = first.moments;
+          seconds = second.moments;
+          first = first.calm;
+          second = second.calm;
+          landed_first = λ k p lt (ps, there, among). true≢false (sym (ap is_some there) ∙ first.landed s k lt);
+          landed = λ k p lt (ps, there, among). true≢false (sym (ap is_some there) ∙ second.landed s k lt);
+          spent = let (m, among, none) = first.spent s in (m, inr among, none);
+          read = let (m, among, least) = first.read s in (m, inr among, least);
+          unclosed = trail_open IsCalm second.moments mid new second.calm open_end;
+          even_first = even_first;
+          even = even;
+        }
 
   up_both : (old new : Moment) → IsReached a b old → Lap old new → (s : Side) → score (end_of old.ends s) ≤ score (end_of new.ends s)
   up_both old new r lap s = (leads s lap.moments old new r lap.calm).1.grows
@@ -254,7 +303,7 @@ module _ (a b : Settings) where
             let b1 = up_both old mid r first B in
             let a2 = up_both mid new r_mid second A in
             let b2 = up_both mid new r_mid second B in
-            absurd (begins (λ s. rests s old mid new r first second open_end (by s (omega (arith, ge, a1, b1, a2, b2)) (omega (arith, ge, a1, b1, a2, b2))) (by_new s (omega (arith, ge, a1, b1, a2, b2)) (omega (arith, ge, a1, b1, a2, b2))))))
+            absurd (begins (λ s. rests s old mid mid new (laps s old mid new r first second open_end (by s (omega (arith, ge, a1, b1, a2, b2)) (omega (arith, ge, a1, b1, a2, b2))) (by_new s (omega (arith, ge, a1, b1, a2, b2)) (omega (arith, ge, a1, b1, a2, b2)))))))
       ]
     where
       by : (s : Side) → score mid.ends.a ≤ score old.ends.a → score mid.ends.b ≤ score old.ends.b → score (end_of mid.ends s) ≤ score (end_of old.ends s)

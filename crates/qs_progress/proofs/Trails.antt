@@ -1,7 +1,8 @@
--- An end that closed stays so; so one that is open was. And a run goes on.
-use Rattle.std.proofs.Common.{◌≡◌, true, List, [], ◌∷◌, Option, Some, None, is_some, refl, sym, ap, ◌∙◌, subst}
+-- An end that closed stays so; so one that is open was. And a run goes on, trail by trail.
+use Rattle.std.proofs.Common.{◌≡◌, true, List, [], ◌∷◌, ◌++◌, Option, Some, None, is_some, refl, sym, ap, ◌∙◌, subst, inl, inr}
 use Rattle.std.proofs.lemmas.Bool.{false≢true}
 use Rattle.qs_wire.specs.declared.stream_id.Dir.TheVariants.{Uni}
+use Rattle.qs_send.specs.Records.{Among}
 use Rattle.qs_machine.specs.Ends.{End}
 use Rattle.qs_machine.specs.FrameStep.{frame_taken}
 use Rattle.qs_machine.specs.Lawful.{frame_put}
@@ -54,3 +55,18 @@ trail_open Is (m ∷ ms) old new ((x, kind, logged, step), rest) open_end s =
 pub reached : (a b : Settings) (old new : Moment) (x : Happening) → IsReached a b old → new.log ≡ x ∷ old.log → WorldStep old.log old.ends x new.ends → IsReached a b new
 reached a b old new x r logged step =
     record { run = subst (λ h. Run a b h new.ends) (sym logged) (old.ends, r.run, step); told = λ s. first_limits_stay a b old.log old.ends new.ends x r.run step s (r.told s) }
+
+-- what is asked of each call of a trail may be less
+pub eased : (Is Other : Call → Type 0) → ((call : Call) → Is call → Other call) → (ms : List Moment) (old new : Moment) → Trail Is old ms new → Trail Other old ms new
+eased Is Other less [] old new is = is
+eased Is Other less (m ∷ ms) old new ((x, kind, logged, step), rest) = ((x, less x.call kind, logged, step), eased Is Other less ms m new rest)
+
+-- trails that follow each other
+pub joined : (Is : Call → Type 0) (ms ns : List Moment) (old mid new : Moment) → Trail Is old ms mid → Trail Is mid ns new → Trail Is old (ms ++ ns) new
+joined Is [] ns old mid new is rest = subst (λ m. Trail Is m ns new) is rest
+joined Is (m ∷ ms) ns old mid new (first, more) rest = (first, joined Is ms ns m mid new more rest)
+
+-- the last moment is one of them
+pub last_of : (Is : Call → Type 0) (ms : List Moment) (old new : Moment) → Trail Is old ms new → Among new (old ∷ ms)
+last_of Is [] old new is = inl is
+last_of Is (m ∷ ms) old new (first, rest) = inr (last_of Is ms m new rest)

@@ -1,6 +1,6 @@
 -- Trusted.
--- Rest comes: every run is led to rest by laps, and how many there are is bounded; and with it all that holds at rest. The whole file is
--- ours: RFC 9000 has no measure of a connection.
+-- Rest comes: every run is led to rest by laps, and by rounds, and how many there are is bounded; and with it all that holds at rest. The
+-- whole file is ours: RFC 9000 has no measure of a connection.
 use Rattle.std.specs.Prelude.{◌≡◌, ℕ, ◌+◌, ◌*◌, ◌≤◌, Bool, true, false, List, [], ◌∷◌, None, ⊤}
 use Rattle.qs_calls.specs.declared.settings.Settings.{Settings}
 use Rattle.qs_calls.specs.declared.event.Side.{Side}
@@ -9,6 +9,7 @@ use Rattle.qs_rest.specs.Rest.{AtRest}
 use Rattle.qs_rest.specs.Resting.{KnowsFirstLimits, KnowsItsLimits, CreditIsWhole, HasCreditAhead, ResetsAreFinal, AllIsDelivered}
 use Rattle.qs_progress.specs.Bound.{most}
 use Rattle.qs_progress.specs.Laps.{Moment, Trail, Lap}
+use Rattle.qs_progress.specs.Rounds.{Round}
 
 abbrev pub BothRest : World → Type 0
 BothRest w = (s : Side) → AtRest (end_of w s)
@@ -17,16 +18,16 @@ BothRest w = (s : Side) → AtRest (end_of w s)
 abbrev pub BothOpen : World → Type 0
 BothOpen w = (s : Side) → (end_of w s).closed ≡ None
 
--- A course: laps (true), of which none began where this holds, and between them stretches (false) in which anything happens.
-abbrev pub Course : (Moment → Type 0) → List Bool → Moment → Moment → Type 0
-Course P [] old new = new ≡ old
-Course P (true ∷ parts) old new = (P old → ⊥) × (mid : Moment) × Lap old mid × Course P parts mid new
-Course P (false ∷ parts) old new = (moments : List Moment) × (mid : Moment) × Trail (λ call. ⊤) old moments mid × Course P parts mid new
+-- A course: steps of a kind (true), of which none began where this holds, and between them stretches (false) in which anything happens.
+abbrev pub Course : (Moment → Moment → Type 0) → (Moment → Type 0) → List Bool → Moment → Moment → Type 0
+Course Step P [] old new = new ≡ old
+Course Step P (true ∷ parts) old new = (P old → ⊥) × (mid : Moment) × Step old mid × Course Step P parts mid new
+Course Step P (false ∷ parts) old new = (moments : List Moment) × (mid : Moment) × Trail (λ call. ⊤) old moments mid × Course Step P parts mid new
 
-abbrev pub laps_in : List Bool → ℕ
-laps_in [] = 0
-laps_in (true ∷ parts) = laps_in parts + 1
-laps_in (false ∷ parts) = laps_in parts
+abbrev pub steps_in : List Bool → ℕ
+steps_in [] = 0
+steps_in (true ∷ parts) = steps_in parts + 1
+steps_in (false ∷ parts) = steps_in parts
 
 abbrev pub stretches_in : List Bool → ℕ
 stretches_in [] = 0
@@ -38,16 +39,19 @@ pub record IsReached (a b : Settings) (m : Moment) : Type 0 where
   pub run : Run a b m.log m.ends
   pub told : (s : Side) → KnowsFirstLimits m.ends s
 
--- In every run, from each moment on, as long as neither end closes: so many laps at most don't begin where this holds, two for each thing
--- that can be done for good, one for each stretch, and one.
-abbrev pub ComesInTime : (Moment → Type 0) → Type 0
-ComesInTime P =
-    (a b : Settings) (parts : List Bool) (old new : Moment) → IsReached a b old → Course P parts old new → BothOpen new.ends →
-    laps_in parts ≤ 2 * most new.ends + stretches_in parts + 1
+-- In every run, from each moment on, as long as neither end closes: so many steps of that kind at most don't begin where this holds, a
+-- number for each thing that can be done for good, one for each stretch, and one.
+abbrev pub ComesInTime : (Moment → Moment → Type 0) → ℕ → (Moment → Type 0) → Type 0
+ComesInTime Step each P =
+    (a b : Settings) (parts : List Bool) (old new : Moment) → IsReached a b old → Course Step P parts old new → BothOpen new.ends →
+    steps_in parts ≤ each * most new.ends + stretches_in parts + 1
 
--- REST COMES.
+-- REST COMES: by laps, two for each thing that can be done for good, and by rounds, one for each.
 abbrev pub RestComes : Type 0
-RestComes = ComesInTime (λ m. BothRest m.ends)
+RestComes = ComesInTime Lap 2 (λ m. BothRest m.ends)
+
+abbrev pub RestComesInRounds : Type 0
+RestComesInRounds = ComesInTime Round 1 (λ m. BothRest m.ends)
 
 -- what holds at rest, of both ends: all was delivered that no reset, stop or owner keeps back, and all credit is whole
 pub record IsComplete (m : Moment) : Type 0 where
@@ -59,4 +63,7 @@ pub record IsComplete (m : Moment) : Type 0 where
 
 -- AND ALL IS DELIVERED.
 abbrev pub AllComes : Type 0
-AllComes = ComesInTime IsComplete
+AllComes = ComesInTime Lap 2 IsComplete
+
+abbrev pub AllComesInRounds : Type 0
+AllComesInRounds = ComesInTime Round 1 IsComplete

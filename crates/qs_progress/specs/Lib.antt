@@ -3,7 +3,9 @@ pub mod Within
 pub mod Bound
 pub mod Exclusions
 pub mod ExclusionsLaps
+pub mod ExclusionsRounds
 pub mod Laps
+pub mod Rounds
 pub mod Outstanding
 pub mod Going
 pub mod Comes

@@ -5,9 +5,10 @@ ghost use Rattle.qs_progress.specs.Within.{ItemsAreWithin};
 ghost use Rattle.qs_progress.specs.Bound.{DoneIsBounded};
 ghost use Rattle.qs_progress.specs.Outstanding.{WhatIsOutStays};
 ghost use Rattle.qs_progress.specs.Going.{WhatGoesOutIsNew};
-ghost use Rattle.qs_progress.specs.Comes.{RestComes, AllComes};
+ghost use Rattle.qs_progress.specs.Comes.{RestComes, AllComes, RestComesInRounds, AllComesInRounds};
 ghost use Rattle.qs_progress.specs.Exclusions.{Exclusions};
 ghost use Rattle.qs_progress.specs.ExclusionsLaps.{LapExclusions};
+ghost use Rattle.qs_progress.specs.ExclusionsRounds.{RoundExclusions};
 
 /// What is done stays done: whatever happens, an end's score never falls, once it was told its peer's true limits.
 pub fn what_is_done_stays()
@@ -45,6 +46,16 @@ pub fn all_comes()
     ensures { AllComes }
 {}
 
+/// By rounds, too: one for each thing that can be done for good, one for each stretch, and one.
+pub fn rest_comes_in_rounds()
+    ensures { RestComesInRounds }
+{}
+
+/// And how many begin where not all was delivered, or credit isn't whole.
+pub fn all_comes_in_rounds()
+    ensures { AllComesInRounds }
+{}
+
 /// What a score counts, and what it doesn't: small ends with theirs, and one whose score falls where it takes in higher limits of its peer.
 pub fn exclusions()
     ensures { Exclusions }
@@ -54,4 +65,9 @@ pub fn exclusions()
 /// again, and no ACK asks for one.
 pub fn lap_exclusions()
     ensures { LapExclusions }
+{}
+
+/// A round, and for each part of one a case that is none for want of it.
+pub fn round_exclusions()
+    ensures { RoundExclusions }
 {}

@@ -1,0 +1,305 @@
+-- Rest comes by rounds: from the end of A's turn to the end of its next turn, where the round between doesn't begin at rest, something is
+-- done for good.
+use Rattle.std.proofs.Common.{◌≡◌, ℕ, ◌+◌, ◌<◌, ◌≤◌, Bool, true, false, List, [], ◌∷◌, ◌++◌, ◌⊎◌, Option, Some, None, refl, sym, ap, ◌∙◌, subst, arith, inl, inr}
+use Rattle.std.specs.Prelude.{⊤, Result}
+use Rattle.std.specs.FinSet as set
+use Rattle.std.proofs.lemmas.Bool.{cases_lt}
+use Rattle.qs_recv.specs.Lane.{after_read}
+use Rattle.qs_recv.specs.declared.half.Read.{Read}
+use Rattle.qs_send.specs.Records.{Among}
+use Rattle.qs_send.specs.declared.piece.Piece.{Piece}
+use Rattle.qs_calls.specs.declared.event.Side.{Side}
+use Rattle.qs_calls.specs.declared.event.Side.TheVariants.{A, B}
+use Rattle.qs_calls.specs.declared.settings.Settings.{Settings}
+use Rattle.qs_calls.specs.declared.uses.UseFault.{UseFault}
+use Rattle.qs_machine.specs.Ends.{End, on_recv}
+use Rattle.qs_machine.specs.Credit.{settle}
+use Rattle.qs_machine.specs.Owner.{ReadBy, recv_refusal, is_read_no_more}
+use Rattle.qs_machine.specs.EndStep.{Call, Answer, EndStep, ReadUpTo, Consume}
+use Rattle.qs_machine.proofs.EveryCall.{by_refusal}
+use Rattle.qs_runs.specs.Logs.{other}
+use Rattle.qs_runs.specs.Worlds.{end_of}
+use Rattle.qs_runs.proofs.Histories.{two_sides}
+use Rattle.qs_runs.proofs.Lists.{Among_left, Among_right}
+use Rattle.qs_rest.specs.Rest.{HasMore}
+use Rattle.qs_progress.specs.Score.{score}
+use Rattle.qs_progress.specs.Laps.{Moment, IsCalm, Trail, Sometime}
+use Rattle.qs_progress.specs.Outstanding.{IsIn}
+use Rattle.qs_progress.specs.Comes.{BothRest, BothOpen, IsReached, Course, steps_in, stretches_in, RestComesInRounds, AllComesInRounds}
+use Rattle.qs_progress.specs.Rounds.{IsRead, Turn, Round}
+use Rattle.qs_progress.proofs.Bound.{is_below}
+use Rattle.qs_progress.proofs.Trails.{eased, joined, last_of}
+use Rattle.qs_progress.proofs.Passing.{Owes, IsClear}
+use Rattle.qs_progress.proofs.Turns.{HasLost, below_next, loses, loses_trail, sends, tells, sends_trail, sends_all}
+use Rattle.qs_progress.proofs.Pairs.{Legs, leads, rests}
+use Rattle.qs_progress.proofs.Comes.{both, Rests, trail, course_open, rest_misses}
+
+-- Reads
+
+abbrev Lasts : End → End → Type 0
+Lasts e f = (f.outstanding ≡ e.outstanding) × (f.done ≡ e.done) × (f.ack_due ≡ e.ack_due)
+
+lasts_same : (e : End) → Lasts e e
+lasts_same e = (refl, refl, refl)
+
+lasts_as : (e f g : End) → Lasts e f → g ≡ f → Lasts e g
+lasts_as e f g lasts is = subst (Lasts e) (sym is) lasts
+
+read_by : (r : Option UseFault) (e : End) (n size : ℕ) (answer : Result Read UseFault) (bytes : List ℕ) (f : End) → ReadBy r e n size answer bytes f → Lasts e f
+read_by (Some fault) e n size answer bytes f step = lasts_as e e f (lasts_same e) step.2
+read_by None e n size answer bytes f (l, at, told, given, is) = lasts_as e (settle (on_recv n (λ m. after_read m size) e)) f (refl, refl, refl) is
+
+read_lasts : (call : Call) (e : End) (answer : Answer call) (f : End) → IsRead call → EndStep e call answer f → Lasts e f
+read_lasts (ReadUpTo n size) e answer f reads step = read_by (recv_refusal (is_read_no_more e) e n) e n size answer.0 answer.1 f step
+read_lasts (Consume n most) e answer f reads step =
+    by_refusal (Lasts e f) (recv_refusal (is_read_no_more e) e n) e answer.0 f _ step.0 (lasts_as e e f (lasts_same e))
+    (λ (l, at, told, is). lasts_as e (settle (on_recv n (λ m. after_read m 0) (on_recv n (λ m. after_read m most) e))) f (refl, refl, refl) is)
+read_lasts call e answer f reads step = absurd reads
+
+pub read_calm : (call : Call) → IsRead call → IsCalm call
+read_calm (ReadUpTo n size) reads = tt
+read_calm (Consume n most) reads = tt
+read_calm call reads = absurd reads
+
+reads_last : (ms : List Moment) (old new : Moment) → Trail IsRead old ms new → (s : Side) → Lasts (end_of old.ends s) (end_of new.ends s)
+reads_last [] old new is s = subst (λ (m : Moment). Lasts (end_of old.ends s) (end_of m.ends s)) (sym is) (lasts_same (end_of old.ends s))
+reads_last (m ∷ ms) old new ((x, reads, logged, step), rest) s =
+    let first : Lasts (end_of old.ends s) (end_of m.ends s) = two_sides (λ t. Lasts (end_of old.ends t) (end_of m.ends t)) x.end (read_lasts x.call (end_of old.ends x.end) x.answer (end_of m.ends x.end) reads step.step) (lasts_as (end_of old.ends (other x.end)) (end_of old.ends (other x.end)) (end_of m.ends (other x.end)) (lasts_same (end_of old.ends (other x.end))) step.still) s in
+    let more = reads_last ms m new rest s in
+    (more.0 ∙ first.0, more.1 ∙ first.1, more.2 ∙ first.2)
+
+-- What is owed
+
+owes_as : (lo hi : ℕ) (e e2 f f2 : End) → e2.outstanding ≡ e.outstanding → f2.done ≡ f.done → f2.ack_due ≡ f.ack_due → Owes lo hi e f → Owes lo hi e2 f2
+owes_as lo hi e e2 f f2 out done due owes =
+    record {
+      order = owes.order;
+      from = λ k p here. owes.from k p (subst (λ m. IsIn m k p) out here);
+      kept = λ k low high. subst (λ s. set.contains s k ≡ true) (sym done) (owes.kept k low high);
+      below = λ k is. owes.below k (subst (λ s. set.contains s k ≡ true) done is);
+      due = λ k p here. due ∙ owes.due k p (subst (λ m. IsIn m k p) out here);
+    }
+
+clear_as : (e f : End) → f.outstanding ≡ e.outstanding → IsClear e → IsClear f
+clear_as e f out clear k p here = clear k p (subst (λ m. IsIn m k p) out here)
+
+-- Turns and rounds are trails
+
+abbrev Led : Moment → Moment → Type 0
+Led old new = (ms : List Moment) × Trail (λ call. ⊤) old ms new
+
+led_on : (old mid new : Moment) → Led old mid → Led mid new → Led old new
+led_on old mid new (ms, first) (ns, second) = (ms ++ ns, joined (λ call. ⊤) ms ns old mid new first second)
+
+turn_leads : (s : Side) (old new : Moment) → Turn s old new → Led old new
+turn_leads s old new (mid, (n, lost), (k, sent)) =
+    let (ms, calm) = sends_trail s k mid new sent in
+    led_on old mid new (loses_trail s n old mid lost) (ms, eased IsCalm (λ call. ⊤) (λ call calm. tt) ms mid new calm)
+
+round_ends : (old new : Moment) (r : Round old new) → Led r.sent_a new
+round_ends old new r = led_on r.sent_a r.sent_b new (turn_leads B r.sent_a r.sent_b r.turn_b) (r.moments, eased IsRead (λ call. ⊤) (λ call reads. tt) r.moments r.sent_b new r.reads)
+
+round_leads : (old new : Moment) → Round old new → Led old new
+round_leads old new r = led_on old r.sent_a new (turn_leads A old r.sent_a r.turn_a) (round_ends old new r)
+
+-- From A's turn to A's turn
+
+module _ (a b : Settings) where
+  led : (old new : Moment) → IsReached a b old → Led old new → IsReached a b new × (both old.ends ≤ both new.ends)
+  led old new r (ms, t) = trail a b (λ call. ⊤) ms old new r t
+
+  owes_none : (m : Moment) → IsReached a b m → (s : Side) → IsClear (end_of m.ends s) → Owes (end_of m.ends s).next (end_of m.ends s).next (end_of m.ends s) (end_of m.ends (other s))
+  owes_none m r s clear =
+      record {
+        order = omega arith;
+        from = λ k p here. absurd (clear k p here);
+        kept = λ k low high. absurd (omega (arith, low, high));
+        below = below_next a b m r s;
+        due = λ k p here. absurd (clear k p here);
+      }
+
+  module _ (old mid new : Moment) (r : IsReached a b old) (first : Round old mid) (second : Round mid new) (unclosed : BothOpen mid.ends) where
+    abbrev lost_a : Moment
+    lost_a = first.turn_a.0
+
+    abbrev lost_b : Moment
+    lost_b = first.turn_b.0
+
+    abbrev again : Moment
+    again = second.turn_a.0
+
+    r_lost_a : IsReached a b lost_a
+    r_lost_a = (led old lost_a r (loses_trail A first.turn_a.1.0 old lost_a first.turn_a.1.1)).0
+
+    a_lost : HasLost A old lost_a
+    a_lost = loses A first.turn_a.1.0 old lost_a first.turn_a.1.1
+
+    a_sent : IsReached a b first.sent_a × Owes lost_a.ends.a.next first.sent_a.ends.a.next first.sent_a.ends.a first.sent_a.ends.b
+    a_sent = sends a b A first.turn_a.2.0 lost_a first.sent_a lost_a.ends.a.next r_lost_a first.turn_a.2.1 (owes_none lost_a r_lost_a A a_lost.clear)
+
+    b_lost : HasLost B first.sent_a lost_b
+    b_lost = loses B first.turn_b.1.0 first.sent_a lost_b first.turn_b.1.1
+
+    to_lost_b : IsReached a b lost_b × (both first.sent_a.ends ≤ both lost_b.ends)
+    to_lost_b = led first.sent_a lost_b a_sent.0 (loses_trail B first.turn_b.1.0 first.sent_a lost_b first.turn_b.1.1)
+
+    b_sends : IsReached a b first.sent_b × Owes lost_b.ends.b.next first.sent_b.ends.b.next first.sent_b.ends.b first.sent_b.ends.a
+    b_sends = sends a b B first.turn_b.2.0 lost_b first.sent_b lost_b.ends.b.next to_lost_b.0 first.turn_b.2.1 (owes_none lost_b to_lost_b.0 B b_lost.clear)
+
+    -- what A sent is acknowledged
+    a_clear : IsClear first.sent_b.ends.a
+    a_clear =
+        tells a b B first.turn_b.2.0 lost_b first.sent_b lost_a.ends.a.next first.sent_a.ends.a.next to_lost_b.0 first.turn_b.2.1
+        (inl (owes_as _ _ first.sent_a.ends.a lost_b.ends.a first.sent_a.ends.b lost_b.ends.b (ap (λ (e : End). e.outstanding) b_lost.there) b_lost.here.done b_lost.here.due a_sent.1))
+
+    r_mid : IsReached a b mid
+    r_mid = (led first.sent_a mid a_sent.0 (round_ends old mid first)).0
+
+    lasts : (s : Side) → Lasts (end_of first.sent_b.ends s) (end_of mid.ends s)
+    lasts = reads_last first.moments first.sent_b mid first.reads
+
+    a_clear_mid : IsClear mid.ends.a
+    a_clear_mid = clear_as first.sent_b.ends.a mid.ends.a (lasts A).0 a_clear
+
+    b_owed : Owes lost_b.ends.b.next first.sent_b.ends.b.next mid.ends.b mid.ends.a
+    b_owed = owes_as _ _ first.sent_b.ends.b mid.ends.b first.sent_b.ends.a mid.ends.a (lasts B).0 (lasts A).1 (lasts A).2 b_sends.1
+
+    -- so A declares nothing lost
+    a_again : HasLost A mid again
+    a_again = loses A second.turn_a.1.0 mid again second.turn_a.1.1
+
+    same : (s : Side) → end_of again.ends s ≡ end_of mid.ends s
+    same A = a_again.here.same a_clear_mid
+    same B = a_again.there
+
+    r_again : IsReached a b again
+    r_again = (led mid again r_mid (loses_trail A second.turn_a.1.0 mid again second.turn_a.1.1)).0
+
+    -- and tells what B sent
+    b_clear : IsClear second.sent_a.ends.b
+    b_clear =
+        tells a b A second.turn_a.2.0 again second.sent_a lost_b.ends.b.next first.sent_b.ends.b.next r_again second.turn_a.2.1
+        (inl (owes_as _ _ mid.ends.b again.ends.b mid.ends.a again.ends.a (ap (λ (e : End). e.outstanding) (same B)) (ap (λ (e : End). e.done) (same A)) (ap (λ (e : End). e.ack_due) (same A)) b_owed))
+
+    a_more : Owes again.ends.a.next second.sent_a.ends.a.next second.sent_a.ends.a second.sent_a.ends.b
+    a_more = (sends a b A second.turn_a.2.0 again second.sent_a again.ends.a.next r_again second.turn_a.2.1 (owes_none again r_again A a_again.clear)).1
+
+    -- B's turn and the reads
+    turn : (ms : List Moment) × Trail IsCalm lost_b ms first.sent_b
+    turn = sends_trail B first.turn_b.2.0 lost_b first.sent_b first.turn_b.2.1
+
+    to_mid : Trail IsCalm lost_b (turn.0 ++ first.moments) mid
+    to_mid = joined IsCalm turn.0 first.moments lost_b first.sent_b mid turn.1 (eased IsRead IsCalm read_calm first.moments first.sent_b mid first.reads)
+
+    -- A's next turn
+    turn_again : (ms : List Moment) × Trail IsCalm again ms second.sent_a
+    turn_again = sends_trail A second.turn_a.2.0 again second.sent_a second.turn_a.2.1
+
+    is_there : (m : Moment) → Among m (first.sent_b ∷ first.moments) → Among m (lost_b ∷ turn.0 ++ first.moments)
+    is_there m (inl is) = subst (λ x. Among x (lost_b ∷ turn.0 ++ first.moments)) (sym is) (Among_left (lost_b ∷ turn.0) first.moments first.sent_b (last_of IsCalm turn.0 lost_b first.sent_b turn.1))
+    is_there m (inr later) = Among_right (lost_b ∷ turn.0) first.moments m later
+
+    grows : (s : Side) → (score (end_of lost_b.ends s) ≤ score (end_of mid.ends s)) × (score (end_of mid.ends s) ≤ score (end_of second.sent_a.ends s))
+    grows s = (
+      (leads a b s (turn.0 ++ first.moments) lost_b mid to_lost_b.0 to_mid).1.grows,
+      subst (λ e. score e ≤ score (end_of second.sent_a.ends s)) (same s) (leads a b s turn_again.0 again second.sent_a r_again turn_again.1).1.grows,
+    )
+
+    legs : (s : Side) → score (end_of mid.ends s) ≤ score (end_of lost_b.ends s) → score (end_of second.sent_a.ends s) ≤ score (end_of mid.ends s) → Legs a b s lost_b mid again second.sent_a
+    legs s even_first even =
+        record {
+          begins = to_lost_b.0;
+          goes_on = r_again;
+          same = same s;
+          firsts = turn.0 ++ first.moments;
+          seconds = turn_again.0;
+          first = to_mid;
+          second = turn_again.1;
+          landed_first = landed_first s;
+          landed = landed s;
+          spent = spent s;
+          read = let (m, among, least) = first.read s in (m, is_there m among, least);
+          unclosed = unclosed;
+          even_first = even_first;
+          even = even;
+        }
+      where
+        landed_first : (s : Side) (k : ℕ) (p : Piece) → k < (end_of lost_b.ends s).next → IsIn (end_of mid.ends s).outstanding k p → ⊥
+        landed_first A k p lt here = a_clear_mid k p here
+        landed_first B k p lt here = (let (low, high) = b_owed.from k p here in omega (arith, lt, low))
+
+        landed : (s : Side) (k : ℕ) (p : Piece) → k < (end_of mid.ends s).next → IsIn (end_of second.sent_a.ends s).outstanding k p → ⊥
+        landed A k p lt here = (let (low, high) = a_more.from k p here in let is = ap (λ (e : End). e.next) (same A) in omega (arith, lt, low, is))
+        landed B k p lt here = b_clear k p here
+
+        spent : (s : Side) → Sometime (λ w. HasMore (end_of w s) → ⊥) (lost_b ∷ turn.0 ++ first.moments)
+        spent A = (lost_b, inl refl, λ more. sends_all A first.turn_a.2.0 lost_a first.sent_a first.turn_a.2.1 (inr (subst HasMore b_lost.there more)))
+        spent B = (first.sent_b, is_there first.sent_b (inl refl), λ more. sends_all B first.turn_b.2.0 lost_b first.sent_b first.turn_b.2.1 (inr more))
+
+    pub turns_raise : (BothRest mid.ends → ⊥) → both first.sent_a.ends < both second.sent_a.ends
+    turns_raise begins =
+        elim (cases_lt (both first.sent_a.ends) (both second.sent_a.ends)) [
+          | inl lt ↦ lt
+          | inr ge ↦ (
+              let (a1, a2) = grows A in
+              let (b1, b2) = grows B in
+              let up = to_lost_b.1 in
+              absurd (begins (λ s. rests a b s lost_b mid again second.sent_a (legs s (by s (omega (arith, ge, up, a1, b1, a2, b2)) (omega (arith, ge, up, a1, b1, a2, b2))) (by_new s (omega (arith, ge, up, a1, b1, a2, b2)) (omega (arith, ge, up, a1, b1, a2, b2)))))))
+        ]
+      where
+        by : (s : Side) → score mid.ends.a ≤ score lost_b.ends.a → score mid.ends.b ≤ score lost_b.ends.b → score (end_of mid.ends s) ≤ score (end_of lost_b.ends s)
+        by A x y = x
+        by B x y = y
+
+        by_new : (s : Side) → score second.sent_a.ends.a ≤ score mid.ends.a → score second.sent_a.ends.b ≤ score mid.ends.b → score (end_of second.sent_a.ends s) ≤ score (end_of mid.ends s)
+        by_new A x y = x
+        by_new B x y = y
+
+  -- Courses of rounds
+
+  -- what comes before: anything, or a round
+  abbrev Before : Moment → Type 0
+  Before old = Unit {0} ⊎ ((past : Moment) × IsReached a b past × Round past old)
+
+  abbrev level : (old : Moment) → Before old → ℕ
+  level old (inl u) = both old.ends
+  level old (inr (past, r, round)) = both round.sent_a.ends + 1
+
+  ends_up : (old new : Moment) → IsReached a b old → (r : Round old new) → IsReached a b new × (both old.ends ≤ both r.sent_a.ends) × (both r.sent_a.ends ≤ both new.ends)
+  ends_up old new r round =
+      let (at_sent, low) = led old round.sent_a r (turn_leads A old round.sent_a round.turn_a) in
+      let (there, high) = led round.sent_a new at_sent (round_ends old new round) in
+      (there, low, high)
+
+  level_low : (old : Moment) (before : Before old) → level old before ≤ both old.ends + 1
+  level_low old (inl u) = omega arith
+  level_low old (inr (past, r, round)) = (let (there, low, high) = ends_up past old r round in omega (arith, high))
+
+  level_grows : (old new : Moment) (before : Before old) → IsReached a b old → BothOpen old.ends → (BothRest old.ends → ⊥) → (round : Round old new) → level old before ≤ both round.sent_a.ends
+  level_grows old new (inl u) r unclosed begins round = (let (there, low, high) = ends_up old new r round in low)
+  level_grows old new (inr (past, was, first)) r unclosed begins round = (let grew = turns_raise past old new was first round unclosed begins in omega (arith, grew))
+
+  courses : (parts : List Bool) (old new : Moment) (before : Before old) → IsReached a b old → Course Round Rests parts old new → BothOpen new.ends →
+      IsReached a b new × (steps_in parts + level old before ≤ both new.ends + stretches_in parts + 1)
+  courses [] old new before r is open_end =
+      let low = level_low old before in
+      subst (λ m. IsReached a b m × (0 + level old before ≤ both m.ends + 0 + 1)) (sym is) (r, omega (arith, low))
+  courses (true ∷ parts) old new before r (begins, mid, round, rest) open_end =
+      let (at_mid, low, high) = ends_up old mid r round in
+      let grew = level_grows old mid before r (course_open Round round_leads Rests (true ∷ parts) old new (begins, mid, round, rest) open_end) begins round in
+      let (there, later) = courses parts mid new (inr (old, r, round)) at_mid rest open_end in
+      (there, omega (arith, grew, later))
+  courses (false ∷ parts) old new before r (ms, next, stretch, rest) open_end =
+      let low = level_low old before in
+      let (at_next, more) = trail a b (λ call. ⊤) ms old next r stretch in
+      let (there, later) = courses parts next new (inl tt) at_next rest open_end in
+      (there, omega (arith, low, more, later))
+
+pub rest_comes_in_rounds : RestComesInRounds
+rest_comes_in_rounds a b parts old new r course open_end =
+    let (there, counted) = courses a b parts old new (inl tt) r course open_end in
+    let few = is_below a b new.log new.ends there.run there.told in
+    omega (arith, counted, few)
+
+pub all_comes_in_rounds : AllComesInRounds
+all_comes_in_rounds a b parts old new r course open_end = rest_comes_in_rounds a b parts old new r (rest_misses a b Round round_leads parts old new r course) open_end

@@ -1,0 +1,295 @@
+-- Turns: what one end sends is acknowledged once the other's turn is over.
+use Rattle.std.proofs.Common.{◌≡◌, ℕ, zero, suc, ◌<◌, Bool, true, false, List, [], ◌∷◌, ◌++◌, ◌⊎◌, length, slice_get, Option, Some, None, is_some, refl, sym, ap, ◌∙◌, subst, arith, inl, inr}
+use Rattle.std.specs.Prelude.{⊤, Result, Ok, Err, nat_lt, MatchBool}
+use Rattle.std.specs.FinMap as fmap
+use Rattle.std.specs.FinSet as set
+use Rattle.std.proofs.lemmas.Bool.{false≢true, true≢false, or_left, or_right}
+use Rattle.std.proofs.lemmas.List.{length-map}
+use Rattle.std.proofs.lemmas.Option.{same_Some}
+use Rattle.qs_send.specs.Records.{Among}
+use Rattle.qs_send.specs.declared.piece.Piece.{Piece}
+use Rattle.qs_send.specs.declared.piece.Piece.TheVariants.{Data, Told}
+use Rattle.qs_calls.specs.declared.closing.Closed.{Closed}
+use Rattle.qs_calls.specs.declared.closing.Closed.TheVariants as closings
+use Rattle.qs_calls.specs.declared.closing.Closer.{Closer}
+use Rattle.qs_calls.specs.declared.closing.Closer.TheVariants.{Us, Peer}
+use Rattle.qs_calls.specs.declared.closing.Closing.{Closing}
+use Rattle.qs_calls.specs.declared.closing.Received.{Received}
+use Rattle.qs_calls.specs.declared.closing.Received.TheVariants as received
+use Rattle.qs_calls.specs.declared.closing.Received.TheVariants.{Done}
+use Rattle.qs_calls.specs.declared.event.Side.{Side}
+use Rattle.qs_calls.specs.declared.event.Side.TheVariants.{A, B}
+use Rattle.qs_calls.specs.declared.making.Made.{Made}
+use Rattle.qs_calls.specs.declared.making.MakeFault.{MakeFault}
+use Rattle.qs_calls.specs.declared.making.LostFault.{LostFault}
+use Rattle.qs_calls.specs.declared.settings.Settings.{Settings}
+use Rattle.qs_machine.specs.Ends.{End}
+use Rattle.qs_machine.specs.Seen.{Seen, Plain, seen_all, asks_ack, any_asks}
+use Rattle.qs_machine.specs.Plains.{frames_in, is_plain}
+use Rattle.qs_machine.specs.Ways.{IsNew, is_ack}
+use Rattle.qs_machine.specs.Credit.{settle}
+use Rattle.qs_machine.specs.FrameStep.{frames_taken}
+use Rattle.qs_machine.specs.Recording.{recorded}
+use Rattle.qs_machine.specs.Due.{Sendable}
+use Rattle.qs_machine.specs.Asking.{IsNextOutstanding}
+use Rattle.qs_machine.specs.Making.{IsMade, MakeAt, LoseStep, lose_refusal, losses, make_refusal}
+use Rattle.qs_machine.specs.Receiving.{ReceiveStep, ReceiveBy, TakesPayload, told_receive}
+use Rattle.qs_machine.specs.EndStep.{Receive, Make, Lose}
+use Rattle.qs_machine.proofs.Plains.{differ_covers, differ_turned}
+use Rattle.qs_machine.proofs.Ways.{payload_frames}
+use Rattle.qs_runs.specs.Logs.{History, other, made, payload, Effect}
+use Rattle.qs_runs.specs.Pasts.{PieceOf, past}
+use Rattle.qs_runs.specs.Worlds.{end_of, IsPayload}
+use Rattle.qs_runs.proofs.Histories.{made_here, payload_seen, heard_some, theirs_mine}
+use Rattle.qs_runs.proofs.Lists.{slice_get-last}
+use Rattle.qs_runs.proofs.Runs.{run_keeps, processed_made}
+use Rattle.qs_runs.proofs.Standing.{certain_cases}
+use Rattle.qs_runs.proofs.Wire.{text_seen}
+use Rattle.qs_progress.specs.Laps.{Moment, IsCalm, Trail}
+use Rattle.qs_progress.specs.Comes.{IsReached}
+use Rattle.qs_progress.specs.Outstanding.{IsIn}
+use Rattle.qs_progress.specs.Rounds.{Happens, Loses, Sends}
+use Rattle.qs_progress.proofs.Even.{index_below}
+use Rattle.qs_progress.proofs.Trails.{reached}
+use Rattle.qs_progress.proofs.Passing.{Passed, Owes, IsClear, named_top, owes_more, answers, still_clear}
+
+-- Losses
+
+-- an end and its peer, once packets of it were lost
+pub record Lost (e f : End) : Type 0 where
+  pub done : f.done ≡ e.done
+  pub due : f.ack_due ≡ e.ack_due
+  pub same : IsClear e → f ≡ e
+
+lost_same : (e : End) → Lost e e
+lost_same e = record { done = refl; due = refl; same = λ clear. refl }
+
+losses_leave : (k : ℕ) (ps : List Piece) (e : End) → ((losses k ps e).done ≡ e.done) × ((losses k ps e).ack_due ≡ e.ack_due)
+unfolding losses
+losses_leave k [] e = (refl, refl)
+losses_leave k (p ∷ ps) e = losses_leave k ps _
+
+none_lost : (e : End) (k : ℕ) (ps : List Piece) → fmap.get e.outstanding k ≡ Some ps → IsClear e → losses k ps e ≡ e
+unfolding losses
+none_lost e k [] there clear = refl
+none_lost e k (p ∷ ps) there clear = absurd (clear k p (p ∷ ps, there, inl refl))
+
+one_lost : (e f : End) (k : ℕ) → LoseStep e k (Ok tt) f → Lost e f
+one_lost e f k step =
+    elim (certain_cases (lose_refusal e k) e (Ok tt) f _ step) [
+      | inl (fault, is, same) ↦ absurd (false≢true (sym (ap is_ok is)))
+      | inr (allowed, (ps, there, told)) ↦ elim told [
+        | inr (moved, lt, is, same) ↦ absurd (false≢true (sym (ap is_ok is)))
+        | inl (ok, is) ↦ record {
+          done = ap (λ (x : End). x.done) is ∙ (losses_leave k ps e).0;
+          due = ap (λ (x : End). x.ack_due) is ∙ (losses_leave k ps e).1;
+          same = λ clear. is ∙ none_lost e k ps there clear;
+        }
+      ]
+    ]
+  where
+    is_ok : Result (Unit {0}) LostFault → Bool
+    is_ok (Ok u) = true
+    is_ok (Err fault) = false
+
+-- after its losses nothing of an end is outstanding, and the other end is as it was
+pub record HasLost (s : Side) (old new : Moment) : Type 0 where
+  pub here : Lost (end_of old.ends s) (end_of new.ends s)
+  pub there : end_of new.ends (other s) ≡ end_of old.ends (other s)
+  pub clear : IsClear (end_of new.ends s)
+
+pub loses : (s : Side) (n : ℕ) (old new : Moment) → Loses s n old new → HasLost s old new
+loses s zero old new (is, none) =
+    subst (HasLost s old) (sym is)
+    (record { here = lost_same (end_of old.ends s); there = refl; clear = λ k p (ps, at, among). true≢false (sym (ap is_some at) ∙ none k (omega arith)) })
+loses s (suc n) old new (k, mid, (logged, step), rest) =
+    let one = one_lost (end_of old.ends s) (end_of mid.ends s) k step.step in
+    let more = loses s n mid new rest in
+    record {
+      here = record {
+        done = more.here.done ∙ one.done;
+        due = more.here.due ∙ one.due;
+        same = λ clear. let first = one.same clear in more.here.same (subst IsClear (sym first) clear) ∙ first;
+      };
+      there = more.there ∙ step.still;
+      clear = more.clear;
+    }
+
+pub loses_none : (s : Side) (n : ℕ) (old new : Moment) → Loses s n old new → IsNextOutstanding (end_of new.ends s).outstanding 0 None
+loses_none s zero old new (is, none) = subst (λ (m : Moment). IsNextOutstanding (end_of m.ends s).outstanding 0 None) (sym is) none
+loses_none s (suc n) old new (k, mid, happens, rest) = loses_none s n mid new rest
+
+pub loses_trail : (s : Side) (n : ℕ) (old new : Moment) → Loses s n old new → (ms : List Moment) × Trail (λ call. ⊤) old ms new
+loses_trail s zero old new (is, none) = ([], is)
+loses_trail s (suc n) old new (k, mid, (logged, step), rest) =
+    let (ms, trail) = loses_trail s n mid new rest in
+    (mid ∷ ms, ((record { end = s; call = Lose k; answer = Ok tt }, tt, logged, step), trail))
+
+-- What an end sends
+
+-- it is a trail
+pub sends_trail : (s : Side) (n : ℕ) (old new : Moment) → Sends s n old new → (ms : List Moment) × Trail IsCalm old ms new
+sends_trail s zero old new (is, none) = ([], is)
+sends_trail s (suc n) old new (mid, inl (first, delay, room, made_it, text, bytes, at, (logged, make), (logged_too, receive)), rest) =
+    let (ms, trail) = sends_trail s n mid new rest in
+    (at ∷ mid ∷ ms, ((_, tt, logged, make), ((_, tt, logged_too, receive), trail)))
+sends_trail s (suc n) old new (mid, inr (x, calm, (logged, step), same), rest) =
+    let (ms, trail) = sends_trail s n mid new rest in
+    (mid ∷ ms, ((x, calm, logged, step), trail))
+
+-- and ends where nothing may go
+pub sends_all : (s : Side) (n : ℕ) (old new : Moment) → Sends s n old new → Sendable (end_of new.ends s) → ⊥
+sends_all s zero old new (is, none) = subst (λ (m : Moment). Sendable (end_of m.ends s) → ⊥) (sym is) none
+sends_all s (suc n) old new (mid, passes, rest) = sends_all s n mid new rest
+
+-- What is received
+
+abbrev is_done : Result Received Closing → Bool
+is_done (Ok Done) = true
+is_done r = false
+
+-- a payload that is taken in whole is a new one, and its end is open
+new_payload : (e new : End) (k : ℕ) (bytes : List ℕ) → ReceiveStep e k bytes (Ok Done) new → IsNew e k
+new_payload e new k bytes step = by_closed e.closed refl step
+  where
+    never : (c : Closer) (code : ℕ) → is_done (told_receive c code) ≡ false
+    never Us code = refl
+    never Peer code = refl
+
+    Taken : Type 0
+    Taken = (mid : End) × TakesPayload k bytes e (Ok Done) mid × (new ≡ settle mid)
+
+    by_kept : e.closed ≡ None → nat_lt k e.floor ≡ false → (b : Bool) → set.contains e.done k ≡ b → MatchBool b ((◌≡◌ {A = Result Received Closing} (Ok Done) (Ok received.Duplicate)) × (new ≡ e)) Taken → IsNew e k
+    by_kept unclosed above true is again = absurd (false≢true (sym (ap is_done again.0)))
+    by_kept unclosed above false is taken = record { unclosed = unclosed; above = above; unkept = is }
+
+    by_floor : e.closed ≡ None → (b : Bool) → nat_lt k e.floor ≡ b → MatchBool b ((◌≡◌ {A = Result Received Closing} (Ok Done) (Ok received.BelowFloor)) × (new ≡ e)) (MatchBool (set.contains e.done k) ((◌≡◌ {A = Result Received Closing} (Ok Done) (Ok received.Duplicate)) × (new ≡ e)) Taken) → IsNew e k
+    by_floor unclosed true is low = absurd (false≢true (sym (ap is_done low.0)))
+    by_floor unclosed false is rest = by_kept unclosed is (set.contains e.done k) refl rest
+
+    by_closed : (o : Option Closed) → e.closed ≡ o → ReceiveBy o k bytes e (Ok Done) new → IsNew e k
+    by_closed None is rest = by_floor is (nat_lt k e.floor) refl rest
+    by_closed (Some (closings.ByUs closing)) is closed = absurd (false≢true (sym (ap is_done closed.0)))
+    by_closed (Some (closings.ByPeer code)) is closed = absurd (false≢true (sym (ap is_done closed.0)))
+    by_closed (Some (closings.Told close)) is closed = absurd (false≢true (sym (ap is_done closed.0 ∙ never close.by close.code)))
+
+pub is_made : (o : Option MakeFault) (e new : End) (first delay room : ℕ) (made : Made) (text : List ℕ) → MakeAt o e first delay room (Ok (Some made)) text new → IsMade e first delay room made text new
+is_made None e new first delay room made text step = step
+is_made (Some fault) e new first delay room made text step = absurd (false≢true (sym (ap is_ok step.0)))
+  where
+    is_ok : Result (Option Made) MakeFault → Bool
+    is_ok (Ok m) = true
+    is_ok (Err fault) = false
+
+any_among : (f : Seen) (fs : List Seen) → Among f fs → asks_ack f ≡ true → any_asks fs ≡ true
+any_among f [] among asks = absurd among
+any_among f (g ∷ fs) (inl is) asks = or_left _ _ (ap asks_ack (sym is) ∙ asks)
+any_among f (g ∷ fs) (inr later) asks = or_right (asks_ack g) _ (any_among f fs later asks)
+
+other_twice : (s : Side) → other (other s) ≡ s
+other_twice A = refl
+other_twice B = refl
+
+-- In a run
+
+module _ (a b : Settings) where
+  -- what an end processed is below the next number of its peer
+  pub below_next : (m : Moment) → IsReached a b m → (s : Side) (k : ℕ) → set.contains (end_of m.ends (other s)).done k ≡ true → k < (end_of m.ends s).next
+  below_next m r s k is =
+      let ok = run_keeps a b m.log m.ends r.run in
+      let (fs, there) = processed_made a b m.log m.ends ok (other s) k ((ok.ends (other s)).packets.is_done k is) in
+      let lt = index_below (past s m.log).mine k fs (ap (λ ps. slice_get ps k) (sym (theirs_mine s m.log)) ∙ there) in
+      omega (arith, lt, (ok.ends s).packets.count)
+
+  module _ (s : Side) where
+    -- the text of the packet that was just made
+    just_made : (h : History) (first delay room : ℕ) (made_it : Made) (text : List ℕ) → made_it.number ≡ length (made s h)
+        → payload s made_it.number (record { end = s; call = Make first delay room; answer = (Ok (Some made_it), text) } ∷ h) ≡ Some text
+    just_made h first delay room made_it text is =
+        ap (λ ts. slice_get ts made_it.number) (made_here (record { end = s; call = Make first delay room; answer = (Ok (Some made_it), text) }) h)
+        ∙ ap (slice_get (made s h ++ text ∷ [])) is
+        ∙ slice_get-last (made s h) text
+
+    -- what stood in the packet asks for an ACK
+    stood_asks : (h : History) (k : ℕ) (p : Piece) (text bytes : List ℕ) → payload s k h ≡ Some text → PieceOf (past s h).mine k p → ((f : Seen) → Among f (frames_in text) → is_plain f ≡ false → Among f (frames_in bytes)) → any_asks (frames_in bytes) ≡ true
+    stood_asks h k (Data n c) text bytes is (data_bytes, (fs, at, among), len) covers =
+        any_among _ (frames_in bytes) (covers _ (subst (Among _) (same_Some fs (frames_in text) (sym at ∙ payload_seen s k h text is)) among) refl) refl
+    stood_asks h k (Told i) text bytes is (fs, at, among) covers =
+        any_among _ (frames_in bytes) (covers _ (subst (Among _) (same_Some fs (frames_in text) (sym at ∙ payload_seen s k h text is)) among) refl) refl
+
+    passed : (old mid new : Moment) (first delay room : ℕ) (made_it : Made) (text bytes : List ℕ) → IsReached a b old
+        → Happens (record { end = s; call = Make first delay room; answer = (Ok (Some made_it), text) }) old mid
+        → Happens (record { end = other s; call = Receive made_it.number bytes; answer = Ok Done }) mid new
+        → IsReached a b new × Passed (end_of old.ends s) (end_of new.ends s) (end_of old.ends (other s)) (end_of new.ends (other s))
+    passed old mid new first delay room made_it text bytes r (logged, make) (logged_too, receive) =
+        let e = end_of old.ends s in
+        let f = end_of mid.ends (other s) in
+        let it : IsMade e first delay room made_it text (end_of mid.ends s) = is_made (make_refusal e) e (end_of mid.ends s) first delay room made_it text make.step in
+        let (last, filled, ends) = it.lawful.filled in
+        let r_mid = reached a b old mid _ r logged make in
+        let r_new = reached a b mid new _ r_mid logged_too receive in
+        let ok = run_keeps a b old.log old.ends r.run in
+        let ok_mid = run_keeps a b mid.log mid.ends r_mid.run in
+        let fresh = new_payload f (end_of new.ends (other s)) made_it.number bytes receive.step in
+        let heard : IsPayload mid.log (other (other s)) made_it.number bytes = heard_some mid.log mid.ends (other s) (end_of new.ends (other s)) (Receive made_it.number bytes) (Ok Done) fresh.unclosed (λ none. false≢true (sym (ap is_some_effect none))) (receive.may fresh.unclosed) receive.step in
+        let (sent, is, differ) = subst (λ t. IsPayload mid.log t made_it.number bytes) (other_twice s) heard in
+        let text_is : sent ≡ text = same_Some sent text (sym is ∙ ap (payload s made_it.number) logged ∙ just_made old.log first delay room made_it text (it.number ∙ (ok.ends s).packets.count ∙ length-map (made s old.log) frames_in)) in
+        let (fine, faultless, took) = payload_frames f (end_of new.ends (other s)) made_it.number bytes fresh receive.step in
+        let covers : (g : Seen) → Among g (frames_in sent) → is_plain g ≡ false → Among g (frames_in bytes) = λ g among unplain. elim (differ_covers sent bytes (differ_turned bytes sent differ) g among) [ inl there ↦ there | inr plain ↦ absurd (true≢false (sym plain ∙ unplain)) ] in
+        let seen_is : frames_in sent ≡ seen_all it.frames = ap frames_in text_is ∙ text_seen delay it.frames text it.lawful.some it.spells in
+        let same : end_of new.ends s ≡ end_of mid.ends s = subst (λ t. end_of new.ends t ≡ end_of mid.ends t) (other_twice s) receive.still in (
+          r_new,
+          subst (λ x. Passed e (end_of new.ends s) x (end_of new.ends (other s))) make.still
+              (record {
+                frames = seen_all it.frames;
+                last = last;
+                filled = filled;
+                made = same ∙ it.after ∙ ap settle ends;
+                names = λ g at among may. named_top e at delay room it.frames it.spells.fits it.acks g among may;
+                came = frames_in bytes;
+                fine = fine;
+                took = subst (λ k. end_of new.ends (other s) ≡ recorded k (any_asks (frames_in bytes)) (settle (frames_taken (frames_in bytes) f))) it.number took;
+                acks = λ g among is. covers g (subst (Among g) (sym seen_is) among) (no_plain g is);
+                asks = λ p here.
+                    let (ps, there, in_ps) = subst (λ (x : End). IsIn x.outstanding e.next p) same here in
+                    stood_asks mid.log e.next p sent bytes (ap (λ k. payload s k mid.log) (sym it.number) ∙ is) ((ok_mid.ends s).packets.records e.next ps p there in_ps) covers;
+                sound = ok_mid.sound (other s);
+                sent = ok_mid.sent (other s);
+                below = λ k there. below_next old r s k (subst (λ (x : End). set.contains x.done k ≡ true) make.still there);
+                below_then = below_next new r_new s;
+              }),
+        )
+      where
+        is_some_effect : List Effect → Bool
+        is_some_effect [] = false
+        is_some_effect (x ∷ xs) = true
+
+        no_plain : (g : Seen) → is_ack g ≡ true → is_plain g ≡ false
+        no_plain (Plain asks) is = absurd (false≢true is)
+        no_plain g is = refl
+
+    -- The turn of an end: what the other end owes it grows
+    pub sends : (n : ℕ) (old new : Moment) (lo : ℕ) → IsReached a b old → Sends s n old new → Owes lo (end_of old.ends s).next (end_of old.ends s) (end_of old.ends (other s))
+        → IsReached a b new × Owes lo (end_of new.ends s).next (end_of new.ends s) (end_of new.ends (other s))
+    sends zero old new lo r (is, none) owes = subst (λ (m : Moment). IsReached a b m × Owes lo (end_of m.ends s).next (end_of m.ends s) (end_of m.ends (other s))) (sym is) (r, owes)
+    sends (suc n) old new lo r (mid, inl (first, delay, room, made_it, text, bytes, at, make, receive), rest) owes =
+        let (there, x) = passed old at mid first delay room made_it text bytes r make receive in
+        sends n mid new lo there rest (owes_more (end_of old.ends s) (end_of mid.ends s) (end_of old.ends (other s)) (end_of mid.ends (other s)) x lo owes)
+    sends (suc n) old new lo r (mid, inr (x, calm, (logged, step), same), rest) owes =
+        sends n mid new lo (reached a b old mid x r logged step) rest (subst (λ w. Owes lo (end_of w s).next (end_of w s) (end_of w (other s))) (sym same) owes)
+
+    -- and what it owes the other it tells
+    abbrev IsTold : ℕ → ℕ → Moment → Type 0
+    IsTold lo hi m = Owes lo hi (end_of m.ends (other s)) (end_of m.ends s) ⊎ IsClear (end_of m.ends (other s))
+
+    pub tells : (n : ℕ) (old new : Moment) (lo hi : ℕ) → IsReached a b old → Sends s n old new → IsTold lo hi old → IsClear (end_of new.ends (other s))
+    tells zero old new lo hi r (is, none) (inl owes) = subst (λ (m : Moment). IsClear (end_of m.ends (other s))) (sym is) (λ k p here. none (inl (owes.due k p here)))
+    tells zero old new lo hi r (is, none) (inr clear) = subst (λ (m : Moment). IsClear (end_of m.ends (other s))) (sym is) clear
+    tells (suc n) old new lo hi r (mid, inl (first, delay, room, made_it, text, bytes, at, make, receive), rest) told =
+        let (there, x) = passed old at mid first delay room made_it text bytes r make receive in
+        tells n mid new lo hi there rest (elim told [
+          | inl owes ↦ answers (end_of old.ends s) (end_of mid.ends s) (end_of old.ends (other s)) (end_of mid.ends (other s)) x lo hi owes
+          | inr clear ↦ inr (still_clear (end_of old.ends s) (end_of mid.ends s) (end_of old.ends (other s)) (end_of mid.ends (other s)) x clear)
+        ])
+    tells (suc n) old new lo hi r (mid, inr (x, calm, (logged, step), same), rest) told =
+        tells n mid new lo hi (reached a b old mid x r logged step) rest (subst (λ w. Owes lo hi (end_of w (other s)) (end_of w s) ⊎ IsClear (end_of w (other s))) (sym same) told)

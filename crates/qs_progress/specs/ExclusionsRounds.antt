@@ -1,0 +1,39 @@
+-- Of laws.
+-- What a round is, and what none is for want of each of its parts. The whole file is ours.
+use Rattle.std.specs.Prelude.{◌≡◌, ℕ, true, List, [], Some, Ok}
+use Rattle.std.specs.FinMap as fmap
+use Rattle.qs_calls.specs.declared.closing.Received.TheVariants.{NoMemory}
+use Rattle.qs_calls.specs.declared.event.Side.{Side}
+use Rattle.qs_calls.specs.declared.making.Made.{Made}
+use Rattle.qs_machine.specs.Due.{Sendable}
+use Rattle.qs_machine.specs.EndStep.{Call, Receive, Make}
+use Rattle.qs_machine.specs.News.{IsReadable}
+use Rattle.qs_runs.specs.Logs.{Happening, other}
+use Rattle.qs_runs.specs.Worlds.{end_of}
+use Rattle.qs_progress.specs.Laps.{Moment, IsCalm}
+use Rattle.qs_progress.specs.Rounds.{Happens, Passes, Turn, IsRead, Round}
+use Rattle.qs_progress.specs.ExclusionsLaps.{before, after}
+
+-- a packet was made
+abbrev pub makes : (s : Side) (first delay room : ℕ) → Made → List ℕ → Happening
+makes s first delay room made text = record { end = s; call = Make first delay room; answer = (Ok (Some made), text) }
+
+pub record RoundExclusions : Type 0 where
+  -- a round: nothing is outstanding, nothing may go, and a reader is told the end
+  pub reads : Round before after
+  -- none is one where an end begins to send while a packet of it is outstanding
+  pub outstanding : (s : Side) (old new : Moment) (turn : Turn s old new) (k : ℕ) → fmap.contains_key (end_of turn.0.ends s).outstanding k ≡ true → ⊥
+  -- or leaves off while something may go
+  pub more : (s : Side) (old new : Moment) → Turn s old new → Sendable (end_of new.ends s) → ⊥
+  -- where a packet that is made doesn't come
+  pub comes : (s : Side) (first delay room : ℕ) (made : Made) (text : List ℕ) (old new : Moment) → Happens (makes s first delay room made text) old new → Passes s old new → ⊥
+  -- or isn't taken in whole
+  pub whole : (s : Side) (first delay room : ℕ) (made : Made) (text bytes : List ℕ) (old mid new : Moment) → Happens (makes s first delay room made text) old mid
+      → Happens (record { end = other s; call = Receive made.number bytes; answer = Ok NoMemory }) mid new → Passes s old new → ⊥
+  -- where anything is lost, asked for, set or closed as an end sends
+  pub asks : (s : Side) (x : Happening) (old new : Moment) → Happens x old new → Passes s old new → IsCalm x.call
+  -- or as they read, or a packet is made then
+  pub reads_only : (call : Call) → IsRead call → IsCalm call
+  pub makes_none : (first delay room : ℕ) → IsRead (Make first delay room) → ⊥
+  -- where a reader has something left to read
+  pub unread : (old new : Moment) (r : Round old new) (s : Side) (n : ℕ) → r.moments ≡ [] → IsReadable (end_of new.ends s) n → ⊥

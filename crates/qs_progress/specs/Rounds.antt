@@ -1,0 +1,57 @@
+-- Trusted.
+-- Rounds: each end in turn declares lost what is outstanding, and sends until nothing may go; each packet comes at once, and is taken in
+-- whole; and then both read. The whole file is ours: RFC 9000 has no rounds.
+use Rattle.std.specs.Prelude.{◌≡◌, ℕ, zero, suc, List, ◌∷◌, ◌⊎◌, None, Some, Ok, ⊤}
+use Rattle.qs_calls.specs.declared.closing.Received.TheVariants.{Done}
+use Rattle.qs_calls.specs.declared.event.Side.{Side}
+use Rattle.qs_calls.specs.declared.event.Side.TheVariants.{A, B}
+use Rattle.qs_calls.specs.declared.making.Made.{Made}
+use Rattle.qs_machine.specs.Asking.{IsNextOutstanding}
+use Rattle.qs_machine.specs.Due.{Sendable}
+use Rattle.qs_machine.specs.EndStep.{Call, ReadUpTo, Consume, Receive, Make, Lose}
+use Rattle.qs_machine.specs.News.{IsLeast, IsReadable}
+use Rattle.qs_runs.specs.Logs.{Happening, other}
+use Rattle.qs_runs.specs.Worlds.{end_of, WorldStep}
+use Rattle.qs_progress.specs.Laps.{Moment, IsCalm, Trail, Sometime}
+
+-- one call happened
+abbrev pub Happens : Happening → Moment → Moment → Type 0
+Happens x old new = (new.log ≡ x ∷ old.log) × WorldStep old.log old.ends x new.ends
+
+-- so many packets of an end are declared lost, and then none is outstanding (RFC 9000, section 13.3)
+abbrev pub Loses : Side → ℕ → Moment → Moment → Type 0
+Loses s zero old new = (new ≡ old) × IsNextOutstanding (end_of old.ends s).outstanding 0 None
+Loses s (suc n) old new = (k : ℕ) × (mid : Moment) × Happens (record { end = s; call = Lose k; answer = Ok tt }) old mid × Loses s n mid new
+
+-- a packet is made, comes to the other end and is taken in whole; or what happens changes neither end (RFC 9000, section 12.3)
+abbrev pub Passes : Side → Moment → Moment → Type 0
+Passes s old new =
+    ((first delay room : ℕ) × (made : Made) × (text bytes : List ℕ) × (mid : Moment)
+    × Happens (record { end = s; call = Make first delay room; answer = (Ok (Some made), text) }) old mid
+    × Happens (record { end = other s; call = Receive made.number bytes; answer = Ok Done }) mid new)
+    ⊎ ((x : Happening) × IsCalm x.call × Happens x old new × (new.ends ≡ old.ends))
+
+-- so many times, and then nothing may go, not even an ACK (RFC 9000, sections 13.2 and 13.3)
+abbrev pub Sends : Side → ℕ → Moment → Moment → Type 0
+Sends s zero old new = (new ≡ old) × (Sendable (end_of old.ends s) → ⊥)
+Sends s (suc n) old new = (mid : Moment) × Passes s old mid × Sends s n mid new
+
+-- the turn of an end: its losses, and then what it sends (RFC 9000, section 13.3)
+abbrev pub Turn : Side → Moment → Moment → Type 0
+Turn s old new = (mid : Moment) × ((n : ℕ) × Loses s n old mid) × ((n : ℕ) × Sends s n mid new)
+
+-- a read, into a slice or without a copy (RFC 9000, section 2.2)
+abbrev pub IsRead : Call → Type 0
+IsRead (ReadUpTo n size) = ⊤
+IsRead (Consume n most) = ⊤
+IsRead call = ⊥
+
+-- A round: A's turn and B's turn, and then both read, until at some moment each reader has nothing more to read.
+pub record Round (old new : Moment) : Type 0 where
+  pub sent_a : Moment
+  pub sent_b : Moment
+  pub moments : List Moment
+  pub turn_a : Turn A old sent_a
+  pub turn_b : Turn B sent_a sent_b
+  pub reads : Trail IsRead sent_b moments new
+  pub read : (s : Side) → Sometime (λ w. IsLeast (IsReadable (end_of w s)) 0 None) (sent_b ∷ moments)
