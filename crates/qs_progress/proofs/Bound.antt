@@ -21,7 +21,7 @@ use Rattle.qs_calls.specs.declared.settings.Settings.{Settings}
 use Rattle.qs_calls.specs.declared.event.Side.{Side}
 use Rattle.qs_calls.specs.declared.event.Side.TheVariants.{A, B}
 use Rattle.qs_machine.specs.Tables.{Tables, table, lookup, total}
-use Rattle.qs_machine.specs.Ends.{End, is_uni, is_own, role_bit, peer_type, first_send_limit, first_window}
+use Rattle.qs_machine.specs.Ends.{End, AckedItems, is_uni, is_own, role_bit, peer_type, first_send_limit, first_window}
 use Rattle.qs_machine.specs.Credit.{granted_streams, first_grant, all_taken, recv_ended, both_ended, ended}
 use Rattle.qs_machine.specs.Due.{known_count}
 use Rattle.qs_machine.specs.Seen.{Control}
@@ -141,7 +141,16 @@ first_of _ b x y z = refl
 
 -- One direction: side s sends, the other one receives
 
-module _ (a b : Settings) (h : History) (w : World) (ok : WorldOk a b h w) (told : (s : Side) → KnowsFirstLimits w s) where
+-- Each end as it is, or as if more of what was written were acknowledged, and of its items any
+
+abbrev pub AreWritten : World → (Side → Tables SendLane) → Type 0
+AreWritten w sends =
+    (s : Side) (n : ℕ) (m : SendLane) → lookup (sends s) n ≡ Some m → (l : SendLane) × (lookup (end_of w s).sends n ≡ Some l) × (m.limit ≡ l.limit) × ((q : ℕ) → set.contains m.acked q ≡ true → q < l.written)
+
+module _ (a b : Settings) (h : History) (w : World) (ok : WorldOk a b h w) (told : (s : Side) → KnowsFirstLimits w s) (sends : Side → Tables SendLane) (acked : Side → AckedItems) (written : AreWritten w sends) where
+  abbrev pub marked : Side → End
+  marked s = record (end_of w s) { sends = sends s; acked = acked s }
+
   module _ (s : Side) where
     abbrev here : End
     here = end_of w s
@@ -185,20 +194,26 @@ module _ (a b : Settings) (h : History) (w : World) (ok : WorldOk a b h w) (told
         go None none tells = absurd (none.no_limit l.limit tells)
         go (Some r) half tells = (let le = half.limit_told l.limit tells in omega (arith, le, first_limit n))
 
-    sent_few : (n : ℕ) → marks_of (sent_marks here n) (lookup here.sends n) ≤ bytes n + 4 * sending_one n + 2 * raised n
-    sent_few n = go (lookup here.sends n) refl
+    sent_few : (n : ℕ) → marks_of (sent_marks (marked s) n) (lookup (sends s) n) ≤ bytes n + 4 * sending_one n + 2 * raised n
+    sent_few n = go (lookup (sends s) n) refl
       where
-        go : (o : Option SendLane) → lookup here.sends n ≡ o → marks_of (sent_marks here n) o ≤ value (λ (l : SendLane). l.written) o + 4 * value (λ (l : SendLane). 1) o + 2 * raised n
+        go : (o : Option SendLane) → lookup (sends s) n ≡ o → marks_of (sent_marks (marked s) n) o ≤ bytes n + 4 * sending_one n + 2 * raised n
         go None is = omega arith
-        go (Some l) is =
+        go (Some m) is =
+            let (l, at, same, below) = written s n m is in
+            let here_is : bytes n ≡ l.written = ap (value (λ (x : SendLane). x.written)) at in
+            let one : sending_one n ≡ 1 = ap (value (λ (x : SendLane). 1)) at in
             omega (
               arith,
-              len_below l.acked l.written (acked_written (past s h).mine (past s h).theirs (past s h).tokens ((past s h).bytes n) n (first_send_limit here n) l (send_at n l is)),
-              one_most l.fin_acked,
-              one_most l.reset_acked,
-              one_most (is_some l.stopped || is_some l.was_reset),
-              limit_raised n l is,
-              told_few (first_send_limit here n) l.limit (is_done here.acked (StreamDataBlocked n l.limit)),
+              here_is,
+              one,
+              same,
+              len_below m.acked l.written below,
+              one_most m.fin_acked,
+              one_most m.reset_acked,
+              one_most (is_some m.stopped || is_some m.was_reset),
+              limit_raised n l at,
+              told_few (first_send_limit here n) m.limit (is_done (acked s) (StreamDataBlocked n m.limit)),
             )
 
     -- what came was written
@@ -228,11 +243,11 @@ module _ (a b : Settings) (h : History) (w : World) (ok : WorldOk a b h w) (told
     taken_below : (n : ℕ) (r : RecvLane) → lookup there.recvs n ≡ Some r → taken r ≤ bytes n
     taken_below n r is = cond_both (is_some r.reset_code || is_some r.stop_code) (highest r) r.arrived.read_count (λ k. k ≤ bytes n) (λ _. highest_below n r is) (λ _. read_below n r is)
 
-    got_few : (n : ℕ) → marks_of (got_marks there n) (lookup there.recvs n) ≤ 2 * bytes n + 4 * getting_one n + value (λ (r : RecvLane). one_if (not (is_own there n))) (lookup there.recvs n) + raised n
+    got_few : (n : ℕ) → marks_of (got_marks (marked (other s)) n) (lookup there.recvs n) ≤ 2 * bytes n + 4 * getting_one n + value (λ (r : RecvLane). one_if (not (is_own there n))) (lookup there.recvs n) + raised n
     got_few n = go (lookup there.recvs n) refl
       where
         go : (o : Option RecvLane) → lookup there.recvs n ≡ o
-            → marks_of (got_marks there n) o ≤ 2 * bytes n + 4 * value (λ (r : RecvLane). 1) o + value (λ (r : RecvLane). one_if (not (is_own there n))) o + value (λ (r : RecvLane). r.limit - first_window there n) o
+            → marks_of (got_marks (marked (other s)) n) o ≤ 2 * bytes n + 4 * value (λ (r : RecvLane). 1) o + value (λ (r : RecvLane). one_if (not (is_own there n))) o + value (λ (r : RecvLane). r.limit - first_window there n) o
         go None is = omega arith
         go (Some r) is =
             omega (
@@ -242,8 +257,8 @@ module _ (a b : Settings) (h : History) (w : World) (ok : WorldOk a b h w) (told
               one_most (is_some r.final_size),
               one_most (is_some r.reset_code),
               one_most r.told,
-              one_most (is_done there.acked (StopSending n 0)),
-              told_few (first_window there n + 1) r.limit (is_done there.acked (MaxStreamData n r.limit)),
+              one_most (is_done (acked (other s)) (StopSending n 0)),
+              told_few (first_window there n + 1) r.limit (is_done (acked (other s)) (MaxStreamData n r.limit)),
             )
 
     raised_few : (n : ℕ) → raised n ≤ bytes n + given n
@@ -262,10 +277,10 @@ module _ (a b : Settings) (h : History) (w : World) (ok : WorldOk a b h w) (told
         go n (Some r) is = taken_below n r is
 
     -- the part of the marks that this side knows, and the part that the other one was told
-    known_credit : (here.known_data - here.peer.max_data) + told_from here.peer.max_data here.known_data (is_done here.acked (DataBlocked here.known_data)) ≤ 2 * (there.granted - there.settings.conn_window) + 1
+    known_credit : (here.known_data - here.peer.max_data) + told_from here.peer.max_data here.known_data (is_done (acked s) (DataBlocked here.known_data)) ≤ 2 * (there.granted - there.settings.conn_window) + 1
     known_credit =
         let first : here.peer.max_data ≡ there.settings.conn_window = ap (λ x. x.max_data) (told s) in
-        omega (arith, first, (known_is_within_granted a b h w ok s).connection, told_few here.peer.max_data here.known_data (is_done here.acked (DataBlocked here.known_data)))
+        omega (arith, first, (known_is_within_granted a b h w ok s).connection, told_few here.peer.max_data here.known_data (is_done (acked s) (DataBlocked here.known_data)))
 
     known_within : (d : Dir) → known_count here d ≤ granted_streams there d
     known_within Bidi = (known_counts a b h w ok s).0
@@ -275,8 +290,8 @@ module _ (a b : Settings) (h : History) (w : World) (ok : WorldOk a b h w) (told
     first_count_is Bidi = ap (λ x. x.streams_bidi) (told s)
     first_count_is Uni = ap (λ x. x.streams_uni) (told s)
 
-    known_streams : (d : Dir) → (known_count here d - first_count here.peer d) + told_from (first_count here.peer d) (known_count here d) (is_done here.acked (StreamsBlocked d (known_count here d))) ≤ 2 * (granted_streams there d - first_grant there.settings d) + 1
-    known_streams d = omega (arith, first_count_is d, known_within d, told_few (first_count here.peer d) (known_count here d) (is_done here.acked (StreamsBlocked d (known_count here d))))
+    known_streams : (d : Dir) → (known_count here d - first_count here.peer d) + told_from (first_count here.peer d) (known_count here d) (is_done (acked s) (StreamsBlocked d (known_count here d))) ≤ 2 * (granted_streams there d - first_grant there.settings d) + 1
+    known_streams d = omega (arith, first_count_is d, known_within d, told_few (first_count here.peer d) (known_count here d) (is_done (acked s) (StreamsBlocked d (known_count here d))))
 
   -- Of one stream: what its owner opened bounds which halves are open
 
@@ -321,7 +336,7 @@ module _ (a b : Settings) (h : History) (w : World) (ok : WorldOk a b h w) (told
 
   module _ (n : ℕ) where
     abbrev both_marks : ℕ
-    both_marks = stream_marks w.a n + stream_marks w.b n
+    both_marks = stream_marks (marked A) n + stream_marks (marked B) n
 
     abbrev FewBy : ℕ → Type 0
     FewBy ones = both_marks ≤ 6 * bytes A n + 6 * bytes B n + 17 * ones + 3 * given A n + 3 * given B n
@@ -339,7 +354,7 @@ module _ (a b : Settings) (h : History) (w : World) (ok : WorldOk a b h w) (told
   -- Sums over the streams of a type
 
   abbrev many : ℕ
-  many = halves w.a + halves w.b
+  many = halves (marked A) + halves (marked B)
 
   abbrev over : (ℕ → ℕ) → ℕ → ℕ
   over f kind = sum_by (λ i. f (i * 4 + kind)) (range_with_len 0 many)
@@ -362,11 +377,11 @@ module _ (a b : Settings) (h : History) (w : World) (ok : WorldOk a b h w) (told
   longer e kind le = sum_grows (λ i. stream_marks e (i * 4 + kind)) (λ i. stream_marks e (i * 4 + kind)) 0 (halves e) many le (λ i. le_same (stream_marks e (i * 4 + kind)))
 
   type_few : (k : ℕ) → k < 4 → (ones : ℕ → ℕ) → ((i : ℕ) → FewBy (i * 4 + k) (ones i))
-      → type_marks w.a k + type_marks w.b k ≤ 6 * sum_by (λ (l : SendLane). l.written) (table w.a.sends k) + 6 * sum_by (λ (l : SendLane). l.written) (table w.b.sends k) + 17 * sum_by ones (range_with_len 0 many) + 3 * beyond_on w.a k + 3 * beyond_on w.b k
+      → type_marks (marked A) k + type_marks (marked B) k ≤ 6 * sum_by (λ (l : SendLane). l.written) (table w.a.sends k) + 6 * sum_by (λ (l : SendLane). l.written) (table w.b.sends k) + 17 * sum_by ones (range_with_len 0 many) + 3 * beyond_on w.a k + 3 * beyond_on w.b k
   type_few k lt ones few =
       let sums = sums_few (λ i. both_marks (i * 4 + k)) (λ i. bytes A (i * 4 + k)) (λ i. bytes B (i * 4 + k)) ones (λ i. given A (i * 4 + k)) (λ i. given B (i * 4 + k)) 0 many few in
-      let pair = sum_pair (λ i. stream_marks w.a (i * 4 + k)) (λ i. stream_marks w.b (i * 4 + k)) 0 many in
-      omega (arith, sums, pair, longer w.a k (omega arith), longer w.b k (omega arith), all_bytes A k lt, all_bytes B k lt, all_given A k lt, all_given B k lt)
+      let pair = sum_pair (λ i. stream_marks (marked A) (i * 4 + k)) (λ i. stream_marks (marked B) (i * 4 + k)) 0 many in
+      omega (arith, sums, pair, longer (marked A) k (omega arith), longer (marked B) k (omega arith), all_bytes A k lt, all_bytes B k lt, all_given A k lt, all_given B k lt)
 
   -- A is the client, and B the server
   role_a : w.a.role ≡ Client
@@ -382,11 +397,11 @@ module _ (a b : Settings) (h : History) (w : World) (ok : WorldOk a b h w) (told
   own_b k i lt odd = (λ j. kind_of k i lt j % 2 == role_bit (role_b j)) ∙ odd
 
   few_a : (k : ℕ) → k < 4 → (k % 2 == 0) ≡ true
-      → type_marks w.a k + type_marks w.b k ≤ 6 * sum_by (λ (l : SendLane). l.written) (table w.a.sends k) + 6 * sum_by (λ (l : SendLane). l.written) (table w.b.sends k) + 17 * length (table w.a.sends k) + 3 * beyond_on w.a k + 3 * beyond_on w.b k
+      → type_marks (marked A) k + type_marks (marked B) k ≤ 6 * sum_by (λ (l : SendLane). l.written) (table w.a.sends k) + 6 * sum_by (λ (l : SendLane). l.written) (table w.b.sends k) + 17 * length (table w.a.sends k) + 3 * beyond_on w.a k + 3 * beyond_on w.b k
   few_a k lt even = omega (arith, type_few k lt (λ i. sending_one A (i * 4 + k)) (λ i. stream_few_a (i * 4 + k) (own_a k i lt even)), all_ones A k lt)
 
   few_b : (k : ℕ) → k < 4 → (k % 2 == 1) ≡ true
-      → type_marks w.a k + type_marks w.b k ≤ 6 * sum_by (λ (l : SendLane). l.written) (table w.a.sends k) + 6 * sum_by (λ (l : SendLane). l.written) (table w.b.sends k) + 17 * length (table w.b.sends k) + 3 * beyond_on w.a k + 3 * beyond_on w.b k
+      → type_marks (marked A) k + type_marks (marked B) k ≤ 6 * sum_by (λ (l : SendLane). l.written) (table w.a.sends k) + 6 * sum_by (λ (l : SendLane). l.written) (table w.b.sends k) + 17 * length (table w.b.sends k) + 3 * beyond_on w.a k + 3 * beyond_on w.b k
   few_b k lt odd = omega (arith, type_few k lt (λ i. sending_one B (i * 4 + k)) (λ i. stream_few_b (i * 4 + k) (own_b k i lt odd)), all_ones B k lt)
 
   -- Counts of streams: what ended was opened
@@ -448,7 +463,7 @@ module _ (a b : Settings) (h : History) (w : World) (ok : WorldOk a b h w) (told
   abbrev all_types : End → ℕ
   all_types e = type_marks e 0 + type_marks e 1 + type_marks e 2 + type_marks e 3
 
-  types_few : all_types w.a + all_types w.b ≤ 6 * (written_at w.a + written_at w.b) + 17 * (streams_at w.a + streams_at w.b) + 3 * (lanes_beyond w.a + lanes_beyond w.b)
+  types_few : all_types (marked A) + all_types (marked B) ≤ 6 * (written_at w.a + written_at w.b) + 17 * (streams_at w.a + streams_at w.b) + 3 * (lanes_beyond w.a + lanes_beyond w.b)
   unfolding total
   types_few =
       let zeroth = few_a 0 (omega arith) refl in
@@ -460,8 +475,9 @@ module _ (a b : Settings) (h : History) (w : World) (ok : WorldOk a b h w) (told
   abbrev told_count : End → Dir → ℕ
   told_count e d = told_from (first_grant e.settings d + 1) (granted_streams e d) (is_done e.acked (MaxStreams d (granted_streams e d)))
 
-  told_counts : (e : End) (d : Dir) → told_count e d ≤ granted_streams e d - first_grant e.settings d
-  told_counts e d = (let few = told_few (first_grant e.settings d + 1) (granted_streams e d) (is_done e.acked (MaxStreams d (granted_streams e d))) in omega (arith, few))
+  told_counts : (s : Side) (d : Dir) → told_count (marked s) d ≤ granted_streams (end_of w s) d - first_grant (end_of w s).settings d
+  told_counts s Bidi = (let few = told_few ((end_of w s).settings.grant_bidi + 1) (end_of w s).granted_bidi (is_done (acked s) (MaxStreams Bidi (end_of w s).granted_bidi)) in omega (arith, few))
+  told_counts s Uni = (let few = told_few ((end_of w s).settings.grant_uni + 1) (end_of w s).granted_uni (is_done (acked s) (MaxStreams Uni (end_of w s).granted_uni)) in omega (arith, few))
 
   abbrev counts_beyond : End → ℕ
   counts_beyond e = (e.granted_bidi - (e.settings.grant_bidi + ended e Bidi)) + (e.granted_uni - (e.settings.grant_uni + ended e Uni))
@@ -471,7 +487,7 @@ module _ (a b : Settings) (h : History) (w : World) (ok : WorldOk a b h w) (told
   known_more s d = known_count (end_of w s) d - first_count (end_of w s).peer d
 
   abbrev blocked_count : Side → Dir → ℕ
-  blocked_count s d = told_from (first_count (end_of w s).peer d) (known_count (end_of w s) d) (is_done (end_of w s).acked (StreamsBlocked d (known_count (end_of w s) d)))
+  blocked_count s d = told_from (first_count (end_of w s).peer d) (known_count (end_of w s) d) (is_done (acked s) (StreamsBlocked d (known_count (end_of w s) d)))
 
   abbrev given_count : End → Dir → ℕ
   given_count e d = granted_streams e d - (first_grant e.settings d + ended e d)
@@ -482,19 +498,19 @@ module _ (a b : Settings) (h : History) (w : World) (ok : WorldOk a b h w) (told
   one_few : (t k f g e x : ℕ) → t ≤ g → k + f ≤ 2 * g + 1 → g ≤ e + x → t + k + f ≤ 3 * e + 3 * x + 1
   one_few t k f g e x a b c = omega (arith, a, b, c)
 
-  direction_few : (s : Side) (d : Dir) → told_count (end_of w (other s)) d + known_more s d + blocked_count s d ≤ 3 * ended (end_of w (other s)) d + 3 * given_count (end_of w (other s)) d + 1
+  direction_few : (s : Side) (d : Dir) → told_count (marked (other s)) d + known_more s d + blocked_count s d ≤ 3 * ended (end_of w (other s)) d + 3 * given_count (end_of w (other s)) d + 1
   direction_few s d =
       let e : End = end_of w (other s) in
-      one_few (told_count e d) (known_more s d) (blocked_count s d) (granted_streams e d - first_grant e.settings d) (ended e d) (given_count e d) (told_counts e d) (known_streams s d)
+      one_few (told_count (marked (other s)) d) (known_more s d) (blocked_count s d) (granted_streams e d - first_grant e.settings d) (ended e d) (given_count e d) (told_counts (other s) d) (known_streams s d)
       (grown_count (granted_streams e d) (first_grant e.settings d) (ended e d))
 
-  counts_few : count_marks w.a Bidi + count_marks w.a Uni + count_marks w.b Bidi + count_marks w.b Uni ≤ 3 * (streams_at w.a + streams_at w.b) + 3 * (counts_beyond w.a + counts_beyond w.b) + 4
+  counts_few : count_marks (marked A) Bidi + count_marks (marked A) Uni + count_marks (marked B) Bidi + count_marks (marked B) Uni ≤ 3 * (streams_at w.a + streams_at w.b) + 3 * (counts_beyond w.a + counts_beyond w.b) + 4
   counts_few =
       add
-      (told_count w.b Bidi) (known_more A Bidi) (blocked_count A Bidi) (ended w.b Bidi) (given_count w.b Bidi)
-      (told_count w.b Uni) (known_more A Uni) (blocked_count A Uni) (ended w.b Uni) (given_count w.b Uni)
-      (told_count w.a Bidi) (known_more B Bidi) (blocked_count B Bidi) (ended w.a Bidi) (given_count w.a Bidi)
-      (told_count w.a Uni) (known_more B Uni) (blocked_count B Uni) (ended w.a Uni) (given_count w.a Uni)
+      (told_count (marked B) Bidi) (known_more A Bidi) (blocked_count A Bidi) (ended w.b Bidi) (given_count w.b Bidi)
+      (told_count (marked B) Uni) (known_more A Uni) (blocked_count A Uni) (ended w.b Uni) (given_count w.b Uni)
+      (told_count (marked A) Bidi) (known_more B Bidi) (blocked_count B Bidi) (ended w.a Bidi) (given_count w.a Bidi)
+      (told_count (marked A) Uni) (known_more B Uni) (blocked_count B Uni) (ended w.a Uni) (given_count w.a Uni)
       (streams_at w.a) (streams_at w.b)
       (direction_few A Bidi) (direction_few A Uni) (direction_few B Bidi) (direction_few B Uni) ended_at_b ended_at_a
     where
@@ -518,27 +534,27 @@ module _ (a b : Settings) (h : History) (w : World) (ok : WorldOk a b h w) (told
   told_credits : (e : End) → told_credit e ≤ e.granted - e.settings.conn_window
   told_credits e = (let few = told_few (e.settings.conn_window + 1) e.granted (is_done e.acked (MaxData e.granted)) in omega (arith, few))
 
-  credit_few : (s : Side) → told_credit (end_of w (other s)) + known_credit_more (end_of w s) + blocked_credit (end_of w s) ≤ 3 * all_taken (end_of w (other s)) + 3 * given_credit (end_of w (other s)) + 1
+  credit_few : (s : Side) → told_credit (marked (other s)) + known_credit_more (end_of w s) + blocked_credit (marked s) ≤ 3 * all_taken (end_of w (other s)) + 3 * given_credit (end_of w (other s)) + 1
   credit_few s =
       let e : End = end_of w (other s) in
-      one_few (told_credit e) (known_credit_more (end_of w s)) (blocked_credit (end_of w s)) (e.granted - e.settings.conn_window) (all_taken e) (given_credit e) (told_credits e) (known_credit s)
+      one_few (told_credit (marked (other s))) (known_credit_more (end_of w s)) (blocked_credit (marked s)) (e.granted - e.settings.conn_window) (all_taken e) (given_credit e) (told_credits (marked (other s))) (known_credit s)
       (grown_count e.granted e.settings.conn_window (all_taken e))
 
-  credits_few : credit_marks w.a + credit_marks w.b ≤ 3 * (written_at w.a + written_at w.b) + 3 * (given_credit w.a + given_credit w.b) + 2
+  credits_few : credit_marks (marked A) + credit_marks (marked B) ≤ 3 * (written_at w.a + written_at w.b) + 3 * (given_credit w.a + given_credit w.b) + 2
   credits_few =
       add
-      (told_credit w.b) (known_credit_more w.a) (blocked_credit w.a) (all_taken w.b) (given_credit w.b)
-      (told_credit w.a) (known_credit_more w.b) (blocked_credit w.b) (all_taken w.a) (given_credit w.a)
+      (told_credit (marked B)) (known_credit_more w.a) (blocked_credit (marked A)) (all_taken w.b) (given_credit w.b)
+      (told_credit (marked A)) (known_credit_more w.b) (blocked_credit (marked B)) (all_taken w.a) (given_credit w.a)
       (written_at w.a) (written_at w.b)
       (credit_few A) (credit_few B) (all_taken_few A) (all_taken_few B)
     where
       add : (t1 k1 f1 e1 x1 t2 k2 f2 e2 x2 na nb : ℕ) → t1 + k1 + f1 ≤ 3 * e1 + 3 * x1 + 1 → t2 + k2 + f2 ≤ 3 * e2 + 3 * x2 + 1 → e1 ≤ na → e2 ≤ nb → (t2 + k1 + f1) + (t1 + k2 + f2) ≤ 3 * (na + nb) + 3 * (x2 + x1) + 2
       add t1 k1 f1 e1 x1 t2 k2 f2 e2 x2 na nb a b c d = omega (arith, a, b, c, d)
 
-  pub score_few : score w.a + score w.b ≤ most w
+  pub score_few : score (marked A) + score (marked B) ≤ most w
   score_few =
       add
-      (all_types w.a) (all_types w.b) (count_marks w.a Bidi) (count_marks w.a Uni) (count_marks w.b Bidi) (count_marks w.b Uni) (credit_marks w.a) (credit_marks w.b)
+      (all_types (marked A)) (all_types (marked B)) (count_marks (marked A) Bidi) (count_marks (marked A) Uni) (count_marks (marked B) Bidi) (count_marks (marked B) Uni) (credit_marks (marked A)) (credit_marks (marked B))
       (written_at w.a) (written_at w.b) (streams_at w.a) (streams_at w.b)
       (given_credit w.a) (beyond_on w.a 0) (beyond_on w.a 1) (beyond_on w.a 2) (beyond_on w.a 3) (given_count w.a Bidi) (given_count w.a Uni)
       (given_credit w.b) (beyond_on w.b 0) (beyond_on w.b 1) (beyond_on w.b 2) (beyond_on w.b 3) (given_count w.b Bidi) (given_count w.b Uni)
@@ -551,5 +567,11 @@ module _ (a b : Settings) (h : History) (w : World) (ok : WorldOk a b h w) (told
           → (ta + ab + au + ca) + (tb + bb + bu + cb) ≤ 9 * (wa + wb) + 20 * (na + nb) + 6 + 3 * ((ga + l0 + l1 + l2 + l3 + pa + qa) + (gb + m0 + m1 + m2 + m3 + pb + qb))
       add ta tb ab au bb bu ca cb wa wb na nb ga l0 l1 l2 l3 pa qa gb m0 m1 m2 m3 pb qb x y z = omega (arith, x, y, z)
 
+-- of a half no more than was written is acknowledged
+pub is_written : (a b : Settings) (h : History) (w : World) → WorldOk a b h w → AreWritten w (λ s. (end_of w s).sends)
+is_written a b h w ok s n l is =
+    let p = past s h in
+    (l, is, refl, acked_written p.mine p.theirs p.tokens (p.bytes n) n (first_send_limit (end_of w s) n) l (subst (SendSlot p n (first_send_limit (end_of w s) n)) is ((ok.ends s).sends n)))
+
 pub is_below : (a b : Settings) (h : History) (w : World) → Run a b h w → ((s : Side) → KnowsFirstLimits w s) → score w.a + score w.b ≤ most w
-is_below a b h w run told = score_few a b h w (run_keeps a b h w run) told
+is_below a b h w run told = (let ok = run_keeps a b h w run in score_few a b h w ok told (λ s. (end_of w s).sends) (λ s. (end_of w s).acked) (is_written a b h w ok))

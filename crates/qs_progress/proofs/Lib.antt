@@ -26,3 +26,6 @@ pub mod Turns
 pub mod ComesInRounds
 pub mod ExclusionsLaps
 pub mod ExclusionsRounds
+pub mod IfAcked
+pub mod Ending
+pub mod ExclusionsEnding

@@ -158,7 +158,7 @@ reached_now (Told (StreamsBlocked Uni m)) e home = greatest_now e.acked.uni_bloc
 abbrev AllHome : Tables SendLane → List AckedPiece → Type 0
 AllHome t = AllByRecursion (λ (a : AckedPiece). HasHome t a.piece)
 
-all_homes : (e : End) (ranges : List (ℕ × ℕ)) → Homes e → AllHome e.sends (named e ranges)
+pub all_homes : (e : End) (ranges : List (ℕ × ℕ)) → Homes e → AllHome e.sends (named e ranges)
 all_homes e ranges h = all_named (λ (a : AckedPiece). HasHome e.sends a.piece) ranges e (λ late k ps is at p among. h late p (k, ps, at, among))
 
 -- One piece of one packet
@@ -190,7 +190,7 @@ module _ (k : ℕ) (p : Piece) where
         | inr ne ↦ inl (ps, first_other false j k r e ne ∙ at, among)
       ]
 
-  out_acks : (ps : List AckedPiece) (e : End) → InOrder ps e → AllHome e.sends ps → Stays e → Stays (acks ps e)
+  pub out_acks : (ps : List AckedPiece) (e : End) → InOrder ps e → AllHome e.sends ps → Stays e → Stays (acks ps e)
   unfolding acks
   out_acks [] e order homes s = s
   out_acks (a ∷ ps) e order homes (inr reached) = inr (reached_stays e (acks ps (first_acked a e)) (in_acks (a ∷ ps) e) (items_acks (a ∷ ps) e) p reached)

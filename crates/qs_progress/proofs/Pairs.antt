@@ -81,7 +81,7 @@ module _ (a b : Settings) where
     abbrev at : Moment → End
     at m = end_of m.ends s
 
-    ready : (m : Moment) → IsReached a b m → IsReady (at m)
+    pub ready : (m : Moment) → IsReached a b m → IsReady (at m)
     ready m r =
         let ok = run_keeps a b m.log m.ends r.run in
         let rest = every_run_keeps a b m.log m.ends r.run s in

@@ -161,6 +161,11 @@ pub record Owes (lo hi : ℕ) (e f : End) : Type 0 where
   pub below : (k : ℕ) → set.contains f.done k ≡ true → k < hi
   pub due : (k : ℕ) (p : Piece) → IsIn e.outstanding k p → f.ack_due ≡ true
 
+-- a record that has a piece isn't bare
+pub not_bare : (o : Option (List Piece)) (ps : List Piece) (p : Piece) → o ≡ Some ps → Among p ps → IsBare o → ⊥
+not_bare o [] p is among bare = among
+not_bare o (q ∷ ps) p is among bare = subst IsBare is bare
+
 -- nothing is outstanding
 abbrev pub IsClear : End → Type 0
 IsClear e = (k : ℕ) (p : Piece) → IsIn e.outstanding k p → ⊥
@@ -228,10 +233,6 @@ module _ (e e2 f f2 : End) (x : Passed e e2 f f2) where
       done : e2.done ≡ e.done
       done = ap (λ (y : End). y.done) x.made ∙ ap (λ (y : End). y.done) (fills_leave e x.frames e x.last x.filled)
 
-      gone : (o : Option (List Piece)) (ps : List Piece) (p : Piece) → o ≡ Some ps → Among p ps → IsBare o → ⊥
-      gone o [] p is among bare = among
-      gone o (q ∷ ps) p is among bare = subst IsBare is bare
-
       told : (g : Seen) (at : End) → Among g x.frames → is_ack g ≡ true → MayBe e at g → (k : ℕ) (p : Piece) → IsIn (frames_taken x.came f).outstanding k p → ⊥
       told (Ack largest ranges) at among is may k p here =
           let (low, high) = owes.from k p (frames_back k p x.came f here) in
@@ -239,5 +240,5 @@ module _ (e e2 f f2 : End) (x : Passed e e2 f f2) where
           let top = owes.below largest (may.kept largest may.names_largest) in
           let named : is_named ranges k ≡ true = x.names (Ack largest ranges) at among may k (may.largest_kept k kept) (λ j ge le. owes.kept j (omega (arith, low, ge)) (omega (arith, le, top))) in
           let (ps, there, in_ps) = here in
-          gone (fmap.get (frames_taken x.came f).outstanding k) ps p there in_ps ((all_done x.came f x.sound x.sent x.fine (Ack largest ranges) (x.acks (Ack largest ranges) among refl)).1 false k named)
+          not_bare (fmap.get (frames_taken x.came f).outstanding k) ps p there in_ps ((all_done x.came f x.sound x.sent x.fine (Ack largest ranges) (x.acks (Ack largest ranges) among refl)).1 false k named)
       told g at among is may k p here = false≢true is

@@ -23,7 +23,7 @@ use Rattle.qs_send.specs.declared.piece.Piece.TheVariants.{Data, Told}
 use Rattle.qs_machine.specs.Tables.{Tables, lookup, total, each, updated}
 use Rattle.qs_machine.specs.Ends.{End, on_send, on_recv}
 use Rattle.qs_machine.specs.Credit.{settle, ended, send_ended, count_after}
-use Rattle.qs_machine.specs.Due.{IsCurrent, IsDueItem}
+use Rattle.qs_machine.specs.Due.{IsCurrent, IsDueItem, IsOutstanding, IsDue, IsEndDue}
 use Rattle.qs_machine.specs.Seen.{Seen, Ack, Stream, Control, Close, Plain}
 use Rattle.qs_machine.specs.FrameStep.{frames_taken, acks, named}
 use Rattle.qs_machine.specs.Lawful.{Fills, frame_put, noted, pieces_so_far, chunk_of}
@@ -140,6 +140,53 @@ read_same l size lawful = by (read_answer l size)
     by (reads.Reset code) few told = ap (λ b. record l { told = b }) (sym (told refl))
     by reads.Wait few told = refl
 
+-- What is put in a packet
+
+abbrev pub but_ack : End → End
+but_ack e = record e { ack_due = false }
+
+-- it is due: an offset, an end or an item
+abbrev pub IsNew : End → Piece → Type 0
+IsNew e (Data n c) = (l : SendLane) × (lookup e.sends n ≡ Some l) × (((q : ℕ) × (c.offset ≤ q) × (q < c.offset + c.len) × IsDue e n l q) ⊎ ((c.fin ≡ true) × IsEndDue e n l))
+IsNew e (Told i) = IsDueItem e i
+
+module _ (old : End) where
+  pub noted_in : (p : Piece) (e : End) → e.next ≡ old.next → IsIn (noted p e).outstanding old.next p
+  noted_in p e is = (pieces_so_far e e.next ++ p ∷ [], ap (fmap.get (noted p e).outstanding) (sym is) ∙ get_new e.outstanding e.next (pieces_so_far e e.next ++ p ∷ []), among_last (pieces_so_far e e.next) p)
+
+  pub in_fills : (fs : List Seen) (e last : End) (k : ℕ) (p : Piece) → Fills old e fs last → IsIn e.outstanding k p → IsIn last.outstanding k p
+  in_fills [] e last k p is here = subst (λ (x : End). IsIn x.outstanding k p) (sym is) here
+  in_fills (f ∷ fs) e last k p (may, rest) here = in_fills fs (frame_put f e) last k p rest (put_in k p f e here)
+
+  -- a packet that carries anything carries what is due
+  pub fills_new : (fs : List Seen) (e last : End) → but_ack e ≡ but_ack old → Fills old e fs last → (but_ack last ≡ but_ack old) ⊎ ((p : Piece) × IsIn last.outstanding old.next p × IsNew old p)
+  unfolding frame_put
+  fills_new [] e last same is = inl (ap but_ack is ∙ same)
+  fills_new (Ack largest ranges ∷ fs) e last same (may, rest) = fills_new fs (record e { ack_due = false }) last same rest
+  fills_new (Stream n offset bytes fin ∷ fs) e last same ((l, may), rest) =
+      let c = chunk_of offset bytes fin in
+      let at : lookup old.sends n ≡ Some l = ap (λ (x : End). lookup x.sends n) (sym same) ∙ may.lane in
+      let flew : (p : Piece) → IsOutstanding old p → IsOutstanding e p = λ p. subst (λ (x : End). IsOutstanding x p) (sym same) in
+      let new : IsNew old (Data n c) = (
+        l,
+        at,
+        elim may.something [
+          | inl some ↦ (
+              let due = may.due offset (omega arith) (omega (arith, some)) in
+              inl (offset, omega arith, omega (arith, some), record { no_reset = due.no_reset; written = due.written; not_acked = due.not_acked; not_sent = λ (d, flies, low, high). due.not_sent (d, flew (Data n d) flies, low, high) }))
+          | inr last_one ↦ (
+              let due = (may.end last_one).0 in
+              inr (last_one, record { no_reset = due.no_reset; finished = due.finished; not_acked = due.not_acked; not_sent = λ from len flies. due.not_sent from len (flew _ flies) }))
+        ],
+      ) in
+      inr (Data n c, in_fills fs (frame_put (Stream n offset bytes fin) e) last old.next (Data n c) rest (noted_in (Data n c) (on_send n (λ m. sent_lane m c) e) (ap (λ (x : End). x.next) same)), new)
+  fills_new (Control (StreamDataBlocked n m) ∷ fs) e last same (may, rest) =
+      let i = StreamDataBlocked n m in
+      inr (Told i, in_fills fs (frame_put (Control i) e) last old.next (Told i) rest (noted_in (Told i) (on_send n blocked_lane e) (ap (λ (x : End). x.next) same)), may.0)
+  fills_new (Control i ∷ fs) e last same (may, rest) = inr (Told i, in_fills fs (frame_put (Control i) e) last old.next (Told i) rest (noted_in (Told i) e (ap (λ (x : End). x.next) same)), may.0)
+  fills_new (Close code ∷ fs) e last same (may, rest) = absurd may
+  fills_new (Plain asks ∷ fs) e last same (may, rest) = absurd may
+
 -- Calm calls
 
 -- nothing changed but records and what is acknowledged, and no record is new
@@ -202,7 +249,7 @@ module _ (old : End) (ready : IsReady old) where
 
   -- Packets
 
-  not_done : (i : Item) → IsDueItem old i → IsReached old (Told i) → ⊥
+  pub not_done : (i : Item) → IsDueItem old i → IsReached old (Told i) → ⊥
   not_done i due reached = due.1 (inr (done_acked old ready.within i due.0 reached))
 
   pub current_undone : (i : Item) → IsCurrent old i → (IsReached old (Told i) → ⊥) → IsUndone old (Told i)
@@ -215,44 +262,13 @@ module _ (old : End) (ready : IsReady old) where
   current_undone (StreamDataBlocked n m) (l, at, unreset, same, more, end) not = (let low = ready.steady.limits n l at in (l, at, same, omega (arith, same, low), unless _ not))
   current_undone (StreamsBlocked d m) now not = (let low = ready.steady.counts d in (now.1, omega (arith, now.1, low), unless _ not))
 
-  due_undone : (i : Item) → IsDueItem old i → IsUndone old (Told i)
+  pub due_undone : (i : Item) → IsDueItem old i → IsUndone old (Told i)
   due_undone i due = current_undone i due.0 (not_done i due)
 
-  abbrev but_ack : End → End
-  but_ack e = record e { ack_due = false }
-
-  abbrev Puts : End → Type 0
-  Puts last = (p : Piece) × IsIn last.outstanding old.next p × IsUndone old p
-
-  noted_in : (p : Piece) (e : End) → e.next ≡ old.next → IsIn (noted p e).outstanding old.next p
-  noted_in p e is = (pieces_so_far e e.next ++ p ∷ [], ap (fmap.get (noted p e).outstanding) (sym is) ∙ get_new e.outstanding e.next (pieces_so_far e e.next ++ p ∷ []), among_last (pieces_so_far e e.next) p)
-
-  in_fills : (fs : List Seen) (e last : End) (k : ℕ) (p : Piece) → Fills old e fs last → IsIn e.outstanding k p → IsIn last.outstanding k p
-  in_fills [] e last k p is here = subst (λ (x : End). IsIn x.outstanding k p) (sym is) here
-  in_fills (f ∷ fs) e last k p (may, rest) here = in_fills fs (frame_put f e) last k p rest (put_in k p f e here)
-
-  fills_put : (fs : List Seen) (e last : End) → but_ack e ≡ but_ack old → Fills old e fs last → (but_ack last ≡ but_ack old) ⊎ Puts last
-  unfolding frame_put
-  fills_put [] e last same is = inl (ap but_ack is ∙ same)
-  fills_put (Ack largest ranges ∷ fs) e last same (may, rest) = fills_put fs (record e { ack_due = false }) last same rest
-  fills_put (Stream n offset bytes fin ∷ fs) e last same ((l, may), rest) =
-      let c = chunk_of offset bytes fin in
-      let at : lookup old.sends n ≡ Some l = ap (λ (x : End). lookup x.sends n) (sym same) ∙ may.lane in
-      let undone : IsUndone old (Data n c) = (
-        l,
-        at,
-        elim may.something [
-          | inl some ↦ inl (offset, omega arith, omega (arith, some), (may.due offset (omega arith) (omega (arith, some))).not_acked)
-          | inr last_one ↦ inr (last_one, (may.end last_one).0.not_acked)
-        ],
-      ) in
-      inr (Data n c, in_fills fs (frame_put (Stream n offset bytes fin) e) last old.next (Data n c) rest (noted_in (Data n c) (on_send n (λ m. sent_lane m c) e) (ap (λ (x : End). x.next) same)), undone)
-  fills_put (Control (StreamDataBlocked n m) ∷ fs) e last same (may, rest) =
-      let i = StreamDataBlocked n m in
-      inr (Told i, in_fills fs (frame_put (Control i) e) last old.next (Told i) rest (noted_in (Told i) (on_send n blocked_lane e) (ap (λ (x : End). x.next) same)), due_undone i may.0)
-  fills_put (Control i ∷ fs) e last same (may, rest) = inr (Told i, in_fills fs (frame_put (Control i) e) last old.next (Told i) rest (noted_in (Told i) e (ap (λ (x : End). x.next) same)), due_undone i may.0)
-  fills_put (Close code ∷ fs) e last same (may, rest) = absurd may
-  fills_put (Plain asks ∷ fs) e last same (may, rest) = absurd may
+  new_undone : (p : Piece) → IsNew old p → IsUndone old p
+  new_undone (Data n c) (l, at, inl (q, low, high, due)) = (l, at, inl (q, low, high, due.not_acked))
+  new_undone (Data n c) (l, at, inr (fin, due)) = (l, at, inr (fin, due.not_acked))
+  new_undone (Told i) due = due_undone i due
 
   pub forms : Forms old Result
   forms =
@@ -284,9 +300,9 @@ module _ (old : End) (ready : IsReady old) where
             let is : on_recv n h (on_recv n f old) ≡ old = ap (on_recv n h) (read_back n f first) ∙ read_back n h second in
             settled_quiet (on_recv n h (on_recv n f old)) (ap but_records is) (slots_same old.sends) (λ k p here. here) g kept lanes even;
         packet = λ fs last filled g kept lanes even.
-            elim (fills_put fs old last refl filled) [
+            elim (fills_new old fs old last refl filled) [
               | inl same ↦ settled_quiet (record last { next = old.next + 1 }) (ap but_records same) (subst (λ t. SendsAlike old.sends t) (sym (ap (λ (x : End). x.sends) same)) (slots_same old.sends)) (λ k p here. subst (λ (x : End). IsIn x.outstanding k p) same here) g kept lanes even
-              | inr (p, there, undone) ↦ inl (p, there, undone_stays old (settle (record last { next = old.next + 1 })) g even kept p undone, omega arith)
+              | inr (p, there, new) ↦ inl (p, there, undone_stays old (settle (record last { next = old.next + 1 })) g even kept p (new_undone p new), omega arith)
             ];
         frames = λ fs mid none ends g kept lanes even.
             let led = frames_taken fs old in

@@ -4,8 +4,10 @@ pub mod Bound
 pub mod Exclusions
 pub mod ExclusionsLaps
 pub mod ExclusionsRounds
+pub mod ExclusionsEnding
 pub mod Laps
 pub mod Rounds
 pub mod Outstanding
 pub mod Going
 pub mod Comes
+pub mod Ending

@@ -6,9 +6,11 @@ ghost use Rattle.qs_progress.specs.Bound.{DoneIsBounded};
 ghost use Rattle.qs_progress.specs.Outstanding.{WhatIsOutStays};
 ghost use Rattle.qs_progress.specs.Going.{WhatGoesOutIsNew};
 ghost use Rattle.qs_progress.specs.Comes.{RestComes, AllComes, RestComesInRounds, AllComesInRounds};
+ghost use Rattle.qs_progress.specs.Ending.{CallsComeToAnEnd, RoomyPacketsCarry};
 ghost use Rattle.qs_progress.specs.Exclusions.{Exclusions};
 ghost use Rattle.qs_progress.specs.ExclusionsLaps.{LapExclusions};
 ghost use Rattle.qs_progress.specs.ExclusionsRounds.{RoundExclusions};
+ghost use Rattle.qs_progress.specs.ExclusionsEnding.{EndingExclusions};
 
 /// What is done stays done: whatever happens, an end's score never falls, once it was told its peer's true limits.
 pub fn what_is_done_stays()
@@ -56,6 +58,16 @@ pub fn all_comes_in_rounds()
     ensures { AllComesInRounds }
 {}
 
+/// Where nothing is lost, asked for, set or closed, a number bounds how many packets carry more than ACKs, and how many reads tell something.
+pub fn calls_come_to_an_end()
+    ensures { CallsComeToAnEnd }
+{}
+
+/// A packet that is made by an end that has more to send carries more than ACKs, if it leaves 25 bytes of its room.
+pub fn roomy_packets_carry()
+    ensures { RoomyPacketsCarry }
+{}
+
 /// What a score counts, and what it doesn't: small ends with theirs, and one whose score falls where it takes in higher limits of its peer.
 pub fn exclusions()
     ensures { Exclusions }
@@ -70,4 +82,9 @@ pub fn lap_exclusions()
 /// A round, and for each part of one a case that is none for want of it.
 pub fn round_exclusions()
     ensures { RoundExclusions }
+{}
+
+/// A read that tells the end counts, and none that tells it again; a packet that holds a piece counts, and none of ACKs alone.
+pub fn ending_exclusions()
+    ensures { EndingExclusions }
 {}
