@@ -1,14 +1,17 @@
 //! Random runs of two ends, each led to rest by laps, whose number is held against the bound of the law `rest_comes` (docs/PROOF.md): by
-//! payloads, by frames and tokens, and by both. A lap ends here as soon as it is one, so that there are as many as can be.
+//! payloads, by frames and tokens, and by both. A lap ends here as soon as it is one, so that there are as many as can be. And the same runs
+//! led to rest by rounds, against that of `rest_comes_in_rounds`.
 //!
-//! Slips that were planted in a copy, one at a time, and that this test found: MAX_DATA, MAX_STREAM_DATA, MAX_STREAMS, STREAMS_BLOCKED or
-//! RESET_STREAM is told again though it was acknowledged. And of the test itself: packets are lost in a lap, or it ends while one is
-//! outstanding, an end never had nothing more to send, or its readers nothing more to read; the bound leaves out the bytes.
+//! Slips that were planted in a copy, one at a time, and that these tests found: MAX_DATA, MAX_STREAM_DATA, MAX_STREAMS, STREAMS_BLOCKED,
+//! RESET_STREAM, DATA_BLOCKED or STREAM_DATA_BLOCKED is told again though it was acknowledged. And of the tests themselves: packets are lost
+//! in a lap, or it ends while one is outstanding, an end never had nothing more to send, or its readers nothing more to read; in a round
+//! nothing is declared lost, or nothing is read; the bound leaves out the bytes.
 
 mod support;
 
 use gotsavena::{
-    Dir, Endpoint, LostFault, OpenFault, Read, Received, Settings, StreamId, Taken, Token, UseFault,
+    Dir, Endpoint, Frame, LostFault, OpenFault, Read, Received, Settings, StreamId, Taken, Token,
+    UseFault,
 };
 use support::doubled::{Want, all_frames, fill_one, is_ours};
 use support::{Random, two_ends};
@@ -50,6 +53,7 @@ struct Run {
     may_read: bool,
     calls: usize,
     laps: u64,
+    rounds: u64,
     stretches: u64,
     what: String,
 }
@@ -80,14 +84,20 @@ impl Run {
             may_read: true,
             calls: 0,
             laps: 0,
+            rounds: 0,
             stretches: 0,
             what: format!("seed {seed}"),
         }
     }
 
-    /// The bound of `rest_comes`. No owner widens a window or a grant here, so nothing is granted beyond the first ones and what was taken.
+    /// What can be done for good. No owner widens a window or a grant here, so nothing is granted beyond the first ones and what was taken.
+    fn most(&self) -> u64 {
+        9 * self.written + 20 * self.opened + 6
+    }
+
+    /// The bound of `rest_comes`.
     fn bound(&self) -> u64 {
-        2 * (9 * self.written + 20 * self.opened + 6) + self.stretches + 1
+        2 * self.most() + self.stretches + 1
     }
 
     // Nothing is lost, asked for, set or closed.
@@ -311,8 +321,46 @@ impl Run {
         }
     }
 
-    // Laps, of which none begins at rest, and between them stretches in which anything happens.
-    fn course(&mut self) {
+    // An end's turn: it declares lost what is outstanding, and sends until nothing may go. Its rooms are small, often too small for all ranges
+    // of an ACK.
+    fn turn(&mut self, side: usize) {
+        while let Some(number) = self.ends[side].next_outstanding(0) {
+            assert_eq!(self.ends[side].declare_lost(number), Ok(()));
+        }
+        let mut out = [0; 200];
+        let room = 128 + self.random.below(70) as usize;
+        while let Some(made) = self.ends[side].make_packet(&mut out[..room]).expect("open") {
+            let text = out[..made.len].to_vec();
+            self.keep(side, Some(text));
+            let packet = self.packets[side].last_mut().expect("one was made");
+            packet.taken.fill(true);
+            let came = self.ends[1 - side].receive(made.number, &packet.text);
+            assert_eq!(came, Ok(Received::Done), "{}", self.what);
+        }
+    }
+
+    // A round: both take their turns, and then both read.
+    fn round(&mut self) {
+        for side in 0..2 {
+            self.turn(side);
+        }
+        for side in 0..2 {
+            while !is_read(&self.ends[side]) {
+                self.read(side);
+            }
+        }
+        self.rounds += 1;
+        let bound = self.most() + self.stretches + 1;
+        assert!(
+            self.rounds <= bound,
+            "{}: {} rounds",
+            self.what,
+            self.rounds
+        );
+    }
+
+    // Laps, or rounds, of which none begins at rest, and between them stretches in which anything happens.
+    fn course(&mut self, leads: fn(&mut Run)) {
         for _ in 0..EVENTS {
             self.any_call();
         }
@@ -321,7 +369,7 @@ impl Run {
                 if self.ends.iter().all(is_at_rest) {
                     break;
                 }
-                self.lap();
+                leads(self);
             }
             self.may_read = true;
             for _ in 0..self.random.below(EVENTS as u64) {
@@ -330,7 +378,7 @@ impl Run {
             self.stretches += 1;
         }
         while !self.ends.iter().all(is_at_rest) {
-            self.lap();
+            leads(self);
         }
     }
 }
@@ -341,7 +389,7 @@ fn laps_lead_every_run_to_rest_within_the_bound() {
     let mut nearest = 0.0_f64;
     for seed in 0..SEEDS {
         let mut run = Run::new(seed);
-        run.course();
+        run.course(Run::lap);
         laps += run.laps;
         calls += run.calls;
         bound += run.bound();
@@ -353,4 +401,60 @@ fn laps_lead_every_run_to_rest_within_the_bound() {
     );
     // The runs need more laps than one for each stretch.
     assert!(laps > 2 * stretches, "{laps} laps");
+}
+
+#[test]
+fn rounds_lead_every_run_to_rest_within_the_bound() {
+    let (mut rounds, mut stretches) = (0, 0);
+    let mut nearest = 0.0_f64;
+    for seed in 0..SEEDS {
+        let mut run = Run::new(seed);
+        run.course(Run::round);
+        rounds += run.rounds;
+        stretches += run.stretches;
+        nearest = nearest.max(run.rounds as f64 / (run.most() + run.stretches + 1) as f64);
+    }
+    println!(
+        "{SEEDS} runs: {rounds} rounds and {stretches} stretches; {nearest:.3} of those that may be at most"
+    );
+    assert!(rounds > 2 * stretches, "{rounds} rounds");
+}
+
+/// An end that is blocked says so, and not again once that is acknowledged, though it stays blocked.
+#[test]
+fn a_blocked_end_says_so_once() {
+    for (conn, stream, streams) in [(10, 100, 2), (100, 10, 2), (100, 100, 1)] {
+        let [mut client, mut server] = two_ends(
+            Settings::small()
+                .conn_window(conn)
+                .stream_windows(stream)
+                .streams(streams, 2),
+        );
+        let first = client.open(Dir::Bidi).expect("granted");
+        assert_eq!(client.open(Dir::Bidi).is_err(), streams == 1);
+        assert_eq!(client.write(first, &[7; 50]), Ok(50));
+        let mut out = [0; 1200];
+        for round in 0..3 {
+            let mut said = 0;
+            while let Some(made) = client.make_packet(&mut out).expect("open") {
+                let text = &out[..made.len];
+                said += all_frames(text).iter().filter(|f| is_blocked(f)).count();
+                assert_eq!(server.receive(made.number, text), Ok(Received::Done));
+            }
+            assert_eq!(said, usize::from(round == 0));
+            assert!(!client.is_sendable());
+            while let Some(made) = server.make_packet(&mut out).expect("open") {
+                let text = &out[..made.len];
+                assert_eq!(client.receive(made.number, text), Ok(Received::Done));
+            }
+            assert_eq!(client.next_outstanding(0), None);
+        }
+    }
+}
+
+fn is_blocked(frame: &Frame) -> bool {
+    matches!(
+        frame,
+        Frame::DataBlocked { .. } | Frame::StreamDataBlocked { .. } | Frame::StreamsBlocked { .. }
+    )
 }
