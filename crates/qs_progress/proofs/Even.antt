@@ -1,5 +1,5 @@
 -- Where a score stays the same, so does each thing that it counts.
-use Rattle.std.proofs.Common.{◌≡◌, ℕ, zero, suc, ◌+◌, ◌-◌, ◌*◌, ◌/◌, ◌%◌, ◌<◌, ◌≤◌, Bool, true, false, not, ◌&&◌, List, [], ◌∷◌, length, slice_get, sum_by, Option, Some, None, is_some, refl, sym, ap, ◌∙◌, subst, arith, inl, inr}
+use Rattle.std.proofs.Common.{◌≡◌, ℕ, zero, suc, ◌+◌, ◌-◌, ◌*◌, ◌/◌, ◌%◌, ◌<◌, ◌≤◌, Bool, true, false, not, ◌&&◌, slice_get, sum_by, Option, Some, None, is_some, refl, sym, ap, ◌∙◌, subst, arith, inl, inr}
 use Rattle.std.specs.Prelude.{nat_le}
 use Rattle.std.specs.List.{range_with_len}
 use Rattle.std.specs.FinSet as set
@@ -7,7 +7,7 @@ use Rattle.std.specs.Cmp.{nat_cmp_total, unsigned_tied}
 use Rattle.std.proofs.lemmas.Bool.{cases_lt, or_cases, true≢false, eqb-true}
 use Rattle.std.proofs.lemmas.Bool.Decides.{nat_tests}
 use Rattle.std.proofs.lemmas.List.Sums.{sum_by-cons}
-use Rattle.std.proofs.lemmas.Option.{none-some, same_Some}
+use Rattle.std.proofs.lemmas.Option.{same_Some, slice_get_within}
 use Rattle.qs_ranges.specs.Numbers.{NumberSet}
 use Rattle.qs_ranges.proofs.Starts.{len_le_of_members}
 use Rattle.qs_wire.specs.declared.stream_id.Dir.{Dir}
@@ -74,20 +74,15 @@ told_even least p q d low le even = go (nat_le least p) refl (nat_le least q) re
     go true under true is false ex few = (omega (arith, few, low, le), ex)
 
 -- a stream that has a half is counted
-pub index_below : {X : Type 0} (xs : List X) (i : ℕ) (x : X) → slice_get xs i ≡ Some x → i < length xs
-index_below [] i x is = absurd (none-some x is)
-index_below (y ∷ xs) zero x is = omega arith
-index_below (y ∷ xs) (suc i) x is = (let lt = index_below xs i x is in omega (arith, lt))
-
 counted : {X : Type 0} (t : Tables X) (n : ℕ) (x : X) → lookup t n ≡ Some x → n / 4 < total (λ (y : X). 1) t
 unfolding lookup total
 counted {X} t n x is = by (n % 4) is
   where
     by : (k : ℕ) → slice_get (table t k) (n / 4) ≡ Some x → n / 4 < total (λ (y : X). 1) t
-    by zero at = omega (arith, index_below t.client_bidi (n / 4) x at, sum_ones t.client_bidi)
-    by (suc zero) at = omega (arith, index_below t.server_bidi (n / 4) x at, sum_ones t.server_bidi)
-    by (suc (suc zero)) at = omega (arith, index_below t.client_uni (n / 4) x at, sum_ones t.client_uni)
-    by (suc (suc (suc k))) at = omega (arith, index_below t.server_uni (n / 4) x at, sum_ones t.server_uni)
+    by zero at = omega (arith, slice_get_within t.client_bidi (n / 4) x at, sum_ones t.client_bidi)
+    by (suc zero) at = omega (arith, slice_get_within t.server_bidi (n / 4) x at, sum_ones t.server_bidi)
+    by (suc (suc zero)) at = omega (arith, slice_get_within t.client_uni (n / 4) x at, sum_ones t.client_uni)
+    by (suc (suc (suc k))) at = omega (arith, slice_get_within t.server_uni (n / 4) x at, sum_ones t.server_uni)
 
 -- Two ends with the same score, of which the second did and knows no less
 

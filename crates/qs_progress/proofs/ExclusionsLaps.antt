@@ -23,7 +23,8 @@ use Rattle.qs_machine.specs.FrameStep.{greatest, or_zero, greatest_of, item_acke
 use Rattle.qs_machine.specs.News.{IsReadable}
 use Rattle.qs_machine.specs.EndStep.{Call, Open, Write, Finish, Reset, Stop, StopAndDiscard, TokenLost, Lose, RaiseLimits, Set, NoteClosed}
 use Rattle.qs_machine.specs.Examples.{standard, server}
-use Rattle.qs_machine.specs.SmallEnds.{raised}
+use Rattle.qs_machine.specs.ExclusionsDue.{held_back, two_of_three}
+use Rattle.qs_machine.specs.SmallEnds.{client_with, raised}
 use Rattle.qs_machine.proofs.Again.{changed}
 use Rattle.qs_machine.proofs.Carried.{get_new, tied_itself}
 use Rattle.qs_machine.proofs.Counts.{no_lane}
@@ -193,10 +194,26 @@ acked_now (StreamDataBlocked n m) e none is = greatest_of_first e.acked.stream_d
 acked_now (StreamsBlocked Bidi m) e none is = greatest_first e.acked.bidi_blocked m (ap (λ (a : AckedItems). a.bidi_blocked) none)
 acked_now (StreamsBlocked Uni m) e none is = greatest_first e.acked.uni_blocked m (ap (λ (a : AckedItems). a.uni_blocked) none)
 
+data_blocked : IsDueItem (held_back two_of_three) (DataBlocked 2)
+unfolding lookup total
+data_blocked = (
+  (refl, refl, (0, two_of_three, record { lane = refl; no_reset = refl; more = omega arith; below = omega arith })),
+  λ covered. elim covered [ inl flies ↦ carried-empty _ flies | inr acked ↦ none-some 2 acked ],
+)
+
+stream_blocked : IsDueItem (client_with (record two_of_three { limit = 2 })) (StreamDataBlocked 0 2)
+unfolding lookup
+stream_blocked = (
+  (record two_of_three { limit = 2 }, refl, refl, refl, omega arith, refl),
+  λ covered. elim covered [ inl flies ↦ carried-empty _ flies | inr acked ↦ none-some 2 (sym (fmap.get-empty nat_cmp 0) ∙ acked) ],
+)
+
 goes_out : GoesOut
 goes_out =
     record {
       older = inl (MaxData 5000, ((refl, omega arith), λ covered. elim covered [ inl flies ↦ carried-empty _ flies | inr acked ↦ (let same : 4500 ≡ 5000 = same_Some 4500 5000 acked in omega (arith, same)) ]));
+      blocked = data_blocked;
+      stream_blocked = stream_blocked;
       again = not_again;
       acked = λ i e none due. due.1 (inr (acked_now i e none due.0));
       ack = rest_exclusions.rests.ack.quiet;

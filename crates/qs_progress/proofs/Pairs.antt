@@ -1,7 +1,7 @@
 -- Two laps in a row, of which the second doesn't begin at rest, raise a score.
 use Rattle.std.proofs.Common.{◌≡◌, ℕ, ◌+◌, ◌<◌, ◌≤◌, Bool, true, false, not, ◌&&◌, List, [], ◌∷◌, ◌⊎◌, length, Some, None, is_some, refl, sym, ap, ◌∙◌, subst, arith, inl, inr}
 use Rattle.std.proofs.lemmas.Bool.{cases_lt, true≢false}
-use Rattle.std.proofs.lemmas.Option.{none-some}
+use Rattle.std.proofs.lemmas.Option.{none-some, slice_get_within}
 use Rattle.qs_wire.specs.declared.stream_id.Dir.{Dir}
 use Rattle.qs_wire.specs.declared.stream_id.Dir.TheVariants.{Bidi, Uni}
 use Rattle.qs_recv.specs.Lane.{RecvLane}
@@ -35,7 +35,6 @@ use Rattle.qs_progress.specs.Comes.{BothRest, BothOpen, IsReached}
 use Rattle.qs_progress.proofs.Score.{Goes, goes_call, peer_stays, what_is_done_stays}
 use Rattle.qs_progress.proofs.Items.{ItemsGrow}
 use Rattle.qs_progress.proofs.Within.{items_are_within}
-use Rattle.qs_progress.proofs.Even.{index_below}
 use Rattle.qs_progress.proofs.CalmCalls.{Forms, calm_call}
 use Rattle.qs_progress.proofs.Outstanding.{AcksStay, stay_same, stay_twice, what_is_out_stays}
 use Rattle.qs_progress.proofs.Undone.{IsUndone, undone_unreached, acks_edits, undone_stays}
@@ -73,8 +72,8 @@ next_forms old ready =
     }
 
 pub stood_in : (mine : Packets) (k : ℕ) (p : Piece) → PieceOf mine k p → k < length mine
-stood_in mine k (Data n c) (bytes, (fs, at, among), same) = index_below mine k fs at
-stood_in mine k (Told i) (fs, at, among) = index_below mine k fs at
+stood_in mine k (Data n c) (bytes, (fs, at, among), same) = slice_get_within mine k fs at
+stood_in mine k (Told i) (fs, at, among) = slice_get_within mine k fs at
 
 module _ (a b : Settings) where
   module _ (s : Side) where

@@ -5,7 +5,7 @@ use Rattle.std.specs.FinMap as fmap
 use Rattle.std.specs.FinSet as set
 use Rattle.std.proofs.lemmas.Bool.{false≢true, true≢false, or_left, or_right}
 use Rattle.std.proofs.lemmas.List.{length-map}
-use Rattle.std.proofs.lemmas.Option.{same_Some}
+use Rattle.std.proofs.lemmas.Option.{same_Some, slice_get_within}
 use Rattle.qs_send.specs.Records.{Among}
 use Rattle.qs_send.specs.declared.piece.Piece.{Piece}
 use Rattle.qs_send.specs.declared.piece.Piece.TheVariants.{Data, Told}
@@ -49,7 +49,6 @@ use Rattle.qs_progress.specs.Laps.{Moment, IsCalm, Trail}
 use Rattle.qs_progress.specs.Comes.{IsReached}
 use Rattle.qs_progress.specs.Outstanding.{IsIn}
 use Rattle.qs_progress.specs.Rounds.{Happens, Loses, Sends}
-use Rattle.qs_progress.proofs.Even.{index_below}
 use Rattle.qs_progress.proofs.Trails.{reached}
 use Rattle.qs_progress.proofs.Passing.{Passed, Owes, IsClear, named_top, owes_more, answers, still_clear}
 
@@ -198,7 +197,7 @@ module _ (a b : Settings) where
   below_next m r s k is =
       let ok = run_keeps a b m.log m.ends r.run in
       let (fs, there) = processed_made a b m.log m.ends ok (other s) k ((ok.ends (other s)).packets.is_done k is) in
-      let lt = index_below (past s m.log).mine k fs (ap (λ ps. slice_get ps k) (sym (theirs_mine s m.log)) ∙ there) in
+      let lt = slice_get_within (past s m.log).mine k fs (ap (λ ps. slice_get ps k) (sym (theirs_mine s m.log)) ∙ there) in
       omega (arith, lt, (ok.ends s).packets.count)
 
   module _ (s : Side) where

@@ -6,6 +6,7 @@ use Rattle.qs_wire.specs.declared.stream_id.Dir.{Dir}
 use Rattle.qs_recv.specs.Lane.{RecvLane, take_stream}
 use Rattle.qs_recv.specs.declared.half.Read.TheVariants as reads
 use Rattle.qs_send.specs.declared.piece.Item.{Item}
+use Rattle.qs_send.specs.declared.piece.Item.TheVariants.{DataBlocked, StreamDataBlocked}
 use Rattle.qs_calls.specs.declared.closing.NotedClose.{NotedClose}
 use Rattle.qs_calls.specs.declared.settings.PeerLimits.{PeerLimits}
 use Rattle.qs_calls.specs.declared.token.Token.{Token}
@@ -19,7 +20,8 @@ use Rattle.qs_machine.specs.Setting.{Setting}
 use Rattle.qs_machine.specs.News.{IsReadable}
 use Rattle.qs_machine.specs.EndStep.{Call, Answer, Open, Write, Finish, Reset, Stop, StopAndDiscard, ReadUpTo, TokenLost, Lose, RaiseLimits, Set, NoteClosed}
 use Rattle.qs_machine.specs.Examples.{client_of, standard}
-use Rattle.qs_machine.specs.SmallEnds.{fresh, raised}
+use Rattle.qs_machine.specs.ExclusionsDue.{held_back, two_of_three}
+use Rattle.qs_machine.specs.SmallEnds.{client_with, fresh, raised}
 use Rattle.qs_runs.specs.Logs.{Happening}
 use Rattle.qs_runs.specs.Worlds.{end_of}
 use Rattle.qs_rest.specs.Rest.{HasMore}
@@ -85,7 +87,10 @@ pub record IsNoLap : Type 0 where
 pub record GoesOut : Type 0 where
   -- a limit that an older value of is acknowledged
   pub older : HasMore (record raised { acked = record no_items { max_data = Some 4500 } })
-  -- but not once it is acknowledged itself; and so of each item
+  -- a client tells that the connection's credit holds it back, or a stream's
+  pub blocked : IsDueItem (held_back two_of_three) (DataBlocked 2)
+  pub stream_blocked : IsDueItem (client_with (record two_of_three { limit = 2 })) (StreamDataBlocked 0 2)
+  -- but a limit isn't told once it is acknowledged itself; and so of each item
   pub again : HasMore (record raised { acked = record no_items { max_data = Some 5000 } }) → ⊥
   pub acked : (i : Item) (e : End) → e.acked ≡ no_items → IsDueItem (item_acked i e) i → ⊥
   -- nor an ACK, that would ask for one
