@@ -3,7 +3,6 @@
 use Rattle.std.proofs.Common.{◌≡◌, ℕ, ◌+◌, ◌<◌, ◌≤◌, Bool, true, false, List, [], ◌∷◌, ◌++◌, ◌⊎◌, Option, Some, None, refl, sym, ap, ◌∙◌, subst, arith, inl, inr}
 use Rattle.std.specs.Prelude.{⊤, Result}
 use Rattle.std.specs.FinSet as set
-use Rattle.std.proofs.lemmas.Bool.{cases_lt}
 use Rattle.qs_recv.specs.Lane.{after_read}
 use Rattle.qs_recv.specs.declared.half.Read.{Read}
 use Rattle.qs_send.specs.Records.{Among}
@@ -31,7 +30,7 @@ use Rattle.qs_progress.proofs.Bound.{is_below}
 use Rattle.qs_progress.proofs.Trails.{eased, joined, last_of}
 use Rattle.qs_progress.proofs.Passing.{Owes, IsClear}
 use Rattle.qs_progress.proofs.Turns.{HasLost, below_next, loses, loses_trail, sends, tells, sends_trail, sends_all}
-use Rattle.qs_progress.proofs.Pairs.{Legs, leads, rests}
+use Rattle.qs_progress.proofs.Pairs.{Legs, leads, legs_raise}
 use Rattle.qs_progress.proofs.Comes.{both, Rests, trail, course_open, rest_misses}
 
 -- Reads
@@ -237,23 +236,7 @@ module _ (a b : Settings) where
         spent B = (first.sent_b, is_there first.sent_b (inl refl), λ more. sends_all B first.turn_b.2.0 lost_b first.sent_b first.turn_b.2.1 (inr more))
 
     pub turns_raise : (BothRest mid.ends → ⊥) → both first.sent_a.ends < both second.sent_a.ends
-    turns_raise begins =
-        elim (cases_lt (both first.sent_a.ends) (both second.sent_a.ends)) [
-          | inl lt ↦ lt
-          | inr ge ↦ (
-              let (a1, a2) = grows A in
-              let (b1, b2) = grows B in
-              let up = to_lost_b.1 in
-              absurd (begins (λ s. rests a b s lost_b mid again second.sent_a (legs s (by s (omega (arith, ge, up, a1, b1, a2, b2)) (omega (arith, ge, up, a1, b1, a2, b2))) (by_new s (omega (arith, ge, up, a1, b1, a2, b2)) (omega (arith, ge, up, a1, b1, a2, b2)))))))
-        ]
-      where
-        by : (s : Side) → score mid.ends.a ≤ score lost_b.ends.a → score mid.ends.b ≤ score lost_b.ends.b → score (end_of mid.ends s) ≤ score (end_of lost_b.ends s)
-        by A x y = x
-        by B x y = y
-
-        by_new : (s : Side) → score second.sent_a.ends.a ≤ score mid.ends.a → score second.sent_a.ends.b ≤ score mid.ends.b → score (end_of second.sent_a.ends s) ≤ score (end_of mid.ends s)
-        by_new A x y = x
-        by_new B x y = y
+    turns_raise begins = (let grew = legs_raise a b lost_b mid again second.sent_a grows legs begins in let up = to_lost_b.1 in omega (arith, grew, up))
 
   -- Courses of rounds
 

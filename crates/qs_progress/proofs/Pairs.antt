@@ -289,26 +289,20 @@ module _ (a b : Settings) where
           even = even;
         }
 
-  up_both : (old new : Moment) → IsReached a b old → Lap old new → (s : Side) → score (end_of old.ends s) ≤ score (end_of new.ends s)
-  up_both old new r lap s = (leads s lap.moments old new r lap.calm).1.grows
+  -- where no score falls, such trails raise one, or this end is at rest between them, and so are both
+  pub legs_raise : (old mid again new : Moment) → ((s : Side) → (score (end_of old.ends s) ≤ score (end_of mid.ends s)) × (score (end_of mid.ends s) ≤ score (end_of new.ends s)))
+      → ((s : Side) → score (end_of mid.ends s) ≤ score (end_of old.ends s) → score (end_of new.ends s) ≤ score (end_of mid.ends s) → Legs s old mid again new)
+      → (BothRest mid.ends → ⊥) → score old.ends.a + score old.ends.b < score new.ends.a + score new.ends.b
+  legs_raise old mid again new grows legs begins =
+      let (a1, a2) = grows A in
+      let (b1, b2) = grows B in
+      elim (cases_lt (score old.ends.a + score old.ends.b) (score new.ends.a + score new.ends.b)) [
+        | inl lt ↦ lt
+        | inr ge ↦ absurd (begins (two_sides (λ s. AtRest (end_of mid.ends s)) A
+            (rests A old mid again new (legs A (omega (arith, ge, a1, b1, a2, b2)) (omega (arith, ge, a1, b1, a2, b2))))
+            (rests B old mid again new (legs B (omega (arith, ge, a1, b1, a2, b2)) (omega (arith, ge, a1, b1, a2, b2))))))
+      ]
 
   pub laps_raise : (old mid new : Moment) → IsReached a b old → Lap old mid → (BothRest mid.ends → ⊥) → Lap mid new → BothOpen new.ends → score old.ends.a + score old.ends.b < score new.ends.a + score new.ends.b
   laps_raise old mid new r first begins second open_end =
-      elim (cases_lt (score old.ends.a + score old.ends.b) (score new.ends.a + score new.ends.b)) [
-        | inl lt ↦ lt
-        | inr ge ↦ (
-            let r_mid = (leads A first.moments old mid r first.calm).0 in
-            let a1 = up_both old mid r first A in
-            let b1 = up_both old mid r first B in
-            let a2 = up_both mid new r_mid second A in
-            let b2 = up_both mid new r_mid second B in
-            absurd (begins (λ s. rests s old mid mid new (laps s old mid new r first second open_end (by s (omega (arith, ge, a1, b1, a2, b2)) (omega (arith, ge, a1, b1, a2, b2))) (by_new s (omega (arith, ge, a1, b1, a2, b2)) (omega (arith, ge, a1, b1, a2, b2)))))))
-      ]
-    where
-      by : (s : Side) → score mid.ends.a ≤ score old.ends.a → score mid.ends.b ≤ score old.ends.b → score (end_of mid.ends s) ≤ score (end_of old.ends s)
-      by A x y = x
-      by B x y = y
-
-      by_new : (s : Side) → score new.ends.a ≤ score mid.ends.a → score new.ends.b ≤ score mid.ends.b → score (end_of new.ends s) ≤ score (end_of mid.ends s)
-      by_new A x y = x
-      by_new B x y = y
+      legs_raise old mid mid new (λ s. (let (r_mid, led) = leads s first.moments old mid r first.calm in (led.grows, (leads s second.moments mid new r_mid second.calm).1.grows))) (λ s. laps s old mid new r first second open_end) begins
