@@ -25,9 +25,9 @@ use Rattle.qs_send.specs.declared.piece.Piece.TheVariants.{Data, Told}
 use Rattle.qs_send.proofs.Carrying.{carried-empty}
 use Rattle.qs_machine.specs.Tables.{Tables, lookup, updated}
 use Rattle.qs_machine.specs.LostPackets.{no_lost}
-use Rattle.qs_machine.specs.Ends.{End}
+use Rattle.qs_machine.specs.Ends.{End, on_send}
 use Rattle.qs_machine.specs.Credit.{granted_streams}
-use Rattle.qs_machine.specs.Due.{IsOutstanding, IsDueItem, known_count}
+use Rattle.qs_machine.specs.Due.{IsOutstanding, IsCovered, IsDueItem, known_count}
 use Rattle.qs_machine.specs.Repeats.{SentWasWritten, IsWritten}
 use Rattle.qs_machine.specs.FrameStep.{AckedPiece, held, greatest, greatest_of, or_zero, is_named, without_piece, acks, first_acked, piece_acked, item_acked, named}
 use Rattle.qs_machine.proofs.TableLaws.{lookup_other}
@@ -159,48 +159,33 @@ module _ (Is : Piece → Type 0) where
         | inr ne ↦ (m, sym (lookup_other t n k (f x) ne) ∙ at, inl refl)
       ]
 
+  -- so what holds of a half there held of it, or comes by the edit
+  edited : (e : End) (n : ℕ) (f : SendLane → SendLane) (P : SendLane → Bool) (X : ℕ → Type 0) → ((l : SendLane) → P (f l) ≡ true → (P l ≡ true) ⊎ X n) → (k : ℕ) (m : SendLane) → lookup (on_send n f e).sends k ≡ Some m → P m ≡ true
+      → ((l : SendLane) × (lookup e.sends k ≡ Some l) × (P l ≡ true)) ⊎ X k
+  edited e n f P X either k m at is =
+      let (l, there, or) = edited_back e.sends n f k m at in
+      elim or [
+        | inl same ↦ inl (l, there, ap P (sym same) ∙ is)
+        | inr (here, same) ↦ elim (either l (ap P (sym same) ∙ is)) [ inl was ↦ inl (l, there, was) | inr x ↦ inr (subst X (sym here) x) ]
+      ]
+
   source_piece : (p : Piece) (e : End) → Is p → Source Is e (piece_acked p e)
   source_piece (Data n c) e is_one =
       record {
-        offset = λ k q m at is.
-            let (l, there, or) = edited_back e.sends n (λ l. acked_lane l c) k m at in
-            elim or [
-              | inl same ↦ inl (l, there, subst (λ (x : SendLane). set.contains x.acked q ≡ true) same is)
-              | inr (e1, same) ↦ (
-                  let now : set.contains (acked_lane l c).acked q ≡ true = subst (λ (x : SendLane). set.contains x.acked q ≡ true) same is in
-                  elim (or_cases (set.contains l.acked q) (is_within c.offset (c.offset + c.len) q) (sym (contains-with_range l.acked c.offset (c.offset + c.len) q) ∙ now)) [
-                    | inl was ↦ inl (l, there, was)
-                    | inr within ↦ inr (c, subst (λ j. Is (Data j c)) (sym e1) is_one, grind (arith, nat_tests, within), grind (arith, nat_tests, within))
-                  ])
-            ];
-        fin = λ k m at is.
-            let (l, there, or) = edited_back e.sends n (λ l. acked_lane l c) k m at in
-            elim or [
-              | inl same ↦ inl (l, there, subst (λ (x : SendLane). x.fin_acked ≡ true) same is)
-              | inr (e1, same) ↦ elim (or_cases l.fin_acked c.fin (subst (λ (x : SendLane). x.fin_acked ≡ true) same is)) [
-                | inl was ↦ inl (l, there, was)
-                | inr ends ↦ inr (c, subst (λ j. Is (Data j c)) (sym e1) is_one, ends)
-              ]
-            ];
-        reset = λ k m at is.
-            let (l, there, or) = edited_back e.sends n (λ l. acked_lane l c) k m at in
-            inl (l, there, elim or [ inl same ↦ subst (λ (x : SendLane). x.reset_acked ≡ true) same is | inr (e1, same) ↦ subst (λ (x : SendLane). x.reset_acked ≡ true) same is ]);
+        offset = λ k q. edited e n (λ l. acked_lane l c) (λ l. set.contains l.acked q) (λ j. (d : Chunk) × Is (Data j d) × (d.offset ≤ q) × (q < d.offset + d.len))
+            (λ l now. elim (or_cases (set.contains l.acked q) (is_within c.offset (c.offset + c.len) q) (sym (contains-with_range l.acked c.offset (c.offset + c.len) q) ∙ now)) [
+              | inl was ↦ inl was
+              | inr within ↦ inr (c, is_one, grind (arith, nat_tests, within), grind (arith, nat_tests, within))
+            ]) k;
+        fin = edited e n (λ l. acked_lane l c) (λ l. l.fin_acked) (λ j. (d : Chunk) × Is (Data j d) × (d.fin ≡ true)) (λ l now. elim (or_cases l.fin_acked c.fin now) [ inl was ↦ inl was | inr last ↦ inr (c, is_one, last) ]);
+        reset = edited e n (λ l. acked_lane l c) (λ l. l.reset_acked) (λ j. (code size : ℕ) × Is (Told (ResetStream j code size))) (λ l is. inl is);
         item = λ i is. inl is;
       }
   source_piece (Told (ResetStream n code size)) e is_one =
       record {
-        offset = λ k q m at is.
-            let (l, there, or) = edited_back e.sends n reset_acked_lane k m at in
-            inl (l, there, elim or [ inl same ↦ subst (λ (x : SendLane). set.contains x.acked q ≡ true) same is | inr (e1, same) ↦ subst (λ (x : SendLane). set.contains x.acked q ≡ true) same is ]);
-        fin = λ k m at is.
-            let (l, there, or) = edited_back e.sends n reset_acked_lane k m at in
-            inl (l, there, elim or [ inl same ↦ subst (λ (x : SendLane). x.fin_acked ≡ true) same is | inr (e1, same) ↦ subst (λ (x : SendLane). x.fin_acked ≡ true) same is ]);
-        reset = λ k m at is.
-            let (l, there, or) = edited_back e.sends n reset_acked_lane k m at in
-            elim or [
-              | inl same ↦ inl (l, there, subst (λ (x : SendLane). x.reset_acked ≡ true) same is)
-              | inr (e1, same) ↦ inr (code, size, subst (λ j. Is (Told (ResetStream j code size))) (sym e1) is_one)
-            ];
+        offset = λ k q. edited e n reset_acked_lane (λ l. set.contains l.acked q) (λ j. (d : Chunk) × Is (Data j d) × (d.offset ≤ q) × (q < d.offset + d.len)) (λ l is. inl is) k;
+        fin = edited e n reset_acked_lane (λ l. l.fin_acked) (λ j. (d : Chunk) × Is (Data j d) × (d.fin ≡ true)) (λ l is. inl is);
+        reset = edited e n reset_acked_lane (λ l. l.reset_acked) (λ j. (c s : ℕ) × Is (Told (ResetStream j c s))) (λ l is. inr (code, size, is_one));
         item = λ i is. inl is;
       }
   source_piece (Told (MaxStreams Uni m)) e is_one = source_by e _ refl (λ i is. elim (item_or (MaxStreams Uni m) e i is) [ inl was ↦ inl was | inr covers ↦ inr (MaxStreams Uni m, is_one, covers) ])
@@ -275,41 +260,30 @@ module _ (e : End) where
   -- What is due isn't acknowledged then
 
   module _ (ready : IsReady e) where
+    -- an item that is outstanding and covers one that is due is that one
+    same_value : (item : ℕ → Item) (v m present : ℕ) → v ≤ present → m ≤ v → m ≡ present → (IsCovered e (item m) → ⊥) → IsOutstanding e (Told (item v)) → ⊥
+    same_value item v m present most le is uncovered flies = uncovered (inl (subst (λ x. IsOutstanding e (Told (item x))) (omega (arith, most, le, is)) flies))
+
     covered_new : (j i : Item) → IsDueItem e i → IsOutstanding e (Told j) → Covers j i → ⊥
-    covered_new (MaxData v) (MaxData m) due flies le =
-        let most = ready.within (MaxData v) (inl (false, flies)) in
-        due.1 (inl (subst (λ x. IsOutstanding e (Told (MaxData x))) (omega (arith, most, le, due.0.0)) flies))
+    covered_new (MaxData v) (MaxData m) due flies le = same_value MaxData v m e.granted (ready.within (MaxData v) (inl (false, flies))) le due.0.0 due.1 flies
     covered_new (MaxStreamData n v) (MaxStreamData k m) ((l, at, same, more, unsized), uncovered) flies (here, le) =
         let flies_here : IsOutstanding e (Told (MaxStreamData k v)) = subst (λ x. IsOutstanding e (Told (MaxStreamData x v))) (sym here) flies in
         let (x, there, most) = ready.within (MaxStreamData k v) (inl (false, flies_here)) in
-        let one : x.limit ≡ l.limit = ap (λ (y : RecvLane). y.limit) (same_Some x l (sym there ∙ at)) in
-        uncovered (inl (subst (λ y. IsOutstanding e (Told (MaxStreamData k y))) (omega (arith, most, le, same, one)) flies_here))
-    covered_new (MaxStreams Bidi v) (MaxStreams Bidi m) due flies le =
-        let most = ready.within (MaxStreams Bidi v) (inl (false, flies)) in
-        due.1 (inl (subst (λ x. IsOutstanding e (Told (MaxStreams Bidi x))) (omega (arith, most, le, due.0.0)) flies))
-    covered_new (MaxStreams Uni v) (MaxStreams Uni m) due flies le =
-        let most = ready.within (MaxStreams Uni v) (inl (false, flies)) in
-        due.1 (inl (subst (λ x. IsOutstanding e (Told (MaxStreams Uni x))) (omega (arith, most, le, due.0.0)) flies))
+        same_value (MaxStreamData k) v m x.limit most le (same ∙ ap (λ (y : RecvLane). y.limit) (same_Some l x (sym at ∙ there))) uncovered flies_here
+    covered_new (MaxStreams Bidi v) (MaxStreams Bidi m) due flies le = same_value (MaxStreams Bidi) v m e.granted_bidi (ready.within (MaxStreams Bidi v) (inl (false, flies))) le due.0.0 due.1 flies
+    covered_new (MaxStreams Uni v) (MaxStreams Uni m) due flies le = same_value (MaxStreams Uni) v m e.granted_uni (ready.within (MaxStreams Uni v) (inl (false, flies))) le due.0.0 due.1 flies
     covered_new (StopSending n code) (StopSending k other) ((l, at, stop, unreset, part), uncovered) flies here =
         let flies_here : IsOutstanding e (Told (StopSending k code)) = subst (λ x. IsOutstanding e (Told (StopSending x code))) (sym here) flies in
         let (x, there, stopped) = ready.within (StopSending k code) (inl (false, flies_here)) in
-        let one : x ≡ l = same_Some x l (sym there ∙ at) in
-        let same : code ≡ other = same_Some code other (sym stopped ∙ ap (λ (y : RecvLane). y.stop_code) one ∙ stop) in
+        let same : code ≡ other = same_Some code other (sym stopped ∙ ap (λ (y : RecvLane). y.stop_code) (same_Some x l (sym there ∙ at)) ∙ stop) in
         uncovered (inl (subst (λ c. IsOutstanding e (Told (StopSending k c))) same flies_here))
-    covered_new (DataBlocked v) (DataBlocked m) due flies le =
-        let most = ready.within (DataBlocked v) (inl (false, flies)) in
-        due.1 (inl (subst (λ x. IsOutstanding e (Told (DataBlocked x))) (omega (arith, most, le, due.0.0)) flies))
+    covered_new (DataBlocked v) (DataBlocked m) due flies le = same_value DataBlocked v m e.known_data (ready.within (DataBlocked v) (inl (false, flies))) le due.0.0 due.1 flies
     covered_new (StreamDataBlocked n v) (StreamDataBlocked k m) ((l, at, unreset, same, more, end), uncovered) flies (here, le) =
         let flies_here : IsOutstanding e (Told (StreamDataBlocked k v)) = subst (λ x. IsOutstanding e (Told (StreamDataBlocked x v))) (sym here) flies in
         let (x, there, most) = ready.within (StreamDataBlocked k v) (inl (false, flies_here)) in
-        let one : x.limit ≡ l.limit = ap (λ (y : SendLane). y.limit) (same_Some x l (sym there ∙ at)) in
-        uncovered (inl (subst (λ y. IsOutstanding e (Told (StreamDataBlocked k y))) (omega (arith, most, le, same, one)) flies_here))
-    covered_new (StreamsBlocked Bidi v) (StreamsBlocked Bidi m) due flies le =
-        let most = ready.within (StreamsBlocked Bidi v) (inl (false, flies)) in
-        due.1 (inl (subst (λ x. IsOutstanding e (Told (StreamsBlocked Bidi x))) (omega (arith, most, le, due.0.1)) flies))
-    covered_new (StreamsBlocked Uni v) (StreamsBlocked Uni m) due flies le =
-        let most = ready.within (StreamsBlocked Uni v) (inl (false, flies)) in
-        due.1 (inl (subst (λ x. IsOutstanding e (Told (StreamsBlocked Uni x))) (omega (arith, most, le, due.0.1)) flies))
+        same_value (StreamDataBlocked k) v m x.limit most le (same ∙ ap (λ (y : SendLane). y.limit) (same_Some l x (sym at ∙ there))) uncovered flies_here
+    covered_new (StreamsBlocked Bidi v) (StreamsBlocked Bidi m) due flies le = same_value (StreamsBlocked Bidi) v m e.known_bidi (ready.within (StreamsBlocked Bidi v) (inl (false, flies))) le due.0.1 due.1 flies
+    covered_new (StreamsBlocked Uni v) (StreamsBlocked Uni m) due flies le = same_value (StreamsBlocked Uni) v m e.known_uni (ready.within (StreamsBlocked Uni v) (inl (false, flies))) le due.0.1 due.1 flies
     covered_new j i due flies none = none
 
     not_then : (i : Item) → IsDueItem e i → (is_done e.acked i ≡ true → ⊥) → is_done (if_acked e).acked i ≡ false
