@@ -35,7 +35,7 @@ use Rattle.qs_calls.specs.declared.filling.Fill.{Fill}
 use Rattle.qs_machine.specs.Filling.{IsAsked, stream_bytes, bytes_left, EndGoesAlone, GoesWithin}
 use Rattle.qs_machine.specs.Making.{NamesMost}
 use Rattle.qs_machine.proofs.Carried.{among_more}
-use Rattle.qs_conn.specs.Filling.{IsWished, HasWished, IsAckLeft, end_by, MayGo, stream_frame, InPacket, all_items, turn_at, HadTurn, IsOnWay, start_of, way_end, Content, WithItems, Flowing, Flow, Packed, Stage, IsPassed}
+use Rattle.qs_conn.specs.Filling.{IsWished, HasWished, IsAckLeft, end_by, MayGo, stream_frame, InPacket, all_items, turn_at, HadTurn, IsOnWay, start_of, way_end, Content, WithItems, Flowing, Flow, Packed, PackedBy, Stage, IsPassed}
 use Rattle.qs_conn.proofs.Items.{fills_push}
 use Rattle.qs_conn.proofs.Texts.{all_push, no_text, text_push, seen_push}
 use Rattle.qs_conn.proofs.Stages.{turn_push, bytes_push, begun_content}
@@ -368,12 +368,15 @@ within_goes quota first e n (inl (some, goes)) = goes
 within_goes quota first e n (inr alone) = (alone.half, alone.lane, inr alone.end)
 
 -- A packet needs no more once all streams that are asked for had their turn.
-pub flow_packed : (first : ℕ) (wish : Wish) (room : ℕ) (old : End) (text : List ℕ) (e : End) (quota : ℕ) (b around : Bool) (at : ℕ) → ((n : ℕ) → IsAsked wish.want n → HadTurn around first at n) → Flow wish room old text e quota b (turn_at around first at) → Packed first wish room old text e quota
-flow_packed first wish room old text e quota true around at had f = f
+pub flow_packed : (first : ℕ) (wish : Wish) (room : ℕ) (old : End) (text : List ℕ) (e : End) (quota : ℕ) (b around : Bool) (at : ℕ) → ((n : ℕ) → IsAsked wish.want n → HadTurn around first at n) → Flow wish room old text e quota b (turn_at around first at) → PackedBy first wish room old text e quota b
+flow_packed first wish room old text e quota true around at had f = record { packed = f; over = λ full. absurd (true≢false full) }
 flow_packed first wish room old text e quota false around at had f =
     record {
-      content = f.so_far.content;
-      whole = λ left. record { ack = acked left; wanted = record { items = f.so_far.items; streams = λ n asked goes. f.over n (had n asked) (within_goes _ _ e n goes) } };
+      packed = record {
+        content = f.so_far.content;
+        whole = λ left. record { ack = acked left; wanted = record { items = f.so_far.items; streams = λ n asked goes. f.over n (had n asked) (within_goes _ _ e n goes) } };
+      };
+      over = λ _ n asked. f.over n (had n asked);
     }
   where
     acked : length text + 25 ≤ room → wish.ack_due ≡ true → AcksAll old (seen_all f.so_far.content.frames)

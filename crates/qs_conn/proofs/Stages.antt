@@ -17,7 +17,10 @@ use Rattle.qs_conn.specs.declared.slot.Slot.{Slot}
 use Rattle.qs_machine.specs.Ends.{End}
 use Rattle.qs_machine.specs.Credit.{all_sent, settle}
 use Rattle.qs_machine.specs.Seen.{Seen, Ack, Control, Close, Plain, seen, seen_all, asks_ack, any_asks}
-use Rattle.qs_machine.specs.Due.{Among, IsCurrent, IsCovered, IsDueItem, StreamGoes}
+use Rattle.qs_machine.specs.Due.{Among, IsCurrent, IsCovered, IsDueItem, IsOutstanding, StreamGoes}
+use Rattle.qs_send.specs.Records.{IsCarried}
+use Rattle.qs_machine.specs.Tables.{lookup}
+use Rattle.qs_machine.specs.Outgoing.{sent_sum}
 use Rattle.qs_machine.specs.Lawful.{MayPut, Fills, AcksAll, HasAll, IsInTurn, AreInTurn, frame_put}
 use Rattle.qs_machine.specs.Making.{IsMade, NamesMost}
 use Rattle.qs_machine.specs.Filling.{IsAsked, bytes_in, stream_bytes, bytes_left, EndGoesAlone}
@@ -199,16 +202,19 @@ bytes_within (f ∷ fs) = omega (arith, one_within f, bytes_within fs, length-ap
 
 -- The end
 
--- the end with another number for its next packet
-pub goes_same : (e : End) (k n : ℕ) → StreamGoes (record e { next = k }) n → StreamGoes e n
-goes_same e k n (l, lane, some) = (
+-- an end with the same halves and the same credit, of which as much is outstanding
+pub goes_same : (f e : End) (n : ℕ) → f.sends ≡ e.sends → f.known_data ≡ e.known_data → f.outstanding ≡ e.outstanding → StreamGoes f n → StreamGoes e n
+goes_same f e n sends known out (l, lane, some) = (
   l,
-  lane,
+  ap (λ t. lookup t n) (sym sends) ∙ lane,
   elim some [
-    | inl (q, due, low, credit) ↦ inl (q, due_more (record e { next = k }) e n l (λ c out. out) q due, low, credit)
-    | inr (due, sent) ↦ inr (end_due_more (record e { next = k }) e n l (λ c out. out) due, sent)
+    | inl (q, due, low, credit) ↦ inl (q, due_more f e n l fewer q due, low, elim credit [ inl sent ↦ inl sent | inr (at, lt) ↦ inr (at, omega (arith, lt, known, ap sent_sum sends)) ])
+    | inr (due, sent) ↦ inr (end_due_more f e n l fewer due, sent)
   ],
 )
+  where
+    fewer : (c : Chunk) → IsOutstanding e (Data n c) → IsOutstanding f (Data n c)
+    fewer c is = subst (λ m. IsCarried m (Data n c)) (sym out) is
 
 -- and so an end that goes alone
 pub goes_alone : (e : End) (k first n : ℕ) → EndGoesAlone first (record e { next = k }) n → EndGoesAlone first e n
@@ -218,7 +224,7 @@ goes_alone e k first n a =
       lane = a.lane;
       end = (end_due_more (record e { next = k }) e n a.half (λ c out. out) a.end.0, a.end.1);
       no_byte = λ (q, due, low, credit). a.no_byte (q, due_more e (record e { next = k }) n a.half (λ c out. out) q due, low, credit);
-      in_turn = λ m before goes. a.in_turn m before (goes_same (record e { next = k }) e.next m goes);
+      in_turn = λ m before goes. a.in_turn m before (goes_same e (record e { next = k }) m refl refl refl goes);
     }
 
 module _ (first : ℕ) (wish : Wish) (room : ℕ) (old : End) (text : List ℕ) (e : End) (quota : ℕ) (p : Packed first wish room old text e quota) where
@@ -271,7 +277,7 @@ module _ (first : ℕ) (wish : Wish) (room : ℕ) (old : End) (text : List ℕ) 
     packed_some fits due items all wide quiet =
         packed_made room fits p.content.acks (λ left. (
         let w = p.whole left in
-        record { ack = λ is. w.ack (due ∙ is); items = w.wanted.items items; no_ack = quiet; no_stream = λ n goes. w.wanted.streams n (all n) (inl (below wide, goes_same e (old.next + 1) n goes)) }))
+        record { ack = λ is. w.ack (due ∙ is); items = w.wanted.items items; no_ack = quiet; no_stream = λ n goes. w.wanted.streams n (all n) (inl (below wide, goes_same (record e { next = old.next + 1 }) e n refl refl refl goes)) }))
       where
         below : room < wish.want.most_bytes → 0 < bytes_left wish.want (seen_all p.content.frames)
         below wide = (let le = bytes_within p.content.frames in let same = ap length p.content.spells.canonical in omega (arith, le, same, count, fits, wide))

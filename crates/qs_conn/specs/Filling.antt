@@ -319,6 +319,11 @@ pub record Packed (first : ℕ) (wish : Wish) (room : ℕ) (old : End) (text : L
   pub content : Content first wish room old text e quota
   pub whole : length text + 25 ≤ room → HasWished wish old (seen_all content.frames) e
 
+-- The same of one that all went into that may of the streams that are asked for, or that is full.
+pub record PackedBy (first : ℕ) (wish : Wish) (room : ℕ) (old : End) (text : List ℕ) (e : End) (quota : ℕ) (full : Bool) : Type 0 where
+  pub packed : Packed first wish room old text e quota
+  pub over : full ≡ false → (n : ℕ) → IsAsked wish.want n → StreamGoes e n → ⊥
+
 -- a packet with the streams that had their turn, or one that is full
 abbrev pub Flow : (wish : Wish) (room : ℕ) → End → List ℕ → End → (quota : ℕ) → Bool → Turn → Type 0
 Flow wish room old text e quota true t = Packed t.first wish room old text e quota

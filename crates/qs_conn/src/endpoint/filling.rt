@@ -1,12 +1,12 @@
 //! Frames for a packet of a stack that has packets of its own.
-ghost use Rattle.std.specs.Prelude.{◌≡◌, ◌↔◌, ℕ, IsTrue, List, [], length};
+ghost use Rattle.std.specs.Prelude.{◌≡◌, ◌↔◌, ℕ, IsTrue, List, [], length, if◌then◌else◌};
 ghost use Rattle.qs_machine.specs.Ends.{End};
 ghost use Rattle.qs_machine.specs.Filling.{WantedGoes, FillBy, FillStep, still_asked};
 ghost use Rattle.qs_machine.specs.InOrder.{NoItemStarves};
 ghost use Rattle.qs_conn.specs.Written.{filled_text, KeepsBehind};
 
 use super::Endpoint;
-use crate::filling::Wish;
+use crate::filling::{Course, Wish};
 use qs_calls::{Fill, Filled, MAX_VARINT, MakeFault};
 use qs_wire::StreamId;
 
@@ -45,11 +45,10 @@ impl Endpoint {
         if len == 0 {
             return Ok(None);
         }
-        let near = self.core.outbox.last_stream();
         let last_stream = self.core.outbox.last_stream();
         self.core.outbox.commit();
         self.settle();
-        let more = self.has_more(want, packet.quota, near);
+        let more = self.has_more(want, may_follow(packet), &last_stream);
         Ok(Some(Filled {
             token,
             len,
@@ -65,16 +64,24 @@ impl Endpoint {
         ensures text { (out : List ℕ) → filled_text result out ≡ [] }
     {
         // (the cap of bytes holds nothing back that memory does)
-        if self.has_more(want, 1, None) {
+        if self.has_more(want, 1, &None) {
             return Err(MakeFault::NoMemory);
         }
         Ok(None)
     }
 
     // The stream that sent last is asked first, since it mostly has more.
-    fn has_more(&self, want: &Fill, left: usize, last: Option<StreamId>) -> bool
+    fn has_more(&self, want: &Fill, left: usize, last: &Option<StreamId>) -> bool
         ensures { IsTrue result ↔ WantedGoes (still_asked want.now left) self.now }
     {
         self.core.has_wanted(want, left, last)
     }
+}
+
+// How many bytes of streams may follow a packet: none, where nothing held bytes back that may go.
+#[inline(always)]
+fn may_follow(packet: Course) -> usize
+    ensures { result ≡ (if packet.is_full then packet.quota else 0) }
+{
+    if packet.is_full { packet.quota } else { 0 }
 }

@@ -11,7 +11,7 @@ ghost use Rattle.qs_machine.specs.Ends.{End};
 ghost use Rattle.qs_machine.specs.Filling.{IsAsked};
 ghost use Rattle.qs_conn.specs.declared.filling.Wish.{Wish};
 ghost use Rattle.qs_conn.specs.Middle.{IsCore, IsFilling, FillsOn, HasMemory, HoldsAtMost, IsStill, own_items, end_of};
-ghost use Rattle.qs_conn.specs.Filling.{slot_at, Passed, HasPassedTo, HasPassedKinds, kind_place, no_slot, and_slot, and_kind, all_items, Stage, Flow, Packed, IsAckLeft, InPacket, turn_at, start_of, way_end, IsOnWay};
+ghost use Rattle.qs_conn.specs.Filling.{slot_at, Passed, HasPassedTo, HasPassedKinds, kind_place, no_slot, and_slot, and_kind, all_items, Stage, Flow, PackedBy, IsAckLeft, InPacket, turn_at, start_of, way_end, IsOnWay};
 ghost use Rattle.qs_conn.specs.Marks.{IsBefore, IsIdle};
 ghost use Rattle.qs_conn.specs.Tasks.{IsOpen};
 
@@ -38,7 +38,7 @@ impl Core {
         requires space { wish.now.ack_due ≡ true → 26 ≤ length out.old }
         requires together { wish.now.ack_due ≡ true → wish.now.want.items ≡ true }
         ensures packed { (old : End) (left : Bool) → end_of self.old old ≡ old → old.done ≡ done.now → IsAckLeft wish.now.ack_due old.ack_due left → ((x : Piece) → InPacket old x → ⊥)
-            → Packed wish.now.want.first wish.now (length out.old) old (take result.len out.new) (end_of self.new (record old { ack_due = left })) result.quota }
+            → PackedBy wish.now.want.first wish.now (length out.old) old (take result.len out.new) (end_of self.new (record old { ack_due = left })) result.quota result.is_full }
         ensures filled { FillsOn self.old out.old 0 self.new out.new result.len 6 }
     {
         let len = put_ack_if(done, wish, out);
@@ -212,7 +212,7 @@ impl Core {
         requires memory { HasMemory self.old (length out.old) packet.len 0 }
         ensures packed { (room : ℕ) (old e : End) → room ≡ length out.old
             → Flow wish.now room old (take packet.len out.old) (end_of self.old e) wish.now.want.most_bytes packet.is_full (turn_at false wish.now.want.first wish.now.want.first)
-            → Packed wish.now.want.first wish.now room old (take result.len out.new) (end_of self.new e) result.quota }
+            → PackedBy wish.now.want.first wish.now room old (take result.len out.new) (end_of self.new e) result.quota result.is_full }
         ensures filled { FillsOn self.old out.old packet.len self.new out.new result.len 0 }
     {
         let packet = Course {

@@ -22,7 +22,7 @@ impl Core {
     }
 
     /// With no byte left of the cap no stream is asked. The stream that sent last is asked before others are searched: it mostly has more.
-    pub(crate) fn has_wanted(&self, want: &Fill, left: usize, last: Option<StreamId>) -> bool
+    pub(crate) fn has_wanted(&self, want: &Fill, left: usize, last: &Option<StreamId>) -> bool
         requires { IsCore self.now }
         ensures { (e : End) → TellsWanted (still_asked want.now left) result (end_of self.now e) }
     {
@@ -46,7 +46,7 @@ impl Core {
         false
     }
 
-    fn has_wanted_stream(&self, want: &Fill, last: Option<StreamId>) -> bool
+    fn has_wanted_stream(&self, want: &Fill, last: &Option<StreamId>) -> bool
         requires { IsCore self.now }
         ensures { (e : End) → TellsStream want.now result (end_of self.now e) }
     {
@@ -56,7 +56,7 @@ impl Core {
         if want.alone {
             return self.has_bytes(want.first);
         }
-        if let Some(stream) = last {
+        if let Some(stream) = *last {
             if self.has_bytes(stream) {
                 return true;
             }

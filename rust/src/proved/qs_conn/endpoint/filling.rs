@@ -2,7 +2,7 @@
 //! Frames for a packet of a stack that has packets of its own.
 
 use super::Endpoint;
-use crate::proved::qs_conn::filling::Wish;
+use crate::proved::qs_conn::filling::{Course, Wish};
 use crate::proved::qs_calls::{Fill, Filled, MAX_VARINT, MakeFault};
 use crate::proved::qs_wire::StreamId;
 
@@ -38,11 +38,10 @@ impl Endpoint {
         if len == 0 {
             return Ok(None);
         }
-        let near = self.core.outbox.last_stream();
         let last_stream = self.core.outbox.last_stream();
         self.core.outbox.commit();
         self.settle();
-        let more = self.has_more(want, packet.quota, near);
+        let more = self.has_more(want, may_follow(packet), &last_stream);
         Ok(Some(Filled {
             token,
             len,
@@ -54,14 +53,20 @@ impl Endpoint {
     // Room for pieces is taken before anything is put, and may be refused when nothing would have gone: then memory wasn't needed.
     fn unfilled(&self, want: &Fill) -> Result<Option<Filled>, MakeFault> {
         // (the cap of bytes holds nothing back that memory does)
-        if self.has_more(want, 1, None) {
+        if self.has_more(want, 1, &None) {
             return Err(MakeFault::NoMemory);
         }
         Ok(None)
     }
 
     // The stream that sent last is asked first, since it mostly has more.
-    fn has_more(&self, want: &Fill, left: usize, last: Option<StreamId>) -> bool {
+    fn has_more(&self, want: &Fill, left: usize, last: &Option<StreamId>) -> bool {
         self.core.has_wanted(want, left, last)
     }
+}
+
+// How many bytes of streams may follow a packet: none, where nothing held bytes back that may go.
+#[inline(always)]
+fn may_follow(packet: Course) -> usize {
+    if packet.is_full { packet.quota } else { 0 }
 }

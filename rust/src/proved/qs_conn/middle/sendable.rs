@@ -17,7 +17,7 @@ impl Core {
 
     /// With no byte left of the cap no stream is asked. The stream that sent last is asked before others are searched: it mostly has more.
     #[inline]
-    pub(crate) fn has_wanted(&self, want: &Fill, left: usize, last: Option<StreamId>) -> bool {
+    pub(crate) fn has_wanted(&self, want: &Fill, left: usize, last: &Option<StreamId>) -> bool {
         if left == 0 {
             return self.has_wanted_item(want);
         }
@@ -35,14 +35,14 @@ impl Core {
         false
     }
 
-    fn has_wanted_stream(&self, want: &Fill, last: Option<StreamId>) -> bool {
+    fn has_wanted_stream(&self, want: &Fill, last: &Option<StreamId>) -> bool {
         if !want.streams {
             return false;
         }
         if want.alone {
             return self.has_bytes(want.first);
         }
-        if let Some(stream) = last {
+        if let Some(stream) = *last {
             if self.has_bytes(stream) {
                 return true;
             }

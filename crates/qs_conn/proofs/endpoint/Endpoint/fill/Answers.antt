@@ -20,17 +20,17 @@ fill-packet-requires-clause-memory c = memory_begun c.self.inside.core _ _ c.beg
 pub invariant_of-self-then-len-eq0 : goal.invariant_of-self-then-len-eq0
 invariant_of-self-then-len-eq0 c =
     let filled = c.fill-packet.ensures.filled in
-    let idle = fill_idle _ c.args.self.now c.self.view_is (record c.self.inside.core { outbox = c.begin.new.self }) c.fill-packet.new.self c.args.want.now (length c.args.out.now) c.fill-packet.result.len c.fill-packet.result.quota c.fill-packet.new.out c.self.invariant.rest.idle (rw c.in_default.ensures.ok refl) c.fill-packet.ensures.packed c.if-len-eq0.true in
+    let idle = fill_idle _ c.args.self.now c.self.view_is (record c.self.inside.core { outbox = c.begin.new.self }) c.fill-packet.new.self c.args.want.now (length c.args.out.now) c.fill-packet.result.len c.fill-packet.result.quota c.fill-packet.result.is_full c.fill-packet.new.out c.self.invariant.rest.idle (rw c.in_default.ensures.ok refl) c.fill-packet.ensures.packed c.if-len-eq0.true in
     kept_streams c.self.inside.core _ _ _ _ _ c.self.invariant c.fill-packet.new.self (record { core = filled.filling.core; idle = idle }) (record { limits = filled.streams.limits; recvs = filled.streams.recvs }) filled.ended
 
 pub returns-then-len-eq0-clause-step : goal.returns-then-len-eq0-clause-step
 returns-then-len-eq0-clause-step c =
-    fill_none _ c.args.self.now c.self.view_is (record c.self.inside.core { outbox = c.begin.new.self }) c.fill-packet.new.self c.args.want.now (length c.args.out.now) c.fill-packet.result.len c.fill-packet.result.quota c.fill-packet.new.out c.self.invariant.rest.idle (rw c.in_default.ensures.ok refl) c.fill-packet.ensures.packed
+    fill_none _ c.args.self.now c.self.view_is (record c.self.inside.core { outbox = c.begin.new.self }) c.fill-packet.new.self c.args.want.now (length c.args.out.now) c.fill-packet.result.len c.fill-packet.result.quota c.fill-packet.result.is_full c.fill-packet.new.out c.self.invariant.rest.idle (rw c.in_default.ensures.ok refl) c.fill-packet.ensures.packed
     (sym c.is_some.ensures ∙ c.if-is_some.false) (omega (arith, c.if-number-gt-MAX_VARINT.false, c.next-number.ensures)) c.if-len-eq0.true
 
 pub commit-requires : goal.commit-requires
 commit-requires c =
-    let next = fill_next _ c.args.self.now c.self.view_is (record c.self.inside.core { outbox = c.begin.new.self }) c.fill-packet.new.self c.args.want.now (length c.args.out.now) c.fill-packet.result.len c.fill-packet.result.quota c.fill-packet.new.out c.self.invariant.rest.idle (rw c.in_default.ensures.ok refl) c.fill-packet.ensures.packed in
+    let next = fill_next _ c.args.self.now c.self.view_is (record c.self.inside.core { outbox = c.begin.new.self }) c.fill-packet.new.self c.args.want.now (length c.args.out.now) c.fill-packet.result.len c.fill-packet.result.quota c.fill-packet.result.is_full c.fill-packet.new.out c.self.invariant.rest.idle (rw c.in_default.ensures.ok refl) c.fill-packet.ensures.packed in
     omega (arith, next, c.if-number-gt-MAX_VARINT.false, c.next-number.ensures)
 
 pub invariant_of-self-2 : goal.invariant_of-self-2
@@ -41,9 +41,9 @@ invariant_of-self-2 c =
 
 pub returns-clause-step : goal.returns-clause-step
 returns-clause-step c =
-    fill_some _ c.args.self.now c.self.view_is (record c.self.inside.core { outbox = c.begin.new.self }) c.fill-packet.new.self c.args.want.now (length c.args.out.now) c.fill-packet.result.len c.fill-packet.result.quota c.fill-packet.new.out c.self.invariant.rest.idle (rw c.in_default.ensures.ok refl) c.fill-packet.ensures.packed
+    fill_some _ c.args.self.now c.self.view_is (record c.self.inside.core { outbox = c.begin.new.self }) c.fill-packet.new.self c.args.want.now (length c.args.out.now) c.fill-packet.result.len c.fill-packet.result.quota c.fill-packet.result.is_full c.fill-packet.new.out c.self.invariant.rest.idle (rw c.in_default.ensures.ok refl) c.fill-packet.ensures.packed
     c.settle.new.self c.commit.new.self c.next-number.result c.next-number.ensures c.commit.ensures.after c.settle.ensures
-    c.token_of-token.result c.last_stream-last_stream.result c.has_more-more.result c.token_of-token.ensures c.last_stream-last_stream.ensures c.has_more-more.ensures
+    c.token_of-token.result c.last_stream-last_stream.result c.has_more-more.result c.token_of-token.ensures c.last_stream-last_stream.ensures (rw c.may_follow.ensures at c.has_more-more.ensures)
     (sym c.is_some.ensures ∙ c.if-is_some.false) (omega (arith, c.if-number-gt-MAX_VARINT.false, c.next-number.ensures))
     (omega (arith, c.if-len-eq0.false)) (omega (arith, c.fill-packet.ensures.filled.filling.within, c.fill-packet.ensures.filled.room)) c.fill-packet.ensures.filled.room
 
@@ -61,5 +61,5 @@ returns-in-Err-clause-order c = c.unfilled.ensures.order _ _
 
 pub returns-clause-order : goal.returns-clause-order
 returns-clause-order c =
-    fill_order _ c.args.self.now c.self.view_is (record c.self.inside.core { outbox = c.begin.new.self }) c.fill-packet.new.self c.args.want.now (length c.args.out.now) c.fill-packet.result.len c.fill-packet.result.quota c.fill-packet.new.out c.self.invariant.rest.idle (rw c.in_default.ensures.ok refl) c.fill-packet.ensures.packed
+    fill_order _ c.args.self.now c.self.view_is (record c.self.inside.core { outbox = c.begin.new.self }) c.fill-packet.new.self c.args.want.now (length c.args.out.now) c.fill-packet.result.len c.fill-packet.result.quota c.fill-packet.result.is_full c.fill-packet.new.out c.self.invariant.rest.idle (rw c.in_default.ensures.ok refl) c.fill-packet.ensures.packed
     c.settle.new.self c.commit.new.self c.next-number.result c.next-number.ensures c.commit.ensures.after c.settle.ensures (record { token = c.token_of-token.result; len = c.fill-packet.result.len; last_stream = c.last_stream-last_stream.result; more = c.has_more-more.result }) (ap (λ (t : Token). t.number) c.token_of-token.ensures)

@@ -19,17 +19,17 @@ fill-len-requires-clause-memory c = memory_begun c.self.inside.core _ _ c.begin.
 pub invariant_of-self-then-len-eq0 : goal.invariant_of-self-then-len-eq0
 invariant_of-self-then-len-eq0 c =
     let filled = c.fill-len.ensures.filled in
-    let idle = made_idle _ c.args.self.now c.self.view_is (record c.self.inside.core { outbox = c.begin.new.self }) c.fill-len.new.self c.args.first c.args.delay (length c.args.out.now) c.fill-len.result.len c.fill-len.result.quota c.fill-len.new.out c.self.invariant.rest.idle (rw c.in_default.ensures.ok refl) c.fill-len.ensures.packed c.if-len-eq0.true in
+    let idle = made_idle _ c.args.self.now c.self.view_is (record c.self.inside.core { outbox = c.begin.new.self }) c.fill-len.new.self c.args.first c.args.delay (length c.args.out.now) c.fill-len.result.len c.fill-len.result.quota c.fill-len.result.is_full c.fill-len.new.out c.self.invariant.rest.idle (rw c.in_default.ensures.ok refl) c.fill-len.ensures.packed c.if-len-eq0.true in
     kept_streams c.self.inside.core _ _ _ _ _ c.self.invariant c.fill-len.new.self (record { core = filled.filling.core; idle = idle }) (record { limits = filled.streams.limits; recvs = filled.streams.recvs }) filled.ended
 
 pub returns-then-len-eq0-clause-step : goal.returns-then-len-eq0-clause-step
 returns-then-len-eq0-clause-step c =
-    make_none _ c.args.self.now c.self.view_is (record c.self.inside.core { outbox = c.begin.new.self }) c.fill-len.new.self c.args.first c.args.delay (length c.args.out.now) c.fill-len.result.len c.fill-len.result.quota c.fill-len.new.out c.self.invariant.rest.idle (rw c.in_default.ensures.ok refl) c.fill-len.ensures.packed
+    make_none _ c.args.self.now c.self.view_is (record c.self.inside.core { outbox = c.begin.new.self }) c.fill-len.new.self c.args.first c.args.delay (length c.args.out.now) c.fill-len.result.len c.fill-len.result.quota c.fill-len.result.is_full c.fill-len.new.out c.self.invariant.rest.idle (rw c.in_default.ensures.ok refl) c.fill-len.ensures.packed
     (sym c.is_some.ensures ∙ c.if-is_some.false) (omega (arith, c.if-number-gt-MAX_NUMBER.false, c.next-number.ensures)) (omega (arith, c.requires.least)) c.if-len-eq0.true
 
 pub commit-requires : goal.commit-requires
 commit-requires c =
-    let next = made_next _ c.args.self.now c.self.view_is (record c.self.inside.core { outbox = c.begin.new.self }) c.fill-len.new.self c.args.first c.args.delay (length c.args.out.now) c.fill-len.result.len c.fill-len.result.quota c.fill-len.new.out c.self.invariant.rest.idle (rw c.in_default.ensures.ok refl) c.fill-len.ensures.packed in
+    let next = made_next _ c.args.self.now c.self.view_is (record c.self.inside.core { outbox = c.begin.new.self }) c.fill-len.new.self c.args.first c.args.delay (length c.args.out.now) c.fill-len.result.len c.fill-len.result.quota c.fill-len.result.is_full c.fill-len.new.out c.self.invariant.rest.idle (rw c.in_default.ensures.ok refl) c.fill-len.ensures.packed in
     omega (arith, next, c.if-number-gt-MAX_NUMBER.false, c.next-number.ensures)
 
 pub invariant_of-self-2 : goal.invariant_of-self-2
@@ -40,7 +40,7 @@ invariant_of-self-2 c =
 
 pub returns-clause-step : goal.returns-clause-step
 returns-clause-step c =
-    make_some _ c.args.self.now c.self.view_is (record c.self.inside.core { outbox = c.begin.new.self }) c.fill-len.new.self c.args.first c.args.delay (length c.args.out.now) c.fill-len.result.len c.fill-len.result.quota c.fill-len.new.out c.self.invariant.rest.idle (rw c.in_default.ensures.ok refl) c.fill-len.ensures.packed
+    make_some _ c.args.self.now c.self.view_is (record c.self.inside.core { outbox = c.begin.new.self }) c.fill-len.new.self c.args.first c.args.delay (length c.args.out.now) c.fill-len.result.len c.fill-len.result.quota c.fill-len.result.is_full c.fill-len.new.out c.self.invariant.rest.idle (rw c.in_default.ensures.ok refl) c.fill-len.ensures.packed
     c.settle.new.self c.commit.new.self c.next-number.result c.has_piece-is_ack_eliciting.result c.next-number.ensures c.commit.ensures.after c.settle.ensures
     c.has_piece-is_ack_eliciting.ensures (sym c.is_some.ensures ∙ c.if-is_some.false) (omega (arith, c.if-number-gt-MAX_NUMBER.false, c.next-number.ensures))
     (omega (arith, c.if-len-eq0.false)) (omega (arith, c.fill-len.ensures.filled.filling.within, c.fill-len.ensures.filled.room)) c.requires.most c.fill-len.ensures.filled.room
@@ -59,5 +59,5 @@ returns-in-Err-clause-order c = c.without_memory.ensures.order _ _
 
 pub returns-clause-order : goal.returns-clause-order
 returns-clause-order c =
-    make_order _ c.args.self.now c.self.view_is (record c.self.inside.core { outbox = c.begin.new.self }) c.fill-len.new.self c.args.first c.args.delay (length c.args.out.now) c.fill-len.result.len c.fill-len.result.quota c.fill-len.new.out c.self.invariant.rest.idle (rw c.in_default.ensures.ok refl) c.fill-len.ensures.packed
+    make_order _ c.args.self.now c.self.view_is (record c.self.inside.core { outbox = c.begin.new.self }) c.fill-len.new.self c.args.first c.args.delay (length c.args.out.now) c.fill-len.result.len c.fill-len.result.quota c.fill-len.result.is_full c.fill-len.new.out c.self.invariant.rest.idle (rw c.in_default.ensures.ok refl) c.fill-len.ensures.packed
     c.settle.new.self c.commit.new.self c.next-number.result c.has_piece-is_ack_eliciting.result c.next-number.ensures c.commit.ensures.after c.settle.ensures
