@@ -82,21 +82,32 @@ pub sums_same : (xs : List Sending) (n k i : ℕ) (x y : Sending) → i < length
 sums_same xs n k i x y there at promised kept h =
     record { promised = sum_same promised_of xs n i x y there at promised h.promised; kept = sum_same kept_of xs k i x y there at kept h.kept }
 
--- one that may do both is counted anew, where it may
-sum_counted : (f : Sending → ℕ) (m : Moves) (xs : List Sending) (n i was is : ℕ) (s now : Sending) → i < length xs → s ≡ get_or xs i s → was ≡ counted m (f s) → is ≡ counted m (f now) → is ≤ MAX_VARINT → (m ≡ moves.Sent → f now ≡ f s) → IsSumOf f xs n
-    → IsSumOf f (set xs i now) (n - was + is)
-sum_counted f moves.Sent xs n i was is s now there at before after small same h =
+-- where a change may move none, none is counted
+sum_uncounted : (f : Sending → ℕ) (xs : List Sending) (n i was is : ℕ) (s now : Sending) → i < length xs → s ≡ get_or xs i s → was ≡ 0 → is ≡ 0 → f now ≡ f s → IsSumOf f xs n → IsSumOf f (set xs i now) (n - was + is)
+sum_uncounted f xs n i was is s now there at before after same h =
     let e : n ≡ n - was + is = omega (arith, before, after) in
-    subst (λ k. IsSumOf f (set xs i now) k) e (sum_same f xs n i s now there at (same refl) h)
+    subst (λ k. IsSumOf f (set xs i now) k) e (sum_same f xs n i s now there at same h)
+
+-- one that may do both is counted anew, where it may
+sum_counted : (f : Sending → ℕ) (m : Moves) (xs : List Sending) (n i was is : ℕ) (s now : Sending) → i < length xs → s ≡ get_or xs i s → was ≡ counted m (f s) → is ≡ counted m (f now) → is ≤ MAX_VARINT → (counted m 1 ≡ 0 → f now ≡ f s) → IsSumOf f xs n
+    → IsSumOf f (set xs i now) (n - was + is)
+sum_counted f moves.Sent xs n i was is s now there at before after small same h = sum_uncounted f xs n i was is s now there at before after (same refl) h
+sum_counted f moves.End xs n i was is s now there at before after small same h = sum_uncounted f xs n i was is s now there at before after (same refl) h
 sum_counted f moves.Room xs n i was is s now there at before after small same h = sum_moved f xs n i was is s now there at before after small h
 sum_counted f moves.All xs n i was is s now there at before after small same h = sum_moved f xs n i was is s now there at before after small h
+
+uncounted : (m : Moves) (s now : Sending) → Stays m s now → counted m 1 ≡ 0 → (promised_of now ≡ promised_of s) × (kept_of now ≡ kept_of s)
+uncounted moves.Sent s now stays none = (stays.promised, stays.kept)
+uncounted moves.End s now stays none = (stays.promised, stays.kept)
+uncounted moves.Room s now stays none = absurd (omega (arith, none))
+uncounted moves.All s now stays none = absurd (omega (arith, none))
 
 pub sums_counted : (m : Moves) (xs : List Sending) (n k i before after had has : ℕ) (s now : Sending) → i < length xs → s ≡ get_or xs i s → Stays m s now → before ≡ counted m (promised_of s) → after ≡ counted m (promised_of now) → after ≤ MAX_VARINT → had ≡ counted m (kept_of s) → has ≡ counted m (kept_of now)
     → has ≤ MAX_VARINT → AreSums xs n k → AreSums (set xs i now) (n - before + after) (k - had + has)
 sums_counted m xs n k i before after had has s now there at stays was is small kept_was kept_is kept_small h =
     record {
-      promised = sum_counted promised_of m xs n i before after s now there at was is small (λ e. (rw e at stays).promised) h.promised;
-      kept = sum_counted kept_of m xs k i had has s now there at kept_was kept_is kept_small (λ e. (rw e at stays).kept) h.kept;
+      promised = sum_counted promised_of m xs n i before after s now there at was is small (λ none. (uncounted m s now stays none).0) h.promised;
+      kept = sum_counted kept_of m xs k i had has s now there at kept_was kept_is kept_small (λ none. (uncounted m s now stays none).1) h.kept;
     }
 
 -- The changes of a half

@@ -1,5 +1,5 @@
 -- Sending halves are opened and edited.
-use Rattle.std.proofs.Common.{◌≡◌, ℕ, nat_lt, Bool, true, false, ◌&&◌, ◌||◌, not, ◌==◌, max, inl, inr, is_none, unwrap_or, ◌+◌, ◌-◌, subst, ◌<◌, ◌^◌, List, length, take, Option, Some, None, slice_get, Result, Ok, Err, refl, sym, ap, ◌∙◌, arith}
+use Rattle.std.proofs.Common.{if◌then◌else◌, is_some, ◌≡◌, ℕ, nat_lt, Bool, true, false, ◌&&◌, ◌||◌, not, ◌==◌, max, inl, inr, is_none, unwrap_or, ◌+◌, subst, ◌<◌, ◌^◌, List, length, take, Option, Some, None, slice_get, Result, Ok, Err, refl, sym, ap, ◌∙◌, arith}
 use Rattle.std.specs.Option.{IfSome}
 use Rattle.std.specs.Result.{OnOk, OnErr, IfOk, IfErr}
 use Rattle.std.specs.FinSet as set
@@ -11,7 +11,7 @@ use Rattle.qs_ranges.specs.Numbers.{is_within, contains-with_range, contains-wit
 use Rattle.qs_ranges.proofs.Algebra.{inside, outside}
 use Rattle.qs_send.specs.Chunks.{IsDueChunk}
 use Rattle.qs_send.specs.Halves.{half_at}
-use Rattle.qs_send.specs.Lane.{Sending, SendLane, accepted, refusal, is_whole, after_write, after_sent, after_acked}
+use Rattle.qs_send.specs.Lane.{Sending, SendLane, accepted, refusal, is_whole, finish_lane, after_write, after_finish, after_sent, after_acked}
 use Rattle.qs_send.specs.Sound.{IsLawful}
 use Rattle.qs_send.specs.Writable.{is_writable}
 use Rattle.qs_send.specs.declared.parts.Chunk.{Chunk}
@@ -21,7 +21,7 @@ use Rattle.qs_send.proofs.Steps.{write_nothing}
 use Rattle.qs_machine.specs.Credit.{send_ended}
 use Rattle.qs_machine.specs.Sums.{changed, no_sending}
 use Rattle.qs_conn.specs.declared.send_marks.Task.TheVariants as tasks
-use Rattle.qs_conn.specs.Tasks.{IsStill, IsStillButSent, has}
+use Rattle.qs_conn.specs.Tasks.{IsStill, IsStillButEnd, IsStillButSent, has, is_due_below}
 use Rattle.qs_conn.proofs.LaneEdits.{changed_at}
 use Rattle.qs_conn.proofs.Promised.{sent_promises}
 use Rattle.qs_conn.proofs.Tasks.{none_again, no_fin_again, quiet_again}
@@ -113,6 +113,32 @@ sent_still s now c law is after =
     ends false whole at none = refl
     ends true true at none = rw at refl
     ends true false at none = absurd (true≢false (none refl))
+
+-- an end that is asked for
+asked_again : (s : Sending) → (s.lane.sent_end == s.lane.written) ≡ false → has tasks.Again (record { lane = finish_lane s.lane; due = record { offsets = s.due.offsets; fin = true } }) ≡ has tasks.Again s
+unfolding is_due_below
+asked_again s short = either s.due.fin (s.lane.sent_end == s.lane.written) (is_due_below s s.lane.sent_end) short
+  where
+    either : (f b x : Bool) → b ≡ false → (b || x) ≡ ((f && b) || x)
+    either true b x is = refl
+    either false b x is = ap (λ c. c || x) is
+
+pub finished_still : (s now : Sending) → IsLawful s → now ≡ after_finish s → IsStillButEnd s now
+finished_still s now law after = subst (IsStillButEnd s) (sym after) (go (refusal s.lane) refl)
+  where
+    go : (r : Option SendFault) → refusal s.lane ≡ r → IsStillButEnd s (if is_some r then s else record { lane = finish_lane s.lane; due = record { offsets = s.due.offsets; fin = true } })
+    go (Some fault) is = record { again = λ shut. refl; ended = refl; stopped = refl; promised = refl; kept = refl }
+    go None is =
+        record {
+          again = asked_again s;
+          ended = not_over s.lane (finish_lane s.lane) refl unacked unacked;
+          stopped = refl;
+          promised = refl;
+          kept = refl;
+        }
+      where
+        unacked : s.lane.fin_acked ≡ false
+        unacked = grind (arith, is, law.ends.acked_sent, law.ends.sent_asked)
 
 -- what is acknowledged isn't sent again
 pub acked_still : {A E : Type 0} (r : Result A E) (s now : Sending) (c : Chunk) → OnOk r (now ≡ after_acked s c) → OnErr r (now ≡ s) → IsStill s now

@@ -143,6 +143,7 @@ marks_read xs marks i s h there at t = mark_of (has t) xs (marks_of marks t) (h 
 -- the marks of a half before a change
 pub marked_before : (m : Moves) (marks : SendMarks) (i : ℕ) (s now : Sending) → AreMarksOf marks i s → Stays m s now → AreMarkedBefore m marks i now
 marked_before moves.Sent marks i s now are stays = (s, are, stays)
+marked_before moves.End marks i s now are stays = (s, are, stays)
 marked_before moves.Room marks i s now are stays = (s, are, stays)
 marked_before moves.All marks i s now are stays = tt
 

@@ -93,21 +93,32 @@ pub record IsStillButSent (s now : Sending) : Type 0 where
   pub promised : promised_on now.lane ≡ promised_on s.lane
   pub kept : kept_on now.lane ≡ kept_on s.lane
 
+-- and one by which the end may fall due, but no byte, and that moves no sum
+pub record IsStillButEnd (s now : Sending) : Type 0 where
+  pub again : may_end now ≡ false → has tasks.Again now ≡ has tasks.Again s
+  pub ended : has tasks.Ended now ≡ has tasks.Ended s
+  pub stopped : has tasks.Stopped now ≡ has tasks.Stopped s
+  pub promised : promised_on now.lane ≡ promised_on s.lane
+  pub kept : kept_on now.lane ≡ kept_on s.lane
+
 -- what a change that moves no more leaves of a half
 abbrev pub Stays : Moves → Sending → Sending → Type 0
 Stays moves.Sent s now = IsStillButSent s now
+Stays moves.End s now = IsStillButEnd s now
 Stays moves.Room s now = IsStill s now
 Stays moves.All s now = ⊤
 
 -- the marks of an index are those of a half that a change, which moves no more, left so
 abbrev pub AreMarkedBefore : Moves → SendMarks → ℕ → Sending → Type 0
 AreMarkedBefore moves.Sent marks i now = (s : Sending) × AreMarksOf marks i s × IsStillButSent s now
+AreMarkedBefore moves.End marks i now = (s : Sending) × AreMarksOf marks i s × IsStillButEnd s now
 AreMarkedBefore moves.Room marks i now = (s : Sending) × AreMarksOf marks i s × IsStill s now
 AreMarkedBefore moves.All marks i now = ⊤
 
 -- what is counted anew of a half where a change may move its sums
 abbrev pub counted : Moves → ℕ → ℕ
 counted moves.Sent n = 0
+counted moves.End n = 0
 counted moves.Room n = n
 counted moves.All n = n
 

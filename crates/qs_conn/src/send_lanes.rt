@@ -221,7 +221,7 @@ impl SendLanes {
         self.edit(
             index,
             Err(SendFault::Finished),
-            Moves::All,
+            Moves::End,
             |half| half.finish(),
         )
     }
@@ -392,7 +392,7 @@ fn measure(half: &SendHalf, moves: Moves) -> Sizes
     ensures few_promised { result.promised ≤ MAX_VARINT }
     ensures few_kept { result.kept ≤ MAX_VARINT }
 {
-    if matches!(moves, Moves::Sent) {
+    if matches!(moves, Moves::Sent | Moves::End) {
         return Sizes {
             promised: 0,
             kept: 0,

@@ -1,7 +1,7 @@
 ghost use Rattle.std.specs.Prelude.{◌≡◌, ◌++◌, ◌-◌, ◌<◌, [], false, length, take, slice_set, replicate, OnOk, OnErr};
 ghost use Rattle.qs_machine.specs.Credit.{send_ended};
 ghost use Rattle.qs_conn.specs.Marks.{is_marked, IsNextMark};
-ghost use Rattle.qs_conn.specs.Tasks.{AreMarkedBefore, begins, has, is_due_below, marks_of, sought_of};
+ghost use Rattle.qs_conn.specs.Tasks.{AreMarkedBefore, begins, has, is_due_below, marks_of, may_end, sought_of};
 ghost use Rattle.qs_conn.specs.Untold.{IsClear};
 ghost use Rattle.qs_conn.specs.declared.send_marks.Task.TheVariants as tasks;
 
@@ -30,6 +30,8 @@ pub(crate) enum Task {
 pub(crate) enum Moves {
     /// Which bytes go, and nothing else.
     Sent,
+    /// Whether its end goes, and its room. No byte falls due, and no sum moves.
+    End,
     /// Its room and the sums, too, and where its end is acknowledged whether it is over. Nothing falls due that was sent before.
     Room,
     /// All of it.
@@ -130,6 +132,10 @@ impl SendMarks {
         self.bytes.set(index, may_send(half));
         match moves {
             Moves::Sent => look_again(&mut self.again, index, half),
+            Moves::End => {
+                look_may_end(&mut self.again, index, half);
+                self.look_room(index, half);
+            }
             Moves::Room => {
                 look_again(&mut self.again, index, half);
                 look_end(&mut self.ended, index, half);
@@ -244,6 +250,20 @@ fn look_again(again: &mut Marks, index: usize, half: &SendHalf)
     again.set(index, may_send_again(half));
 }
 
+// Looks whether the end may go, where nothing else fell due.
+#[inline(always)]
+#[tactic(auto, using(crate::proofs::Marked::mark_is))]
+fn look_may_end(again: &mut Marks, index: usize, half: &SendHalf)
+    requires there { index < length again.old }
+    requires still { may_end half.now ≡ false → is_marked again.old index ≡ has tasks.Again half.now }
+    ensures { again.new ≡ slice_set again.old index (has tasks.Again half.now) }
+{
+    if !may_end(half) {
+        return;
+    }
+    again.set(index, true);
+}
+
 // Looks whether a half is over, where its end is acknowledged.
 #[inline(always)]
 #[tactic(auto, using(crate::proofs::Marked::mark_is))]
@@ -258,6 +278,13 @@ fn look_end(ended: &mut Marks, index: usize, half: &SendHalf)
     ended.set(index, has_ended(half));
 }
 
+// Whether the end may go.
+fn may_end(half: &SendHalf) -> bool
+    ensures { result ≡ may_end half.now }
+{
+    half.end_due() && half.sent_end() == half.written()
+}
+
 // Whether bytes or the end may go.
 fn may_send(half: &SendHalf) -> bool
     ensures { result ≡ has tasks.Bytes half.now }
@@ -266,7 +293,7 @@ fn may_send(half: &SendHalf) -> bool
     if half.has_unsent() {
         return true;
     }
-    if half.end_due() && half.sent_end() == half.written() {
+    if may_end(half) {
         return true;
     }
     is_due_below(half, half.limit())
@@ -275,7 +302,7 @@ fn may_send(half: &SendHalf) -> bool
 fn may_send_again(half: &SendHalf) -> bool
     ensures { result ≡ has tasks.Again half.now }
 {
-    if half.end_due() && half.sent_end() == half.written() {
+    if may_end(half) {
         return true;
     }
     is_due_below(half, half.sent_end())

@@ -141,7 +141,7 @@ impl SendLanes {
         self.edit(
             index,
             Err(SendFault::Finished),
-            Moves::All,
+            Moves::End,
             |half| half.finish(),
         )
     }
@@ -260,7 +260,7 @@ impl Holds for SendLanes {
 // What a half counts for in the sums. Where a change moves neither, nothing is looked at.
 #[inline(always)]
 fn measure(half: &SendHalf, moves: Moves) -> Sizes {
-    if matches!(moves, Moves::Sent) {
+    if matches!(moves, Moves::Sent | Moves::End) {
         return Sizes {
             promised: 0,
             kept: 0,

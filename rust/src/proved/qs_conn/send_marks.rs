@@ -24,6 +24,8 @@ pub(crate) enum Task {
 pub(crate) enum Moves {
     /// Which bytes go, and nothing else.
     Sent,
+    /// Whether its end goes, and its room. No byte falls due, and no sum moves.
+    End,
     /// Its room and the sums, too, and where its end is acknowledged whether it is over. Nothing falls due that was sent before.
     Room,
     /// All of it.
@@ -115,6 +117,10 @@ impl SendMarks {
         self.bytes.set(index, may_send(half));
         match moves {
             Moves::Sent => look_again(&mut self.again, index, half),
+            Moves::End => {
+                look_may_end(&mut self.again, index, half);
+                self.look_room(index, half);
+            }
             Moves::Room => {
                 look_again(&mut self.again, index, half);
                 look_end(&mut self.ended, index, half);
@@ -205,6 +211,15 @@ fn look_again(again: &mut Marks, index: usize, half: &SendHalf) {
     again.set(index, may_send_again(half));
 }
 
+// Looks whether the end may go, where nothing else fell due.
+#[inline(always)]
+fn look_may_end(again: &mut Marks, index: usize, half: &SendHalf) {
+    if !may_end(half) {
+        return;
+    }
+    again.set(index, true);
+}
+
 // Looks whether a half is over, where its end is acknowledged.
 #[inline(always)]
 fn look_end(ended: &mut Marks, index: usize, half: &SendHalf) {
@@ -214,20 +229,25 @@ fn look_end(ended: &mut Marks, index: usize, half: &SendHalf) {
     ended.set(index, has_ended(half));
 }
 
+// Whether the end may go.
+fn may_end(half: &SendHalf) -> bool {
+    half.end_due() && half.sent_end() == half.written()
+}
+
 // Whether bytes or the end may go.
 fn may_send(half: &SendHalf) -> bool {
     // New bytes come first: they need no search of what was sent and what of it is acknowledged.
     if half.has_unsent() {
         return true;
     }
-    if half.end_due() && half.sent_end() == half.written() {
+    if may_end(half) {
         return true;
     }
     is_due_below(half, half.limit())
 }
 
 fn may_send_again(half: &SendHalf) -> bool {
-    if half.end_due() && half.sent_end() == half.written() {
+    if may_end(half) {
         return true;
     }
     is_due_below(half, half.sent_end())

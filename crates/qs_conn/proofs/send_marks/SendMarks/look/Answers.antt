@@ -43,3 +43,15 @@ look_again-requires-in-Room-clause-still c = λ none. (let (s, marks, still) = r
 
 pub look_end-requires-clause-still : goal.look_end-requires-clause-still
 look_end-requires-clause-still c = λ unacked. (let (s, marks, still) = rw c.in-Room.is at c.requires.stays in marks tasks.Ended ∙ sym (still.ended unacked))
+
+pub look_may_end-requires-clause-there : goal.look_may_end-requires-clause-there
+look_may_end-requires-clause-there c = c.requires.there tasks.Again
+
+pub look_may_end-requires-clause-still : goal.look_may_end-requires-clause-still
+look_may_end-requires-clause-still c = λ shut. (let (s, marks, still) = rw c.in-End.is at c.requires.stays in marks tasks.Again ∙ sym (still.again shut))
+
+pub look_room-requires-in-Room-clause-writable : goal.look_room-requires-in-Room-clause-writable
+look_room-requires-in-Room-clause-writable c = c.requires.there tasks.Writable
+
+pub look_room-requires-in-Room-clause-funded : goal.look_room-requires-in-Room-clause-funded
+look_room-requires-in-Room-clause-funded c = c.requires.there tasks.Funded
