@@ -66,8 +66,19 @@ impl Gone {
         ensures here { is_gone self.new index ≡ false }
         ensures others { (i : ℕ) → i ≢ index → is_gone self.new i ≡ is_gone self.old i }
     {
+        if self.is_begun(index) {
+            return;
+        }
         begin(&mut self.full, index / PER_WORD);
         begin(&mut self.words, index);
+    }
+
+    // Mostly so, since a word begins with no bit.
+    fn is_begun(&self, index: usize) -> bool
+        ensures { result ≡ true → is_gone self.now index ≡ false }
+    {
+        let place = index / PER_WORD;
+        place < self.words.len() && (self.words[place] >> bit_of(index)) & 1 == 0
     }
 
     pub(crate) fn note(&mut self, index: usize)

@@ -95,9 +95,7 @@ impl Records {
         ensures pieces { self.new.pieces ≡ fmap.insert self.old.pieces number pieces.items }
         ensures end { self.new.base + self.new.slots ≡ number + 1 }
     {
-        self.drop_from(number);
-        self.start_at(number);
-        self.fill_to(number);
+        self.end_at(number);
         self.push_slot(Carried::several(pieces));
     }
 
@@ -108,9 +106,7 @@ impl Records {
         ensures pieces { self.new.pieces ≡ fmap.insert self.old.pieces number (piece ∷ []) }
         ensures end { self.new.base + self.new.slots ≡ number + 1 }
     {
-        self.drop_from(number);
-        self.start_at(number);
-        self.fill_to(number);
+        self.end_at(number);
         self.push_slot(Carried::one(piece));
     }
 
@@ -358,6 +354,38 @@ impl Records {
         if !self.slots.is_empty() {
             self.base += 1;
         }
+    }
+
+    fn end_at(&mut self, number: u64)
+        requires ready { number < self.old.room }
+        requires above { AreBelow self.old.pieces number }
+        ensures pieces { self.new.pieces ≡ self.old.pieces }
+        ensures room { number < self.new.room }
+        ensures end { self.new.base + self.new.slots ≡ number }
+    {
+        if !self.ends_at(number) {
+            self.move_end(number);
+        }
+    }
+
+    // Mostly so, since packets are numbered one after the other.
+    fn ends_at(&self, number: u64) -> bool
+        ensures { result ≡ true → self.now.base + self.now.slots ≡ number }
+    {
+        number >= self.base && number - self.base == self.slots.len() as u64
+    }
+
+    #[inline(never)]
+    fn move_end(&mut self, number: u64)
+        requires ready { number < self.old.room }
+        requires above { AreBelow self.old.pieces number }
+        ensures pieces { self.new.pieces ≡ self.old.pieces }
+        ensures room { number < self.new.room }
+        ensures end { self.new.base + self.new.slots ≡ number }
+    {
+        self.drop_from(number);
+        self.start_at(number);
+        self.fill_to(number);
     }
 
     // Mostly there are none: a number that was claimed, or an ACK alone, left them.

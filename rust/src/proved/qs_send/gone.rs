@@ -43,8 +43,17 @@ impl Gone {
 
     #[inline]
     pub(crate) fn begin(&mut self, index: usize) {
+        if self.is_begun(index) {
+            return;
+        }
         begin(&mut self.full, index / PER_WORD);
         begin(&mut self.words, index);
+    }
+
+    // Mostly so, since a word begins with no bit.
+    fn is_begun(&self, index: usize) -> bool {
+        let place = index / PER_WORD;
+        place < self.words.len() && (self.words[place] >> bit_of(index)) & 1 == 0
     }
 
     #[inline]

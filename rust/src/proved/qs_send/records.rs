@@ -58,18 +58,14 @@ impl Records {
     /// Holds the pieces of a packet, which come with their memory, so it takes none.
     #[inline]
     pub fn put(&mut self, number: u64, pieces: Vec<Piece>) {
-        self.drop_from(number);
-        self.start_at(number);
-        self.fill_to(number);
+        self.end_at(number);
         self.push_slot(Carried::several(pieces));
     }
 
     /// Holds the one piece of a packet in its slot: with a vector for each, a steady flow of one stream cost a seventh more time.
     #[inline]
     pub fn put_one(&mut self, number: u64, piece: Piece) {
-        self.drop_from(number);
-        self.start_at(number);
-        self.fill_to(number);
+        self.end_at(number);
         self.push_slot(Carried::one(piece));
     }
 
@@ -236,6 +232,24 @@ impl Records {
         if !self.slots.is_empty() {
             self.base += 1;
         }
+    }
+
+    fn end_at(&mut self, number: u64) {
+        if !self.ends_at(number) {
+            self.move_end(number);
+        }
+    }
+
+    // Mostly so, since packets are numbered one after the other.
+    fn ends_at(&self, number: u64) -> bool {
+        number >= self.base && number - self.base == self.slots.len() as u64
+    }
+
+    #[inline(never)]
+    fn move_end(&mut self, number: u64) {
+        self.drop_from(number);
+        self.start_at(number);
+        self.fill_to(number);
     }
 
     // Mostly there are none: a number that was claimed, or an ACK alone, left them.
