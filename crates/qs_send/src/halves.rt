@@ -106,19 +106,6 @@ impl SendHalves {
         self.full.get_mut(place)
     }
 
-    /// Takes the memory for so many more, before any of several streams opens.
-    pub fn reserve(&mut self, more: usize) -> Result<(), NoMemory>
-        ensures { self.new ≡ self.old }
-    {
-        if let Err(_refused) = self.slots.reserve(more) {
-            return Err(NoMemory);
-        }
-        match self.full.reserve(more) {
-            Ok(()) => Ok(()),
-            Err(_refused) => Err(NoMemory),
-        }
-    }
-
     pub fn push(&mut self, half: SendHalf) -> Result<(), NoMemory>
         requires { length self.old < 2 ^ 60 }
         ensures ok { OnOk result (self.new ≡ self.old ++ half ∷ []) }

@@ -64,18 +64,6 @@ impl SendHalves {
         self.full.get_mut(place)
     }
 
-    /// Takes the memory for so many more, before any of several streams opens.
-    #[inline]
-    pub fn reserve(&mut self, more: usize) -> Result<(), NoMemory> {
-        if let Err(_refused) = self.slots.reserve(more) {
-            return Err(NoMemory);
-        }
-        match self.full.reserve(more) {
-            Ok(()) => Ok(()),
-            Err(_refused) => Err(NoMemory),
-        }
-    }
-
     #[inline]
     pub fn push(&mut self, half: SendHalf) -> Result<(), NoMemory> {
         let slot = SendSlot::full(self.full.len());
