@@ -44,6 +44,8 @@ pub mod Refusals
 pub mod Rests
 pub mod Rises
 pub mod Runs
+pub mod Rows
+pub mod RowAcks
 pub mod AckRuns
 pub mod RangeAcks
 pub mod Alones

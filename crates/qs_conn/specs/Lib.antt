@@ -6,6 +6,7 @@ pub mod Ended
 pub mod Written
 pub mod Filling
 pub mod Runs
+pub mod Rows
 pub mod Marks
 pub mod Tasks
 pub mod RecvTasks

@@ -66,6 +66,20 @@ impl<'a> AckPass<'a> {
         self.below
     }
 
+    /// The lowest number of the range that was read last.
+    pub fn low(&self) -> u64
+        ensures { result ≡ self.now.low }
+    {
+        self.low
+    }
+
+    /// Passes the numbers from this one on.
+    pub fn go_below(&mut self, number: u64)
+        ensures { self.new ≡ record self.old { below = min self.old.below number } }
+    {
+        self.below = self.below.min(number);
+    }
+
     /// How many turns it took.
     pub fn turns(&self) -> u64
         ensures { result ≡ self.now.turns }

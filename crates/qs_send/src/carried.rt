@@ -1,4 +1,4 @@
-ghost use Rattle.std.specs.Prelude.{◌≡◌, ◌↔◌, IsTrue, [], ◌∷◌, length, drop, Some};
+ghost use Rattle.std.specs.Prelude.{◌≡◌, ◌↔◌, IsTrue, IfSome, [], ◌∷◌, length, drop, Some};
 ghost use Rattle.qs_send.specs.Records.{Among, first_piece};
 
 use crate::piece::Piece;
@@ -76,6 +76,16 @@ impl Carried {
             Pieces::Empty => None,
             Pieces::One(piece) => Some(*piece),
             Pieces::Several(pieces) => pieces.first(),
+        }
+    }
+
+    /// The piece of a packet that carried one alone.
+    pub(crate) fn only(&self) -> Option<Piece>
+        ensures { IfSome result (λ piece. self.now ≡ piece ∷ []) }
+    {
+        match &self.pieces {
+            Pieces::One(piece) => Some(*piece),
+            _ => None,
         }
     }
 

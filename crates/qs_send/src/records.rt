@@ -1,5 +1,5 @@
 //! What the outstanding packets carried.
-ghost use Rattle.std.specs.Prelude.{◌≡◌, ℕ, ◌+◌, ◌-◌, ◌^◌, ◌<◌, ◌≤◌, ◌↔◌, IsTrue, IfSome, IfNone, OnOk, OnErr, min, max, [], ◌∷◌, length, true, false};
+ghost use Rattle.std.specs.Prelude.{◌≡◌, ℕ, ◌+◌, ◌-◌, ◌^◌, ◌<◌, ◌≤◌, ◌↔◌, IsTrue, IfSome, IfNone, OnOk, OnErr, Some, min, max, [], ◌∷◌, length, true, false};
 ghost use Rattle.std.specs.FinMap as fmap;
 ghost use Rattle.qs_send.specs.AckPass.{more_turns};
 ghost use Rattle.qs_send.specs.Records.{Among, AreBelow, IsCarried, IsGreatest, IsGreatestBelow, IsSlotOf, NoneEmpty, first_piece, slot_at, with_record, without_first};
@@ -115,6 +115,16 @@ impl Records {
     {
         match self.slot_of(number) {
             Some(place) => self.slots[place].first(),
+            None => None,
+        }
+    }
+
+    /// The piece of a packet that carried one alone.
+    pub fn only(&self, number: u64) -> Option<Piece>
+        ensures { IfSome result (λ piece. fmap.get self.now.pieces number ≡ Some (piece ∷ [])) }
+    {
+        match self.slot_of(number) {
+            Some(place) => self.slots[place].only(),
             None => None,
         }
     }

@@ -1,4 +1,4 @@
-ghost use Rattle.std.specs.Prelude.{if◌then◌else◌, ◌≡◌, ◌<◌, ◌^◌, false, Some, OnOk, OnErr};
+ghost use Rattle.std.specs.Prelude.{if◌then◌else◌, ◌≡◌, ◌<◌, ◌≤◌, ◌-◌, ◌^◌, false, Some, Err, IfOk, IfErr, OnOk, OnErr};
 ghost use Rattle.std.specs.FinMap as fmap;
 ghost use Rattle.qs_wire.specs.Varint.{numbers_of};
 ghost use Rattle.qs_wire.specs.Layout.{ack_ranges_of};
@@ -8,12 +8,14 @@ ghost use Rattle.qs_conn.specs.Middle.{IsAtRest, KeepsStreams};
 ghost use Rattle.qs_conn.specs.Carried.{carried_without};
 ghost use Rattle.qs_conn.specs.OwnCarried.{own_left};
 ghost use Rattle.qs_conn.specs.Ended.{half_of};
+ghost use Rattle.std.specs.List.{FoldsTo};
+ghost use Rattle.qs_conn.specs.Rows.{AcksFrom, AcksRow, IsRowAt, MayRunOutAt, numbers_down};
 ghost use Rattle.qs_conn.specs.NewlyTold.{TellsNamed, TellsAhead};
 ghost use Rattle.qs_conn.specs.Runs.{AcksAhead, AcksBoth, AcksNamed, AcksPacket, AcksRanges, from_below, held_out};
 
 use super::Core;
 use crate::newly_told::{Silent, Told};
-use crate::outbox::KeptPacket;
+use crate::outbox::{KeptPacket, Row};
 use crate::slot::Kind;
 use crate::untold::look_again;
 use qs_ranges::NoMemory;
@@ -76,8 +78,7 @@ impl Core {
     {
         let mut number = end;
         while number > first {
-            number -= 1;
-            self.ack_packet(KeptPacket { late, number })?;
+            number = self.ack_from(late, number - 1, first)?;
         }
         Ok(())
     }
@@ -115,9 +116,48 @@ impl Core {
     {
         while let Some(number) = self.outbox.next_named(late, pass) {
             self.outbox.learn_none_empty();
-            self.ack_packet(KeptPacket { late, number })?;
-            told.tell(number);
+            let low = pass.low();
+            let first = self.ack_from(late, number, low)?;
+            pass.go_below(first);
+            tell_down(told, number, first);
         }
+        Ok(())
+    }
+
+    // With the packet those below it, down to `low` at most, that carried bytes in a row with it. Answers the lowest number.
+    #[inline(always)]
+    fn ack_from(&mut self, late: bool, number: u64, low: u64) -> Result<u64, NoMemory>
+        requires rest { IsAtRest self.old }
+        ensures rest { IsAtRest self.new }
+        ensures streams { KeepsStreams self.old self.new }
+        ensures ok { IfOk result (λ first. AcksFrom late number low first self.old.outbox self.new.outbox) }
+        ensures err { IfErr result (λ e. AcksPacket late number self.old.outbox (Err e) self.new.outbox) }
+    {
+        if !late {
+            if let Some(row) = self.outbox.row(number, low) {
+                self.ack_row(number, &row)?;
+                return Ok(row.first);
+            }
+        }
+        self.ack_packet(KeptPacket { late, number })?;
+        Ok(number)
+    }
+
+    #[inline(always)]
+    fn ack_row(&mut self, number: u64, row: &Row) -> Result<(), NoMemory>
+        requires rest { IsAtRest self.old }
+        requires row { IsRowAt self.old.outbox.outstanding row.now.stream number row.now.first row.now.chunk }
+        ensures rest { IsAtRest self.new }
+        ensures streams { KeepsStreams self.old self.new }
+        ensures ok { OnOk result (AcksRow row.now.stream number row.now.first self.old.outbox self.new.outbox) }
+        ensures err { OnErr result (self.new.outbox ≡ self.old.outbox) }
+        ensures asks { OnErr result (MayRunOutAt number row.now.stream self.old.outbox) }
+    {
+        self.outbox.learn_apart();
+        let was = self.is_over(row.stream);
+        self.outbox.ack_row(number, row)?;
+        let is = self.is_over(row.stream);
+        self.ended.recount(row.stream, was, is);
         Ok(())
     }
 
@@ -173,6 +213,18 @@ impl Core {
             self.drop_carried(&piece);
         }
     }
+}
+
+fn tell_down<T: Told>(told: &mut T, number: u64, first: u64)
+    requires { first ≤ number }
+    ensures { FoldsTo T.tells told.old (numbers_down first (number - first)) told.new }
+{
+    let mut last = number;
+    while last > first {
+        told.tell(last);
+        last -= 1;
+    }
+    told.tell(first);
 }
 
 fn half_of(piece: &Piece) -> Option<StreamId>

@@ -192,7 +192,11 @@ fn piece_acked(
     }
 }
 
-fn chunk_acked(types: &mut [SendLanes; 4], stream: StreamId, chunk: Chunk) -> Result<(), NoMemory>
+pub(super) fn chunk_acked(
+    types: &mut [SendLanes; 4],
+    stream: StreamId,
+    chunk: Chunk,
+) -> Result<(), NoMemory>
     requires there { is_some (lookup (tables_of types.old) stream) ≡ true }
     requires sent { WasSent (or_no_sending (lookup (tables_of types.old) stream)).lane chunk }
     ensures len { length types.new ≡ 4 }

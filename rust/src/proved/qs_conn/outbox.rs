@@ -16,9 +16,11 @@ use crate::shim::alloc::Global;
 mod acks;
 mod halves;
 mod making;
+mod rows;
 mod telling;
 
 pub(crate) use acks::KeptPacket;
+pub(crate) use rows::Row;
 
 /// The sending halves, what packets carried, and what was acknowledged of them. Apart from the receiving halves: a packet in the making
 /// changes these and reads those, a frame with data the other way round, and each borrows what it needs of the two.

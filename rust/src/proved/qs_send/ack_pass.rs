@@ -49,6 +49,18 @@ impl<'a> AckPass<'a> {
         self.below
     }
 
+    /// The lowest number of the range that was read last.
+    #[inline]
+    pub fn low(&self) -> u64 {
+        self.low
+    }
+
+    /// Passes the numbers from this one on.
+    #[inline]
+    pub fn go_below(&mut self, number: u64) {
+        self.below = self.below.min(number);
+    }
+
     /// How many turns it took.
     #[inline]
     pub fn turns(&self) -> u64 {

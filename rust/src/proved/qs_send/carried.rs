@@ -57,6 +57,15 @@ impl Carried {
         }
     }
 
+    /// The piece of a packet that carried one alone.
+    #[inline]
+    pub(crate) fn only(&self) -> Option<Piece> {
+        match &self.pieces {
+            Pieces::One(piece) => Some(*piece),
+            _ => None,
+        }
+    }
+
     #[inline]
     pub(crate) fn drop_first(&mut self) {
         if self.len() <= 1 {

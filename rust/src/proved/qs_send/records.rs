@@ -77,6 +77,15 @@ impl Records {
         }
     }
 
+    /// The piece of a packet that carried one alone.
+    #[inline]
+    pub fn only(&self, number: u64) -> Option<Piece> {
+        match self.slot_of(number) {
+            Some(place) => self.slots[place].only(),
+            None => None,
+        }
+    }
+
     /// Drops the first piece of a packet, and the record with the last. If the number isn't held, nothing changes.
     #[inline]
     pub fn drop_first(&mut self, number: u64) {

@@ -1,7 +1,7 @@
 // Made from crates/qs_conn/src/middle/acking.rt by rust/erase; not edited by hand.
 use super::Core;
 use crate::proved::qs_conn::newly_told::{Silent, Told};
-use crate::proved::qs_conn::outbox::KeptPacket;
+use crate::proved::qs_conn::outbox::{KeptPacket, Row};
 use crate::proved::qs_conn::slot::Kind;
 use crate::proved::qs_conn::untold::look_again;
 use crate::proved::qs_ranges::NoMemory;
@@ -42,8 +42,7 @@ impl Core {
     fn ack_numbers(&mut self, late: bool, first: u64, end: u64) -> Result<(), NoMemory> {
         let mut number = end;
         while number > first {
-            number -= 1;
-            self.ack_packet(KeptPacket { late, number })?;
+            number = self.ack_from(late, number - 1, first)?;
         }
         Ok(())
     }
@@ -67,9 +66,33 @@ impl Core {
         told: &mut T,
     ) -> Result<(), NoMemory> {
         while let Some(number) = self.outbox.next_named(late, pass) {
-            self.ack_packet(KeptPacket { late, number })?;
-            told.tell(number);
+            let low = pass.low();
+            let first = self.ack_from(late, number, low)?;
+            pass.go_below(first);
+            tell_down(told, number, first);
         }
+        Ok(())
+    }
+
+    // With the packet those below it, down to `low` at most, that carried bytes in a row with it. Answers the lowest number.
+    #[inline(always)]
+    fn ack_from(&mut self, late: bool, number: u64, low: u64) -> Result<u64, NoMemory> {
+        if !late {
+            if let Some(row) = self.outbox.row(number, low) {
+                self.ack_row(number, &row)?;
+                return Ok(row.first);
+            }
+        }
+        self.ack_packet(KeptPacket { late, number })?;
+        Ok(number)
+    }
+
+    #[inline(always)]
+    fn ack_row(&mut self, number: u64, row: &Row) -> Result<(), NoMemory> {
+        let was = self.is_over(row.stream);
+        self.outbox.ack_row(number, row)?;
+        let is = self.is_over(row.stream);
+        self.ended.recount(row.stream, was, is);
         Ok(())
     }
 
@@ -108,6 +131,16 @@ impl Core {
             self.drop_carried(&piece);
         }
     }
+}
+
+fn tell_down<T: Told>(told: &mut T, number: u64, first: u64) {
+    debug_assert!(first <= number);
+    let mut last = number;
+    while last > first {
+        told.tell(last);
+        last -= 1;
+    }
+    told.tell(first);
 }
 
 fn half_of(piece: &Piece) -> Option<StreamId> {

@@ -129,7 +129,12 @@ fn piece_acked(
     }
 }
 
-fn chunk_acked(types: &mut [SendLanes; 4], stream: StreamId, chunk: Chunk) -> Result<(), NoMemory> {
+#[inline]
+pub(super) fn chunk_acked(
+    types: &mut [SendLanes; 4],
+    stream: StreamId,
+    chunk: Chunk,
+) -> Result<(), NoMemory> {
     let lanes = &mut types[type_of(stream)];
     lanes.acked(index_of(stream), chunk)
 }

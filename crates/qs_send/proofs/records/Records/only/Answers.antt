@@ -1,0 +1,20 @@
+use Rattle.std.proofs.Common.{◌≡◌, ◌∙◌, ℕ, ◌+◌, ap, sym, length, List, [], ◌∷◌, Option, None, Some}
+use Rattle.std.specs.Option.{IfSome}
+use Rattle.std.specs.FinMap as fmap
+use Rattle.std.proofs.lemmas.List.{get_or_read}
+use Rattle.qs_send.specs.declared.piece.Piece.{Piece}
+use Rattle.qs_send.specs.Records.{IsSlotOf, packets_of, slot_at}
+use Rattle.qs_send.proofs.Outstanding.{kept, get-slot}
+use Rattle.qs_send.proofs.records.Records.only.Goals as goal
+
+alone_at : (o : Option Piece) (base k n : ℕ) (ss : List (List Piece)) (s : List Piece) → base + k ≡ n → s ≡ slot_at ss k → IfSome o (λ p. s ≡ p ∷ []) → IfSome o (λ p. fmap.get (packets_of base ss) n ≡ Some (p ∷ []))
+alone_at None base k n ss s is item alone = alone
+alone_at (Some p) base k n ss s is item alone = get-slot base k n ss is ∙ ap kept (sym item ∙ alone)
+
+pub returns-in-Some : goal.returns-in-Some
+returns-in-Some c =
+    let base = c.self.inside.base in
+    let slots = c.self.inside.slots.items in
+    let at : IsSlotOf base (length slots) c.args.number c.in-Some.place = rw (← c.self.view_is) at c.in-Some.ensures.found in
+    let item = get_or_read slots c.in-Some.place _ at.within c.index.ensures [] in
+    rw (← c.self.view_is) (alone_at c.only.result base c.in-Some.place c.args.number slots _ at.number item c.only.ensures)
