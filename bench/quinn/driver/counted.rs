@@ -87,7 +87,7 @@ const ALL: &[Row<u64>] = &[
     ("outstanding-10", || outstanding(10, 400)),
     ("outstanding-100000", || outstanding(100_000, 1)),
     ("requests-first", || requests(0)),
-    ("requests-after-2-to-the-20", || requests(1 << 20)),
+    ("requests-after-2-to-the-20", || requests((1 << 20) + 100)),
     ("fill-of-100", || fills(100)),
     ("fill-of-10000", || fills(10_000)),
 ];
