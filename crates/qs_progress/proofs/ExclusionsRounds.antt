@@ -1,5 +1,5 @@
 -- Which small steps are rounds, and which aren't.
-use Rattle.std.proofs.Common.{◌≡◌, ℕ, ◌+◌, Bool, true, false, List, [], ◌∷◌, length, nat_cmp, is_some, refl, sym, ap, ◌∙◌, subst, arith, inl, inr}
+use Rattle.std.proofs.Common.{◌≡◌, ℕ, ◌+◌, Bool, true, false, List, [], ◌∷◌, length, nat_cmp, is_some, refl, sym, ap, ◌∙◌, subst, arith, inl, inr, Some}
 use Rattle.std.specs.Prelude.{Ok}
 use Rattle.std.specs.FinMap as fmap
 use Rattle.std.proofs.lemmas.Bool.{false≢true, true≢false}
@@ -12,9 +12,9 @@ use Rattle.qs_calls.specs.declared.making.Made.{Made}
 use Rattle.qs_machine.specs.Ends.{End}
 use Rattle.qs_machine.specs.Due.{Sendable}
 use Rattle.qs_machine.specs.Making.{IsMade, make_refusal}
-use Rattle.qs_machine.specs.EndStep.{Call, Answer, Receive}
+use Rattle.qs_machine.specs.EndStep.{Call, Answer, Receive, Make}
 use Rattle.qs_machine.specs.News.{IsReadable}
-use Rattle.qs_runs.specs.Logs.{Happening, other}
+use Rattle.qs_runs.specs.Logs.{Happening, History, other}
 use Rattle.qs_runs.specs.Worlds.{end_of}
 use Rattle.qs_rest.proofs.Exclusions.{exclusions as rest_exclusions}
 use Rattle.qs_progress.specs.Laps.{Moment, IsCalm, Trail}
@@ -22,7 +22,7 @@ use Rattle.qs_progress.specs.Rounds.{Happens, Passes, Turn, IsRead, Round}
 use Rattle.qs_progress.specs.ExclusionsLaps.{before, after, reads_end}
 use Rattle.qs_progress.specs.ExclusionsRounds.{makes, RoundExclusions}
 use Rattle.qs_progress.proofs.ExclusionsLaps.{rests, none_readable, reads_step, first_of}
-use Rattle.qs_progress.proofs.Turns.{is_made, loses_none, sends_all}
+use Rattle.qs_progress.proofs.Turns.{is_made, loses, loses_none, sends_all}
 use Rattle.qs_progress.proofs.ComesInRounds.{read_calm}
 
 none_sendable : (s : Side) → Sendable (end_of before.ends s) → ⊥
@@ -76,6 +76,31 @@ not_whole s first delay room made text bytes old mid new make receive (inr (x, c
     let second = length_of _ mid new receive in
     omega (arith, one, first, second)
 
+-- the number of the packet that is made or comes
+abbrev numbers : (call : Call) → Answer call → ℕ
+numbers (Receive k bytes) answer = k
+numbers (Make first delay room) (Ok (Some made), text) = made.number
+numbers call answer = 0
+
+abbrev number_of : Happening → ℕ
+number_of x = numbers x.call x.answer
+
+abbrev rest_of_log : History → History
+rest_of_log [] = []
+rest_of_log (x ∷ h) = h
+
+its_number : (s : Side) (first delay room k : ℕ) (made : Made) (text bytes : List ℕ) (old mid new : Moment) → Happens (makes s first delay room made text) old mid
+    → Happens (record { end = other s; call = Receive k bytes; answer = Ok Done }) mid new → Passes s old new → k ≡ made.number
+its_number s first delay room k made text bytes old mid new make receive (inl (first2, delay2, room2, made2, text2, bytes2, mid2, make2, receive2)) =
+    let y : Happening = record { end = other s; call = Receive made2.number bytes2; answer = Ok Done } in
+    let both = sym receive.0 ∙ receive2.0 in
+    ap number_of (ap (first_of y) both) ∙ sym (ap number_of (ap (first_of y) (sym make.0 ∙ ap rest_of_log both ∙ make2.0)))
+its_number s first delay room k made text bytes old mid new make receive (inr (x, calm, happens, same)) =
+    let one = length_of x old new happens in
+    let once = length_of _ old mid make in
+    let twice = length_of _ mid new receive in
+    absurd (omega (arith, one, once, twice))
+
 no_unread : (old new : Moment) (r : Round old new) (s : Side) (n : ℕ) → r.moments ≡ [] → IsReadable (end_of new.ends s) n → ⊥
 no_unread old new r s n none more =
     let (m, among, least) = r.read s in
@@ -96,6 +121,10 @@ round_exclusions =
         reads = ((reads_end, tt, refl, reads_step), refl);
         read = λ s. (after, inr (inl refl), record { found = λ n is. absurd (none-some n is); least = λ n from readable. absurd (none_readable s n readable) });
       };
+      logged = λ x m happens. (let one = length_of x m m happens in omega (arith, one));
+      losses = λ s n old new lost. (loses s n old new lost).there;
+      begun = λ parts old new rest course. course.0 rest;
+      numbered = its_number;
       outstanding = λ s old new turn k there. true≢false (sym there ∙ loses_none s turn.1.0 old turn.0 turn.1.1 k (omega arith));
       more = λ s old new turn. sends_all s turn.2.0 turn.0 new turn.2.1;
       comes = never_comes;
