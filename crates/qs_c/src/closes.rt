@@ -1,7 +1,7 @@
 //! A close that the endpoint didn't see is noted, and returned.
 ghost use Rattle.std.specs.Prelude.{◌≡◌, ◌&&◌, true, option_map};
 ghost use Rattle.qs_machine.specs.Receiving.{noted_closed};
-ghost use Rattle.qs_machine.specs.Asking.{told_closing};
+ghost use Rattle.qs_machine.specs.Asking.{noted_closing};
 ghost use Rattle.qs_c.specs.Statuses.{Called, Asked, Tested, Invalid, is_flag, found};
 ghost use Rattle.qs_c.specs.Structs.{close_in, told_of};
 
@@ -34,7 +34,7 @@ pub extern "C" fn gvp_note_closed(
 /// As numbers of the same meaning. One struct, so that one contract says all of it.
 #[unsafe(no_mangle)]
 pub extern "C" fn gvp_noted_close(alloc: Global, end: &mut Handle, told: &mut GvTold) -> u32
-    ensures { Asked end.old.cell.value end.new.cell.value true (Invalid result told.old told.new) (λ e. (result, told.new) ≡ found (option_map told_of (told_closing e.closed)) told.old) }
+    ensures { Asked end.old.cell.value end.new.cell.value true (Invalid result told.old told.new) (λ e. (result, told.new) ≡ found (option_map told_of (noted_closing e.closed)) told.old) }
 {
     let Some(thing) = end.take(alloc) else {
         return INVALID;
@@ -59,7 +59,7 @@ impl Thing {
     }
 
     pub(crate) fn noted_close(&self, told: &mut GvTold) -> u32
-        ensures { (result, told.new) ≡ found (option_map told_of (told_closing self.now.closed)) told.old }
+        ensures { (result, told.new) ≡ found (option_map told_of (noted_closing self.now.closed)) told.old }
     {
         match self.end.noted_close() {
             Some(close) => {

@@ -41,7 +41,7 @@ pub struct NotedClose {
 pub enum Closed {
     ByUs(Closing),
     ByPeer(u64),
-    Told(NotedClose),
+    Noted(NotedClose),
 }
 
 /// What came of a payload that did not close the connection.

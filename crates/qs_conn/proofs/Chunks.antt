@@ -134,7 +134,7 @@ module _ (e : End) (n : ℕ) (s : Sending) (t : Ties e n s) (c : Chunk) (chunk :
         due = λ q ge lt. t.due q (chunk.due q ge (omega (arith, lt, count)));
         lowest = λ q d. lowest_of q (t.all_due q d);
         whole_run = λ d there. clear_apart d (clear d there);
-        told = subst (λ k. bytes ≡ bytes_of s.lane (record { offset = c.offset; len = k; fin = c.fin })) (sym count) is;
+        bytes_are = subst (λ k. bytes ≡ bytes_of s.lane (record { offset = c.offset; len = k; fin = c.fin })) (sym count) is;
         inside = omega (arith, count, has.end);
         within = omega (arith, count, chunk.within_limit);
         end = λ fin. (t.end (fin_means fin).0, omega (arith, count, (fin_means fin).1), not_past_sent fin);

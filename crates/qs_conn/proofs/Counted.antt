@@ -151,7 +151,7 @@ module _ (role : Role) (s : Settings) (recvs : Tables RecvLane) (sends : Tables 
       broken : RecvLane → RecvLane
       broken l = record l { arrived = forget l.arrived; final_size = Some size; reset_code = Some code }
 
-      same_told : (t : Bool) (l : RecvLane) → (cond t l (broken l)).told ≡ l.told
+      same_told : (t : Bool) (l : RecvLane) → (cond t l (broken l)).reader_done ≡ l.reader_done
       same_told true l = refl
       same_told false l = refl
 

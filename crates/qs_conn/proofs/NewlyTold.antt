@@ -130,10 +130,10 @@ tells_end R false p q o None s early is answer = λ m falls same.
     let none : (j : ℕ) → is_some (fmap.get m j) ≡ true → is_ahead p j ≡ false = λ j held. not_ahead p j (λ ahead. both_ways _ (answer falls j ahead) (ap is_some (sym (same j ahead.0)) ∙ held)) in
     subst (λ ks. FoldsTo R s (gone_from o.outstanding ks) s) (sym (filter_nothing m (is_ahead p) none)) refl
 
-pub tells_stop : {S : Type 0} (R : S → ℕ → S → Type 0) (late : Bool) (p : Passing) (k : ℕ) (o new : Outgoing) (e : NoMemory) (s : S) → late ≡ false → AcksPacket late k o (Err e) new → TellsAhead R p o new s s
+pub asks_stop : {S : Type 0} (R : S → ℕ → S → Type 0) (late : Bool) (p : Passing) (k : ℕ) (o new : Outgoing) (e : NoMemory) (s : S) → late ≡ false → AcksPacket late k o (Err e) new → TellsAhead R p o new s s
 unfolding TellsAhead
-tells_stop R true p k o new e s early acked = absurd (both_ways true early refl)
-tells_stop R false p k o new e s early acked = λ m falls same.
+asks_stop R true p k o new e s early acked = absurd (both_ways true early refl)
+asks_stop R false p k o new e s early acked = λ m falls same.
     subst (λ ks. FoldsTo R s ks s) (sym (filter_reverse (λ n. not (holds new n)) (filter (is_ahead p) (fmap.keys m)) ∙ ap reverse (filters_nothing m (λ n. not (holds new n)) (is_ahead p) (λ j held. go m same j held (is_ahead p j) refl)))) refl
   where
     go : (m : Records) → AreSameBelow p.below m o.outstanding → (j : ℕ) → is_some (fmap.get m j) ≡ true → (b : Bool) → is_ahead p j ≡ b → (b && not (holds new j)) ≡ false

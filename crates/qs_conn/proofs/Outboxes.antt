@@ -9,7 +9,7 @@ use Rattle.std.specs.Result.{OnOk, OnErr, IfOk, IfErr}
 use Rattle.qs_send.specs.declared.parts.SendFault.{SendFault}
 use Rattle.qs_send.specs.declared.parts.SendFault.TheVariants.{NoMemory}
 use Rattle.qs_send.specs.declared.piece.Piece.{Piece}
-use Rattle.qs_send.specs.Lane.{SendLane, Sending, new_sending, new_lane, accepted, refusal, reset_refusal, answer_of, write_lane, finish_lane, after_write, after_finish, after_reset, broken_off, first_code, after_stopped, after_told, after_stop, stop_taken, after_allow, after_buffer}
+use Rattle.qs_send.specs.Lane.{SendLane, Sending, new_sending, new_lane, accepted, refusal, reset_refusal, answer_of, write_lane, finish_lane, after_write, after_finish, after_reset, broken_off, first_code, after_stopped, after_asked, after_stop, stop_taken, after_allow, after_buffer}
 use Rattle.qs_send.specs.Sound.{IsLawful}
 use Rattle.qs_machine.specs.Tables.{Tables, table, with_table, lookup, update, updated, open_to, no_streams, total}
 use Rattle.qs_machine.specs.Ends.{Records}
@@ -117,7 +117,7 @@ module _ (t t' : Tables Sending) (m : Records) (r : Bool) (ps : List Piece) (k s
   pub box_stopped : (answers : Bool) (n code : ℕ) → is_some (lookup t n) ≡ true → t' ≡ updated t n (λ s. after_stop answers s code) (lookup t n) → IsOutbox t' m r ps k sent spare free
   box_stopped true n code there is =
       let s = or_no_sending (lookup t n) in
-      box_half n (λ x. after_told x code) s refl there is (λ tied. tied_told_stop _ n s tied code)
+      box_half n (λ x. after_asked x code) s refl there is (λ tied. tied_told_stop _ n s tied code)
       (cond_both (is_some (reset_refusal s.lane)) s.lane _ (Keeps s.lane) (λ _. keeps_one s.lane) (λ _. record { reset = λ x. x; ends = refl }))
   box_stopped false n code there is =
       let s = or_no_sending (lookup t n) in

@@ -15,7 +15,7 @@ use Rattle.qs_send.specs.declared.parts.SendState.{SendState}
 use Rattle.qs_send.specs.declared.parts.SendState.TheVariants.{DataRecvd, DataSent, ResetSent}
 use Rattle.qs_send.specs.Chunks.{IsDueChunk, WasSent}
 use Rattle.qs_send.specs.Halves.{over_sending, IsOver, half_at}
-use Rattle.qs_send.specs.Lane.{Sending, refusal, reset_refusal, state, after_finish, after_reset, after_stopped, after_told, after_stop, after_acked, after_lost, after_allow, after_buffer, after_blocked, finish_lane, broken_off, first_code}
+use Rattle.qs_send.specs.Lane.{Sending, refusal, reset_refusal, state, after_finish, after_reset, after_stopped, after_asked, after_stop, after_acked, after_lost, after_allow, after_buffer, after_blocked, finish_lane, broken_off, first_code}
 use Rattle.qs_send.proofs.AtRest.{rest_missing, rest_acked, rest_lost}
 use Rattle.qs_send.proofs.Overs.{none_goes}
 use Rattle.qs_send.specs.Offsets.{Parts}
@@ -61,7 +61,7 @@ module _ (s : Sending) (o : IsOver s) where
   over_stopped code =
       ap (λ (r : Option SendFault). (let after : Sending = record { lane = cond (is_some r) s.lane (record (broken_off s.lane code) { stopped = first_code s.lane.stopped code }); due = cond (is_some r) s.due (record { offsets = set.empty; fin = false }) } in after)) over_reset_refused
 
-  over_told : (code : ℕ) → after_told s code ≡ s
+  over_told : (code : ℕ) → after_asked s code ≡ s
   over_told code = ap (λ (r : Option SendFault). (let after : Sending = record s { lane = cond (is_some r) s.lane (record s.lane { stopped = first_code s.lane.stopped code }) } in after)) over_reset_refused
 
   pub over_stop : (owner_answers : Bool) (code : ℕ) → after_stop owner_answers s code ≡ s

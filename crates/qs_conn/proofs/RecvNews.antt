@@ -87,10 +87,10 @@ waits_off : (o : Option ℕ) (l : RecvLane) (size : ℕ) → is_some l.stop_code
 waits_off (Some code) l size off h = absurd (true≢false h)
 waits_off None l size off h = ap (λ b. cond b (cond (is_whole l) End Wait) (cond (at_final_size l.arrived.read_count l.final_size) End (cond (set.contains l.arrived.received l.arrived.read_count) (Bytes (length (front_of l.arrived size))) Wait))) off ∙ ap (λ b. cond b End Wait) h
 
-pub waits : (l : RecvLane) (size : ℕ) → (l.told ≡ true → (recv_ended l ≡ true) ⊎ (is_some l.stop_code ≡ true)) → ((t : RecvTask) → HasNone t l) → read_answer l size ≡ Wait
-waits l size told none = go l.told refl
+pub waits : (l : RecvLane) (size : ℕ) → (l.reader_done ≡ true → (recv_ended l ≡ true) ⊎ (is_some l.stop_code ≡ true)) → ((t : RecvTask) → HasNone t l) → read_answer l size ≡ Wait
+waits l size told none = go l.reader_done refl
   where
-    go : (b : Bool) → l.told ≡ b → read_answer l size ≡ Wait
+    go : (b : Bool) → l.reader_done ≡ b → read_answer l size ≡ Wait
     go true is = elim (told is) [
       | inl ended ↦ absurd (both_ways (recv_ended l) (none tasks.Ended) ended)
       | inr off ↦ waits_off l.reset_code l size off (ap (λ b. b && (is_some l.reset_code || is_whole l)) (sym is) ∙ none tasks.Ended)
@@ -129,7 +129,7 @@ answer_raised None l = refl
 answer_raised (Some code) l = refl
 
 pub has_raised : (t : RecvTask) (l : RecvLane) → has t (raise l) ≡ has t l
-has_raised tasks.Readable l = ap (λ b. not l.told && b) (answer_raised l.reset_code l)
+has_raised tasks.Readable l = ap (λ b. not l.reader_done && b) (answer_raised l.reset_code l)
 has_raised tasks.Ended l = refl
 
 raised_marks : (t : RecvTask) (xs : List RecvLane) → map (has t) (map raise xs) ≡ map (has t) xs

@@ -19,10 +19,10 @@ use Rattle.qs_conn.specs.Ended.{IsToldOfEnd}
 -- One half
 
 abbrev IsTold : RecvLane → Type 0
-IsTold l = l.told ≡ true → (recv_ended l ≡ true) ⊎ (is_some l.stop_code ≡ true)
+IsTold l = l.reader_done ≡ true → (recv_ended l ≡ true) ⊎ (is_some l.stop_code ≡ true)
 
 -- where a change leaves what a reader was told, and an ended half stays so, and a stopped one
-pub still_told : (l m : RecvLane) → IsTold l → m.told ≡ l.told → RecvStays l m → (is_some l.stop_code ≡ true → is_some m.stop_code ≡ true) → IsTold m
+pub still_told : (l m : RecvLane) → IsTold l → m.reader_done ≡ l.reader_done → RecvStays l m → (is_some l.stop_code ≡ true → is_some m.stop_code ≡ true) → IsTold m
 still_told l m told same stays stopped is = elim (told (sym same ∙ is)) [ inl ended ↦ inl (stays ended) | inr off ↦ inr (stopped off) ]
 
 -- a half that is forgotten was stopped, or was over before
@@ -30,9 +30,9 @@ pub forgotten_told : (l : RecvLane) (code : ℕ) → IsTold (stop_and_discard l 
 forgotten_told l code is = go (is_some l.stop_code) (recv_over l) refl refl
   where
     go : (b o : Bool) → is_some l.stop_code ≡ b → recv_over l ≡ o
-        → (let m : RecvLane = record (cond (b || o) l (record l { arrived = discard l.arrived; stop_code = Some code })) { told = true } in (recv_ended m ≡ true) ⊎ (is_some m.stop_code ≡ true))
+        → (let m : RecvLane = record (cond (b || o) l (record l { arrived = discard l.arrived; stop_code = Some code })) { reader_done = true } in (recv_ended m ≡ true) ⊎ (is_some m.stop_code ≡ true))
     go true o was over = inr was
-    go false true was over = inl (and_parts l.told _ over).1
+    go false true was over = inl (and_parts l.reader_done _ over).1
     go false false was over = inr refl
 
 -- what a reader is told

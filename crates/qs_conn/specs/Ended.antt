@@ -60,7 +60,7 @@ half_of (Told item) = None
 -- sections 3.2 and 3.5)
 abbrev pub IsToldOfEnd : Option RecvLane → Type 0
 IsToldOfEnd None = ⊤
-IsToldOfEnd (Some l) = l.told ≡ true → (recv_ended l ≡ true) ⊎ (is_some l.stop_code ≡ true)
+IsToldOfEnd (Some l) = l.reader_done ≡ true → (recv_ended l ≡ true) ⊎ (is_some l.stop_code ≡ true)
 
 -- what holds of an endpoint's counts: those of ended streams are right, and no granted one is above its lifetime's
 pub record CountsFit (role : Role) (s : Settings) (recvs : Tables RecvLane) (sends : Tables SendLane) (e : ByDir ℕ) (granted_bidi granted_uni : ℕ) : Type 0 where

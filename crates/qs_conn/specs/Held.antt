@@ -13,7 +13,7 @@ use Rattle.qs_machine.specs.Sums.{stored_on}
 
 -- whether bytes that come are kept still: the reader wasn't told the end or a reset, and there was neither a reset nor a stop
 abbrev pub keeps : RecvLane → Bool
-keeps lane = not lane.told && not lane.arrived.discarding
+keeps lane = not lane.reader_done && not lane.arrived.discarding
 
 -- the most that the ring of a receiving half takes: nothing once bytes aren't kept; else 4,096 bytes, or while some are stored four times
 -- what was spent beyond what was taken

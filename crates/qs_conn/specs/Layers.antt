@@ -5,7 +5,7 @@ use Rattle.qs_recv.specs.Lane.{RecvLane, is_whole}
 use Rattle.qs_calls.specs.declared.uses.UseFault.{UseFault}
 use Rattle.qs_calls.specs.declared.uses.UseFault.TheVariants as uses
 use Rattle.qs_calls.specs.declared.closing.Closed.{Closed}
-use Rattle.qs_calls.specs.declared.closing.Closed.TheVariants.{ByUs, ByPeer, Told}
+use Rattle.qs_calls.specs.declared.closing.Closed.TheVariants.{ByUs, ByPeer, Noted}
 use Rattle.qs_machine.specs.Ends.{End, send_lane, recv_lane}
 use Rattle.qs_machine.specs.Owner.{first_refusal, refuse_if, no_half}
 use Rattle.qs_wire.specs.Layout.{PlacedValue}
@@ -33,7 +33,7 @@ no_receiver is_shut e n = first_refusal (refuse_if is_shut uses.Closed) (refuse_
 abbrev pub ClosingFits : Option Closed → Type 0
 ClosingFits None = ⊤
 ClosingFits (Some (ByPeer code)) = ⊤
-ClosingFits (Some (Told close)) = ⊤
+ClosingFits (Some (Noted close)) = ⊤
 ClosingFits (Some (ByUs closing)) = (closing.code < 2 ^ 62) × (closing.frame_type < 2 ^ 62)
 
 -- one frame takes effect and the processing goes on, asking for an ACK or not, or the processing ends with it

@@ -7,7 +7,7 @@ use Rattle.qs_machine.specs.Ends.{End, opened_by_peer}
 
 -- no end, reset or stop was told of a lane (RFC 9000, sections 3.2 and 3.5)
 pub record IsPlainLane (l : RecvLane) : Type 0 where
-  pub untold : l.told ≡ false
+  pub untold : l.reader_done ≡ false
   pub going : l.stop_code ≡ None
   pub whole : l.reset_code ≡ None
 

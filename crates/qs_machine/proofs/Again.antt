@@ -21,7 +21,7 @@ use Rattle.qs_machine.specs.Credit.{spent, settle, all_taken}
 use Rattle.qs_machine.specs.Seen.{Seen, Ack, Stream, Control, Close, Plain, seen, seen_all, asks_ack, any_asks}
 use Rattle.qs_machine.specs.Verdicts.{verdict, item_verdict, state_fault_in, state_fault_out, credit_fault, bytes_fault, fault_of, ack_fault, fault_if, or_else, or_new}
 use Rattle.qs_machine.specs.FrameStep.{frame_taken, item_taken, frames_taken, held, is_named, NoFault, named, acks}
-use Rattle.qs_machine.specs.Receiving.{GoesOn, Takes, EndsBy, AtEnd, RunsOut, TakesPayload, told_receive, Stops, OpenReceive, ReceiveBy, ReceiveStep}
+use Rattle.qs_machine.specs.Receiving.{GoesOn, Takes, EndsBy, AtEnd, RunsOut, TakesPayload, noted_receive, Stops, OpenReceive, ReceiveBy, ReceiveStep}
 use Rattle.qs_machine.specs.Standing.{IsInCredit, IsSound}
 use Rattle.qs_machine.specs.Repeats.{SentWasWritten, AreAmong, Resumes, OnlyRecords, WasWritten}
 use Rattle.qs_machine.proofs.EveryCall.{not_chosen, no_fault_there, stops_by, by_open}
@@ -46,7 +46,7 @@ use Rattle.qs_ranges.specs.Numbers.{MAX_VARINT}
 use Rattle.qs_recv.specs.declared.credit.Share.{Share}
 use Rattle.qs_calls.specs.declared.closing.Closer.{Closer}
 use Rattle.qs_calls.specs.declared.closing.Closer.TheVariants.{Us, Peer}
-use Rattle.qs_calls.specs.declared.closing.Closed.TheVariants.{ByUs, ByPeer, Told}
+use Rattle.qs_calls.specs.declared.closing.Closed.TheVariants.{ByUs, ByPeer, Noted}
 use Rattle.qs_machine.proofs.Leaves.{frame_leaves}
 use Rattle.qs_machine.proofs.Counts.{next_settle}
 use Rattle.std.proofs.Math.Bool.{or-false, or_assoc}
@@ -597,9 +597,9 @@ was_open (Some (ByPeer code)) number payload old new step = absurd (not_done cod
   where
     not_done : (code : ℕ) → ◌≡◌ {A = Result Received Closing} (Ok received.Done) (Ok (received.PeerClosed code)) → ⊥
     not_done code h = cc
-was_open (Some (Told close)) number payload old new step = absurd (never close.by step.0)
+was_open (Some (Noted close)) number payload old new step = absurd (never close.by step.0)
   where
-    never : (c : Closer) → ◌≡◌ {A = Result Received Closing} (Ok received.Done) (told_receive c close.code) → ⊥
+    never : (c : Closer) → ◌≡◌ {A = Result Received Closing} (Ok received.Done) (noted_receive c close.code) → ⊥
     never Us h = cc
     never Peer h = cc
 was_open None number payload old new step =

@@ -5,7 +5,7 @@ use Rattle.qs_wire.specs.declared.stream_id.Dir.TheVariants.{Bidi, Uni}
 use Rattle.qs_recv.specs.Lane.{RecvLane, new_lane as new_recv_lane, after_read, stop, raise, stop_and_discard, set_window}
 use Rattle.qs_send.specs.declared.piece.Piece.{Piece}
 use Rattle.qs_calls.specs.declared.closing.Closed.{Closed}
-use Rattle.qs_calls.specs.declared.closing.Closed.TheVariants.{Told}
+use Rattle.qs_calls.specs.declared.closing.Closed.TheVariants.{Noted}
 use Rattle.qs_machine.specs.Ends.{End, on_recv, is_own, is_uni, opens, closes, first_window}
 use Rattle.qs_machine.specs.FrameStep.{frame_taken, acks, named}
 use Rattle.qs_machine.specs.Lawful.{frame_put}
@@ -122,7 +122,7 @@ module _ (T : End → End → Type 0) (same : (e : End) → T e e) (twice : (a b
 
   pub relates_sound : (answer : Answer call) (new : End) → EndStep old call answer new → T old new
   relates_sound answer new step =
-      (each_call old call IsReached IsReached (record { begins = at_first; goes = reached; stays = at_first; settles = λ e. reached Settled e tt; loses = λ k p e is. reached (Lost k p) e is; claims = reached (Numbered (old.next + 1)) old refl at_first; shuts = λ comes close. reached (Shut (Told close)) old comes at_first }) answer new step).2
+      (each_call old call IsReached IsReached (record { begins = at_first; goes = reached; stays = at_first; settles = λ e. reached Settled e tt; loses = λ k p e is. reached (Lost k p) e is; claims = reached (Numbered (old.next + 1)) old refl at_first; shuts = λ comes close. reached (Shut (Noted close)) old comes at_first }) answer new step).2
 
 keeps_all : (old : End) → IsSound old → SentWasWritten old → (call : Call) (answer : Answer call) (new : End) → EndStep old call answer new → Moves old new
 keeps_all old sound sent call answer new step = relates_sound Moves moves_same moves_twice old sound sent call (moves_change old call) answer new step

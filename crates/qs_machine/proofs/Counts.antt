@@ -313,7 +313,7 @@ tally_set xs i x y there is = same_tally _ _ (sum_set highest xs i x y there is)
 
 noted_within : (l : RecvLane) → IsLawful l → noted l ≤ highest l
 noted_within l h =
-    cond_both ((l.told && is_whole l) || is_some l.reset_code) 0 _ (λ k. k ≤ highest l) (λ _. omega arith) (λ _. omega (arith, starts_below_end l.arrived.received, h.received_within))
+    cond_both ((l.reader_done && is_whole l) || is_some l.reset_code) 0 _ (λ k. k ≤ highest l) (λ _. omega arith) (λ _. omega (arith, starts_below_end l.arrived.received, h.received_within))
 
 pub each_paid : (xs : List RecvLane) → EachLawful xs → IsPaid (tally_on xs)
 each_paid [] each = record { moved = omega arith; noted = omega arith }

@@ -41,10 +41,10 @@ whole_stays l m received size whole = go l.final_size refl whole
         ∙ covers-of m.arrived.received 0 s (λ q low high. received q (covers-is l.arrived.received 0 s h q low high))
 
 -- a half that was told of its end, by a reset or by all data
-pub recv_stays : (l m : RecvLane) → m.told ≡ l.told → (is_some l.reset_code ≡ true → is_some m.reset_code ≡ true) → (recv_whole l ≡ true → recv_whole m ≡ true) → RecvStays l m
+pub recv_stays : (l m : RecvLane) → m.reader_done ≡ l.reader_done → (is_some l.reset_code ≡ true → is_some m.reset_code ≡ true) → (recv_whole l ≡ true → recv_whole m ≡ true) → RecvStays l m
 recv_stays l m told reset whole h =
-    let (was_told, either) = and_parts l.told (is_some l.reset_code || recv_whole l) h in
-    and_from m.told (is_some m.reset_code || recv_whole m) (told ∙ was_told)
+    let (was_told, either) = and_parts l.reader_done (is_some l.reset_code || recv_whole l) h in
+    and_from m.reader_done (is_some m.reset_code || recv_whole m) (told ∙ was_told)
     (elim (or_cases (is_some l.reset_code) (recv_whole l) either) [
       | inl a ↦ or_left (is_some m.reset_code) (recv_whole m) (reset a)
       | inr b ↦ or_right (is_some m.reset_code) (recv_whole m) (whole b)
@@ -53,11 +53,11 @@ recv_stays l m told reset whole h =
 pub reset_stays_ended : (l : RecvLane) (code size : ℕ) → RecvStays l (take_reset l code size)
 reset_stays_ended l code size =
     cond_both (is_some l.reset_code || recv_whole l) l (record l { arrived = forget l.arrived; final_size = Some size; reset_code = Some code }) (RecvStays l)
-    (λ _ h. h) (λ not h. absurd (both_ways (is_some l.reset_code || recv_whole l) not (and_parts l.told _ h).1))
+    (λ _ h. h) (λ not h. absurd (both_ways (is_some l.reset_code || recv_whole l) not (and_parts l.reader_done _ h).1))
 
 answer_stays : (answer : Read) (l : RecvLane) (size : ℕ) → RecvStays l (after_answer answer l size)
-answer_stays reads.End l size h = (and_parts l.told _ h).1
-answer_stays (reads.Reset code) l size h = (and_parts l.told _ h).1
+answer_stays reads.End l size h = (and_parts l.reader_done _ h).1
+answer_stays (reads.Reset code) l size h = (and_parts l.reader_done _ h).1
 answer_stays _ l size h = h
 
 pub read_stays : (size : ℕ) (l : RecvLane) → RecvStays l (after_read l size)
@@ -69,7 +69,7 @@ stop_stays code l =
 
 -- a half that is forgotten isn't told of its end anew
 pub forget_stays : (code : ℕ) (l : RecvLane) → RecvStays l (stop_and_discard l code)
-forget_stays code l h = (and_parts (stop l code).told (is_some (stop l code).reset_code || recv_whole (stop l code)) (stop_stays code l h)).1
+forget_stays code l h = (and_parts (stop l code).reader_done (is_some (stop l code).reset_code || recv_whole (stop l code)) (stop_stays code l h)).1
 
 -- Sending halves
 
@@ -134,7 +134,7 @@ acked_keeps l c within =
 -- The last states
 
 recv_last : (l : RecvLane) → recv_ended l ≡ is_last_recv (recv_state l)
-recv_last l = go l.told (is_some l.reset_code) (recv_whole l) (is_some l.final_size)
+recv_last l = go l.reader_done (is_some l.reset_code) (recv_whole l) (is_some l.final_size)
   where
     go : (told reset whole known : Bool) → (told && (reset || whole)) ≡ is_last_recv (cond reset (cond told ResetRead at_reset) (cond whole (cond told DataRead at_data) (cond known SizeKnown Recv)))
     go true false false true = refl

@@ -53,7 +53,7 @@ use Rattle.qs_machine.specs.Verdicts.{verdict}
 use Rattle.qs_machine.specs.FrameStep.{frame_taken, acks, named}
 use Rattle.qs_machine.specs.Recording.{recorded}
 use Rattle.qs_machine.specs.Lawful.{MayPut, Fills, frame_put}
-use Rattle.qs_machine.specs.Receiving.{told_by, noted_closed, ClosedReceive, AtEnd, RunsOut, Stops, GoesOn, Takes, ReceiveBy, TakesPayload, OpenReceive}
+use Rattle.qs_machine.specs.Receiving.{noted_by, noted_closed, ClosedReceive, AtEnd, RunsOut, Stops, GoesOn, Takes, ReceiveBy, TakesPayload, OpenReceive}
 use Rattle.qs_machine.specs.Making.{MakeAt, MakeAckAt, make_refusal, claim_refusal, LoseStep, lose_refusal, first_lost, losses}
 use Rattle.qs_machine.specs.Filling.{FillAt}
 use Rattle.qs_machine.specs.Alone.{is_ours, TakesOne, TakeBy, TakesEach, TakeAllBy, token_refusal, only, LosesEach, TokenAckedStep, TokenLostStep}
@@ -192,7 +192,7 @@ pub record Cases (old : End) (call : Call) (Q P : End → Type 0) : Type 0 where
   pub settles : (e : End) → Q e → P (settle e)
   pub loses : (k : ℕ) (p : Piece) (e : End) → IsCarried e.outstanding p → P e → P (first_lost k p e)
   pub claims : P (record old { next = old.next + 1 })
-  pub shuts : MovesStanding call → (close : NotedClose) → P (closes (closings.Told close) old)
+  pub shuts : MovesStanding call → (close : NotedClose) → P (closes (closings.Noted close) old)
 
 -- a frame ends the processing: the end closes, or there is no memory
 pub stops_by : (P : Type 0) (p : PlacedValue) (f : Seen) (e : End) (result : Result Received Closing) (new : End) → Stops p f e result new
@@ -438,7 +438,7 @@ module _ (old : End) (call : Call) (Q P : End → Type 0) (c : Cases old call Q 
   shut_by : MovesStanding call → (close : NotedClose) (new : End) → new ≡ noted_closed close old → P new
   shut_by comes close new is = subst P (sym is) (by old.closed)
     where
-      by : (o : Option Closed) → P (told_by o close old)
+      by : (o : Option Closed) → P (noted_by o close old)
       by None = c.shuts comes close
       by (Some closed) = c.stays
 
@@ -487,7 +487,7 @@ module _ (R : End → End → Type 0) (same : (e : End) → R e e) (twice : (a b
         settles = λ e h. twice old e (settle e) h (one Settled e tt);
         loses = λ k p e is h. twice old e (first_lost k p e) h (one (Lost k p) e is);
         claims = one (Numbered (old.next + 1)) old refl;
-        shuts = λ comes close. one (Shut (closings.Told close)) old comes;
+        shuts = λ comes close. one (Shut (closings.Noted close)) old comes;
       }
 
   pub relates : (answer : Answer call) (new : End) → EndStep old call answer new → R old new
@@ -497,7 +497,7 @@ module _ (R : End → End → Type 0) (same : (e : End) → R e e) (twice : (a b
 module _ (P : End → Type 0) (old : End) (kept : P old) (settles : (e : End) → P (settle e)) (loses : (k : ℕ) (p : Piece) (e : End) → P e → P (first_lost k p e)) (claims : P (record old { next = old.next + 1 })) (shuts : (c : Closed) → P (closes c old)) where
   pub ends_by : (call : Call) (answer : Answer call) (new : End) → EndStep old call answer new → P new
   ends_by call answer new step =
-      each_call old call (λ e. ⊤) P (record { begins = tt; goes = λ c e comes h. tt; stays = kept; settles = λ e h. settles e; loses = λ k p e is h. loses k p e h; claims = claims; shuts = λ comes close. shuts (closings.Told close) }) answer new step
+      each_call old call (λ e. ⊤) P (record { begins = tt; goes = λ c e comes h. tt; stays = kept; settles = λ e h. settles e; loses = λ k p e is h. loses k p e h; claims = claims; shuts = λ comes close. shuts (closings.Noted close) }) answer new step
 
 -- After a closing nothing changes but the number of the next packet, and what is read on.
 
@@ -537,7 +537,7 @@ take_all_again : (c : Option Closed) (fs : List FrameValue) (old : End) (answer 
 take_all_again None fs old answer new is h = absurd (false≢true is)
 take_all_again (Some closed) fs old answer new is h = h.1
 
-told_again : (c : Option Closed) (close : NotedClose) (old new : End) → is_some c ≡ true → new ≡ told_by c close old → new ≡ old
+told_again : (c : Option Closed) (close : NotedClose) (old new : End) → is_some c ≡ true → new ≡ noted_by c close old → new ≡ old
 told_again None close old new is h = absurd (false≢true is)
 told_again (Some closed) close old new is h = h
 

@@ -9,7 +9,7 @@ use Rattle.qs_recv.specs.Assembled.{front, same, store}
 use Rattle.qs_recv.specs.Bytes.{byte_at}
 use Rattle.qs_recv.proofs.AssembledLaws.{contains-with_run, get-keep_from, get-store, is_in_run}
 use Rattle.qs_recv.proofs.SameLaws.{same_none, same_true}
-use Rattle.qs_send.specs.Lane.{SendLane, new_lane, write_lane, sent_lane, stopped_lane, told_lane, unacked_from, state}
+use Rattle.qs_send.specs.Lane.{SendLane, new_lane, write_lane, sent_lane, stopped_lane, asked_lane, unacked_from, state}
 use Rattle.qs_send.specs.declared.parts.SendFault.TheVariants.{Finished}
 use Rattle.qs_ranges.specs.Numbers.{numbers, end_of}
 use Rattle.qs_ranges.proofs.Sets.{end_of-empty, end_of-with_range}
@@ -184,7 +184,7 @@ was_reset : stopped_lane sent_three 7 ≡ record sent_three { kept = []; was_res
 unfolding sent_three
 was_reset = not_whole (unacked_from sent_three == 3) sent_three (record sent_three { kept = []; was_reset = Some (record { code = 7; size = 3 }); stopped = Some 7 })
 
-was_told : told_lane sent_three 7 ≡ record sent_three { stopped = Some 7 }
+was_told : asked_lane sent_three 7 ≡ record sent_three { stopped = Some 7 }
 unfolding sent_three
 was_told = not_whole (unacked_from sent_three == 3) sent_three (record sent_three { stopped = Some 7 })
 
@@ -198,7 +198,7 @@ stop =
 
 stop_answered : StopIsAnswered
 unfolding frame_taken lookup update open_to sent_three
-stop_answered = record { goes_on = (told_lane sent_three 7, refl, ap (λ (l : SendLane). l.was_reset) was_told, ap (λ (l : SendLane). l.stopped) was_told) }
+stop_answered = record { goes_on = (asked_lane sent_three 7, refl, ap (λ (l : SendLane). l.was_reset) was_told, ap (λ (l : SendLane). l.stopped) was_told) }
 
 blocked_stream : BlockedIsTold
 unfolding frame_taken lookup update open_to
@@ -278,7 +278,7 @@ empty_stream =
                 due = λ q low high. absurd (omega arith);
                 lowest = λ q due. absurd (no_byte q due.written);
                 whole_run = λ c there. absurd (nothing_noted (fmap.get fmap.empty 0) (Data 0 c) (fmap.get-empty nat_cmp 0) there);
-                told = refl;
+                bytes_are = refl;
                 inside = omega arith;
                 within = omega arith;
                 end = λ _. (record { no_reset = refl; finished = refl; not_acked = refl; not_sent = λ offset len flies. none_in flies.0 flies.1 flies.2 }, refl, omega arith);

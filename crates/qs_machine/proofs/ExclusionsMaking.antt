@@ -247,7 +247,7 @@ stream =
       undue = λ (l, may). both_ways _ (may.due 1 (omega arith) (omega arith)).not_acked (ap (λ (k : SendLane). set.contains k.acked 1) (sym (same_Some _ l may.lane)) ∙ contains-numbers 1 2 1);
       not_lowest = λ (l, may). (let le : 1 ≤ 0 = may.lowest 0 (first_due l (same_Some _ l may.lane)) in omega arith);
       in_two = λ (l, may). may.whole_run (chunk 0 1 false) (found_there _ _ (Data 0 (chunk 0 1 false)) (got _) (among_last _ (Data 0 (chunk 0 1 false)))) refl;
-      other_bytes = λ (l, may). (let e : 100 ≡ 99 = ap (λ bs. slice_index_or bs 2 0) (may.told ∙ ap (λ (k : SendLane). take 3 (drop (0 - unacked_from k) k.kept)) (sym (same_Some _ l may.lane)) ∙ ap (λ n. take 3 (drop (0 - n) abc)) (missing_from-past set.empty 0 (omega (arith, end_of-empty)))) in omega arith);
+      other_bytes = λ (l, may). (let e : 100 ≡ 99 = ap (λ bs. slice_index_or bs 2 0) (may.bytes_are ∙ ap (λ (k : SendLane). take 3 (drop (0 - unacked_from k) k.kept)) (sym (same_Some _ l may.lane)) ∙ ap (λ n. take 3 (drop (0 - n) abc)) (missing_from-past set.empty 0 (omega (arith, end_of-empty)))) in omega arith);
       past_limit = λ (l, may). (let le : 3 ≤ 2 = subst (λ (k : SendLane). 3 ≤ k.limit) (sym (same_Some _ l may.lane)) may.within in omega arith);
       unasked_end = λ (l, may). false≢true (ap (λ (k : SendLane). k.finished) (same_Some _ l may.lane) ∙ (may.end refl).0.finished);
       early_end = λ (l, may). (let e : 1 ≡ 3 = subst (λ (k : SendLane). 1 ≡ k.written) (sym (same_Some _ l may.lane)) (may.end refl).1 in omega arith);

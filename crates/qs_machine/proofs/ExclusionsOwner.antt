@@ -84,7 +84,7 @@ ends_of (Ok answer) = answer.at_end
 ends_of (Err fault) = false
 
 abbrev told_at : Option RecvLane → Bool
-told_at (Some l) = l.told
+told_at (Some l) = l.reader_done
 told_at None = false
 
 openings : NoSuchOpening
@@ -258,7 +258,7 @@ forgetting =
       unopened = λ new h. ok_is_no_err _ _ h.0;
       not_stopped = λ new h l at none. none-some 7 (sym none ∙ sym (ap (λ (k : RecvLane). k.stop_code) (same_Some _ l (ap (λ (x : End). recv_lane x 0) (sym h.1) ∙ at))));
       second_code = λ new h l at code. (let e : 7 ≡ 8 = same_Some 7 8 (ap (λ (k : RecvLane). k.stop_code) (same_Some _ l (ap (λ (x : End). recv_lane x 0) (sym h.1) ∙ at)) ∙ code) in omega arith);
-      waits = λ new h l at untold. true≢false (ap (λ (k : RecvLane). k.told) (same_Some _ l (ap (λ (x : End). recv_lane x 0) (sym h.1) ∙ at)) ∙ untold);
+      waits = λ new h l at untold. true≢false (ap (λ (k : RecvLane). k.reader_done) (same_Some _ l (ap (λ (x : End). recv_lane x 0) (sym h.1) ∙ at)) ∙ untold);
       too_early = λ h. false≢true h;
       by_end = came_whole 3;
       by_reset = refl;
@@ -461,7 +461,7 @@ readable : NotReadable
 readable =
     record {
       nothing_came = nothing_readable;
-      told = λ h. false≢true (only_is (λ l. is_readable l ≡ true) (record all_came { told = true }) h.1);
+      told = λ h. false≢true (only_is (λ l. is_readable l ≡ true) (record all_came { reader_done = true }) h.1);
       stopped = λ h. false≢true (only_is (λ l. is_readable l ≡ true) (stop three_came 7) h.1);
       forgotten = λ h. false≢true (only_is (λ l. is_readable l ≡ true) (stop_and_discard all_came 7) h.1);
       closed = λ h. true≢false h.0;

@@ -455,9 +455,9 @@ frames =
 
 -- Tokens
 
-abbrev told_fault : Result (Unit {0}) TokenFault → Option TokenFault
-told_fault (Ok done) = None
-told_fault (Err fault) = Some fault
+abbrev noted_fault : Result (Unit {0}) TokenFault → Option TokenFault
+noted_fault (Ok done) = None
+noted_fault (Err fault) = Some fault
 
 abbrev is_memory : Result (Unit {0}) TokenFault → Bool
 is_memory (Err tokens.NoMemory) = true
@@ -471,17 +471,17 @@ is_closing answer = false
 not_given : (declared : Result (Unit {0}) LostFault) → ◌≡◌ {A = Result (Unit {0}) TokenFault} (Err tokens.NotGiven) (lost_answer declared) → ⊥
 not_given (Err losing.NoMemory) is = false≢true (ap is_memory is)
 not_given (Err losing.Closed) is = false≢true (ap is_closing is)
-not_given _ is = none-some _ (sym (ap told_fault is))
+not_given _ is = none-some _ (sym (ap noted_fault is))
 
 lost_part : (declared : Result (Unit {0}) LostFault) (new : End) → LoseStep two_flying 0 declared new → ◌≡◌ {A = Result (Unit {0}) TokenFault} (Ok tt) (lost_answer declared) → IsCarried new.outstanding (Data 0 (chunk 0 3 false)) → ⊥
 lost_part (Ok done) new lose is carried = not_made.losses.in_part new lose carried
 lost_part (Err losing.NotOutstanding) new lose is carried = not_made.losses.known new lose
-lost_part _ new lose is carried = none-some _ (ap told_fault is)
+lost_part _ new lose is carried = none-some _ (ap noted_fault is)
 
 lost_whole : (declared : Result (Unit {0}) LostFault) (new : End) → LoseStep two_flying 0 declared new → ◌≡◌ {A = Result (Unit {0}) TokenFault} (Err tokens.NoMemory) (lost_answer declared) → fmap.get new.outstanding 0 ≡ None → ⊥
 lost_whole (Err losing.NoMemory) new lose is none = not_made.losses.whole new lose none
 lost_whole (Err losing.Closed) new lose is none = false≢true (sym (ap is_memory is))
-lost_whole _ new lose is none = none-some _ (sym (ap told_fault is))
+lost_whole _ new lose is none = none-some _ (sym (ap noted_fault is))
 
 -- a packet that isn't outstanding changes nothing
 none_there : (e : End) (k : ℕ) (declared : Result (Unit {0}) LostFault) (new : End) → fmap.get e.outstanding k ≡ None → LoseStep e k declared new → new ≡ e
@@ -497,30 +497,30 @@ second_is_none = fmap.get-insert nat_cmp_total fmap.empty 0 _ 1 ∙ fmap.get-emp
 part_of_one : (e new : End) → e ≡ two_flying → LosesEach 1 0 e (Ok tt) new → IsCarried new.outstanding (Data 0 (chunk 0 3 false)) → ⊥
 part_of_one e new same (inl (mid, (declared, lose, is), (ok, after))) carried =
     lost_part declared mid (subst (λ x. LoseStep x 0 declared mid) same lose) is (subst (λ (x : End). IsCarried x.outstanding (Data 0 (chunk 0 3 false))) after carried)
-part_of_one e new same (inr (fault, one, is)) carried = none-some _ (ap told_fault is)
+part_of_one e new same (inr (fault, one, is)) carried = none-some _ (ap noted_fault is)
 
 told : NoSuchToken
 told =
     record {
-      next = λ new step. none-some _ (ap told_fault step.0);
-      next_lost = λ new step. none-some _ (ap told_fault step.0);
-      not_all = λ new step. none-some _ (ap told_fault step.0);
-      not_all_lost = λ new step. none-some _ (ap told_fault step.0);
-      none = λ new step. none-some _ (ap told_fault step.0);
-      none_lost = λ new step. none-some _ (ap told_fault step.0);
-      foreign = λ new step. none-some _ (ap told_fault step.0);
-      foreign_lost = λ new step. none-some _ (ap told_fault step.0);
-      last = λ new step. elim step [ inl done ↦ none-some _ (sym (ap told_fault done.0)) | inr out ↦ false≢true (ap is_memory out.0) ];
-      last_lost = λ new step. elim step [ inl done ↦ none-some _ (sym (ap told_fault done.2.0)) | inr (fault, (declared, lose, is), same) ↦ not_given declared (same ∙ is) ];
-      closed = λ new step. none-some _ (ap told_fault step.0);
-      closed_lost = λ new step. none-some _ (ap told_fault step.0);
-      not_closed = λ new step. elim step [ inl done ↦ none-some _ (sym (ap told_fault done.0)) | inr out ↦ false≢true (ap is_memory out.0) ];
+      next = λ new step. none-some _ (ap noted_fault step.0);
+      next_lost = λ new step. none-some _ (ap noted_fault step.0);
+      not_all = λ new step. none-some _ (ap noted_fault step.0);
+      not_all_lost = λ new step. none-some _ (ap noted_fault step.0);
+      none = λ new step. none-some _ (ap noted_fault step.0);
+      none_lost = λ new step. none-some _ (ap noted_fault step.0);
+      foreign = λ new step. none-some _ (ap noted_fault step.0);
+      foreign_lost = λ new step. none-some _ (ap noted_fault step.0);
+      last = λ new step. elim step [ inl done ↦ none-some _ (sym (ap noted_fault done.0)) | inr out ↦ false≢true (ap is_memory out.0) ];
+      last_lost = λ new step. elim step [ inl done ↦ none-some _ (sym (ap noted_fault done.2.0)) | inr (fault, (declared, lose, is), same) ↦ not_given declared (same ∙ is) ];
+      closed = λ new step. none-some _ (ap noted_fault step.0);
+      closed_lost = λ new step. none-some _ (ap noted_fault step.0);
+      not_closed = λ new step. elim step [ inl done ↦ none-some _ (sym (ap noted_fault done.0)) | inr out ↦ false≢true (ap is_memory out.0) ];
       in_part = λ new step. part_of_one two_flying new refl step;
       in_part_of_two = λ new step. elim step [
         | inl (mid, (declared, lose, is), later) ↦ part_of_one mid new (none_there two_flying 1 declared mid second_is_none lose) later
-        | inr (fault, one, is) ↦ λ carried. none-some _ (ap told_fault is)
+        | inr (fault, one, is) ↦ λ carried. none-some _ (ap noted_fault is)
       ];
-      whole = λ new step. elim step [ inl done ↦ λ none. none-some _ (sym (ap told_fault done.2.0)) | inr (fault, (declared, lose, is), same) ↦ lost_whole declared new lose (same ∙ is) ];
+      whole = λ new step. elim step [ inl done ↦ λ none. none-some _ (sym (ap noted_fault done.2.0)) | inr (fault, (declared, lose, is), same) ↦ lost_whole declared new lose (same ∙ is) ];
     }
 
 pub not_alone : NotAlone

@@ -10,7 +10,7 @@ use Rattle.qs_send.specs.declared.piece.Item.{Item}
 use Rattle.qs_send.specs.declared.piece.Item.TheVariants.{ResetStream, StreamDataBlocked}
 use Rattle.qs_send.specs.declared.piece.Piece.{Piece}
 use Rattle.qs_send.specs.declared.piece.Piece.TheVariants.{Data, Told}
-use Rattle.qs_send.specs.Lane.{SendLane, Sending, new_sending, accepted, refusal, reset_refusal, after_write, after_finish, after_reset, after_stopped, after_told, after_stop, after_allow, after_buffer, after_blocked, after_reset_acked, after_sent, after_acked, after_lost}
+use Rattle.qs_send.specs.Lane.{SendLane, Sending, new_sending, accepted, refusal, reset_refusal, after_write, after_finish, after_reset, after_stopped, after_asked, after_stop, after_allow, after_buffer, after_blocked, after_reset_acked, after_sent, after_acked, after_lost}
 use Rattle.qs_send.specs.Records.{without_first}
 use Rattle.qs_send.specs.LostRecords.{MOST_LOST, with_number, with_piece, without_oldest}
 use Rattle.qs_send.proofs.Carrying.{carried-remove, carried-without_first}
@@ -67,7 +67,7 @@ lasts_reset code s = cond_both (is_some (reset_refusal s.lane)) s.lane _ (Lasts 
 lasts_stopped : (code : ℕ) (s : Sending) → Lasts s.lane (after_stopped s code).lane
 lasts_stopped code s = cond_both (is_some (reset_refusal s.lane)) s.lane _ (Lasts s.lane) (λ _. lasts_same s.lane) (λ _. record { sent = omega arith; ended = λ x. x; reset = λ x. refl })
 
-lasts_told_stop : (code : ℕ) (s : Sending) → Lasts s.lane (after_told s code).lane
+lasts_told_stop : (code : ℕ) (s : Sending) → Lasts s.lane (after_asked s code).lane
 lasts_told_stop code s = cond_both (is_some (reset_refusal s.lane)) s.lane _ (Lasts s.lane) (λ _. lasts_same s.lane) (λ _. record { sent = omega arith; ended = λ x. x; reset = λ x. x })
 
 lasts_lost : (c : Chunk) (s : Sending) → Lasts s.lane (after_lost s c).lane
@@ -138,8 +138,8 @@ module _ (t t' : Tables Sending) (m : Records) (h : AreSent t m) where
   pub sent_stopped : (n code : ℕ) → t' ≡ updated t n (λ s. after_stopped s code) (lookup t n) → AreSent t' m
   sent_stopped n code is = sent_half n (λ s. after_stopped s code) (lasts_stopped code) is
 
-  pub sent_told_stop : (n code : ℕ) → t' ≡ updated t n (λ s. after_told s code) (lookup t n) → AreSent t' m
-  sent_told_stop n code is = sent_half n (λ s. after_told s code) (lasts_told_stop code) is
+  pub sent_told_stop : (n code : ℕ) → t' ≡ updated t n (λ s. after_asked s code) (lookup t n) → AreSent t' m
+  sent_told_stop n code is = sent_half n (λ s. after_asked s code) (lasts_told_stop code) is
 
   pub sent_stop : (answers : Bool) (n code : ℕ) → t' ≡ updated t n (λ s. after_stop answers s code) (lookup t n) → AreSent t' m
   sent_stop true n code is = sent_told_stop n code is

@@ -12,7 +12,7 @@ use Rattle.qs_send.specs.declared.parts.SendFault.TheVariants.{Finished, WasRese
 use Rattle.qs_send.specs.declared.piece.Item.{Item}
 use Rattle.qs_send.specs.declared.piece.Piece.{Piece}
 use Rattle.qs_send.specs.declared.piece.Piece.TheVariants.{Data, Told}
-use Rattle.qs_send.specs.Lane.{Sending, new_sending, refusal, reset_refusal, finish_lane, after_write, after_finish, after_reset, broken_off, first_code, after_stopped, after_told, after_reset_acked, after_blocked, after_allow, after_buffer, after_sent, after_acked, after_lost, lost_due}
+use Rattle.qs_send.specs.Lane.{Sending, new_sending, refusal, reset_refusal, finish_lane, after_write, after_finish, after_reset, broken_off, first_code, after_stopped, after_asked, after_reset_acked, after_blocked, after_allow, after_buffer, after_sent, after_acked, after_lost, lost_due}
 use Rattle.qs_send.specs.Chunks.{IsDueChunk}
 use Rattle.qs_send.specs.Parts.{in_flight}
 use Rattle.qs_send.specs.Sound.{IsLawful}
@@ -182,12 +182,12 @@ module _ (m : Records) (n : ℕ) (s : Sending) (t : IsTied m n s) where
   pub tied_stopped : (code : ℕ) → IsTied m n (after_stopped s code)
   tied_stopped code = stopped_by code (is_some (reset_refusal s.lane))
 
-  told_by : (code : ℕ) (b : Bool) → IsTied m n (record s { lane = cond b s.lane (record s.lane { stopped = first_code s.lane.stopped code }) })
-  told_by code true = t
-  told_by code false = tied_alike m n s t
+  noted_by : (code : ℕ) (b : Bool) → IsTied m n (record s { lane = cond b s.lane (record s.lane { stopped = first_code s.lane.stopped code }) })
+  noted_by code true = t
+  noted_by code false = tied_alike m n s t
 
-  pub tied_told_stop : (code : ℕ) → IsTied m n (after_told s code)
-  tied_told_stop code = told_by code (is_some (reset_refusal s.lane))
+  pub tied_told_stop : (code : ℕ) → IsTied m n (after_asked s code)
+  tied_told_stop code = noted_by code (is_some (reset_refusal s.lane))
 
 -- A chunk goes out
 

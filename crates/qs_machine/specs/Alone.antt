@@ -9,7 +9,7 @@ use Rattle.qs_wire.specs.Grammar.{Fits, spelled}
 use Rattle.qs_calls.specs.declared.closing.Closed.{Closed}
 use Rattle.qs_calls.specs.declared.closing.Closer.{Closer}
 use Rattle.qs_calls.specs.declared.closing.Closer.TheVariants.{Us, Peer}
-use Rattle.qs_calls.specs.declared.closing.Closed.TheVariants.{ByUs, ByPeer, Told}
+use Rattle.qs_calls.specs.declared.closing.Closed.TheVariants.{ByUs, ByPeer, Noted}
 use Rattle.qs_calls.specs.declared.making.LostFault.{LostFault}
 use Rattle.qs_calls.specs.declared.making.LostFault.TheVariants as losing
 use Rattle.qs_calls.specs.declared.token.Token.{Token}
@@ -25,7 +25,7 @@ use Rattle.qs_machine.specs.Seen.{Seen, Ack, Stream, Control, Close, Plain, seen
 use Rattle.qs_machine.specs.Verdicts.{verdict}
 use Rattle.qs_machine.specs.FrameStep.{frame_taken}
 use Rattle.qs_machine.specs.Owner.{Certain, first_refusal, refuse_if}
-use Rattle.qs_machine.specs.Receiving.{RunsOut, closing_at, told_of_us}
+use Rattle.qs_machine.specs.Receiving.{RunsOut, closing_at, noted_of_us}
 use Rattle.qs_machine.specs.Making.{LoseStep}
 
 -- One frame (RFC 9000, sections 12.4 and 13.1)
@@ -72,15 +72,15 @@ OpenTake f old answer new =
     ((answer ≡ Ok NotOurs) × (new ≡ old))
 
 -- what an end that was told of a close says again (RFC 9000, section 10.2)
-abbrev pub told_fault : Closer → ℕ → TakeFault
-told_fault Us code = faults.Closing (told_of_us code)
-told_fault Peer code = faults.PeerClosed code
+abbrev pub noted_fault : Closer → ℕ → TakeFault
+noted_fault Us code = faults.Closing (noted_of_us code)
+noted_fault Peer code = faults.PeerClosed code
 
 -- what an end that is closed says again (RFC 9000, section 10.2)
 abbrev pub closed_fault : Closed → TakeFault
 closed_fault (ByUs closing) = faults.Closing closing
 closed_fault (ByPeer code) = faults.PeerClosed code
-closed_fault (Told close) = told_fault close.by close.code
+closed_fault (Noted close) = noted_fault close.by close.code
 
 -- of a closed end, or of an open one (RFC 9000, section 10.2)
 abbrev pub TakeBy : Option Closed → FrameValue → End → Result Taken TakeFault → End → Type 0

@@ -10,7 +10,7 @@ use Rattle.qs_send.specs.Lane.{SendLane, refusal, free_room, unacked_from}
 use Rattle.qs_send.specs.declared.piece.Item.{Item}
 use Rattle.qs_calls.specs.declared.closing.Closed.{Closed}
 use Rattle.qs_calls.specs.declared.closing.NotedClose.{NotedClose}
-use Rattle.qs_calls.specs.declared.closing.Closed.TheVariants.{ByUs, ByPeer, Told}
+use Rattle.qs_calls.specs.declared.closing.Closed.TheVariants.{ByUs, ByPeer, Noted}
 use Rattle.qs_calls.specs.declared.uses.UseFault.{UseFault}
 use Rattle.qs_machine.specs.Tables.{total}
 use Rattle.qs_machine.specs.Ends.{End, Records, send_lane, recv_lane}
@@ -29,14 +29,14 @@ abbrev pub peer_closing : Option Closed → Option ℕ
 peer_closing None = None
 peer_closing (Some (ByUs closing)) = None
 peer_closing (Some (ByPeer code)) = Some code
-peer_closing (Some (Told close)) = None
+peer_closing (Some (Noted close)) = None
 
 -- the close that the end was told of, None where it closed otherwise or is open (RFC 9000, section 10.2)
-abbrev pub told_closing : Option Closed → Option NotedClose
-told_closing None = None
-told_closing (Some (ByUs closing)) = None
-told_closing (Some (ByPeer code)) = None
-told_closing (Some (Told close)) = Some close
+abbrev pub noted_closing : Option Closed → Option NotedClose
+noted_closing None = None
+noted_closing (Some (ByUs closing)) = None
+noted_closing (Some (ByPeer code)) = None
+noted_closing (Some (Noted close)) = Some close
 
 -- how many runs the offsets make that came, on all streams that a reader wasn't told the end of and that weren't reset (ours)
 abbrev pub all_noted : End → ℕ

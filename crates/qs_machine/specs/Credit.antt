@@ -79,7 +79,7 @@ lifetime s Uni = s.lifetime_uni
 
 -- all bytes and the end, or the reset, were handed to the reader: Data Read or Reset Read (RFC 9000, section 3.2)
 abbrev pub recv_ended : RecvLane → Bool
-recv_ended l = l.told && (is_some l.reset_code || recv_whole l)
+recv_ended l = l.reader_done && (is_some l.reset_code || recv_whole l)
 
 -- all bytes and the end that was asked for, or the reset, were acknowledged: Data Recvd or Reset Recvd (RFC 9000, section 3.1)
 abbrev pub send_ended : SendLane → Bool

@@ -25,7 +25,7 @@ use Rattle.qs_calls.specs.declared.closing.Closer.TheVariants.{Us, Peer}
 use Rattle.qs_calls.specs.declared.closing.CloseKind.{CloseKind}
 use Rattle.qs_calls.specs.declared.closing.CloseKind.TheVariants.{Transport, Application}
 use Rattle.qs_calls.specs.declared.closing.NotedClose.{NotedClose}
-use Rattle.qs_calls.specs.declared.closing.Closed.TheVariants.{ByUs, ByPeer, Told}
+use Rattle.qs_calls.specs.declared.closing.Closed.TheVariants.{ByUs, ByPeer, Noted}
 use Rattle.qs_machine.specs.Tables.{Tables}
 use Rattle.qs_machine.specs.LostPackets.{LostPackets}
 use Rattle.qs_machine.specs.Ends.{End, Present, Records, AckedItems}
@@ -118,8 +118,8 @@ pub kind_back : (k : CloseKind) → kind_of (kind_number k) ≡ k
 kind_back Transport = refl
 kind_back Application = refl
 
-abbrev pub told_code : Coded NotedClose
-told_code =
+abbrev pub noted_code : Coded NotedClose
+noted_code =
     code_by (Closer × (CloseKind × ℕ)) (coded× (code_by ℕ coded_ℕ closer_number closer_of closer_back) (coded× (code_by ℕ coded_ℕ kind_number kind_of kind_back) coded_ℕ)) (λ c. (c.by, (c.kind, c.code)))
     (λ p. record { by = p.0; kind = p.1.0; code = p.1.1 })
     (λ _. refl)
@@ -127,20 +127,20 @@ told_code =
 abbrev pub closed_cases : Closed → Closing ⊎ (ℕ ⊎ NotedClose)
 closed_cases (ByUs closing) = inl closing
 closed_cases (ByPeer code) = inr (inl code)
-closed_cases (Told close) = inr (inr close)
+closed_cases (Noted close) = inr (inr close)
 
 abbrev pub closed_of : Closing ⊎ (ℕ ⊎ NotedClose) → Closed
 closed_of (inl closing) = ByUs closing
 closed_of (inr (inl code)) = ByPeer code
-closed_of (inr (inr close)) = Told close
+closed_of (inr (inr close)) = Noted close
 
 pub closed_back : (c : Closed) → closed_of (closed_cases c) ≡ c
 closed_back (ByUs closing) = refl
 closed_back (ByPeer code) = refl
-closed_back (Told close) = refl
+closed_back (Noted close) = refl
 
 abbrev pub closed_code : Coded Closed
-closed_code = code_by (Closing ⊎ (ℕ ⊎ NotedClose)) (coded⊎ closing_code (coded⊎ coded_ℕ told_code)) closed_cases closed_of closed_back
+closed_code = code_by (Closing ⊎ (ℕ ⊎ NotedClose)) (coded⊎ closing_code (coded⊎ coded_ℕ noted_code)) closed_cases closed_of closed_back
 
 -- Ends
 

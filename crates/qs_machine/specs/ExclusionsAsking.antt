@@ -89,7 +89,7 @@ pub record RunsAreNoted : Type 0 where
   pub forgotten : all_noted (server_with (stop_and_discard (take_stream three_came 5 abc false) 0)) ≡ 2
   -- and none of one that was reset, or of which the end was told, or would be
   pub after_reset : all_noted (server_with (take_reset three_came 0 8)) ≡ 0
-  pub told : all_noted (server_with (record all_came { told = true })) ≡ 0
+  pub told : all_noted (server_with (record all_came { reader_done = true })) ≡ 0
   pub forgotten_end : all_noted (server_with (stop_and_discard all_came 0)) ≡ 0
 
 -- how many bytes count as taken (sections 3.5 and 4.2)

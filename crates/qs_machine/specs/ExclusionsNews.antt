@@ -22,7 +22,7 @@ pub record NotReadable : Type 0 where
   -- to which nothing came
   pub nothing_came : IsReadable (server_with fresh) 0 → ⊥
   -- of which the end was told
-  pub told : IsReadable (server_with (record all_came { told = true })) 0 → ⊥
+  pub told : IsReadable (server_with (record all_came { reader_done = true })) 0 → ⊥
   -- that was stopped and whose end didn't come
   pub stopped : IsReadable (server_with (stop three_came 7)) 0 → ⊥
   -- that was forgotten, also where its end came
@@ -61,7 +61,7 @@ pub record NotOver : Type 0 where
   -- of which one half alone is, the sending one
   pub sending_alone : IsEnded (client_with (record begun { finished = true; fin_sent = true; fin_acked = true })) 0 → ⊥
   -- or the receiving one
-  pub receiving_alone : IsEnded (server_with (record all_came { told = true })) 0 → ⊥
+  pub receiving_alone : IsEnded (server_with (record all_came { reader_done = true })) 0 → ⊥
 
 pub record NotFound : Type 0 where
   pub search : NoSuchSearch

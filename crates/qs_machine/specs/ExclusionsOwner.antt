@@ -190,13 +190,13 @@ pub record NoSuchReading : Type 0 where
   -- it isn't, where it came and no byte is left
   pub consumed_late : (new : End) → ConsumeStep (server_with ended_half) 0 0 (Ok (record { read = reads.End; at_end = false })) new → ⊥
   -- it is, and isn't told
-  pub consumed_untold : (answer : Result Consumed UseFault) (new : End) → ConsumeStep (server_with ended_half) 0 0 answer new → (l : RecvLane) → recv_lane new 0 ≡ Some l → l.told ≡ false → ⊥
+  pub consumed_untold : (answer : Result Consumed UseFault) (new : End) → ConsumeStep (server_with ended_half) 0 0 answer new → (l : RecvLane) → recv_lane new 0 ≡ Some l → l.reader_done ≡ false → ⊥
   -- on a stream that isn't open
   pub consumed_unopened : (answer : Consumed) (new : End) → ConsumeStep (server_with fresh) 4 10 (Ok answer) new → ⊥
   -- stopped with another code than the first
   pub second_stop : (new : End) → StopStep (server_with (stop fresh 7)) 0 8 (Ok tt) new → (l : RecvLane) → recv_lane new 0 ≡ Some l → l.stop_code ≡ Some 8 → ⊥
   -- stopped once a reset was told (section 3.2)
-  pub stop_of_told : (new : End) → StopStep (server_with (record fresh { final_size = Some 0; reset_code = Some 5; told = true })) 0 7 (Ok tt) new → (l : RecvLane) → recv_lane new 0 ≡ Some l → is_some l.stop_code ≡ true → ⊥
+  pub stop_of_told : (new : End) → StopStep (server_with (record fresh { final_size = Some 0; reset_code = Some 5; reader_done = true })) 0 7 (Ok tt) new → (l : RecvLane) → recv_lane new 0 ≡ Some l → is_some l.stop_code ≡ true → ⊥
   -- without a copy, once the end closed
   pub consumed_closed : (answer : Consumed) (new : End) → ConsumeStep (over (server_with fresh)) 0 10 (Ok answer) new → ⊥
   -- stopped, once the end closed, also where its owner reads on
@@ -215,7 +215,7 @@ pub record NoSuchForgetting : Type 0 where
   -- with another code than the first
   pub second_code : (new : End) → StopAndDiscardStep (server_with (stop fresh 7)) 0 8 (Ok tt) new → (l : RecvLane) → recv_lane new 0 ≡ Some l → l.stop_code ≡ Some 8 → ⊥
   -- so that it waits to be read
-  pub waits : (new : End) → StopAndDiscardStep (server_with fresh) 0 7 (Ok tt) new → (l : RecvLane) → recv_lane new 0 ≡ Some l → l.told ≡ false → ⊥
+  pub waits : (new : End) → StopAndDiscardStep (server_with fresh) 0 7 (Ok tt) new → (l : RecvLane) → recv_lane new 0 ≡ Some l → l.reader_done ≡ false → ⊥
   -- it hasn't ended before its end came
   pub too_early : recv_ended (stop_and_discard fresh 7) ≡ true → ⊥
   -- it has with its end, or with a reset

@@ -34,7 +34,7 @@ pub record MayCarry (e : End) (n offset : ℕ) (bytes : List ℕ) (fin : Bool) (
   pub due : (q : ℕ) → offset ≤ q → q < offset + length bytes → IsDue e n l q
   pub lowest : (q : ℕ) → IsDue e n l q → offset ≤ q
   pub whole_run : (c : Chunk) → Among (Data n c) (pieces_so_far e e.next) → c.offset + c.len ≢ offset
-  pub told : bytes ≡ bytes_of l (chunk_of offset bytes fin)
+  pub bytes_are : bytes ≡ bytes_of l (chunk_of offset bytes fin)
   pub inside : offset + length bytes ≤ l.written
   pub within : offset + length bytes ≤ l.limit
   pub end : fin ≡ true → IsEndDue e n l × (offset + length bytes ≡ l.written) × (offset ≤ l.sent_end)

@@ -9,7 +9,7 @@ use Rattle.qs_wire.specs.Grammar.{Fits, canonical, canonical_all}
 use Rattle.qs_send.specs.declared.piece.Piece.{Piece}
 use Rattle.qs_send.specs.Records.{without_first}
 use Rattle.qs_calls.specs.declared.closing.Closed.{Closed}
-use Rattle.qs_calls.specs.declared.closing.Closed.TheVariants.{ByUs, ByPeer, Told}
+use Rattle.qs_calls.specs.declared.closing.Closed.TheVariants.{ByUs, ByPeer, Noted}
 use Rattle.qs_calls.specs.declared.making.Made.{Made}
 use Rattle.qs_calls.specs.declared.making.MakeFault.{MakeFault}
 use Rattle.qs_calls.specs.declared.making.MakeFault.TheVariants as making
@@ -24,7 +24,7 @@ use Rattle.qs_machine.specs.Owner.{Certain, first_refusal, refuse_if}
 
 -- an ACK tells this delay and no ECN counts (RFC 9000, section 19.3)
 abbrev pub IsPlainAck : ℕ → FrameValue → Type 0
-IsPlainAck delay (ack largest told ranges ecn) = (told ≡ delay) × (ecn ≡ None)
+IsPlainAck delay (ack largest ack_delay ranges ecn) = (ack_delay ≡ delay) × (ecn ≡ None)
 IsPlainAck delay frame = Unit {0}
 
 -- the bytes are the canonical text of these frames, whose ACKs tell this delay (RFC 9000, section 12.4)
@@ -43,7 +43,7 @@ pub record NextIsTooLong (old : End) (delay room largest : ℕ) (ranges : List �
 
 -- an ACK names all kept numbers, or no run more fits the room (RFC 9000, section 13.2.3)
 abbrev pub NamesMost : End → (delay room : ℕ) → FrameValue → Type 0
-NamesMost old delay room (ack largest told ranges ecn) = NamesAll old (ack_ranges_of largest ranges) ⊎ NextIsTooLong old delay room largest ranges
+NamesMost old delay room (ack largest ack_delay ranges ecn) = NamesAll old (ack_ranges_of largest ranges) ⊎ NextIsTooLong old delay room largest ranges
 NamesMost old delay room frame = Unit {0}
 
 -- A packet of the next number was made: the canonical text of a lawful packet that fits the room and leaves nothing out that it had room
@@ -153,7 +153,7 @@ LoseStep old k answer new =
 abbrev pub close_text_of : Option Closed → Option (List ℕ)
 close_text_of None = None
 close_text_of (Some (ByPeer code)) = None
-close_text_of (Some (Told close)) = None
+close_text_of (Some (Noted close)) = None
 close_text_of (Some (ByUs closing)) = Some (canonical (connection_close closing.code closing.frame_type []))
 
 -- the CONNECTION_CLOSE of this end's own closing, with an empty reason (RFC 9000, section 19.19)

@@ -11,7 +11,7 @@ use Rattle.qs_calls.specs.declared.closing.Closed.{Closed}
 use Rattle.qs_calls.specs.declared.closing.Closer.{Closer}
 use Rattle.qs_calls.specs.declared.closing.Closer.TheVariants.{Us, Peer}
 use Rattle.qs_calls.specs.declared.closing.NotedClose.{NotedClose}
-use Rattle.qs_calls.specs.declared.closing.Closed.TheVariants.{ByUs, ByPeer, Told}
+use Rattle.qs_calls.specs.declared.closing.Closed.TheVariants.{ByUs, ByPeer, Noted}
 use Rattle.qs_calls.specs.declared.closing.Received.{Received}
 use Rattle.qs_calls.specs.declared.closing.Received.TheVariants.{Done, Duplicate, BelowFloor, PeerClosed, NoMemory}
 use Rattle.qs_machine.specs.Ends.{End, closes}
@@ -47,7 +47,7 @@ RunsOut e f new = (new ≡ e) × MayRunOut e f
 
 -- A frame ends the processing: it has a fault, or finds no memory, or is a CONNECTION_CLOSE (RFC 9000, sections 10.2 and 11.1).
 abbrev pub Stops : PlacedValue → Seen → End → Result Received Closing → End → Type 0
-Stops p (Close code) e (Ok (PeerClosed told)) new = (told ≡ code) × (new ≡ closes (ByPeer code) e)
+Stops p (Close code) e (Ok (PeerClosed peer_code)) new = (peer_code ≡ code) × (new ≡ closes (ByPeer code) e)
 Stops p (Close code) e result new = ⊥
 Stops p f e (Ok NoMemory) new = (verdict e f ≡ None) × RunsOut e f new
 Stops p f e (Ok received) new = ⊥
@@ -86,19 +86,19 @@ OpenReceive number payload old result new =
     ((mid : End) × TakesPayload number payload old result mid × (new ≡ settle mid)))
 
 -- an end's own close that it was told of is no frame's fault (RFC 9000, section 10.2)
-abbrev pub told_of_us : ℕ → Closing
-told_of_us code = record { code = code; frame_type = 0; place = 0 }
+abbrev pub noted_of_us : ℕ → Closing
+noted_of_us code = record { code = code; frame_type = 0; place = 0 }
 
 -- what an end that was told of a close says again (RFC 9000, section 10.2)
-abbrev pub told_receive : Closer → ℕ → Result Received Closing
-told_receive Us code = Err (told_of_us code)
-told_receive Peer code = Ok (PeerClosed code)
+abbrev pub noted_receive : Closer → ℕ → Result Received Closing
+noted_receive Us code = Err (noted_of_us code)
+noted_receive Peer code = Ok (PeerClosed code)
 
 -- an end that is closed says so again (RFC 9000, section 10.2)
 abbrev pub ClosedReceive : Closed → End → Result Received Closing → End → Type 0
 ClosedReceive (ByUs closing) old result new = (result ≡ Err closing) × (new ≡ old)
 ClosedReceive (ByPeer code) old result new = (result ≡ Ok (PeerClosed code)) × (new ≡ old)
-ClosedReceive (Told close) old result new = (result ≡ told_receive close.by close.code) × (new ≡ old)
+ClosedReceive (Noted close) old result new = (result ≡ noted_receive close.by close.code) × (new ≡ old)
 
 -- of a closed end, or of an open one (RFC 9000, section 10.2)
 abbrev pub ReceiveBy : Option Closed → ℕ → List ℕ → End → Result Received Closing → End → Type 0
@@ -111,10 +111,10 @@ ReceiveStep old number payload result new = ReceiveBy old.closed number payload 
 
 -- A close that the owner saw or made itself (RFC 9000, section 10.2)
 
-abbrev pub told_by : Option Closed → NotedClose → End → End
-told_by None close e = closes (Told close) e
-told_by (Some closed) close e = e
+abbrev pub noted_by : Option Closed → NotedClose → End → End
+noted_by None close e = closes (Noted close) e
+noted_by (Some closed) close e = e
 
 -- `note_closed`: an open end closes, and one that closed stays as it is (RFC 9000, section 10.2)
 abbrev pub noted_closed : NotedClose → End → End
-noted_closed close e = told_by e.closed close e
+noted_closed close e = noted_by e.closed close e

@@ -6,7 +6,7 @@ use Rattle.qs_send.specs.Lane.{SendLane, declared_size, state as send_state}
 use Rattle.qs_send.specs.declared.parts.Reset.{Reset}
 use Rattle.qs_calls.specs.declared.closing.Closing.{Closing}
 use Rattle.qs_calls.specs.declared.closing.Closed.{Closed}
-use Rattle.qs_calls.specs.declared.closing.Closed.TheVariants.{ByUs, ByPeer, Told}
+use Rattle.qs_calls.specs.declared.closing.Closed.TheVariants.{ByUs, ByPeer, Noted}
 use Rattle.qs_calls.specs.declared.report.LaneReport.{LaneReport}
 use Rattle.qs_calls.specs.declared.report.SendReport.{SendReport}
 use Rattle.qs_calls.specs.declared.report.RecvReport.{RecvReport}
@@ -49,4 +49,4 @@ abbrev pub own_closing : Option Closed → Option Closing
 own_closing None = None
 own_closing (Some (ByUs closing)) = Some closing
 own_closing (Some (ByPeer code)) = None
-own_closing (Some (Told close)) = None
+own_closing (Some (Noted close)) = None

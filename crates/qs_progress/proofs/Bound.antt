@@ -256,7 +256,7 @@ module _ (a b : Settings) (h : History) (w : World) (ok : WorldOk a b h w) (told
               read_below n r is,
               one_most (is_some r.final_size),
               one_most (is_some r.reset_code),
-              one_most r.told,
+              one_most r.reader_done,
               one_most (is_done (acked (other s)) (StopSending n 0)),
               told_few (first_window there n + 1) r.limit (is_done (acked (other s)) (MaxStreamData n r.limit)),
             )

@@ -44,8 +44,8 @@ module _ (a b : Settings) where
   pub trail : (Is : Call → Type 0) (ms : List Moment) (old new : Moment) → IsReached a b old → Trail Is old ms new → IsReached a b new × (both old.ends ≤ both new.ends)
   trail Is [] old new r is = subst (λ m. IsReached a b m × (both old.ends ≤ both m.ends)) (sym is) (r, omega arith)
   trail Is (m ∷ ms) old new r ((x, kind, logged, step), rest) =
-      let first = what_is_done_stays a b old.log old.ends m.ends x r.run step A (r.told A) in
-      let second = what_is_done_stays a b old.log old.ends m.ends x r.run step B (r.told B) in
+      let first = what_is_done_stays a b old.log old.ends m.ends x r.run step A (r.knows_first A) in
+      let second = what_is_done_stays a b old.log old.ends m.ends x r.run step B (r.knows_first B) in
       let (there, later) = trail Is ms m new (reached a b old m x r logged step) rest in
       (there, omega (arith, first, second, later))
 
@@ -78,11 +78,11 @@ module _ (a b : Settings) where
   complete : (m : Moment) → IsReached a b m → Rests m → IsComplete m
   complete m r rests =
       record {
-        known = λ s. each_limit_known a b m.log m.ends r.run rests s (r.told s);
+        known = λ s. each_limit_known a b m.log m.ends r.run rests s (r.knows_first s);
         credit = each_credit_whole a b m.log m.ends r.run rests;
-        ahead = λ s. each_credit_ahead a b m.log m.ends r.run rests s (r.told s);
+        ahead = λ s. each_credit_ahead a b m.log m.ends r.run rests s (r.knows_first s);
         resets = each_reset_final a b m.log m.ends r.run rests;
-        delivered = λ s. each_delivered a b m.log m.ends r.run rests s (r.told s);
+        delivered = λ s. each_delivered a b m.log m.ends r.run rests s (r.knows_first s);
       }
 
   module _ (Step : Moment → Moment → Type 0) (lead : (old new : Moment) → Step old new → (ms : List Moment) × Trail (λ call. ⊤) old ms new) where
@@ -97,7 +97,7 @@ module _ (a b : Settings) where
 pub rest_comes : RestComes
 rest_comes a b parts old new r course open_end =
     let (there, counted) = courses a b parts old new r course open_end in
-    let few = is_below a b new.log new.ends there.run there.told in
+    let few = is_below a b new.log new.ends there.run there.knows_first in
     omega (arith, counted, few)
 
 pub all_comes : AllComes

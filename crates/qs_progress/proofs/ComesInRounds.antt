@@ -281,7 +281,7 @@ module _ (a b : Settings) where
 pub rest_comes_in_rounds : RestComesInRounds
 rest_comes_in_rounds a b parts old new r course open_end =
     let (there, counted) = courses a b parts old new (inl tt) r course open_end in
-    let few = is_below a b new.log new.ends there.run there.told in
+    let few = is_below a b new.log new.ends there.run there.knows_first in
     omega (arith, counted, few)
 
 pub all_comes_in_rounds : AllComesInRounds

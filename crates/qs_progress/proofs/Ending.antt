@@ -93,7 +93,7 @@ module _ (a b : Settings) where
     here =
         let e = end_of old.ends x.end in
         let f = end_of new.ends x.end in
-        let g = goes_call e x.call x.answer f step.step (peer_stays a b old.log old.ends new.ends x r.run step x.end (r.told x.end)) in
+        let g = goes_call e x.call x.answer f step.step (peer_stays a b old.log old.ends new.ends x r.run step x.end (r.knows_first x.end)) in
         let kept = (sends_kept AcksStay stay_same stay_twice acks_edits e x.call x.answer f step.step).1 in
         let now = ready a b x.end new r_new in
         let homes = homes_of f now.sent now.within in
@@ -148,7 +148,7 @@ module _ (a b : Settings) where
   levels_few : (m : Moment) → IsReached a b m → both_levels m.ends ≤ most m.ends
   levels_few m r =
       let ok = run_keeps a b m.log m.ends r.run in
-      score_few a b m.log m.ends ok r.told (λ s. (if_acked (end_of m.ends s)).sends) (λ s. (if_acked (end_of m.ends s)).acked)
+      score_few a b m.log m.ends ok r.knows_first (λ s. (if_acked (end_of m.ends s)).sends) (λ s. (if_acked (end_of m.ends s)).acked)
       (λ s. still_written (end_of m.ends s) (ok.sent s) (λ n q l at is. (let (x, at_x, same, below) = is_written a b m.log m.ends ok s n l at in let one : x ≡ l = same_Some x l (sym at_x ∙ at) in subst (λ (y : SendLane). q < y.written) one (below q is))))
 
 pub calls_come_to_an_end : CallsComeToAnEnd

@@ -194,8 +194,8 @@ module _ (a b : End) (g : Goes a b) (even : score b ≤ score a) where
     code_one : one_if (is_some l.reset_code) ≤ one_if (is_some m.reset_code)
     code_one = one_grows (is_some l.reset_code) (is_some m.reset_code) got_kept.3
 
-    told_one : one_if l.told ≤ one_if m.told
-    told_one = one_grows l.told m.told got_kept.4
+    told_one : one_if l.reader_done ≤ one_if m.reader_done
+    told_one = one_grows l.reader_done m.reader_done got_kept.4
 
     stop_one : one_if (is_done a.acked (StopSending n 0)) ≤ one_if (is_done b.acked (StopSending n 0))
     stop_one = one_grows (is_done a.acked (StopSending n 0)) (is_done b.acked (StopSending n 0)) (g.items (StopSending n 0))
@@ -212,8 +212,8 @@ module _ (a b : End) (g : Goes a b) (even : score b ≤ score a) where
     pub code_even : is_some m.reset_code ≡ true → is_some l.reset_code ≡ true
     code_even = one_even (is_some l.reset_code) (is_some m.reset_code) (omega (arith, got_all, own_same a b g n, got_kept.0, got_kept.1, size_one, told_one, stop_one, got_told))
 
-    pub told_even_of : m.told ≡ true → l.told ≡ true
-    told_even_of = one_even l.told m.told (omega (arith, got_all, own_same a b g n, got_kept.0, got_kept.1, size_one, code_one, stop_one, got_told))
+    pub told_even_of : m.reader_done ≡ true → l.reader_done ≡ true
+    told_even_of = one_even l.reader_done m.reader_done (omega (arith, got_all, own_same a b g n, got_kept.0, got_kept.1, size_one, code_one, stop_one, got_told))
 
     pub stop_even : is_done b.acked (StopSending n 0) ≡ true → is_done a.acked (StopSending n 0) ≡ true
     stop_even = one_even (is_done a.acked (StopSending n 0)) (is_done b.acked (StopSending n 0)) (omega (arith, got_all, own_same a b g n, got_kept.0, got_kept.1, size_one, code_one, told_one, got_told))

@@ -69,7 +69,7 @@ GotGrows l m =
     × (l.arrived.read_count ≤ m.arrived.read_count)
     × (is_some l.final_size ≡ true → is_some m.final_size ≡ true)
     × (is_some l.reset_code ≡ true → is_some m.reset_code ≡ true)
-    × (l.told ≡ true → m.told ≡ true)
+    × (l.reader_done ≡ true → m.reader_done ≡ true)
     × (l.limit ≤ m.limit)
 
 pub got_same : (l : RecvLane) → GotGrows l l

@@ -420,7 +420,7 @@ module _ (e f : End) (g : Goes e f) (kept : KeptIn AcksStay e.sends f.sends) (ho
   ]
 
   -- and what a reader is told
-  pub reads_up : (n : ℕ) (l m : RecvLane) → lookup e.recvs n ≡ Some l → lookup f.recvs n ≡ Some m → (l.arrived.read_count < m.arrived.read_count) ⊎ ((l.told ≡ false) × (m.told ≡ true)) → score (if_acked e) < score (if_acked f)
+  pub reads_up : (n : ℕ) (l m : RecvLane) → lookup e.recvs n ≡ Some l → lookup f.recvs n ≡ Some m → (l.arrived.read_count < m.arrived.read_count) ⊎ ((l.reader_done ≡ false) × (m.reader_done ≡ true)) → score (if_acked e) < score (if_acked f)
   reads_up n l m at there news = elim (cases_lt (score (if_acked e)) (score (if_acked f))) [
     | inl lt ↦ lt
     | inr even ↦ elim news [

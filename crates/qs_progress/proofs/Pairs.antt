@@ -123,13 +123,13 @@ module _ (a b : Settings) where
             let e = end_of old.ends x.end in
             let f = end_of new.ends x.end in
             let e_ready : IsReady e = subst (λ t. IsReady (end_of old.ends t)) (sym is) (ready old r) in
-            let peer = peer_stays a b old.log old.ends new.ends x r.run step x.end (r.told x.end) in
+            let peer = peer_stays a b old.log old.ends new.ends x r.run step x.end (r.knows_first x.end) in
             let g : Goes e f = goes_call e x.call x.answer f step.step peer in
             let kept = (sends_kept AcksStay stay_same stay_twice acks_edits e x.call x.answer f step.step).1 in
             let lanes = lanes_call e e_ready.sound e_ready.sent x.call x.answer f step.step in
             record {
               next = calm_call e _ (next_forms e e_ready) x.call x.answer f calm step.step;
-              grows = what_is_done_stays a b old.log old.ends new.ends x r.run step x.end (r.told x.end);
+              grows = what_is_done_stays a b old.log old.ends new.ends x r.run step x.end (r.knows_first x.end);
               items = g.items;
               quiet = calm_call e (Result e e_ready) (forms e e_ready) x.call x.answer f calm step.step g kept lanes;
               keeps = λ even k p there undone.
@@ -255,7 +255,7 @@ module _ (a b : Settings) where
                 let (qs, before, was) = (stays_quiet legs.firsts old mid legs.begins legs.first legs.even_first never).carried k p (ps, there, among) in
                 let below = stood_in (past s old.log).mine k p ((ok.ends s).packets.records k qs p before was) in
                 legs.landed_first k p (omega (arith, below, (ok.ends s).packets.count)) (ps, there, among);
-            told = λ n l there.
+            read_out = λ n l there.
                 let (m, among, least) = legs.read in
                 let (r_m, quiet, led) = since m among in
                 no_news l ((every_run_keeps a b mid.log mid.ends r_mid.run s).told n l there) (unread m among least n l (ap (λ (e : End). lookup e.recvs n) (sym quiet.rest) ∙ there) (is_readable l) refl);

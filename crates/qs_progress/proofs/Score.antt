@@ -78,7 +78,7 @@ module _ (a b : End) (g : Goes a b) where
         r.1,
         one_grows (is_some l.final_size) (is_some m.final_size) r.2,
         one_grows (is_some l.reset_code) (is_some m.reset_code) r.3,
-        one_grows l.told m.told r.4,
+        one_grows l.reader_done m.reader_done r.4,
         one_grows (is_done a.acked (StopSending n 0)) (is_done b.acked (StopSending n 0)) (g.items (StopSending n 0)),
         item_grows a.acked b.acked (MaxStreamData n) (first_window a n + 1) (first_window b n + 1) l.limit m.limit g.items (window_same n) r.5,
       )

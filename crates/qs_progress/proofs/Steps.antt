@@ -128,16 +128,16 @@ kept_all l lawful = same_map nat_cmp_total nat_cmp-IsAntisymmetric _ _ (λ q. ge
     go q false over None is = sym is
     go q false over (Some byte) is = (let le = (lawful.stored_received q (ap is_some is)).0 in absurd (grind (arith, nat_tests, over, le)))
 
-read_same : (l : RecvLane) (size : ℕ) → IsLawful l → (after_read l size).arrived.read_count ≤ l.arrived.read_count → ((after_read l size).told ≡ true → l.told ≡ true) → after_read l size ≡ l
+read_same : (l : RecvLane) (size : ℕ) → IsLawful l → (after_read l size).arrived.read_count ≤ l.arrived.read_count → ((after_read l size).reader_done ≡ true → l.reader_done ≡ true) → after_read l size ≡ l
 read_same l size lawful = by (read_answer l size)
   where
-    by : (r : Read) → (after_answer r l size).arrived.read_count ≤ l.arrived.read_count → ((after_answer r l size).told ≡ true → l.told ≡ true) → after_answer r l size ≡ l
+    by : (r : Read) → (after_answer r l size).arrived.read_count ≤ l.arrived.read_count → ((after_answer r l size).reader_done ≡ true → l.reader_done ≡ true) → after_answer r l size ≡ l
     by (reads.Bytes n) few told =
         let count : l.arrived.read_count + length (front_of l.arrived size) ≡ l.arrived.read_count = omega (arith, few) in
         let stored = ap (keep_from l.arrived.stored) count ∙ kept_all l lawful in
         λ i. record l { arrived = record l.arrived { stored = stored i; read_count = count i } }
-    by reads.End few told = ap (λ b. record l { told = b }) (sym (told refl))
-    by (reads.Reset code) few told = ap (λ b. record l { told = b }) (sym (told refl))
+    by reads.End few told = ap (λ b. record l { reader_done = b }) (sym (told refl))
+    by (reads.Reset code) few told = ap (λ b. record l { reader_done = b }) (sym (told refl))
     by reads.Wait few told = refl
 
 -- What is put in a packet
@@ -296,7 +296,7 @@ module _ (old : End) (ready : IsReady old) where
             let second : (l : RecvLane) → lookup old.recvs n ≡ Some l → h l ≡ l = λ l at.
             read_same l 0 (lawful_in old n l ready.sound.0 at)
             (subst (λ k. (h k).arrived.read_count ≤ l.arrived.read_count) (first l at) (read_even old new g even n l (raise (h (f l))) at (there l at)))
-            (subst (λ k. (h k).told ≡ true → l.told ≡ true) (first l at) (told_even_of old new g even n l (raise (h (f l))) at (there l at))) in
+            (subst (λ k. (h k).reader_done ≡ true → l.reader_done ≡ true) (first l at) (told_even_of old new g even n l (raise (h (f l))) at (there l at))) in
             let is : on_recv n h (on_recv n f old) ≡ old = ap (on_recv n h) (read_back n f first) ∙ read_back n h second in
             settled_quiet (on_recv n h (on_recv n f old)) (ap but_records is) (slots_same old.sends) (λ k p here. here) g kept lanes even;
         packet = λ fs last filled g kept lanes even.

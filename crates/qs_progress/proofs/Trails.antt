@@ -54,7 +54,7 @@ trail_open Is (m ∷ ms) old new ((x, kind, logged, step), rest) open_end s =
 
 pub reached : (a b : Settings) (old new : Moment) (x : Happening) → IsReached a b old → new.log ≡ x ∷ old.log → WorldStep old.log old.ends x new.ends → IsReached a b new
 reached a b old new x r logged step =
-    record { run = subst (λ h. Run a b h new.ends) (sym logged) (old.ends, r.run, step); told = λ s. first_limits_stay a b old.log old.ends new.ends x r.run step s (r.told s) }
+    record { run = subst (λ h. Run a b h new.ends) (sym logged) (old.ends, r.run, step); knows_first = λ s. first_limits_stay a b old.log old.ends new.ends x r.run step s (r.knows_first s) }
 
 -- what is asked of each call of a trail may be less
 pub eased : (Is Other : Call → Type 0) → ((call : Call) → Is call → Other call) → (ms : List Moment) (old new : Moment) → Trail Is old ms new → Trail Other old ms new

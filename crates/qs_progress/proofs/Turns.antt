@@ -33,7 +33,7 @@ use Rattle.qs_machine.specs.Recording.{recorded}
 use Rattle.qs_machine.specs.Due.{Sendable}
 use Rattle.qs_machine.specs.Asking.{IsNextOutstanding}
 use Rattle.qs_machine.specs.Making.{IsMade, MakeAt, LoseStep, lose_refusal, losses, make_refusal}
-use Rattle.qs_machine.specs.Receiving.{ReceiveStep, ReceiveBy, TakesPayload, told_receive}
+use Rattle.qs_machine.specs.Receiving.{ReceiveStep, ReceiveBy, TakesPayload, noted_receive}
 use Rattle.qs_machine.specs.EndStep.{Receive, Make, Lose}
 use Rattle.qs_machine.proofs.Plains.{differ_covers, differ_turned}
 use Rattle.qs_machine.proofs.Ways.{payload_frames}
@@ -151,7 +151,7 @@ is_done r = false
 new_payload : (e new : End) (k : ℕ) (bytes : List ℕ) → ReceiveStep e k bytes (Ok Done) new → IsNew e k
 new_payload e new k bytes step = by_closed e.closed refl step
   where
-    never : (c : Closer) (code : ℕ) → is_done (told_receive c code) ≡ false
+    never : (c : Closer) (code : ℕ) → is_done (noted_receive c code) ≡ false
     never Us code = refl
     never Peer code = refl
 
@@ -170,7 +170,7 @@ new_payload e new k bytes step = by_closed e.closed refl step
     by_closed None is rest = by_floor is (nat_lt k e.floor) refl rest
     by_closed (Some (closings.ByUs closing)) is closed = absurd (false≢true (sym (ap is_done closed.0)))
     by_closed (Some (closings.ByPeer code)) is closed = absurd (false≢true (sym (ap is_done closed.0)))
-    by_closed (Some (closings.Told close)) is closed = absurd (false≢true (sym (ap is_done closed.0 ∙ never close.by close.code)))
+    by_closed (Some (closings.Noted close)) is closed = absurd (false≢true (sym (ap is_done closed.0 ∙ never close.by close.code)))
 
 pub is_made : (o : Option MakeFault) (e new : End) (first delay room : ℕ) (made : Made) (text : List ℕ) → MakeAt o e first delay room (Ok (Some made)) text new → IsMade e first delay room made text new
 is_made None e new first delay room made text step = step

@@ -37,7 +37,7 @@ stretches_in (false ∷ parts) = stretches_in parts + 1
 -- a run led there, and both ends know the first limits
 pub record IsReached (a b : Settings) (m : Moment) : Type 0 where
   pub run : Run a b m.log m.ends
-  pub told : (s : Side) → KnowsFirstLimits m.ends s
+  pub knows_first : (s : Side) → KnowsFirstLimits m.ends s
 
 -- In every run, from each moment on, as long as neither end closes: so many steps of that kind at most don't begin where this holds, a
 -- number for each thing that can be done for good, one for each stretch, and one.

@@ -29,7 +29,7 @@ RoomyPacketsCarry =
 abbrev pub TellsNews : End → End → Type 0
 TellsNews old new =
     (n : ℕ) × (l m : RecvLane) × (recv_lane old n ≡ Some l) × (recv_lane new n ≡ Some m)
-    × ((l.arrived.read_count < m.arrived.read_count) ⊎ ((l.told ≡ false) × (m.told ≡ true)))
+    × ((l.arrived.read_count < m.arrived.read_count) ⊎ ((l.reader_done ≡ false) × (m.reader_done ≡ true)))
 
 -- the moments that are marked (true) come by such calls
 abbrev pub Does : List Bool → Moment → List Moment → Type 0

@@ -30,7 +30,7 @@ pub record Exclusions : Type 0 where
   pub reset : (e : End) (n : ℕ) (l : SendLane) → l.reset_acked ≡ false → sent_marks e n (record l { reset_acked = true }) ≡ sent_marks e n l + 1
   -- for a final size that is known, and for an end that the reader was told
   pub size : (e : End) (n size : ℕ) (l : RecvLane) → l.final_size ≡ None → got_marks e n (record l { final_size = Some size }) ≡ got_marks e n l + 1
-  pub told : (e : End) (n : ℕ) (l : RecvLane) → l.told ≡ false → got_marks e n (record l { told = true }) ≡ got_marks e n l + 1
+  pub told : (e : End) (n : ℕ) (l : RecvLane) → l.reader_done ≡ false → got_marks e n (record l { reader_done = true }) ≡ got_marks e n l + 1
   -- none for what is written and sent
   pub written : (e : End) (n written sent : ℕ) (l : SendLane) → sent_marks e n (record l { written = written; sent_end = sent }) ≡ sent_marks e n l
   -- the premise is needed: limits that are taken in move what is counted from, and the score falls

@@ -31,7 +31,7 @@ use Rattle.qs_progress.specs.Comes.{BothRest}
 
 -- the reader of stream 0, of which the end came and no byte; and whether it was told so
 abbrev pub ended_half : Bool → RecvLane
-ended_half told = record (take_stream fresh 0 [] true) { told = told }
+ended_half told = record (take_stream fresh 0 [] true) { reader_done = told }
 
 abbrev pub reads_end : Happening
 reads_end = record { end = A; call = ReadUpTo 0 1; answer = (Ok reads.End, []) }

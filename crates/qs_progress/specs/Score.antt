@@ -58,7 +58,7 @@ sent_marks e n l =
 -- is acknowledged, and which limits are
 abbrev pub got_marks : End → ℕ → RecvLane → ℕ
 got_marks e n l =
-    one_if (not (is_own e n)) + set.len l.arrived.received + l.arrived.read_count + one_if (is_some l.final_size) + one_if (is_some l.reset_code) + one_if l.told
+    one_if (not (is_own e n)) + set.len l.arrived.received + l.arrived.read_count + one_if (is_some l.final_size) + one_if (is_some l.reset_code) + one_if l.reader_done
     + one_if (is_done e.acked (StopSending n 0))
     + told_from (first_window e n + 1) l.limit (is_done e.acked (MaxStreamData n l.limit))
 

@@ -283,7 +283,7 @@ lawful_front lane room h =
       reset_sized = h.reset_sized;
     }
 
-pub lawful_told : (lane : RecvLane) → IsLawful lane → IsLawful (record lane { told = true })
+pub lawful_told : (lane : RecvLane) → IsLawful lane → IsLawful (record lane { reader_done = true })
 lawful_told lane h =
     record {
       some_window = h.some_window;

@@ -28,11 +28,11 @@ within_size (Some s) end n size fin before h is some =
 
 -- what a put does to the memory that is taken: none is, once the end was told
 put_still : (lane : RecvLane) (offset old new n : ℕ) (fin : Bool) → IsOk (check_stream lane offset n fin) → IsLawful lane → IsLetGo lane old
-    → (new ≡ old) ⊎ ((lane.arrived.discarding ≡ false) × (covers lane.arrived.received offset (offset + n) ≡ false)) → lane.told ≡ true → new ≡ 0
-put_still lane offset old new n fin ok lawful h (inl same) told = same ∙ h.over told
-put_still lane offset old new n fin ok lawful h (inr more) told =
+    → (new ≡ old) ⊎ ((lane.arrived.discarding ≡ false) × (covers lane.arrived.received offset (offset + n) ≡ false)) → lane.reader_done ≡ true → new ≡ 0
+put_still lane offset old new n fin ok lawful h (inl same) reader_done = same ∙ h.over reader_done
+put_still lane offset old new n fin ok lawful h (inr more) reader_done =
     absurd (both_ways _ more.1 (covers-of lane.arrived.received offset (offset + n) (λ q low high.
-    let within = within_size lane.final_size (offset + n) n lane.arrived.read_count fin (highest lane) (unbroken lane offset n fin ok) (h.ended told more.0) (omega arith) in
+    let within = within_size lane.final_size (offset + n) n lane.arrived.read_count fin (highest lane) (unbroken lane offset n fin ok) (h.ended reader_done more.0) (omega arith) in
     lawful.read_received q (omega arith) (omega (arith, within)))))
 
 put_gone : (lane : RecvLane) (old new : ℕ) (P : Type 0) → IsLetGo lane old → (new ≡ old) ⊎ ((lane.arrived.discarding ≡ false) × P) → lane.arrived.discarding ≡ true → new ≡ 0
@@ -46,7 +46,7 @@ let_go_noted lane offset old new bytes fin ok lawful h still =
     record {
       gone = put_gone lane old new _ h still;
       over = put_still lane offset old new (length bytes) fin ok lawful h still;
-      ended = λ told on. same_size lane.final_size (offset + length bytes) (length bytes) lane.arrived.read_count fin (highest lane) (unbroken lane offset (length bytes) fin ok) (h.ended told on);
+      ended = λ reader_done on. same_size lane.final_size (offset + length bytes) (length bytes) lane.arrived.read_count fin (highest lane) (unbroken lane offset (length bytes) fin ok) (h.ended reader_done on);
     }
 
 -- a frame for which memory was refused
@@ -79,7 +79,7 @@ none_left lane lawful all =
     (there.0, absurd (omega (arith, there.0, below, within, size)))) in
     omega (arith, most)
 
-pub let_go_ended : (lane : RecvLane) (size new : ℕ) → lane.final_size ≡ Some lane.arrived.read_count → IsLawful lane → IsLetGo lane size → (map.len lane.arrived.stored ≡ 0 → new ≡ 0) → IsLetGo (record lane { told = true }) new
+pub let_go_ended : (lane : RecvLane) (size new : ℕ) → lane.final_size ≡ Some lane.arrived.read_count → IsLawful lane → IsLetGo lane size → (map.len lane.arrived.stored ≡ 0 → new ≡ 0) → IsLetGo (record lane { reader_done = true }) new
 let_go_ended lane size new all lawful h given =
     let none = given (none_left lane lawful all) in
     record { gone = λ _. none; over = λ _. none; ended = λ _ _. all }
@@ -89,8 +89,8 @@ pub let_go_read : (lane : RecvLane) (size new room : ℕ) → lane.arrived.disca
 let_go_read lane size new room on more h =
     record {
       gone = λ off. absurd (both_ways _ on off);
-      over = λ told. absurd (more (h.ended told on));
-      ended = λ told _. absurd (more (h.ended told on));
+      over = λ reader_done. absurd (more (h.ended reader_done on));
+      ended = λ reader_done _. absurd (more (h.ended reader_done on));
     }
 
 -- whether what was read is all of the stream, as it is tested

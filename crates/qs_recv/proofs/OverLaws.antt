@@ -39,7 +39,7 @@ module _ (l : RecvLane) (h : IsOver l) where
   over_bytes room = ap (λ r. bytes_of r l room) (over_read room)
 
   pub over_after_read : (room : ℕ) → after_read l room ≡ l
-  over_after_read room = ap (λ r. after_answer r l room) (over_read room) ∙ ap (λ b. record l { told = b }) (sym h.told)
+  over_after_read room = ap (λ r. after_answer r l room) (over_read room) ∙ ap (λ b. record l { reader_done = b }) (sym h.reader_done)
 
   pub over_stream : (offset : ℕ) (bytes : List ℕ) (fin : Bool) → IsOk (check_stream l offset (length bytes) fin) → take_stream l offset bytes fin ≡ l
   over_stream offset bytes fin ok =
@@ -73,10 +73,10 @@ module _ (l : RecvLane) (h : IsOver l) where
   over_raise = ap (λ f. record l { limit = cond (is_some f) l.limit (next_limit l.limit (taken l) l.window l.share) }) h.size
 
   pub over_over : is_over l ≡ true
-  over_over = ap (λ b. b && (is_some l.reset_code || is_whole l)) h.told ∙ or_right (is_some l.reset_code) (is_whole l) whole
+  over_over = ap (λ b. b && (is_some l.reset_code || is_whole l)) h.reader_done ∙ or_right (is_some l.reset_code) (is_whole l) whole
 
   pub over_stop : (code : ℕ) → stop l code ≡ l
   over_stop code = ap (λ b. cond b l (record l { arrived = discard l.arrived; stop_code = Some code })) (or_right (is_some l.stop_code) (is_over l) over_over)
 
   pub over_forget : (code : ℕ) → stop_and_discard l code ≡ l
-  over_forget code = ap (λ (k : RecvLane). record k { told = true }) (over_stop code) ∙ ap (λ b. record l { told = b }) (sym h.told)
+  over_forget code = ap (λ (k : RecvLane). record k { reader_done = true }) (over_stop code) ∙ ap (λ b. record l { reader_done = b }) (sym h.reader_done)

@@ -39,30 +39,30 @@ known_below e offset end known q low high = contains-below e q ∙ elim known [
 
 -- What holds of a half that is made of one at rest
 
-pub sound_at_rest : (w : Windows) (n e limit : ℕ) (f r s : Option ℕ) (told : Bool) → IsAtRest (lane_at_rest w n e limit f r s told) n e → IsSound (lane_at_rest w n e limit f r s told) w.widest n e
-sound_at_rest w n e limit f r s told h = record { lawful = h.lawful; window_is = refl; count_is = refl; end_is = end_of-below e; stop_fits = h.stop_fits }
+pub sound_at_rest : (w : Windows) (n e limit : ℕ) (f r s : Option ℕ) (reader_done : Bool) → IsAtRest (lane_at_rest w n e limit f r s reader_done) n e → IsSound (lane_at_rest w n e limit f r s reader_done) w.widest n e
+sound_at_rest w n e limit f r s reader_done h = record { lawful = h.lawful; window_is = refl; count_is = refl; end_is = end_of-below e; stop_fits = h.stop_fits }
 
 pub let_go_at_rest : (lane : RecvLane) (n e size : ℕ) → lane.arrived.read_count ≡ n → size ≡ 0 → IsAtRest lane n e → IsLetGo lane size
-let_go_at_rest lane n e size count none h = record { gone = λ _. none; over = λ _. none; ended = λ told on. h.ended told on ∙ ap Some (sym count) }
+let_go_at_rest lane n e size count none h = record { gone = λ _. none; over = λ _. none; ended = λ reader_done on. h.ended reader_done on ∙ ap Some (sym count) }
 
 -- The counts are small, and a size below what came is all of it
 
 pub read_below : (lane : RecvLane) (n e : ℕ) → IsAtRest lane n e → lane.arrived.read_count ≤ highest lane
 read_below lane n e h = let read = read_within lane h.lawful in omega (arith, read, h.lawful.received_within)
 
-pub read_at_rest : (w : Windows) (n e limit : ℕ) (f r s : Option ℕ) (told : Bool) → IsAtRest (lane_at_rest w n e limit f r s told) n e → n ≤ MAX_VARINT
-read_at_rest w n e limit f r s told h =
-    let read = read_below (lane_at_rest w n e limit f r s told) n e h in
+pub read_at_rest : (w : Windows) (n e limit : ℕ) (f r s : Option ℕ) (reader_done : Bool) → IsAtRest (lane_at_rest w n e limit f r s reader_done) n e → n ≤ MAX_VARINT
+read_at_rest w n e limit f r s reader_done h =
+    let read = read_below (lane_at_rest w n e limit f r s reader_done) n e h in
     omega (arith, read, h.lawful.granted, h.lawful.small_limit)
 
-pub came_at_rest : (w : Windows) (n e limit : ℕ) (f r s : Option ℕ) (told : Bool) → IsAtRest (lane_at_rest w n e limit f r s told) n e → n ≤ e
-came_at_rest w n e limit f r s told h =
-    let read = read_within (lane_at_rest w n e limit f r s told) h.lawful in
+pub came_at_rest : (w : Windows) (n e limit : ℕ) (f r s : Option ℕ) (reader_done : Bool) → IsAtRest (lane_at_rest w n e limit f r s reader_done) n e → n ≤ e
+came_at_rest w n e limit f r s reader_done h =
+    let read = read_within (lane_at_rest w n e limit f r s reader_done) h.lawful in
     let end = end_of-below e in
     omega (arith, read, end)
 
-pub end_at_rest : (w : Windows) (n e limit : ℕ) (f r s : Option ℕ) (told : Bool) → IsAtRest (lane_at_rest w n e limit f r s told) n e → e ≤ MAX_VARINT
-end_at_rest w n e limit f r s told h =
+pub end_at_rest : (w : Windows) (n e limit : ℕ) (f r s : Option ℕ) (reader_done : Bool) → IsAtRest (lane_at_rest w n e limit f r s reader_done) n e → e ≤ MAX_VARINT
+end_at_rest w n e limit f r s reader_done h =
     let end = end_of-below e in
     omega (arith, end, h.lawful.received_within, h.lawful.granted, h.lawful.small_limit)
 
@@ -85,7 +85,7 @@ at_rest_new w share some small =
       lawful = subst IsLawful (sym (new_at_rest w share)) (lawful_new w share some small);
       stop_fits = tt;
       all_read = λ _. refl;
-      ended = λ told. absurd (both_ways false refl told);
+      ended = λ reader_done. absurd (both_ways false refl reader_done);
     }
 
 -- Where bytes are thrown away
@@ -100,75 +100,75 @@ at_rest_thrown lane n e off lawful fits =
     }
 
 -- the offsets up to the largest are those that came
-below_itself : (w : Windows) (n e limit code size : ℕ) (s : Option ℕ) (told : Bool)
-    → lane_at_rest w n (end_of (numbers 0 e)) limit (Some size) (Some code) s told ≡ lane_at_rest w n e limit (Some size) (Some code) s told
-below_itself w n e limit code size s told = ap (λ k. lane_at_rest w n k limit (Some size) (Some code) s told) (end_of-below e)
+below_itself : (w : Windows) (n e limit code size : ℕ) (s : Option ℕ) (reader_done : Bool)
+    → lane_at_rest w n (end_of (numbers 0 e)) limit (Some size) (Some code) s reader_done ≡ lane_at_rest w n e limit (Some size) (Some code) s reader_done
+below_itself w n e limit code size s reader_done = ap (λ k. lane_at_rest w n k limit (Some size) (Some code) s reader_done) (end_of-below e)
 
-pub at_rest_reset : (w : Windows) (n e limit code size : ℕ) (f s : Option ℕ) (told : Bool) → is_whole (lane_at_rest w n e limit f None s told) ≡ false → IsOk (check_reset (lane_at_rest w n e limit f None s told) size)
-    → IsAtRest (lane_at_rest w n e limit f None s told) n e → IsAtRest (lane_at_rest w n e limit (Some size) (Some code) s told) n e
-at_rest_reset w n e limit code size f s told not_whole ok h =
-    at_rest_thrown (lane_at_rest w n e limit (Some size) (Some code) s told) n e refl
-    (subst IsLawful (below_itself w n e limit code size s told) (sound_reset (lane_at_rest w n e limit f None s told) w.widest n e code size refl not_whole ok (sound_at_rest w n e limit f None s told h)).lawful) h.stop_fits
+pub at_rest_reset : (w : Windows) (n e limit code size : ℕ) (f s : Option ℕ) (reader_done : Bool) → is_whole (lane_at_rest w n e limit f None s reader_done) ≡ false → IsOk (check_reset (lane_at_rest w n e limit f None s reader_done) size)
+    → IsAtRest (lane_at_rest w n e limit f None s reader_done) n e → IsAtRest (lane_at_rest w n e limit (Some size) (Some code) s reader_done) n e
+at_rest_reset w n e limit code size f s reader_done not_whole ok h =
+    at_rest_thrown (lane_at_rest w n e limit (Some size) (Some code) s reader_done) n e refl
+    (subst IsLawful (below_itself w n e limit code size s reader_done) (sound_reset (lane_at_rest w n e limit f None s reader_done) w.widest n e code size refl not_whole ok (sound_at_rest w n e limit f None s reader_done h)).lawful) h.stop_fits
 
-pub reset_rest_is : (w : Windows) (n e limit code size : ℕ) (f s : Option ℕ) (told : Bool) → is_whole (lane_at_rest w n e limit f None s told) ≡ false
-    → lane_at_rest w n e limit (Some size) (Some code) s told ≡ take_reset (lane_at_rest w n e limit f None s told) code size
-reset_rest_is w n e limit code size f s told not_whole =
-    let lane : RecvLane = lane_at_rest w n e limit f None s told in
+pub reset_rest_is : (w : Windows) (n e limit code size : ℕ) (f s : Option ℕ) (reader_done : Bool) → is_whole (lane_at_rest w n e limit f None s reader_done) ≡ false
+    → lane_at_rest w n e limit (Some size) (Some code) s reader_done ≡ take_reset (lane_at_rest w n e limit f None s reader_done) code size
+reset_rest_is w n e limit code size f s reader_done not_whole =
+    let lane : RecvLane = lane_at_rest w n e limit f None s reader_done in
     let after : RecvLane = record lane { arrived = forget lane.arrived; final_size = Some size; reset_code = Some code } in
-    sym (ap (λ b. cond b lane after) not_whole ∙ below_itself w n e limit code size s told)
+    sym (ap (λ b. cond b lane after) not_whole ∙ below_itself w n e limit code size s reader_done)
 
 -- what a stop leaves
-pub stopped_at_rest : (w : Windows) (n e limit code : ℕ) (f r : Option ℕ) (told : Bool)
-    → (let lane : RecvLane = lane_at_rest w n e limit f r None told in lane_at_rest w n e limit f r (Some code) told ≡ record lane { arrived = discard lane.arrived; stop_code = Some code })
-stopped_at_rest w n e limit code f r told =
-    let lane : RecvLane = lane_at_rest w n e limit f r None told in
+pub stopped_at_rest : (w : Windows) (n e limit code : ℕ) (f r : Option ℕ) (reader_done : Bool)
+    → (let lane : RecvLane = lane_at_rest w n e limit f r None reader_done in lane_at_rest w n e limit f r (Some code) reader_done ≡ record lane { arrived = discard lane.arrived; stop_code = Some code })
+stopped_at_rest w n e limit code f r reader_done =
+    let lane : RecvLane = lane_at_rest w n e limit f r None reader_done in
     ap (λ off. record lane { arrived = at_rest w.widest n e off; stop_code = Some code }) (or_right (is_some r) true refl)
 
-pub at_rest_stopped : (w : Windows) (n e limit code : ℕ) (f r : Option ℕ) (told : Bool) → code ≤ MAX_VARINT
-    → IsAtRest (lane_at_rest w n e limit f r None told) n e → IsAtRest (lane_at_rest w n e limit f r (Some code) told) n e
-at_rest_stopped w n e limit code f r told fits h =
-    at_rest_thrown (lane_at_rest w n e limit f r (Some code) told) n e (or_right (is_some r) true refl)
-    (subst IsLawful (sym (stopped_at_rest w n e limit code f r told)) (sound_stop (lane_at_rest w n e limit f r None told) w.widest n e code fits (sound_at_rest w n e limit f r None told h)).lawful) fits
+pub at_rest_stopped : (w : Windows) (n e limit code : ℕ) (f r : Option ℕ) (reader_done : Bool) → code ≤ MAX_VARINT
+    → IsAtRest (lane_at_rest w n e limit f r None reader_done) n e → IsAtRest (lane_at_rest w n e limit f r (Some code) reader_done) n e
+at_rest_stopped w n e limit code f r reader_done fits h =
+    at_rest_thrown (lane_at_rest w n e limit f r (Some code) reader_done) n e (or_right (is_some r) true refl)
+    (subst IsLawful (sym (stopped_at_rest w n e limit code f r reader_done)) (sound_stop (lane_at_rest w n e limit f r None reader_done) w.widest n e code fits (sound_at_rest w n e limit f r None reader_done h)).lawful) fits
 
 -- What a reader is told
 
 -- of its end where it is known and read, else nothing, where bytes aren't thrown away
-pub ends_at_rest : (w : Windows) (n e limit room : ℕ) (f : Option ℕ) (told : Bool) → IsAtRest (lane_at_rest w n e limit f None None told) n e → read_answer (lane_at_rest w n e limit f None None told) room ≡ cond (at_final_size n f) End Wait
-ends_at_rest w n e limit room f told h =
-    let lane : RecvLane = lane_at_rest w n e limit f None None told in
+pub ends_at_rest : (w : Windows) (n e limit room : ℕ) (f : Option ℕ) (reader_done : Bool) → IsAtRest (lane_at_rest w n e limit f None None reader_done) n e → read_answer (lane_at_rest w n e limit f None None reader_done) room ≡ cond (at_final_size n f) End Wait
+ends_at_rest w n e limit room f reader_done h =
+    let lane : RecvLane = lane_at_rest w n e limit f None None reader_done in
     let none : set.contains (numbers 0 e) n ≡ false = let all = h.all_read refl in contains-below e n ∙ grind (arith, nat_tests) in
     ap (λ b. cond (at_final_size n f) End (cond b (Bytes (length (front_of lane.arrived room))) Wait)) none
 
 -- A frame
 
-pub taken_at_rest : (w : Windows) (n e e' limit offset : ℕ) (f r s : Option ℕ) (told : Bool) (bytes : List ℕ) (fin : Bool) → EndsAt (lane_at_rest w n e limit f r s told) offset bytes e'
-    → lane_at_rest w n e' limit (cond fin (Some (offset + length bytes)) f) r s told ≡ take_stream (lane_at_rest w n e limit f r s told) offset bytes fin
-taken_at_rest w n e e' limit offset f r s told bytes fin h =
-    let lane : RecvLane = lane_at_rest w n e limit f r s told in
+pub taken_at_rest : (w : Windows) (n e e' limit offset : ℕ) (f r s : Option ℕ) (reader_done : Bool) (bytes : List ℕ) (fin : Bool) → EndsAt (lane_at_rest w n e limit f r s reader_done) offset bytes e'
+    → lane_at_rest w n e' limit (cond fin (Some (offset + length bytes)) f) r s reader_done ≡ take_stream (lane_at_rest w n e limit f r s reader_done) offset bytes fin
+taken_at_rest w n e e' limit offset f r s reader_done bytes fin h =
+    let lane : RecvLane = lane_at_rest w n e limit f r s reader_done in
     ap (λ a. record lane { arrived = a; final_size = cond fin (Some (offset + length bytes)) f }) (sym h.arrived)
 
-pub at_rest_taken : (w : Windows) (n e e' limit offset : ℕ) (f r s : Option ℕ) (told : Bool) (bytes : List ℕ) (fin : Bool) → EndsAt (lane_at_rest w n e limit f r s told) offset bytes e'
-    → IsOk (check_stream (lane_at_rest w n e limit f r s told) offset (length bytes) fin)
-    → IsAtRest (lane_at_rest w n e limit f r s told) n e → IsAtRest (lane_at_rest w n e' limit (cond fin (Some (offset + length bytes)) f) r s told) n e'
-at_rest_taken w n e e' limit offset f r s told bytes fin ends ok h =
-    let lane : RecvLane = lane_at_rest w n e limit f r s told in
+pub at_rest_taken : (w : Windows) (n e e' limit offset : ℕ) (f r s : Option ℕ) (reader_done : Bool) (bytes : List ℕ) (fin : Bool) → EndsAt (lane_at_rest w n e limit f r s reader_done) offset bytes e'
+    → IsOk (check_stream (lane_at_rest w n e limit f r s reader_done) offset (length bytes) fin)
+    → IsAtRest (lane_at_rest w n e limit f r s reader_done) n e → IsAtRest (lane_at_rest w n e' limit (cond fin (Some (offset + length bytes)) f) r s reader_done) n e'
+at_rest_taken w n e e' limit offset f r s reader_done bytes fin ends ok h =
+    let lane : RecvLane = lane_at_rest w n e limit f r s reader_done in
     record {
-      lawful = subst IsLawful (sym (taken_at_rest w n e e' limit offset f r s told bytes fin ends)) (lawful_take_stream lane offset bytes fin h.lawful ok);
+      lawful = subst IsLawful (sym (taken_at_rest w n e e' limit offset f r s reader_done bytes fin ends)) (lawful_take_stream lane offset bytes fin h.lawful ok);
       stop_fits = h.stop_fits;
       all_read = ends.all_read;
       ended = λ is_told on. same_size f (offset + length bytes) (length bytes) n fin (highest lane) (unbroken lane offset (length bytes) fin ok) (h.ended is_told on);
     }
 
-pub grown_at_rest : (w : Windows) (n e e' limit offset : ℕ) (f r s : Option ℕ) (told : Bool) (bytes : List ℕ) (fin : Bool) → EndsAt (lane_at_rest w n e limit f r s told) offset bytes e'
-    → IsAtRest (lane_at_rest w n e limit f r s told) n e
-    → highest (lane_at_rest w n e' limit (cond fin (Some (offset + length bytes)) f) r s told) ≡ highest_after (lane_at_rest w n e limit f r s told) offset (length bytes) fin
-grown_at_rest w n e e' limit offset f r s told bytes fin ends h =
-    ap highest (taken_at_rest w n e e' limit offset f r s told bytes fin ends) ∙ highest-take_stream (lane_at_rest w n e limit f r s told) offset bytes fin h.lawful
+pub grown_at_rest : (w : Windows) (n e e' limit offset : ℕ) (f r s : Option ℕ) (reader_done : Bool) (bytes : List ℕ) (fin : Bool) → EndsAt (lane_at_rest w n e limit f r s reader_done) offset bytes e'
+    → IsAtRest (lane_at_rest w n e limit f r s reader_done) n e
+    → highest (lane_at_rest w n e' limit (cond fin (Some (offset + length bytes)) f) r s reader_done) ≡ highest_after (lane_at_rest w n e limit f r s reader_done) offset (length bytes) fin
+grown_at_rest w n e e' limit offset f r s reader_done bytes fin ends h =
+    ap highest (taken_at_rest w n e e' limit offset f r s reader_done bytes fin ends) ∙ highest-take_stream (lane_at_rest w n e limit f r s reader_done) offset bytes fin h.lawful
 
 -- where nothing new comes
-pub ends_known : (w : Windows) (n e limit offset : ℕ) (f r s : Option ℕ) (told : Bool) (bytes : List ℕ) → ContainsRange (numbers 0 e) offset (offset + length bytes)
-    → IsAtRest (lane_at_rest w n e limit f r s told) n e → EndsAt (lane_at_rest w n e limit f r s told) offset bytes e
-ends_known w n e limit offset f r s told bytes known h =
+pub ends_known : (w : Windows) (n e limit offset : ℕ) (f r s : Option ℕ) (reader_done : Bool) (bytes : List ℕ) → ContainsRange (numbers 0 e) offset (offset + length bytes)
+    → IsAtRest (lane_at_rest w n e limit f r s reader_done) n e → EndsAt (lane_at_rest w n e limit f r s reader_done) offset bytes e
+ends_known w n e limit offset f r s reader_done bytes known h =
     record { arrived = either (is_some r); all_read = h.all_read }
   where
     either : (b : Bool) → cond b (at_rest w.widest n e (is_some r || is_some s)) (put (at_rest w.widest n e (is_some r || is_some s)) offset bytes) ≡ at_rest w.widest n e (is_some r || is_some s)
@@ -176,8 +176,8 @@ ends_known w n e limit offset f r s told bytes known h =
     either false = sym (put_known (at_rest w.widest n e (is_some r || is_some s)) offset bytes known)
 
 -- after a reset
-pub ends_passed : (w : Windows) (n e limit offset code : ℕ) (f s : Option ℕ) (told : Bool) (bytes : List ℕ) → EndsAt (lane_at_rest w n e limit f (Some code) s told) offset bytes e
-ends_passed w n e limit offset code f s told bytes = record { arrived = refl; all_read = λ on. absurd (both_ways true on refl) }
+pub ends_passed : (w : Windows) (n e limit offset code : ℕ) (f s : Option ℕ) (reader_done : Bool) (bytes : List ℕ) → EndsAt (lane_at_rest w n e limit f (Some code) s reader_done) offset bytes e
+ends_passed w n e limit offset code f s reader_done bytes = record { arrived = refl; all_read = λ on. absurd (both_ways true on refl) }
 
 -- after a stop, where it touches what came
 union_below : (e lo hi : ℕ) → lo ≤ e → e ≤ hi → set.union (numbers 0 e) (numbers lo hi) ≡ numbers 0 hi
@@ -187,9 +187,9 @@ union_below e lo hi touches ends =
     let new = contains-below hi q in
     contains-with_range (numbers 0 e) lo hi q ∙ grind (arith, nat_tests))
 
-pub ends_more : (w : Windows) (n e limit offset code : ℕ) (f : Option ℕ) (told : Bool) (bytes : List ℕ) → offset ≤ e → e ≤ offset + length bytes
-    → EndsAt (lane_at_rest w n e limit f None (Some code) told) offset bytes (offset + length bytes)
-ends_more w n e limit offset code f told bytes touches ends =
+pub ends_more : (w : Windows) (n e limit offset code : ℕ) (f : Option ℕ) (reader_done : Bool) (bytes : List ℕ) → offset ≤ e → e ≤ offset + length bytes
+    → EndsAt (lane_at_rest w n e limit f None (Some code) reader_done) offset bytes (offset + length bytes)
+ends_more w n e limit offset code f reader_done bytes touches ends =
     record {
       arrived = ap (λ r. record (at_rest w.widest n e true) { received = r }) (union_below e offset (offset + length bytes) touches ends);
       all_read = λ on. absurd (both_ways true on refl);
@@ -204,7 +204,7 @@ apart_below e offset end new q low high = contains-below e q ∙ grind (arith, n
 
 -- what a reset leaves is at rest
 pub forgotten_is : (lane : RecvLane) (w n e code size : ℕ) → IsSound lane w n e
-    → lane_at_rest (record { widest = w; size = lane.window; share = lane.share }) n e lane.limit (Some size) (Some code) lane.stop_code lane.told ≡ record lane { arrived = forget lane.arrived; final_size = Some size; reset_code = Some code }
+    → lane_at_rest (record { widest = w; size = lane.window; share = lane.share }) n e lane.limit (Some size) (Some code) lane.stop_code lane.reader_done ≡ record lane { arrived = forget lane.arrived; final_size = Some size; reset_code = Some code }
 forgotten_is lane w n e code size h =
     ap (λ a. record lane { arrived = a; final_size = Some size; reset_code = Some code }) (sym (
     ap (λ k. record { stored = map.empty; received = numbers 0 k; read_count = lane.arrived.read_count; widest = lane.arrived.widest; discarding = true }) h.end_is
@@ -213,27 +213,27 @@ forgotten_is lane w n e code size h =
     ))
 
 pub reset_is : (lane : RecvLane) (w n e code size : ℕ) → is_some lane.reset_code ≡ false → is_whole lane ≡ false → IsSound lane w n e
-    → lane_at_rest (record { widest = w; size = lane.window; share = lane.share }) n e lane.limit (Some size) (Some code) lane.stop_code lane.told ≡ take_reset lane code size
+    → lane_at_rest (record { widest = w; size = lane.window; share = lane.share }) n e lane.limit (Some size) (Some code) lane.stop_code lane.reader_done ≡ take_reset lane code size
 reset_is lane w n e code size no_reset not_whole h =
     let after : RecvLane = record lane { arrived = forget lane.arrived; final_size = Some size; reset_code = Some code } in
     forgotten_is lane w n e code size h ∙ sym (ap (λ b. cond (b || is_whole lane) lane after) no_reset ∙ ap (λ b. cond b lane after) not_whole)
 
 pub reset_at_rest : (lane : RecvLane) (w n e code size : ℕ) → is_some lane.reset_code ≡ false → is_whole lane ≡ false → IsOk (check_reset lane size) → IsSound lane w n e
-    → IsAtRest (lane_at_rest (record { widest = w; size = lane.window; share = lane.share }) n e lane.limit (Some size) (Some code) lane.stop_code lane.told) n e
+    → IsAtRest (lane_at_rest (record { widest = w; size = lane.window; share = lane.share }) n e lane.limit (Some size) (Some code) lane.stop_code lane.reader_done) n e
 reset_at_rest lane w n e code size no_reset not_whole ok h =
-    at_rest_thrown (lane_at_rest (record { widest = w; size = lane.window; share = lane.share }) n e lane.limit (Some size) (Some code) lane.stop_code lane.told) n e refl
+    at_rest_thrown (lane_at_rest (record { widest = w; size = lane.window; share = lane.share }) n e lane.limit (Some size) (Some code) lane.stop_code lane.reader_done) n e refl
     (subst IsLawful (sym (forgotten_is lane w n e code size h)) (sound_reset lane w n e code size no_reset not_whole ok h).lawful) h.stop_fits
 
 -- A half of which the end, or a reset, was told, or that was stopped
 
 abbrev pub is_done : RecvLane → Bool
-is_done lane = lane.told || is_some lane.stop_code
+is_done lane = lane.reader_done || is_some lane.stop_code
 
 -- until bytes are thrown away it was told
-done_told : (lane : RecvLane) → is_done lane ≡ true → IsLawful lane → lane.arrived.discarding ≡ false → lane.told ≡ true
-done_told lane done lawful on = go lane.told refl
+done_told : (lane : RecvLane) → is_done lane ≡ true → IsLawful lane → lane.arrived.discarding ≡ false → lane.reader_done ≡ true
+done_told lane done lawful on = go lane.reader_done refl
   where
-    go : (b : Bool) → lane.told ≡ b → lane.told ≡ true
+    go : (b : Bool) → lane.reader_done ≡ b → lane.reader_done ≡ true
     go true is = is
     go false is =
         let stopped : is_some lane.stop_code ≡ true = sym (ap (λ b. b || is_some lane.stop_code) is) ∙ done in
@@ -262,7 +262,7 @@ nothing_left lane size done h let_go = go lane.arrived.discarding refl
     go false on = map.empty_of_len lane.arrived.stored (none_left lane h (let_go.ended (done_told lane done h on) on))
 
 pub rested_is : (lane : RecvLane) (w n e size : ℕ) → is_done lane ≡ true → ContainsRange lane.arrived.received 0 e → IsSound lane w n e → IsLetGo lane size
-    → lane_at_rest (record { widest = w; size = lane.window; share = lane.share }) n e lane.limit lane.final_size lane.reset_code lane.stop_code lane.told ≡ lane
+    → lane_at_rest (record { widest = w; size = lane.window; share = lane.share }) n e lane.limit lane.final_size lane.reset_code lane.stop_code lane.reader_done ≡ lane
 rested_is lane w n e size done all h let_go =
     let stored = nothing_left lane size done h.lawful let_go in
     let received : lane.arrived.received ≡ numbers 0 e =

@@ -78,7 +78,7 @@ sound_front lane w n e room h =
       stop_fits = h.stop_fits;
     }
 
-pub sound_told : (lane : RecvLane) (w n e : ℕ) → IsSound lane w n e → IsSound (record lane { told = true }) w n e
+pub sound_told : (lane : RecvLane) (w n e : ℕ) → IsSound lane w n e → IsSound (record lane { reader_done = true }) w n e
 sound_told lane w n e h =
     record {
       lawful = lawful_told lane h.lawful;

@@ -44,6 +44,6 @@ abbrev pub lane_code : Coded RecvLane
 lane_code =
     code_by (Assembled × (Option ℕ × (Option ℕ × (Option ℕ × (Bool × (ℕ × (ℕ × Share)))))))
     (coded× assembled_code (coded× (coded_option coded_ℕ) (coded× (coded_option coded_ℕ) (coded× (coded_option coded_ℕ) (coded× coded_bool (coded× coded_ℕ (coded× coded_ℕ share_code)))))))
-    (λ l. (l.arrived, (l.final_size, (l.reset_code, (l.stop_code, (l.told, (l.limit, (l.window, l.share))))))))
-    (λ p. record { arrived = p.0; final_size = p.1.0; reset_code = p.1.1.0; stop_code = p.1.1.1.0; told = p.1.1.1.1.0; limit = p.1.1.1.1.1.0; window = p.1.1.1.1.1.1.0; share = p.1.1.1.1.1.1.1 })
+    (λ l. (l.arrived, (l.final_size, (l.reset_code, (l.stop_code, (l.reader_done, (l.limit, (l.window, l.share))))))))
+    (λ p. record { arrived = p.0; final_size = p.1.0; reset_code = p.1.1.0; stop_code = p.1.1.1.0; reader_done = p.1.1.1.1.0; limit = p.1.1.1.1.1.0; window = p.1.1.1.1.1.1.0; share = p.1.1.1.1.1.1.1 })
     (λ _. refl)

@@ -22,7 +22,7 @@ pub record RecvLane : Type 0 where
   pub final_size : Option ℕ
   pub reset_code : Option ℕ
   pub stop_code : Option ℕ
-  pub told : Bool
+  pub reader_done : Bool
   pub limit : ℕ
   pub window : ℕ
   pub share : Share
@@ -30,7 +30,7 @@ pub record RecvLane : Type 0 where
 -- nothing arrived, and one window is granted (RFC 9000, section 4.1)
 abbrev pub new_lane : ℕ → Share → RecvLane
 new_lane window share =
-    record { arrived = nothing_yet window; final_size = None; reset_code = None; stop_code = None; told = false; limit = window; window = window; share = share }
+    record { arrived = nothing_yet window; final_size = None; reset_code = None; stop_code = None; reader_done = false; limit = window; window = window; share = share }
 
 -- the final size if known, else one more than the largest offset that came, or 0 (RFC 9000, sections 4.1 and 4.5)
 abbrev pub highest : RecvLane → ℕ
@@ -53,13 +53,13 @@ is_whole lane = whole_to lane.arrived.received lane.final_size
 -- how many runs the offsets make that came, until a reset comes, or all data did and the reader has nothing to be told: what a lane keeps
 -- of them (ours)
 abbrev pub noted : RecvLane → ℕ
-noted lane = if (lane.told && is_whole lane) || is_some lane.reset_code then 0 else set.len (run_starts lane.arrived.received)
+noted lane = if (lane.reader_done && is_whole lane) || is_some lane.reset_code then 0 else set.len (run_starts lane.arrived.received)
 
 -- the state by the last event that counts (RFC 9000, section 3.2)
 abbrev pub state : RecvLane → RecvState
 state lane =
-    if is_some lane.reset_code then (if lane.told then ResetRead else ResetRecvd)
-    else (if is_whole lane then (if lane.told then DataRead else DataRecvd)
+    if is_some lane.reset_code then (if lane.reader_done then ResetRead else ResetRecvd)
+    else (if is_whole lane then (if lane.reader_done then DataRead else DataRecvd)
     else (if is_some lane.final_size then SizeKnown else Recv))
 
 -- Data
@@ -148,8 +148,8 @@ bytes_read lane room = bytes_of (read_answer lane room) lane room
 -- what was told stays told: Data Read and Reset Read (RFC 9000, section 3.2)
 abbrev pub after_answer : Read → RecvLane → ℕ → RecvLane
 after_answer (Bytes n) lane room = record lane { arrived = take_front lane.arrived room }
-after_answer (End) lane room = record lane { told = true }
-after_answer (Reset code) lane room = record lane { told = true }
+after_answer (End) lane room = record lane { reader_done = true }
+after_answer (Reset code) lane room = record lane { reader_done = true }
 after_answer (Wait) lane room = lane
 
 -- the lane after a read (RFC 9000, sections 2.2 and 3.2)
@@ -160,7 +160,7 @@ after_read lane room = after_answer (read_answer lane room) lane room
 
 -- whether the reader was told of the end or of a reset: Data Read and Reset Read (RFC 9000, section 3.2)
 abbrev pub is_over : RecvLane → Bool
-is_over lane = lane.told && (is_some lane.reset_code || is_whole lane)
+is_over lane = lane.reader_done && (is_some lane.reset_code || is_whole lane)
 
 -- what is stored is thrown away, and so is what comes; the first code stays, and what is over isn't stopped (RFC 9000, section 3.5)
 abbrev pub stop : RecvLane → ℕ → RecvLane
@@ -171,7 +171,7 @@ stop lane code =
 -- The same, and nothing more is told of the stream: it is read to its end as soon as that comes, or as a reset does (RFC 9000, sections 3.2
 -- and 3.5).
 abbrev pub stop_and_discard : RecvLane → ℕ → RecvLane
-stop_and_discard lane code = record (stop lane code) { told = true }
+stop_and_discard lane code = record (stop lane code) { reader_done = true }
 
 -- Credit
 

@@ -14,4 +14,4 @@ tells_something (Wait) = false
 
 -- whether a read of one byte would tell something new: an end or a reset that was told once stays so (RFC 9000, section 3.2)
 abbrev pub is_readable : RecvLane → Bool
-is_readable lane = not lane.told && tells_something (read_answer lane 1)
+is_readable lane = not lane.reader_done && tells_something (read_answer lane 1)

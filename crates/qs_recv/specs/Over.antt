@@ -13,7 +13,7 @@ over_lane end past windows = lane_at_rest windows end end (end + past) (Some end
 
 -- it was read to its end: nothing that may still come or be called changes it (RFC 9000, sections 3.2, 3.5 and 4.5)
 pub record IsOver (lane : RecvLane) : Type 0 where
-  pub told : lane.told ≡ true
+  pub reader_done : lane.reader_done ≡ true
   pub no_reset : lane.reset_code ≡ None
   pub no_stop : lane.stop_code ≡ None
   pub size : lane.final_size ≡ Some lane.arrived.read_count

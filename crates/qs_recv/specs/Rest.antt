@@ -14,13 +14,13 @@ given is_there n = if is_there then Some n else None
 
 -- the lane of these numbers: bytes are thrown away after a reset or a stop (RFC 9000, sections 3.2 and 3.5)
 abbrev pub lane_at_rest : Windows → ℕ → ℕ → ℕ → Option ℕ → Option ℕ → Option ℕ → Bool → RecvLane
-lane_at_rest windows read_count end limit final_size reset_code stop_code told =
+lane_at_rest windows read_count end limit final_size reset_code stop_code reader_done =
     record {
       arrived = at_rest windows.widest read_count end (is_some reset_code || is_some stop_code);
       final_size = final_size;
       reset_code = reset_code;
       stop_code = stop_code;
-      told = told;
+      reader_done = reader_done;
       limit = limit;
       window = windows.size;
       share = windows.share;
@@ -31,7 +31,7 @@ pub record IsAtRest (lane : RecvLane) (read_count end : ℕ) : Type 0 where
   pub lawful : IsLawful lane
   pub stop_fits : CodeFits lane.stop_code
   pub all_read : lane.arrived.discarding ≡ false → read_count ≡ end
-  pub ended : lane.told ≡ true → lane.arrived.discarding ≡ false → lane.final_size ≡ Some read_count
+  pub ended : lane.reader_done ≡ true → lane.arrived.discarding ≡ false → lane.final_size ≡ Some read_count
 
 -- once a frame's bytes were put in order, or passed over after a reset, the offsets that came are those below `end`, and nothing is stored
 pub record EndsAt (lane : RecvLane) (offset : ℕ) (bytes : List ℕ) (end : ℕ) : Type 0 where

@@ -21,5 +21,5 @@ pub record IsSound (lane : RecvLane) (window read_count received_end : ℕ) : Ty
 -- (RFC 9000, sections 3.2 and 3.5)
 pub record IsLetGo (lane : RecvLane) (size : ℕ) : Type 0 where
   pub gone : lane.arrived.discarding ≡ true → size ≡ 0
-  pub over : lane.told ≡ true → size ≡ 0
-  pub ended : lane.told ≡ true → lane.arrived.discarding ≡ false → lane.final_size ≡ Some lane.arrived.read_count
+  pub over : lane.reader_done ≡ true → size ≡ 0
+  pub ended : lane.reader_done ≡ true → lane.arrived.discarding ≡ false → lane.final_size ≡ Some lane.arrived.read_count

@@ -475,7 +475,7 @@ impl<A: Assembly> RecvHalf<A> {
 
     /// Whether its reader knows all there is: the end or a reset was read, or it was stopped and forgotten.
     pub fn is_told(&self) -> bool
-        ensures { result ≡ self.now.told }
+        ensures { result ≡ self.now.reader_done }
     {
         match &self.parts {
             Parts::Kept(Kept::Over(over)) => over.rest().is_told(),
@@ -515,7 +515,7 @@ impl<A: Assembly> RecvHalf<A> {
         ensures least { 0 < map.len self.now.arrived.stored → A.least self.now.arrived ≤ result }
         ensures bound { result ≤ max 4096 (4 * (highest self.now - taken self.now)) }
         ensures idle { map.len self.now.arrived.stored ≡ 0 → result ≤ 4096 }
-        ensures over { IsTrue self.now.told → result ≡ 0 }
+        ensures over { IsTrue self.now.reader_done → result ≡ 0 }
         ensures gone { IsTrue self.now.arrived.discarding → result ≡ 0 }
     {
         match &self.parts {

@@ -33,7 +33,7 @@ pub(crate) struct LiveHalf<A: Assembly> {
     is_sized: bool,
     is_reset: bool,
     is_stopped: bool,
-    told: bool,
+    reader_done: bool,
 }
 
 impl<A: Assembly> Model for LiveHalf<A> {
@@ -46,9 +46,9 @@ impl<A: Assembly> Model for LiveHalf<A> {
 
     ghost coded = { lane_code };
 
-    ghost view = { λ h. record { arrived = A.holds h.assembly; final_size = given h.is_sized h.size; reset_code = given h.is_reset h.reset; stop_code = given h.is_stopped h.stop; told = h.told; limit = h.limit; window = h.windows.size; share = h.windows.share } };
+    ghost view = { λ h. record { arrived = A.holds h.assembly; final_size = given h.is_sized h.size; reset_code = given h.is_reset h.reset; stop_code = given h.is_stopped h.stop; reader_done = h.reader_done; limit = h.limit; window = h.windows.size; share = h.windows.share } };
 
-    ghost invariant = { λ h. IsSound (record { arrived = A.holds h.assembly; final_size = given h.is_sized h.size; reset_code = given h.is_reset h.reset; stop_code = given h.is_stopped h.stop; told = h.told; limit = h.limit; window = h.windows.size; share = h.windows.share }) h.windows.widest h.read_count h.received_end × IsLetGo (record { arrived = A.holds h.assembly; final_size = given h.is_sized h.size; reset_code = given h.is_reset h.reset; stop_code = given h.is_stopped h.stop; told = h.told; limit = h.limit; window = h.windows.size; share = h.windows.share }) (A.size h.assembly) };
+    ghost invariant = { λ h. IsSound (record { arrived = A.holds h.assembly; final_size = given h.is_sized h.size; reset_code = given h.is_reset h.reset; stop_code = given h.is_stopped h.stop; reader_done = h.reader_done; limit = h.limit; window = h.windows.size; share = h.windows.share }) h.windows.widest h.read_count h.received_end × IsLetGo (record { arrived = A.holds h.assembly; final_size = given h.is_sized h.size; reset_code = given h.is_reset h.reset; stop_code = given h.is_stopped h.stop; reader_done = h.reader_done; limit = h.limit; window = h.windows.size; share = h.windows.share }) (A.size h.assembly) };
 }
 
 impl<A: Assembly> LiveHalf<A> {
@@ -68,7 +68,7 @@ impl<A: Assembly> LiveHalf<A> {
             is_sized: rest.is_sized,
             is_reset: rest.is_reset,
             is_stopped: rest.is_stopped,
-            told: rest.told,
+            reader_done: rest.reader_done,
         }
     }
 
@@ -93,9 +93,9 @@ impl<A: Assembly> LiveHalf<A> {
     }
 
     pub(crate) fn is_done(&self) -> bool
-        ensures { result ≡ (self.now.told || is_some self.now.stop_code) }
+        ensures { result ≡ (self.now.reader_done || is_some self.now.stop_code) }
     {
-        self.told || self.is_stopped
+        self.reader_done || self.is_stopped
     }
 
     /// None while an offset is missing: a late frame could then want its assembly.
@@ -116,7 +116,7 @@ impl<A: Assembly> LiveHalf<A> {
             is_sized: self.is_sized,
             is_reset: self.is_reset,
             is_stopped: self.is_stopped,
-            told: self.told,
+            reader_done: self.reader_done,
         })
     }
 
@@ -271,7 +271,7 @@ impl<A: Assembly> LiveHalf<A> {
             is_sized: true,
             is_reset: true,
             is_stopped: self.is_stopped,
-            told: self.told,
+            reader_done: self.reader_done,
         })
     }
 
@@ -282,19 +282,19 @@ impl<A: Assembly> LiveHalf<A> {
         ensures same_highest { highest self.new ≡ highest self.old }
     {
         if self.is_reset {
-            self.told = true;
+            self.reader_done = true;
             return Read::Reset(self.reset);
         }
         if self.is_stopped {
             if self.is_whole() {
-                self.told = true;
+                self.reader_done = true;
                 return Read::End;
             }
             return Read::Wait;
         }
         if self.is_at_end() {
             self.assembly.give_back();
-            self.told = true;
+            self.reader_done = true;
             return Read::End;
         }
         if !self.assembly.received().has(self.read_count) {
@@ -326,7 +326,7 @@ impl<A: Assembly> LiveHalf<A> {
         ensures same_highest { highest self.new ≡ highest self.old }
     {
         self.stop(code);
-        self.told = true;
+        self.reader_done = true;
     }
 
     pub(crate) fn raise(&mut self) -> Option<u64>
@@ -379,7 +379,7 @@ impl<A: Assembly> LiveHalf<A> {
         } else {
             self.read_count
         };
-        let noted = if self.is_reset || (self.told && self.is_whole()) {
+        let noted = if self.is_reset || (self.reader_done && self.is_whole()) {
             0
         } else {
             self.assembly.received().count() as u64
@@ -397,7 +397,7 @@ impl<A: Assembly> LiveHalf<A> {
         ensures readable { result.is_readable ≡ is_readable self.now }
         ensures ended { result.has_ended ≡ is_over self.now }
     {
-        if self.told {
+        if self.reader_done {
             return Standing {
                 is_readable: false,
                 has_ended: self.is_reset || self.is_whole(),
@@ -453,22 +453,22 @@ impl<A: Assembly> LiveHalf<A> {
     }
 
     pub(crate) fn is_told(&self) -> bool
-        ensures { result ≡ self.now.told }
+        ensures { result ≡ self.now.reader_done }
     {
-        self.told
+        self.reader_done
     }
 
     pub(crate) fn state(&self) -> RecvState
         ensures { result ≡ state self.now }
     {
         if self.is_reset {
-            if self.told {
+            if self.reader_done {
                 RecvState::ResetRead
             } else {
                 RecvState::ResetRecvd
             }
         } else if self.is_whole() {
-            if self.told {
+            if self.reader_done {
                 RecvState::DataRead
             } else {
                 RecvState::DataRecvd
@@ -486,7 +486,7 @@ impl<A: Assembly> LiveHalf<A> {
         ensures least { 0 < map.len self.now.arrived.stored → A.least self.now.arrived ≤ result }
         ensures bound { result ≤ max 4096 (4 * (highest self.now - taken self.now)) }
         ensures idle { map.len self.now.arrived.stored ≡ 0 → result ≤ 4096 }
-        ensures over { IsTrue self.now.told → result ≡ 0 }
+        ensures over { IsTrue self.now.reader_done → result ≡ 0 }
         ensures gone { IsTrue self.now.arrived.discarding → result ≡ 0 }
     {
         self.assembly.held()
@@ -514,7 +514,7 @@ impl<A: Assembly> LiveHalf<A> {
     pub(crate) fn is_over(&self) -> bool
         ensures { result ≡ is_over self.now }
     {
-        self.told && (self.is_reset || self.is_whole())
+        self.reader_done && (self.is_reset || self.is_whole())
     }
 
     fn is_at_end(&self) -> bool
@@ -574,19 +574,19 @@ impl<A: Skipping> LiveHalf<A> {
         ensures same_highest { highest self.new ≡ highest self.old }
     {
         if self.is_reset {
-            self.told = true;
+            self.reader_done = true;
             return Read::Reset(self.reset);
         }
         if self.is_stopped {
             if self.is_whole() {
-                self.told = true;
+                self.reader_done = true;
                 return Read::End;
             }
             return Read::Wait;
         }
         if self.is_at_end() {
             self.assembly.give_back();
-            self.told = true;
+            self.reader_done = true;
             return Read::End;
         }
         if !self.assembly.received().has(self.read_count) {

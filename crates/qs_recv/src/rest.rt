@@ -31,7 +31,7 @@ pub(crate) struct Rest {
     pub(crate) is_sized: bool,
     pub(crate) is_reset: bool,
     pub(crate) is_stopped: bool,
-    pub(crate) told: bool,
+    pub(crate) reader_done: bool,
 }
 
 impl Model for Rest {
@@ -43,9 +43,9 @@ impl Model for Rest {
 
     ghost coded = { lane_code };
 
-    ghost view = { λ r. lane_at_rest r.windows r.read_count r.received_end r.limit (given r.is_sized r.size) (given r.is_reset r.reset) (given r.is_stopped r.stop) r.told };
+    ghost view = { λ r. lane_at_rest r.windows r.read_count r.received_end r.limit (given r.is_sized r.size) (given r.is_reset r.reset) (given r.is_stopped r.stop) r.reader_done };
 
-    ghost invariant = { λ r. IsAtRest (lane_at_rest r.windows r.read_count r.received_end r.limit (given r.is_sized r.size) (given r.is_reset r.reset) (given r.is_stopped r.stop) r.told) r.read_count r.received_end };
+    ghost invariant = { λ r. IsAtRest (lane_at_rest r.windows r.read_count r.received_end r.limit (given r.is_sized r.size) (given r.is_reset r.reset) (given r.is_stopped r.stop) r.reader_done) r.read_count r.received_end };
 }
 
 impl Rest {
@@ -69,7 +69,7 @@ impl Rest {
             is_sized: false,
             is_reset: false,
             is_stopped: false,
-            told: false,
+            reader_done: false,
         }
     }
 
@@ -120,11 +120,11 @@ impl Rest {
         ensures same_highest { highest self.new ≡ highest self.old }
     {
         if self.is_reset {
-            self.told = true;
+            self.reader_done = true;
             return Read::Reset(self.reset);
         }
         if self.ends() {
-            self.told = true;
+            self.reader_done = true;
             return Read::End;
         }
         Read::Wait
@@ -140,9 +140,9 @@ impl Rest {
     }
 
     pub(crate) fn is_told(&self) -> bool
-        ensures { result ≡ self.now.told }
+        ensures { result ≡ self.now.reader_done }
     {
-        self.told
+        self.reader_done
     }
 
     /// The first code stays, and what is over isn't stopped: so a half that is over keeps no code, and its numbers are few.
@@ -167,7 +167,7 @@ impl Rest {
         ensures same_highest { highest self.new ≡ highest self.old }
     {
         self.stop(code);
-        self.told = true;
+        self.reader_done = true;
     }
 
     pub(crate) fn raise(&mut self) -> Option<u64>
@@ -229,7 +229,7 @@ impl Rest {
         ensures readable { result.is_readable ≡ is_readable self.now }
         ensures ended { result.has_ended ≡ is_over self.now }
     {
-        if self.told {
+        if self.reader_done {
             return Standing {
                 is_readable: false,
                 has_ended: self.is_over(),
@@ -320,13 +320,13 @@ impl Rest {
         ensures { result ≡ state self.now }
     {
         if self.is_reset {
-            if self.told {
+            if self.reader_done {
                 RecvState::ResetRead
             } else {
                 RecvState::ResetRecvd
             }
         } else if self.is_whole() {
-            if self.told {
+            if self.reader_done {
                 RecvState::DataRead
             } else {
                 RecvState::DataRecvd
@@ -341,7 +341,7 @@ impl Rest {
     pub(crate) fn over(&self) -> Option<Over>
         ensures { IfSome result (λ over. over ≡ self.now) }
     {
-        if !self.told || self.is_reset || self.is_stopped || !self.is_sized {
+        if !self.reader_done || self.is_reset || self.is_stopped || !self.is_sized {
             return None;
         }
         Some(Over {
@@ -390,15 +390,15 @@ impl Rest {
 
     // After a reset, or once over: nothing asks any more which offsets came.
     fn keeps_none(&self) -> bool
-        ensures { result ≡ ((self.now.told && is_whole self.now) || is_some self.now.reset_code) }
+        ensures { result ≡ ((self.now.reader_done && is_whole self.now) || is_some self.now.reset_code) }
     {
-        (self.told && self.is_whole()) || self.is_reset
+        (self.reader_done && self.is_whole()) || self.is_reset
     }
 
     pub(crate) fn is_over(&self) -> bool
         ensures { result ≡ is_over self.now }
     {
-        self.told && (self.is_reset || self.is_whole())
+        self.reader_done && (self.is_reset || self.is_whole())
     }
 
     fn is_whole(&self) -> bool

@@ -20,7 +20,7 @@ use Rattle.qs_runs.proofs.Runs.{run_keeps}
 use Rattle.qs_runs.proofs.Clauses.{prefix}
 use Rattle.qs_rest.specs.Invariant.{RestOk}
 use Rattle.qs_rest.specs.Rest.{AtRest}
-use Rattle.qs_rest.specs.Resting.{AtEachRest, OnceTold, KnowsFirstLimits, HasRoom, IsReadAtBoth, IsAhead, HasCreditAhead, AllIsDelivered}
+use Rattle.qs_rest.specs.Resting.{AtEachRest, OnceLimitsKnown, KnowsFirstLimits, HasRoom, IsReadAtBoth, IsAhead, HasCreditAhead, AllIsDelivered}
 use Rattle.qs_rest.proofs.Runs.{every_run_keeps}
 use Rattle.qs_rest.proofs.Telling.{full, ahead, all_or_limit, end_acked}
 use Rattle.qs_rest.proofs.Resting.{limits_known, window_known}
@@ -150,8 +150,8 @@ module _ (a b : Settings) (h : History) (w : World) (ok : WorldOk a b h w) (keep
         is_ended = λ finished. all_has_ended n l at none room finished;
       }
 
-pub each_credit_ahead : AtEachRest (OnceTold HasCreditAhead)
+pub each_credit_ahead : AtEachRest (OnceLimitsKnown HasCreditAhead)
 each_credit_ahead a b h w run rest s told = credit_ahead a b h w (run_keeps a b h w run) (every_run_keeps a b h w run) rest s told
 
-pub each_delivered : AtEachRest (OnceTold AllIsDelivered)
+pub each_delivered : AtEachRest (OnceLimitsKnown AllIsDelivered)
 each_delivered a b h w run rest s told = all_is_delivered a b h w (run_keeps a b h w run) (every_run_keeps a b h w run) rest s told

@@ -98,7 +98,7 @@ reads_at_rest r limit stop told =
     record {
       quiet = silent (reads_by r) (reads_silent r limit stop);
       landed = λ p flies. carried-empty p flies;
-      told = λ n l at. (let same : l ≡ r = only_open r l n at in rw same told);
+      read_out = λ n l at. (let same : l ≡ r = only_open r l n at in rw same told);
     }
 
 is_there : (r : RecvLane) → recv_lane (reads_by r) 0 ≡ Some r
@@ -117,11 +117,11 @@ first_came = contains-with_range set.empty 0 3 0 ∙ go
 rests : IsAtRest
 rests =
     record {
-      new = λ role. record { quiet = silent (new_end role standard default_tuning (limits_of standard)) (new_silent role); landed = λ p flies. carried-empty p flies; told = λ n l at. absurd (none-some l (sym (no_lane n) ∙ at)) };
+      new = λ role. record { quiet = silent (new_end role standard default_tuning (limits_of standard)) (new_silent role); landed = λ p flies. carried-empty p flies; read_out = λ n l at. absurd (none-some l (sym (no_lane n) ∙ at)) };
       ack = record {
         quiet = silent _ (record { sends = (new_silent Client).sends; granted = omega arith; bidi = omega arith; uni = omega arith; recvs = (new_silent Client).recvs; wants_bidi = refl; wants_uni = refl });
         landed = λ p flies. carried-empty p flies;
-        told = λ n l at. absurd (none-some l (sym (no_lane n) ∙ at));
+        read_out = λ n l at. absurd (none-some l (sym (no_lane n) ∙ at));
       };
       waits = reads_at_rest fresh refl refl waiting;
       told_end = reads_at_rest _ refl refl refl;
@@ -141,7 +141,7 @@ end_due rest =
     rest.quiet (inr (0, (finished, refl, inr (due, refl))))
 
 unread : AtRest (reads_by three_came) → ⊥
-unread rest = subst (λ b. TellsNoNews (if b then Bytes (length (front_of three_came.arrived 1)) else Wait) three_came) first_came (rest.told 0 three_came (is_there three_came))
+unread rest = subst (λ b. TellsNoNews (if b then Bytes (length (front_of three_came.arrived 1)) else Wait) three_came) first_came (rest.read_out 0 three_came (is_there three_came))
 
 others : IsNotAtRest
 others =
@@ -154,10 +154,10 @@ others =
         λ rest. rest.landed (Told (MaxData 4096)) (one_carried 0 (Told (MaxData 4096))),
       );
       unread = (mute _ (reads_silent three_came refl refl) refl, unread);
-      untold_end = (mute _ (reads_silent (take_stream fresh 0 [] true) refl refl) refl, λ rest. false≢true (rest.told 0 _ (is_there (take_stream fresh 0 [] true))));
+      untold_end = (mute _ (reads_silent (take_stream fresh 0 [] true) refl refl) refl, λ rest. false≢true (rest.read_out 0 _ (is_there (take_stream fresh 0 [] true))));
       untold_reset = (
         mute _ (reads_silent (record fresh { final_size = Some 0; reset_code = Some 7 }) refl refl) refl,
-        λ rest. false≢true (rest.told 0 _ (is_there (record fresh { final_size = Some 0; reset_code = Some 7 }))),
+        λ rest. false≢true (rest.read_out 0 _ (is_there (record fresh { final_size = Some 0; reset_code = Some 7 }))),
       );
     }
 

@@ -23,7 +23,7 @@ module _ (e : End) (open_end : e.closed ≡ None) (true_of : (n : ℕ) (l : Recv
       record {
         quiet = λ more. quiet (open_end, more);
         landed = none_outstanding e none;
-        told = λ n l is. no_news l (true_of n l is) (go n l is (is_readable l) refl);
+        read_out = λ n l is. no_news l (true_of n l is) (go n l is (is_readable l) refl);
       }
     where
       go : (n : ℕ) (l : RecvLane) → recv_lane e n ≡ Some l → (b : Bool) → is_readable l ≡ b → is_readable l ≡ false

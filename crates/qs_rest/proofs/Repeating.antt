@@ -9,7 +9,7 @@ use Rattle.qs_send.specs.Records.{Among}
 use Rattle.qs_calls.specs.declared.settings.Settings.{Settings}
 use Rattle.qs_calls.specs.declared.closing.Closing.{Closing}
 use Rattle.qs_calls.specs.declared.closing.Closed.{Closed}
-use Rattle.qs_calls.specs.declared.closing.Closed.TheVariants.{ByUs, ByPeer, Told}
+use Rattle.qs_calls.specs.declared.closing.Closed.TheVariants.{ByUs, ByPeer, Noted}
 use Rattle.qs_calls.specs.declared.closing.Closer.{Closer}
 use Rattle.qs_calls.specs.declared.closing.Closer.TheVariants.{Us, Peer}
 use Rattle.qs_calls.specs.declared.closing.Received.{Received}
@@ -26,7 +26,7 @@ use Rattle.qs_machine.specs.Seen.{Seen, Close, seen, seen_all}
 use Rattle.qs_machine.specs.Verdicts.{verdict}
 use Rattle.qs_machine.specs.FrameStep.{frames_taken}
 use Rattle.qs_machine.specs.Recording.{recorded}
-use Rattle.qs_machine.specs.Receiving.{ReceiveBy, TakesPayload, EndsBy, Stops, told_receive}
+use Rattle.qs_machine.specs.Receiving.{ReceiveBy, TakesPayload, EndsBy, Stops, noted_receive}
 use Rattle.qs_machine.specs.Alone.{is_ours, TakesOne, TakeBy, TakeAllBy}
 use Rattle.qs_machine.specs.Standing.{IsSound}
 use Rattle.qs_machine.specs.Repeats.{SentWasWritten}
@@ -73,9 +73,9 @@ module _ (e new : End) (sound : IsSound e) (sent : SentWasWritten e) where
   payload_still : (k : ℕ) (text : List ℕ) (result : Result Received Closing) → result ≡ Ok Done → (o : Option Closed) → ReceiveBy o k text e result new → AllByRecursion (StillDone new) (frames_in text)
   payload_still k text result done (Some (ByUs closing)) h = absurd (cc (sym h.0 ∙ done))
   payload_still k text result done (Some (ByPeer code)) h = absurd (cc (sym h.0 ∙ done))
-  payload_still k text result done (Some (Told close)) h = never close.by (sym h.0 ∙ done)
+  payload_still k text result done (Some (Noted close)) h = never close.by (sym h.0 ∙ done)
     where
-      never : (c : Closer) → told_receive c close.code ≡ Ok Done → AllByRecursion (StillDone new) (frames_in text)
+      never : (c : Closer) → noted_receive c close.code ≡ Ok Done → AllByRecursion (StillDone new) (frames_in text)
       never Us is = absurd (cc is)
       never Peer is = absurd (cc is)
   payload_still k text result done None h =

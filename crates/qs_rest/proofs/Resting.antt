@@ -27,7 +27,7 @@ use Rattle.qs_runs.proofs.Runs.{run_keeps, opposite, known_counts}
 use Rattle.qs_runs.proofs.Clauses.{known_is_within_granted}
 use Rattle.qs_rest.specs.Invariant.{WasTold, ItemTaken, RestOk}
 use Rattle.qs_rest.specs.Rest.{AtRest}
-use Rattle.qs_rest.specs.Resting.{ItemsAreAcked, ToldIsTaken, AtEachRest, OnceTold, KnowsFirstLimits, KnowsItsLimits}
+use Rattle.qs_rest.specs.Resting.{ItemsAreAcked, ToldIsTaken, AtEachRest, OnceLimitsKnown, KnowsFirstLimits, KnowsItsLimits}
 use Rattle.qs_rest.proofs.ItemParts.{item_part}
 use Rattle.qs_rest.proofs.Runs.{every_run_keeps}
 
@@ -116,5 +116,5 @@ module _ (a b : Settings) (h : History) (w : World) (ok : WorldOk a b h w) (keep
 pub told_taken : ToldIsTaken
 told_taken a b h w run s i told = taken a b h w (run_keeps a b h w run) (every_run_keeps a b h w run) s i told
 
-pub each_limit_known : AtEachRest (OnceTold KnowsItsLimits)
+pub each_limit_known : AtEachRest (OnceLimitsKnown KnowsItsLimits)
 each_limit_known a b h w run rest s told = limits_known a b h w (run_keeps a b h w run) (every_run_keeps a b h w run) rest s told

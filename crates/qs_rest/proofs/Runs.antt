@@ -28,7 +28,7 @@ use Rattle.qs_calls.specs.declared.token.TokenFault.{TokenFault}
 use Rattle.qs_machine.specs.Tables.{lookup}
 use Rattle.qs_machine.specs.Ends.{End, AckedItems, first_send_limit, new_end, wide_end_made}
 use Rattle.qs_machine.specs.Credit.{settle}
-use Rattle.qs_machine.specs.Receiving.{told_receive, told_by, ReceiveStep, ReceiveBy}
+use Rattle.qs_machine.specs.Receiving.{noted_receive, noted_by, ReceiveStep, ReceiveBy}
 use Rattle.qs_machine.specs.Plains.{frames_in}
 use Rattle.qs_machine.specs.Alone.{token_refusal}
 use Rattle.qs_machine.specs.FrameStep.{AckedPiece, acks, named, held, frame_taken}
@@ -198,9 +198,9 @@ after_payload p e new k text result good ok heard step = by_closed e.closed refl
     by_closed : (o : Option Closed) → e.closed ≡ o → ReceiveBy o k text e result new → After p (frames_in text) e result new
     by_closed (Some (ByUs closing)) at h = stays (Err closing) (λ d. absurd (cc d)) h.0 h.1
     by_closed (Some (ByPeer code)) at h = stays (Ok (PeerClosed code)) (λ d. absurd (cc d)) h.0 h.1
-    by_closed (Some (closings.Told close)) at h = stays (told_receive close.by close.code) (never_done close.by) h.0 h.1
+    by_closed (Some (closings.Noted close)) at h = stays (noted_receive close.by close.code) (never_done close.by) h.0 h.1
       where
-        never_done : (c : Closer) → told_receive c close.code ≡ Ok Done → ⊥
+        never_done : (c : Closer) → noted_receive c close.code ≡ Ok Done → ⊥
         never_done Us d = absurd (cc d)
         never_done Peer d = absurd (cc d)
     by_closed None at h =
@@ -271,7 +271,7 @@ module _ (xs ys : List Effect) (e new : End) (sound : IsSound e) (sent : SentWas
   call_rests (RaiseLimits limits) given heard is = goes_on (RaiseLimits limits) given tt (raise_rests old e new limits given sound sent ok is)
   call_rests (NoteClosed close) given heard is = moved_rests (NoteClosed close) given is (subst (Moved old e) (sym is) (by_closed e.closed)) tt
     where
-      by_closed : (o : Option Closed) → Moved old e (told_by o close e)
+      by_closed : (o : Option Closed) → Moved old e (noted_by o close e)
       by_closed (Some closed) = moved_same old e (slots old e ok) ok.acked
       by_closed None = moved_same old e (slots old e ok) ok.acked
   call_rests call given heard is = moved_rests call given is (moved_call old e call (λ no. no) (slots old e ok) ok.acked given new is) tt

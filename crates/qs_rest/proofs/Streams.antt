@@ -55,7 +55,7 @@ module _ (a b : Settings) (h : History) (w : World) (ok : WorldOk a b h w) (keep
   lawful r is = (subst (HasLawfulLane (end_of w (other s)).role (end_of w (other s)).settings n) is ((ok.sound (other s)).0.lanes n)).0
 
   pub no_news : (r : RecvLane) → receiving w s n ≡ Some r → TellsNoNews (read_answer r 1) r
-  no_news r is = (rest (other s)).told n r is
+  no_news r is = (rest (other s)).read_out n r is
 
   pub sender_ok : (l : SendLane) → sending w s n ≡ Some l → SendOk (past s h) n (first_send_limit (end_of w s) n) l
   sender_ok l at = subst (SendSlot (past s h) n (first_send_limit (end_of w s) n)) at ((ok.ends s).sends n)

@@ -65,11 +65,11 @@ ahead l t w share is = elim (cases_lt l MAX_VARINT) [ inl lt ↦ inl (go _ refl 
 
 module _ (r : RecvLane) (lawful : IsLawful r) (rest : TellsNoNews (read_answer r 1) r) where
   -- a reset was told
-  pub reset_told : (code : ℕ) → r.reset_code ≡ Some code → r.told ≡ true
+  pub reset_told : (code : ℕ) → r.reset_code ≡ Some code → r.reader_done ≡ true
   reset_told code is = rw is at rest
 
   -- a reader that neither knows a reset nor stopped has read up to the final size, or to an offset that didn't come
-  open_reader : r.reset_code ≡ None → r.stop_code ≡ None → ((r.final_size ≡ Some r.arrived.read_count) × (r.told ≡ true)) ⊎ (set.contains r.arrived.received r.arrived.read_count ≡ false)
+  open_reader : r.reset_code ≡ None → r.stop_code ≡ None → ((r.final_size ≡ Some r.arrived.read_count) × (r.reader_done ≡ true)) ⊎ (set.contains r.arrived.received r.arrived.read_count ≡ false)
   open_reader no_reset no_stop = go (at_final_size r.arrived.read_count r.final_size) (set.contains r.arrived.received r.arrived.read_count) refl refl
     where
       sized : (o : Option ℕ) (k : ℕ) → at_final_size k o ≡ true → o ≡ Some k
@@ -77,7 +77,7 @@ module _ (r : RecvLane) (lawful : IsLawful r) (rest : TellsNoNews (read_answer r
       sized (Some size) k e = ap Some (sym (eqb-true k size e))
 
       go : (a b : Bool) → at_final_size r.arrived.read_count r.final_size ≡ a → set.contains r.arrived.received r.arrived.read_count ≡ b →
-          ((r.final_size ≡ Some r.arrived.read_count) × (r.told ≡ true)) ⊎ (set.contains r.arrived.received r.arrived.read_count ≡ false)
+          ((r.final_size ≡ Some r.arrived.read_count) × (r.reader_done ≡ true)) ⊎ (set.contains r.arrived.received r.arrived.read_count ≡ false)
       go true b ea eb = inl (sized r.final_size r.arrived.read_count ea, rw (no_reset, no_stop, ea) at rest)
       go false true ea eb = absurd (rw (no_reset, no_stop, ea, eb) at rest)
       go false false ea eb = inr eb
@@ -107,7 +107,7 @@ module _ (r : RecvLane) (lawful : IsLawful r) (rest : TellsNoNews (read_answer r
           same ∙ read ex ey (omega (arith, same, taken_within r lawful))
 
   -- where all came and no reset is known, the end was told
-  pub end_told : r.reset_code ≡ None → is_whole r ≡ true → r.told ≡ true
+  pub end_told : r.reset_code ≡ None → is_whole r ≡ true → r.reader_done ≡ true
   end_told none whole = go r.stop_code refl
     where
       all : (o : Option ℕ) → whole_to r.arrived.received o ≡ true → (q : ℕ) → q < unwrap_or o (end_of r.arrived.received) → set.contains r.arrived.received q ≡ true
@@ -118,7 +118,7 @@ module _ (r : RecvLane) (lawful : IsLawful r) (rest : TellsNoNews (read_answer r
       sized None e whole same read = absurd (false≢true whole)
       sized (Some size) e whole same read = grind (arith, nat_tests)
 
-      go : (x : Option ℕ) → r.stop_code ≡ x → r.told ≡ true
+      go : (x : Option ℕ) → r.stop_code ≡ x → r.reader_done ≡ true
       go (Some code) e = rw (none, e, whole) at rest
       go None e =
           let read : taken r ≡ r.arrived.read_count = rw (none, e) refl in
@@ -241,9 +241,9 @@ stop_told code l h = cond_both (is_some l.stop_code || is_over l) l (record l { 
 forget_told : (code : ℕ) (l : RecvLane) → ToldTrue l → ToldTrue (stop_and_discard l code)
 forget_told code l h told = go (is_some l.stop_code) (is_over l) refl refl
   where
-    go : (a o : Bool) → is_some l.stop_code ≡ a → is_over l ≡ o → IsToldOf (record (cond (a || o) l (record l { arrived = discard l.arrived; stop_code = Some code })) { told = true })
+    go : (a o : Bool) → is_some l.stop_code ≡ a → is_over l ≡ o → IsToldOf (record (cond (a || o) l (record l { arrived = discard l.arrived; stop_code = Some code })) { reader_done = true })
     go true o ea eo = inr (inl ea)
-    go false true ea eo = h (and_parts l.told (is_some l.reset_code || is_whole l) eo).0
+    go false true ea eo = h (and_parts l.reader_done (is_some l.reset_code || is_whole l) eo).0
     go false false ea eo = inr (inl refl)
 
 answer_told : (size : ℕ) (l : RecvLane) → ToldTrue l → ToldTrue (after_read l size)
@@ -257,7 +257,7 @@ answer_told size l h = go (read_answer l size) refl
 
 -- the second half is the first as a frame leaves it
 pub record Held (l m : RecvLane) : Type 0 where
-  pub told : l.told ≡ true
+  pub told : l.reader_done ≡ true
   pub stopped : is_some l.stop_code ≡ true → is_some m.stop_code ≡ true
   pub read : m.arrived.read_count ≡ l.arrived.read_count
 
@@ -313,7 +313,7 @@ told_settles e all = slots_each (λ m o. ToldSlot o) raise e.recvs (λ m. go (lo
 
 abbrev HeldSlot : Tables RecvLane → ℕ → Option RecvLane → Type 0
 HeldSlot t n None = Unit {0}
-HeldSlot t n (Some m) = m.told ≡ true → (l : RecvLane) × (lookup t n ≡ Some l) × Held l m
+HeldSlot t n (Some m) = m.reader_done ≡ true → (l : RecvLane) × (lookup t n ≡ Some l) × Held l m
 
 abbrev pub AllHeld : Tables RecvLane → Tables RecvLane → Type 0
 AllHeld t u = (n : ℕ) → HeldSlot t n (lookup u n)
@@ -327,7 +327,7 @@ held_same t n = go (lookup t n) refl
 
 -- such a change of a half leaves these alone
 record Leaves (l m : RecvLane) : Type 0 where
-  told : m.told ≡ l.told
+  told : m.reader_done ≡ l.reader_done
   stopped : m.stop_code ≡ l.stop_code
   read : m.arrived.read_count ≡ l.arrived.read_count
 
@@ -415,15 +415,15 @@ told_call old sound sent all call answer new step =
 -- A reader of an end that nothing waits for was told all
 
 pub no_news : (l : RecvLane) → ToldTrue l → is_readable l ≡ false → TellsNoNews (read_answer l 1) l
-no_news l true_of quiet = go l.told (read_answer l 1) refl refl
+no_news l true_of quiet = go l.reader_done (read_answer l 1) refl refl
   where
-    go : (t : Bool) (r : Read) → l.told ≡ t → read_answer l 1 ≡ r → TellsNoNews r l
+    go : (t : Bool) (r : Read) → l.reader_done ≡ t → read_answer l 1 ≡ r → TellsNoNews r l
     go true (reads.Bytes n) et er = absurd (no_bytes 1 n l (true_of et) er)
     go true reads.End et er = et
     go true (reads.Reset code) et er = et
     go true reads.Wait et er = tt
     go false reads.Wait et er = tt
-    go false _ et er = absurd (false≢true (sym quiet ∙ ap (λ x. not l.told && tells_something x) er ∙ ap (λ x. not x && true) et))
+    go false _ et er = absurd (false≢true (sym quiet ∙ ap (λ x. not l.reader_done && tells_something x) er ∙ ap (λ x. not x && true) et))
 
 -- A half whose reader stopped stays so, and has taken all that came.
 

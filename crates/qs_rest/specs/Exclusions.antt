@@ -29,9 +29,9 @@ pub record IsAtRest : Type 0 where
   -- whose reader waits (section 2.2)
   pub waits : AtRest (reads_by fresh)
   -- whose reader was told the end (section 3.2)
-  pub told_end : AtRest (reads_by (record (take_stream fresh 0 [] true) { told = true }))
+  pub told_end : AtRest (reads_by (record (take_stream fresh 0 [] true) { reader_done = true }))
   -- or the reset (section 3.2)
-  pub told_reset : AtRest (reads_by (record fresh { final_size = Some 0; reset_code = Some 7; told = true }))
+  pub told_reset : AtRest (reads_by (record fresh { final_size = Some 0; reset_code = Some 7; reader_done = true }))
 
 -- It isn't at rest
 pub record IsNotAtRest : Type 0 where

@@ -53,7 +53,7 @@ IsToldOf l = (is_some l.reset_code ≡ true) ⊎ (is_some l.stop_code ≡ true) 
 
 -- a reader was told of the end, or wants to be told of nothing, only where that stands (RFC 9000, section 3.2)
 abbrev pub ToldTrue : RecvLane → Type 0
-ToldTrue l = l.told ≡ true → IsToldOf l
+ToldTrue l = l.reader_done ≡ true → IsToldOf l
 
 -- What a STOP_SENDING did, for good: its stream was reset, or all of it was acknowledged, or its owner answers it and was told (RFC 9000,
 -- section 3.5).

@@ -20,8 +20,8 @@ use Rattle.qs_rest.specs.Invariant.{RestOk}
 -- a read has no byte to hand out, and no end or reset that wasn't told (RFC 9000, section 3.2)
 abbrev pub TellsNoNews : Read → RecvLane → Type 0
 TellsNoNews (reads.Bytes n) l = ⊥
-TellsNoNews reads.End l = l.told ≡ true
-TellsNoNews (reads.Reset code) l = l.told ≡ true
+TellsNoNews reads.End l = l.reader_done ≡ true
+TellsNoNews (reads.Reset code) l = l.reader_done ≡ true
 TellsNoNews reads.Wait l = ⊤
 
 -- a control item is to go out, or bytes or the end of a stream that no limit holds back (RFC 9000, sections 4.1 and 13.3)
@@ -33,7 +33,7 @@ HasMore e = ((i : Item) × IsDueItem e i) ⊎ ((n : ℕ) × StreamGoes e n)
 pub record AtRest (e : End) : Type 0 where
   pub quiet : HasMore e → ⊥
   pub landed : (p : Piece) → IsOutstanding e p → ⊥
-  pub told : (n : ℕ) (l : RecvLane) → recv_lane e n ≡ Some l → TellsNoNews (read_answer l 1) l
+  pub read_out : (n : ℕ) (l : RecvLane) → recv_lane e n ≡ Some l → TellsNoNews (read_answer l 1) l
 
 -- in every run each end keeps what a rest needs
 abbrev pub EveryRunKeeps : Type 0

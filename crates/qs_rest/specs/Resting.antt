@@ -42,8 +42,8 @@ abbrev pub KnowsFirstLimits : World → Side → Type 0
 KnowsFirstLimits w s = (end_of w s).peer ≡ limits_of (end_of w (other s)).settings
 
 -- what holds of a sender that was told them (RFC 9000, section 7.4.1)
-abbrev pub OnceTold : (History → World → Side → Type 0) → History → World → Side → Type 0
-OnceTold P h w s = KnowsFirstLimits w s → P h w s
+abbrev pub OnceLimitsKnown : (History → World → Side → Type 0) → History → World → Side → Type 0
+OnceLimitsKnown P h w s = KnowsFirstLimits w s → P h w s
 
 -- whatever happens, an end that was told them knows them
 abbrev pub FirstLimitsStay : Type 0

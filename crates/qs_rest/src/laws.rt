@@ -4,7 +4,7 @@ ghost use Rattle.qs_rest.specs.Laws.{ItemsAreInOnePart, AllButAcksAsk, StopsGive
 ghost use Rattle.qs_rest.specs.Rest.{EveryRunKeeps, IdleIsRest};
 ghost use Rattle.qs_rest.specs.Again.{FramesRepeat};
 ghost use Rattle.qs_rest.specs.Exclusions.{Exclusions};
-ghost use Rattle.qs_rest.specs.Resting.{ItemsAreAcked, ToldIsTaken, AtEachRest, OnceTold, FirstLimitsStay, TakenInIsTold, EventRunsTell, KnowsItsLimits, CreditIsWhole, HasCreditAhead, ResetsAreFinal, AllIsDelivered};
+ghost use Rattle.qs_rest.specs.Resting.{ItemsAreAcked, ToldIsTaken, AtEachRest, OnceLimitsKnown, FirstLimitsStay, TakenInIsTold, EventRunsTell, KnowsItsLimits, CreditIsWhole, HasCreditAhead, ResetsAreFinal, AllIsDelivered};
 
 /// Each item that is to be told is in an outstanding packet, or was acknowledged, or is due.
 pub fn items_are_in_one_part()
@@ -56,7 +56,7 @@ pub fn frames_repeat()
 /// At rest each limit that is granted is known, and each count of streams, and that is the next one; of an end that was told its peer's
 /// true limits.
 pub fn limits_are_known()
-    ensures { AtEachRest (OnceTold KnowsItsLimits) }
+    ensures { AtEachRest (OnceLimitsKnown KnowsItsLimits) }
 {}
 
 /// At rest all credit is paid back, of the connection and of each stream.
@@ -67,7 +67,7 @@ pub fn credit_is_whole()
 /// At rest more than each window less a step is left to its sender, so more than half of it, and a byte at least, unless the limit is the
 /// greatest one; of an end that was told its peer's true limits.
 pub fn credit_is_ahead()
-    ensures { AtEachRest (OnceTold HasCreditAhead) }
+    ensures { AtEachRest (OnceLimitsKnown HasCreditAhead) }
 {}
 
 /// At rest each stream that was reset, or whose reader stopped, has come to its end at both ends.
@@ -78,7 +78,7 @@ pub fn resets_are_final()
 /// At rest no limit holds a stream back that wasn't reset: what was written was read, and a stream that was finished is delivered; of an end
 /// that was told its peer's true limits.
 pub fn all_is_delivered()
-    ensures { AtEachRest (OnceTold AllIsDelivered) }
+    ensures { AtEachRest (OnceLimitsKnown AllIsDelivered) }
 {}
 
 /// Small ends that are at rest, and one that isn't for each clause.

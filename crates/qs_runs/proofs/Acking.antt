@@ -74,13 +74,13 @@ module _ (p : Past) (n limit : ℕ) (l : SendLane) (h : SendOk p n limit l) wher
   stopped_by code true refused = h
   stopped_by code false allowed = send_same (reset_by code false allowed)
 
-  told_by : (code : ℕ) (b : Bool) → SendOk p n limit (if b then l else record l { stopped = first_code l.stopped code })
-  told_by code true = h
-  told_by code false = send_same h
+  noted_by : (code : ℕ) (b : Bool) → SendOk p n limit (if b then l else record l { stopped = first_code l.stopped code })
+  noted_by code true = h
+  noted_by code false = send_same h
 
   -- a STOP_SENDING resets it, or is told (RFC 9000, section 3.5)
   pub stopped_ok : (answers : Bool) (code : ℕ) → SendOk p n limit (stop_taken answers l code)
-  stopped_ok true code = told_by code (is_some (reset_refusal l))
+  stopped_ok true code = noted_by code (is_some (reset_refusal l))
   stopped_ok false code = stopped_by code (is_some (reset_refusal l)) refl
 
   pub stopped_end : (answers : Bool) (code : ℕ) → (stop_taken answers l code).sent_end ≡ l.sent_end

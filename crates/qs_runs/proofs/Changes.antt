@@ -70,7 +70,7 @@ send_same h = send_alike h (λ is. is) (λ k ack. ack) h.sent_limit h.limit_told
 
 -- A limit rises, an end is given, and what no clause speaks of may be anything.
 pub recv_alike : {mine theirs : Packets} {given : List ℕ} {stopped ended was told : Bool} {n w top window widest : ℕ} {share : Share} {l : RecvLane} → RecvTrue mine theirs given stopped ended n w l → l.limit ≤ top →
-    (was ≡ true → (size : ℕ) × (l.arrived.read_count ≡ size) × (l.final_size ≡ Some size) × TellsEnd theirs n size) → RecvTrue mine theirs given stopped was n w (record l { arrived = record l.arrived { widest = widest }; told = told; limit = top; window = window; share = share })
+    (was ≡ true → (size : ℕ) × (l.arrived.read_count ≡ size) × (l.final_size ≡ Some size) × TellsEnd theirs n size) → RecvTrue mine theirs given stopped was n w (record l { arrived = record l.arrived { widest = widest }; reader_done = told; limit = top; window = window; share = share })
 recv_alike h rises is_end =
     record {
       received = h.received;
@@ -266,7 +266,7 @@ read_end l size is none = go l.reset_code l.final_size refl refl
     go None (Some end) er ef = part end er ef _ refl (rw (er, none, ef) at is)
     go None None er ef = absurd (more _ (rw (er, none, ef) at is))
 
-pub told_grows : (l m : RecvLane) → Grows l m → Grows l (record m { told = true })
+pub told_grows : (l m : RecvLane) → Grows l m → Grows l (record m { reader_done = true })
 told_grows l m g = record { received = g.received; final = g.final; reset = g.reset }
 
 module _ (p : Past) (n w : ℕ) (l : RecvLane) (h : RecvOk p n w l) where
@@ -292,7 +292,7 @@ module _ (p : Past) (n w : ℕ) (l : RecvLane) (h : RecvOk p n w l) where
         limit_told = h.limit_told;
       }
 
-  pub read_told_ok : (ended : Bool) → (ended ≡ true → (size : ℕ) × (l.arrived.read_count ≡ size) × (l.final_size ≡ Some size) × TellsEnd p.theirs n size) → RecvTrue p.mine p.theirs (p.gave n) (p.stopped n) ended n w (record l { told = true })
+  pub read_told_ok : (ended : Bool) → (ended ≡ true → (size : ℕ) × (l.arrived.read_count ≡ size) × (l.final_size ≡ Some size) × TellsEnd p.theirs n size) → RecvTrue p.mine p.theirs (p.gave n) (p.stopped n) ended n w (record l { reader_done = true })
   read_told_ok ended is_end = recv_alike h (omega arith) is_end
 
   pub end_by_fin : (size : ℕ) → read_answer l size ≡ reads.End → l.stop_code ≡ None → (end : ℕ) × (l.arrived.read_count ≡ end) × (l.final_size ≡ Some end) × TellsEnd p.theirs n end

@@ -444,7 +444,7 @@ refused_payload : (o : Option Closed) (e new : End) (k : ℕ) (bytes : List ℕ)
 refused_payload None e new k bytes answer shut h = absurd (false≢true shut)
 refused_payload (Some (closings.ByUs closing)) e new k bytes answer shut h = ap (effects_of (Receive k bytes)) h.0
 refused_payload (Some (closings.ByPeer code)) e new k bytes answer shut h = ap (effects_of (Receive k bytes)) h.0
-refused_payload (Some (closings.Told close)) e new k bytes answer shut h = ap (effects_of (Receive k bytes)) h.0 ∙ never_done k bytes close.by close.code
+refused_payload (Some (closings.Noted close)) e new k bytes answer shut h = ap (effects_of (Receive k bytes)) h.0 ∙ never_done k bytes close.by close.code
 
 refused_token : (b : Bool) (r : Option TokenFault) (e new : End) (t : Token) (answer : Answer (TokenAcked t)) (Effect : Type 0) → b ≡ true → Certain (first_refusal (refuse_if b tokens.Closed) r) e answer new Effect → effects_of (TokenAcked t) answer ≡ []
 refused_token true r e new t answer Effect shut h = ap (effects_of (TokenAcked t)) h.0

@@ -263,7 +263,7 @@ module _ (p : Past) (old : End) (kept : (k : ℕ) → set.contains old.done k �
       let end : fin ≡ true → (l.finished ≡ true) × (offset + length bytes ≡ l.written) = λ is. ((may.end is).0.finished, (may.end is).1) in
       let m : SendLane = sent_lane l c in
       let moved = sent_ok _ _ _ _ n (first_send_limit e n) l h c may.no_reset may.inside may.within end in
-      let chunk = chunk_true _ _ _ _ n (first_send_limit e n) l h c may.no_reset may.inside may.within end bytes refl may.told (λ q low high. (may.due q low high).not_acked) in
+      let chunk = chunk_true _ _ _ _ n (first_send_limit e n) l h c may.no_reset may.inside may.within end bytes refl may.bytes_are (λ q low high. (may.due q low high).not_acked) in
       let e' : End = record e { sends = update e.sends n m } in
       let ok' : EndHas (with_packet p pre) (counted e') 0 = lane_changed _ (counted e) 0 n l m ok may.lane moved in
       let put : EndHas (with_packet p (pre ++ f ∷ [])) (counted e') 0 = packet_put p pre (counted e') f ok' (m, lookup_same e.sends n l m may.lane, chunk) (ap (λ x. x + 1) at) in

@@ -41,7 +41,7 @@ use Rattle.qs_machine.specs.Owner.{first_refusal, refuse_if, send_refusal, recv_
 use Rattle.qs_machine.specs.Alone.{token_refusal, TokenLostStep, LosesEach}
 use Rattle.qs_calls.specs.declared.closing.Closed.{Closed as ClosedEnd}
 use Rattle.qs_calls.specs.declared.closing.NotedClose.{NotedClose}
-use Rattle.qs_machine.specs.Receiving.{told_by}
+use Rattle.qs_machine.specs.Receiving.{noted_by}
 use Rattle.qs_machine.specs.Laws.{StaysOnceClosed}
 use Rattle.qs_machine.specs.EndStep.{Call, Answer, EndStep, Open, Accept, AcceptOf, Write, Finish, Reset, Stop, StopAndDiscard, ReadUpTo, Consume, Receive, TakeFrame, TakeFrames, TokenAcked, TokenLost, Make, MakeAck, FillIn, Lose, Claim, RaiseLimits, Set, NoteClosed, ClosingPayload, Stored, Granted, Spent, GrantedStreams, Report}
 use Rattle.qs_runs.specs.Logs.{Stopped, Ended, Sent, if_ok, read_effects, effects_of}
@@ -531,7 +531,7 @@ Sends (FillIn want room) = ⊤
 Sends Claim = ⊤
 Sends call = ⊥
 
-told_moves : (p : Past) (e : End) (close : NotedClose) (o : Option ClosedEnd) → EndOk p e → EndOk p (told_by o close e)
+told_moves : (p : Past) (e : End) (close : NotedClose) (o : Option ClosedEnd) → EndOk p e → EndOk p (noted_by o close e)
 told_moves p e close (Some closed) ok = ok
 told_moves p e close None ok = record { sends = ok.sends; recvs = ok.recvs; packets = ok.packets; taken = ok.taken; credit = ok.credit; streams = ok.streams }
 

@@ -13,7 +13,7 @@ use Rattle.qs_calls.specs.declared.closing.Closing.{Closing}
 use Rattle.qs_calls.specs.declared.closing.Closed.{Closed}
 use Rattle.qs_calls.specs.declared.closing.Closer.{Closer}
 use Rattle.qs_calls.specs.declared.closing.Closer.TheVariants.{Us, Peer}
-use Rattle.qs_machine.specs.Receiving.{told_by, told_receive, ReceiveStep, ReceiveBy, Takes, Stops, AtEnd, RunsOut, TakesPayload}
+use Rattle.qs_machine.specs.Receiving.{noted_by, noted_receive, ReceiveStep, ReceiveBy, Takes, Stops, AtEnd, RunsOut, TakesPayload}
 use Rattle.qs_calls.specs.declared.closing.Closed.TheVariants.{ByUs, ByPeer}
 use Rattle.qs_calls.specs.declared.closing.Closed.TheVariants as closings
 use Rattle.qs_calls.specs.declared.closing.Received.{Received}
@@ -190,7 +190,7 @@ module _ (p : Past) (k : ℕ) (bytes : List ℕ) (come : (g : Seen) → Among g 
       (All_append (FrameTaken (frame_taken f e).recvs) before (f ∷ []) (All_more (FrameTaken e.recvs) (FrameTaken (frame_taken f e).recvs) before (frame_stays e.recvs (frame_taken f e).recvs one.grow) taken) (one.taken, tt)) rest
 
 -- a close that was told brings in nothing
-pub never_done : (k : ℕ) (bytes : List ℕ) (c : Closer) (code : ℕ) → effects_of (Receive k bytes) (told_receive c code) ≡ []
+pub never_done : (k : ℕ) (bytes : List ℕ) (c : Closer) (code : ℕ) → effects_of (Receive k bytes) (noted_receive c code) ≡ []
 never_done k bytes Us code = refl
 never_done k bytes Peer code = refl
 
@@ -208,7 +208,7 @@ receives p e new k bytes result ok come step = by_closed e.closed step
     by_closed : (o : Option Closed) → ReceiveBy o k bytes e result new → EndOk (with_effects (effects_of (Receive k bytes) result) p) new
     by_closed (Some (ByUs closing)) h = stays (Err closing) refl h.0 h.1
     by_closed (Some (ByPeer code)) h = stays (Ok (PeerClosed code)) refl h.0 h.1
-    by_closed (Some (closings.Told close)) h = stays (told_receive close.by close.code) (never_done k bytes close.by close.code) h.0 h.1
+    by_closed (Some (closings.Noted close)) h = stays (noted_receive close.by close.code) (never_done k bytes close.by close.code) h.0 h.1
     by_closed None h =
         by_open (EndOk (with_effects (effects_of (Receive k bytes) result) p) new) k bytes e result new h (stays (Ok BelowFloor) refl) (stays (Ok Duplicate) refl) (λ high mid takes same.
         settled_ok result mid new same (takes_ok p k bytes come (reading_of bytes).left [] false (reading_of bytes).fault e result mid refl ok (ltb-false k e.floor high) tt takes))
@@ -605,7 +605,7 @@ none_spent e new (RaiseLimits q) answer idle step =
     elim (certain_cases (raise_refusal e q) e answer new _ step) [ inl (fault, is, same) ↦ ap spent same | inr (allowed, (is, same)) ↦ ap spent same ∙ settle_spends (limits_raised q e) ]
 none_spent e new (NoteClosed close) answer idle step = ap spent step ∙ by e.closed
   where
-    by : (o : Option Closed) → spent (told_by o close e) ≡ spent e
+    by : (o : Option Closed) → spent (noted_by o close e) ≡ spent e
     by None = refl
     by (Some closed) = refl
 none_spent e new (Receive k bytes) answer idle step = absurd (idle tt)

@@ -24,7 +24,7 @@ use Rattle.qs_calls.specs.declared.event.Side.TheVariants.{A, B}
 use Rattle.qs_machine.specs.Ends.{End, new_end, wide_end_made, is_own_by}
 use Rattle.qs_machine.specs.Credit.{first_grant, granted_streams}
 use Rattle.qs_machine.specs.Owner.{first_refusal, refuse_if}
-use Rattle.qs_machine.specs.Receiving.{ReceiveStep, told_by}
+use Rattle.qs_machine.specs.Receiving.{ReceiveStep, noted_by}
 use Rattle.qs_machine.specs.Seen.{Seen, seen_all}
 use Rattle.qs_machine.specs.Plains.{frames_in}
 use Rattle.qs_machine.specs.Alone.{is_ours}
@@ -196,10 +196,10 @@ module _ (granted : PeerLimits → Type 0) (told : Bool) (e : End) (peer : grant
   open_raise None r allowed = refl
   open_raise (Some closed) r allowed = absurd (none-some _ (sym allowed))
 
-  told_stays : (close : NotedClose) (o : Option Closed) → Stays granted told e (told_by o close e) (NotedClosed ∷ [])
+  told_stays : (close : NotedClose) (o : Option Closed) → Stays granted told e (noted_by o close e) (NotedClosed ∷ [])
   told_stays close o = by o
     where
-      by : (o : Option Closed) → Stays granted told e (told_by o close e) (NotedClosed ∷ [])
+      by : (o : Option Closed) → Stays granted told e (noted_by o close e) (NotedClosed ∷ [])
       by (Some closed) = all_stays e (NotedClosed ∷ []) refl
       by None = record { role = refl; settings = refl; peer = peer; closed = λ none. absurd (true≢false none) }
 

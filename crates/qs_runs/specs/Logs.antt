@@ -56,7 +56,7 @@ pub data Effect : Type 0 where
 
 -- of a call that was refused there are none
 abbrev pub if_ok : {R F : Type 0} → Result R F → (R → List Effect) → List Effect
-if_ok (Ok told) effects = effects told
+if_ok (Ok value) effects = effects value
 if_ok (Err fault) effects = []
 
 -- a read gave these bytes of the stream, or told its end
@@ -102,11 +102,11 @@ effects_of (Finish n) answer = []
 effects_of (Reset n code) answer = []
 effects_of (Stop n code) answer = if_ok answer (λ done. Stopped n ∷ [])
 effects_of (StopAndDiscard n code) answer = if_ok answer (λ done. Stopped n ∷ [])
-effects_of (ReadUpTo n size) answer = if_ok answer.0 (λ told. read_effects n told answer.1)
-effects_of (Consume n most) answer = if_ok answer.0 (λ told. read_effects n told.read answer.1 ++ (if told.at_end then Ended n ∷ [] else []))
+effects_of (ReadUpTo n size) answer = if_ok answer.0 (λ value. read_effects n value answer.1)
+effects_of (Consume n most) answer = if_ok answer.0 (λ value. read_effects n value.read answer.1 ++ (if value.at_end then Ended n ∷ [] else []))
 effects_of (Receive k bytes) answer = if_ok answer (came_effects k bytes)
-effects_of (TakeFrame f) answer = if_ok answer (λ told. CameAlone (f ∷ []) ∷ [])
-effects_of (TakeFrames fs) answer = if_ok answer (λ told. CameAlone fs ∷ [])
+effects_of (TakeFrame f) answer = if_ok answer (λ value. CameAlone (f ∷ []) ∷ [])
+effects_of (TakeFrames fs) answer = if_ok answer (λ value. CameAlone fs ∷ [])
 effects_of (TokenAcked t) answer = acked_effects t answer
 effects_of (TokenLost t) answer = []
 effects_of (Make first delay room) answer = if_ok answer.0 (λ packet. sent_effects packet answer.1)

@@ -11,7 +11,7 @@ use Rattle.qs_send.specs.declared.parts.SendFault.TheVariants.{Finished, WasRese
 use Rattle.qs_send.specs.Lane.{Sending, SendLane, refusal, reset_refusal, is_whole, size_of, declared_size, finish_lane, broken_off, first_code, lost_due, after_write}
 use Rattle.qs_send.specs.Chunks.{IsDueChunk, WasSent}
 use Rattle.qs_send.specs.Sound.{IsLawful, IsEnded}
-use Rattle.qs_send.specs.Calls.{writes, finishes, resets, stops, tells_stop, allows, buffers, sends, acks, loses}
+use Rattle.qs_send.specs.Calls.{writes, finishes, resets, stops, asks_stop, allows, buffers, sends, acks, loses}
 use Rattle.qs_send.specs.Laws.{CallsKeepLawful, DeclaredSizeStays, OnlyNewBytesSpend}
 use Rattle.qs_send.proofs.Steps.{lawful_write, lawful_reset, lawful_sent, lawful_acked, lawful_lost, due_within, none_due, reset_size-is}
 
@@ -76,9 +76,9 @@ stopped_by s code true h = h
 stopped_by s code false h = lawful_kept (record { lane = broken_off s.lane code; due = record { offsets = set.empty; fin = false } }) (first_code s.lane.stopped code) (reset_by s code false h)
 
 -- and all that it keeps where the owner answers it
-told_by : (s : Sending) (code : ℕ) (b : Bool) → IsLawful s → IsLawful (record s { lane = if b then s.lane else record s.lane { stopped = first_code s.lane.stopped code } })
-told_by s code true h = h
-told_by s code false h = lawful_kept s (first_code s.lane.stopped code) h
+noted_by : (s : Sending) (code : ℕ) (b : Bool) → IsLawful s → IsLawful (record s { lane = if b then s.lane else record s.lane { stopped = first_code s.lane.stopped code } })
+noted_by s code true h = h
+noted_by s code false h = lawful_kept s (first_code s.lane.stopped code) h
 
 pub calls_keep_lawful : CallsKeepLawful
 calls_keep_lawful s (writes bytes) h may =
@@ -92,7 +92,7 @@ calls_keep_lawful s finishes h may =
     finish_by s (refusal s.lane) h (λ none. let free = not_refused _ _ none in lawful_finish s h free.0 free.1)
 calls_keep_lawful s (resets code) h may = reset_by s code (is_some (reset_refusal s.lane)) h
 calls_keep_lawful s (stops code) h may = stopped_by s code (is_some (reset_refusal s.lane)) h
-calls_keep_lawful s (tells_stop code) h may = told_by s code (is_some (reset_refusal s.lane)) h
+calls_keep_lawful s (asks_stop code) h may = noted_by s code (is_some (reset_refusal s.lane)) h
 calls_keep_lawful s (allows limit) h may =
     let small = h.order.small_limit in
     let sent = h.order.sent_limit in
@@ -165,7 +165,7 @@ declared_size_stays s (writes bytes) size h may is = write_keeps s bytes size h 
 declared_size_stays s finishes size h may is = stays (λ (x : Sending). declared_size x.lane) (is_some (refusal s.lane)) s _ refl ∙ is
 declared_size_stays s (resets code) size h may is = reset_keeps s.lane code size s.lane.was_reset (is_whole s.lane) refl is
 declared_size_stays s (stops code) size h may is = stopped_keeps s.lane code size s.lane.was_reset (is_whole s.lane) refl is
-declared_size_stays s (tells_stop code) size h may is = stays declared_size (is_some (reset_refusal s.lane)) s.lane _ refl ∙ is
+declared_size_stays s (asks_stop code) size h may is = stays declared_size (is_some (reset_refusal s.lane)) s.lane _ refl ∙ is
 declared_size_stays s (sends chunk) size h may is = sent_keeps s chunk size h may is
 declared_size_stays s (loses chunk) size h may is = stays (λ (x : Sending). declared_size x.lane) (is_some s.lane.was_reset) s _ refl ∙ is
 declared_size_stays _ _ _ _ _ is = is
@@ -191,7 +191,7 @@ pub only_new_bytes_spend : OnlyNewBytesSpend
 only_new_bytes_spend s finishes h may = nothing_new _ _ _ (stays (λ (x : Sending). x.lane.sent_end) (is_some (refusal s.lane)) s _ refl)
 only_new_bytes_spend s (resets code) h may = nothing_new _ _ _ (stays (λ (l : SendLane). l.sent_end) (is_some (reset_refusal s.lane)) s.lane _ refl)
 only_new_bytes_spend s (stops code) h may = nothing_new _ _ _ (stays (λ (l : SendLane). l.sent_end) (is_some (reset_refusal s.lane)) s.lane _ refl)
-only_new_bytes_spend s (tells_stop code) h may = nothing_new _ _ _ (stays (λ (l : SendLane). l.sent_end) (is_some (reset_refusal s.lane)) s.lane _ refl)
+only_new_bytes_spend s (asks_stop code) h may = nothing_new _ _ _ (stays (λ (l : SendLane). l.sent_end) (is_some (reset_refusal s.lane)) s.lane _ refl)
 only_new_bytes_spend s (sends chunk) h may = (omega arith, new_bytes chunk.offset (chunk.offset + chunk.len) s.lane.sent_end (starts_by s chunk may h))
 only_new_bytes_spend s (loses chunk) h may = nothing_new _ _ _ (stays (λ (x : Sending). x.lane.sent_end) (is_some s.lane.was_reset) s _ refl)
 only_new_bytes_spend _ _ _ _ = nothing_new _ _ _ refl

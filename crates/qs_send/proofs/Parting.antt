@@ -10,7 +10,7 @@ use Rattle.qs_send.specs.declared.parts.Chunk.{Chunk}
 use Rattle.qs_send.specs.declared.parts.Reset.{Reset}
 use Rattle.qs_send.specs.Lane.{Sending, refusal, reset_refusal, lost_due}
 use Rattle.qs_send.specs.Sound.{IsLawful}
-use Rattle.qs_send.specs.Calls.{writes, finishes, resets, stops, tells_stop, sends, acks, loses}
+use Rattle.qs_send.specs.Calls.{writes, finishes, resets, stops, asks_stop, sends, acks, loses}
 use Rattle.qs_send.specs.Parts.{bit, MovesParts}
 use Rattle.qs_send.specs.Laws.{EachOffsetIsInOnePart, InFlightWasSent, CallsMoveParts}
 
@@ -102,7 +102,7 @@ calls_move_parts s (writes bytes) h none may = record { acked = refl; due = refl
 calls_move_parts s finishes h none may = cond_both (is_some (refusal s.lane)) s _ (MovesParts s finishes) (λ _. record { acked = refl; due = refl; in_flight = refl }) (λ _. record { acked = refl; due = refl; in_flight = refl })
 calls_move_parts s (resets code) h none may = reset_moves s code _ (is_some (reset_refusal s.lane)) h refl
 calls_move_parts s (stops code) h none may = stopped_moves s code _ _ (is_some (reset_refusal s.lane)) h refl
-calls_move_parts s (tells_stop code) h none may = cond_both (is_some (reset_refusal s.lane)) s.lane _ (λ l. MovesParts s (tells_stop code) (record s { lane = l })) (λ _. record { acked = refl; due = refl; in_flight = refl }) (λ _. record { acked = refl; due = refl; in_flight = refl })
+calls_move_parts s (asks_stop code) h none may = cond_both (is_some (reset_refusal s.lane)) s.lane _ (λ l. MovesParts s (asks_stop code) (record s { lane = l })) (λ _. record { acked = refl; due = refl; in_flight = refl }) (λ _. record { acked = refl; due = refl; in_flight = refl })
 calls_move_parts s (sends chunk) h none may =
     record { acked = refl; due = refl; in_flight = rest-sent s.lane.written chunk.offset (chunk.offset + chunk.len) s.lane.acked s.due.offsets h.parts.due_written h.parts.apart may.due }
 calls_move_parts s (acks chunk) h none may = record { acked = refl; due = refl; in_flight = rest-acked s.lane.written chunk.offset (chunk.offset + chunk.len) s.lane.acked s.due.offsets }

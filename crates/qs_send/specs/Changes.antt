@@ -8,9 +8,9 @@ abbrev pub stop_changes : SendLane → Bool
 stop_changes lane = is_none (reset_refusal lane)
 
 -- whether one changes a lane whose owner answers it: it can be reset still, and none came before (ours, beside RFC 9000, section 3.5)
-abbrev pub told_changes : SendLane → Bool
-told_changes lane = is_none (reset_refusal lane) && is_none lane.stopped
+abbrev pub asked_changes : SendLane → Bool
+asked_changes lane = is_none (reset_refusal lane) && is_none lane.stopped
 
 -- the same, whether or not the owner answers it (RFC 9000, section 3.5)
 abbrev pub changes_by_stop : (owner_answers : Bool) → SendLane → Bool
-changes_by_stop owner_answers lane = if owner_answers then told_changes lane else stop_changes lane
+changes_by_stop owner_answers lane = if owner_answers then asked_changes lane else stop_changes lane

@@ -156,19 +156,19 @@ after_stopped s code = record (after_reset s code) { lane = stopped_lane s.lane 
 
 -- a STOP_SENDING came that the owner answers: its code is kept where the lane can be reset, and it goes on (ours, beside RFC 9000,
 -- section 3.5)
-abbrev pub told_lane : SendLane → ℕ → SendLane
-told_lane lane code = if is_some (reset_refusal lane) then lane else record lane { stopped = first_code lane.stopped code }
+abbrev pub asked_lane : SendLane → ℕ → SendLane
+asked_lane lane code = if is_some (reset_refusal lane) then lane else record lane { stopped = first_code lane.stopped code }
 
 -- what is due stays due
-abbrev pub after_told : Sending → ℕ → Sending
-after_told s code = record s { lane = told_lane s.lane code }
+abbrev pub after_asked : Sending → ℕ → Sending
+after_asked s code = record s { lane = asked_lane s.lane code }
 
 -- a STOP_SENDING came, which the owner answers or not (RFC 9000, section 3.5)
 abbrev pub stop_taken : (owner_answers : Bool) → SendLane → ℕ → SendLane
-stop_taken owner_answers lane code = if owner_answers then told_lane lane code else stopped_lane lane code
+stop_taken owner_answers lane code = if owner_answers then asked_lane lane code else stopped_lane lane code
 
 abbrev pub after_stop : (owner_answers : Bool) → Sending → ℕ → Sending
-after_stop owner_answers s code = if owner_answers then after_told s code else after_stopped s code
+after_stop owner_answers s code = if owner_answers then after_asked s code else after_stopped s code
 
 -- the RESET_STREAM was acknowledged (RFC 9000, section 3.1)
 abbrev pub reset_acked_lane : SendLane → SendLane

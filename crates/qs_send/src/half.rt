@@ -4,9 +4,9 @@ ghost use Rattle.qs_ranges.specs.Numbers.{MAX_VARINT, MissesRange};
 ghost use Rattle.qs_send.specs.Chunks.{IsDueChunk, WasSent};
 ghost use Rattle.qs_send.specs.Sound.{IsLawful};
 ghost use Rattle.qs_send.specs.declared.parts.Reset.{Reset};
-ghost use Rattle.qs_send.specs.Changes.{stop_changes, told_changes};
+ghost use Rattle.qs_send.specs.Changes.{stop_changes, asked_changes};
 ghost use Rattle.qs_send.specs.Writable.{is_writable};
-ghost use Rattle.qs_send.specs.Lane.{new_sending, free_room, unacked_from, accepted, refusal, answer_of, reset_refusal, is_whole, state, declared_size, after_write, after_finish, after_reset, first_code, after_stopped, after_told, after_reset_acked, after_blocked, after_allow, after_buffer, after_sent, after_acked, after_lost};
+ghost use Rattle.qs_send.specs.Lane.{new_sending, free_room, unacked_from, accepted, refusal, answer_of, reset_refusal, is_whole, state, declared_size, after_write, after_finish, after_reset, first_code, after_stopped, after_asked, after_reset_acked, after_blocked, after_allow, after_buffer, after_sent, after_acked, after_lost};
 
 use crate::offsets::Offsets;
 use crate::parts::{Chunk, SendFault, SendState};
@@ -179,7 +179,7 @@ impl SendHalf {
     /// on (RFC 9000, section 3.5).
     pub fn told_stop(&mut self, code: u64)
         requires { code ≤ MAX_VARINT }
-        ensures { self.new ≡ after_told self.old code }
+        ensures { self.new ≡ after_asked self.old code }
     {
         if self.was_reset() || self.is_whole() {
             return;
@@ -214,8 +214,8 @@ impl SendHalf {
     }
 
     /// Whether one that the application answers would change it: none came before either (RFC 9000, section 3.5).
-    pub fn told_changes(&self) -> bool
-        ensures { result ≡ told_changes self.now.lane }
+    pub fn asked_changes(&self) -> bool
+        ensures { result ≡ asked_changes self.now.lane }
     {
         if self.stop_code.get().is_some() {
             return false;

@@ -1,7 +1,7 @@
 //! A sending half to be read, over or not. One type for both, so that a caller needn't know how a half is kept.
 ghost use Rattle.std.specs.Prelude.{◌≡◌, ◌+◌, ◌*◌, ◌/◌, ◌%◌, ◌==◌, ◌≤◌, ◌↔◌, ◌++◌, IsTrue, length, true, is_some, option_map, Some, None, IfSome, IfNone};
 ghost use Rattle.qs_ranges.specs.Numbers.{MAX_VARINT};
-ghost use Rattle.qs_send.specs.Changes.{stop_changes, told_changes};
+ghost use Rattle.qs_send.specs.Changes.{stop_changes, asked_changes};
 ghost use Rattle.qs_send.specs.Chunks.{has_unsent, IsNextChunk, HasNoChunk, IsHeldByRoom, HasBytes};
 ghost use Rattle.qs_send.specs.Halves.{over_sending, IsOver, IsOverSlot};
 ghost use Rattle.qs_send.specs.Lane.{bytes_of, declared_size, free_room, is_whole, refusal, state, unacked_from};
@@ -122,12 +122,12 @@ impl<'a> SendView<'a> {
     }
 
     #[inline(always)]
-    pub fn told_changes(&self) -> bool
-        ensures { result ≡ told_changes self.now.lane }
+    pub fn asked_changes(&self) -> bool
+        ensures { result ≡ asked_changes self.now.lane }
     {
         match self.half {
             Viewed::Over(_) => false,
-            Viewed::Full(half) => half.told_changes(),
+            Viewed::Full(half) => half.asked_changes(),
         }
     }
 

@@ -14,7 +14,7 @@ use Rattle.qs_calls.specs.declared.event.Side.TheVariants.{A, B}
 use Rattle.qs_world.specs.declared.report.LaneTotals.{LaneTotals}
 use Rattle.qs_runs.specs.Worlds.{World}
 use Rattle.qs_world.specs.Reports.{totals_by, lane_totals, longest, stream_bound, all_lanes}
-use Rattle.qs_world.specs.LaneLists.{sending, receiving, told_lane, lanes_of, lanes_from}
+use Rattle.qs_world.specs.LaneLists.{sending, receiving, asked_lane, lanes_of, lanes_from}
 
 -- One stream
 
@@ -30,24 +30,24 @@ receiving_is None (Some r) = refl
 receiving_is (Some l) None = refl
 receiving_is (Some l) (Some r) = refl
 
-told_totals : (s : Side) (n : ℕ) (l : Option SendLane) (r : Option RecvLane) → option_to_list (told_lane s n (option_map send_report l) (option_map recv_report r)) ≡ totals_by s n l r
+told_totals : (s : Side) (n : ℕ) (l : Option SendLane) (r : Option RecvLane) → option_to_list (asked_lane s n (option_map send_report l) (option_map recv_report r)) ≡ totals_by s n l r
 told_totals s n None None = refl
 told_totals s n None (Some r) = refl
 told_totals s n (Some l) None = refl
 told_totals s n (Some l) (Some r) = refl
 
-lane_told : (s : Side) (n : ℕ) (l m : Option SendLane) (r q : Option RecvLane) → option_to_list (told_lane s n (sending (report_if l q)) (receiving (report_if m r))) ≡ totals_by s n l r
+lane_told : (s : Side) (n : ℕ) (l m : Option SendLane) (r q : Option RecvLane) → option_to_list (asked_lane s n (sending (report_if l q)) (receiving (report_if m r))) ≡ totals_by s n l r
 lane_told s n l m r q = rw (sending_is l q, receiving_is m r) (told_totals s n l r)
 
 -- what both ends tell of a stream, added to the lanes before it
 pub stream_told : (w : World) (n : ℕ) (old mid new : List LaneTotals) (at_a at_b : Option LaneReport) →
     at_a ≡ lane_report w.a n → at_b ≡ lane_report w.b n →
-    mid ≡ old ++ option_to_list (told_lane A n (sending at_a) (receiving at_b)) →
-    new ≡ mid ++ option_to_list (told_lane B n (sending at_b) (receiving at_a)) →
+    mid ≡ old ++ option_to_list (asked_lane A n (sending at_a) (receiving at_b)) →
+    new ≡ mid ++ option_to_list (asked_lane B n (sending at_b) (receiving at_a)) →
     new ≡ old ++ lanes_of w n
 stream_told w n old mid new at_a at_b a b first second =
-    let of_a : mid ≡ old ++ lane_totals w A n = first ∙ (λ i. old ++ option_to_list (told_lane A n (sending (a i)) (receiving (b i)))) ∙ ap (λ x. old ++ x) (lane_told A n (send_lane w.a n) (send_lane w.b n) (recv_lane w.b n) (recv_lane w.a n)) in
-    let of_b : new ≡ mid ++ lane_totals w B n = second ∙ (λ i. mid ++ option_to_list (told_lane B n (sending (b i)) (receiving (a i)))) ∙ ap (λ x. mid ++ x) (lane_told B n (send_lane w.b n) (send_lane w.a n) (recv_lane w.a n) (recv_lane w.b n)) in
+    let of_a : mid ≡ old ++ lane_totals w A n = first ∙ (λ i. old ++ option_to_list (asked_lane A n (sending (a i)) (receiving (b i)))) ∙ ap (λ x. old ++ x) (lane_told A n (send_lane w.a n) (send_lane w.b n) (recv_lane w.b n) (recv_lane w.a n)) in
+    let of_b : new ≡ mid ++ lane_totals w B n = second ∙ (λ i. mid ++ option_to_list (asked_lane B n (sending (b i)) (receiving (a i)))) ∙ ap (λ x. mid ++ x) (lane_told B n (send_lane w.b n) (send_lane w.a n) (recv_lane w.a n) (recv_lane w.b n)) in
     of_b ∙ ap (λ x. x ++ lane_totals w B n) of_a ∙ append_assoc old (lane_totals w A n) (lane_totals w B n)
 
 -- Many streams

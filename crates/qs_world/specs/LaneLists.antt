@@ -35,9 +35,9 @@ joined s n sent read =
     record { sender = s; id = n; written = sent.written; read = read.read_count; received = is_received sent.state; declared = sent.final_size; known = read.final_size }
 
 -- the lane of a stream with that sender, from what is told of its two halves
-abbrev pub told_lane : Side → ℕ → Option SendReport → Option RecvReport → Option LaneTotals
-told_lane s n None None = None
-told_lane s n sent read = Some (joined s n (unwrap_or sent never_sent) (unwrap_or read never_received))
+abbrev pub asked_lane : Side → ℕ → Option SendReport → Option RecvReport → Option LaneTotals
+asked_lane s n None None = None
+asked_lane s n sent read = Some (joined s n (unwrap_or sent never_sent) (unwrap_or read never_received))
 
 -- the lanes of a stream, A as sender first
 abbrev pub lanes_of : World → ℕ → List LaneTotals

@@ -1,6 +1,6 @@
 //! The report of what two endpoints have come to.
 ghost use Rattle.std.specs.Prelude.{◌≡◌, ◌++◌, ◌*◌, ◌<◌, ◌^◌, reverse, option_to_list, IfOk, IfErr, OnOk};
-ghost use Rattle.qs_world.specs.LaneLists.{sending, receiving, told_lane, lanes_of, lanes_from};
+ghost use Rattle.qs_world.specs.LaneLists.{sending, receiving, asked_lane, lanes_of, lanes_from};
 ghost use Rattle.qs_world.specs.Copies.{IsReportOf};
 ghost use Rattle.qs_world.specs.Reports.{is_received, all_lanes, end_totals};
 ghost use Rattle.qs_world.specs.declared.report.PlayFault.TheVariants.{NoMemory};
@@ -142,7 +142,7 @@ fn lane_of(
     sent: Option<SendReport>,
     read: Option<RecvReport>,
 ) -> Option<LaneTotals>
-    ensures { result ≡ told_lane sender id sent read }
+    ensures { result ≡ asked_lane sender id sent read }
 {
     if sent.is_none() && read.is_none() {
         return None;

@@ -7,9 +7,9 @@ ghost use Rattle.qs_machine.specs.Seen.{seen};
 ghost use Rattle.qs_machine.specs.Receiving.{closing_at};
 ghost use Rattle.qs_machine.specs.Changes.{is_yet_to_open, item_changes, changes};
 ghost use Rattle.qs_conn.specs.Seen.{view_seen, SeenFits};
-ghost use Rattle.qs_machine.specs.Alone.{is_ours, alone, closed_fault, told_fault, of_both, TakesOne, TakesEach, TakeFrameStep, TakeFramesStep};
+ghost use Rattle.qs_machine.specs.Alone.{is_ours, alone, closed_fault, noted_fault, of_both, TakesOne, TakesEach, TakeFrameStep, TakeFramesStep};
 
-use super::receiving::told_of_us;
+use super::receiving::noted_of_us;
 use super::{Endpoint, is_uni};
 use crate::newly_told::Silent;
 use crate::seen::{SeenFrame, has_text, is_ours, seen, type_number};
@@ -234,18 +234,18 @@ impl Endpoint {
         match self.closed {
             Some(Closed::ByUs(closing)) => Some(TakeFault::Closing(closing)),
             Some(Closed::ByPeer(code)) => Some(TakeFault::PeerClosed(code)),
-            Some(Closed::Told(close)) => Some(told_fault(close)),
+            Some(Closed::Noted(close)) => Some(noted_fault(close)),
             None => None,
         }
     }
 }
 
 // In the words that the call has, so that a stack needs no other way for it.
-fn told_fault(close: NotedClose) -> TakeFault
-    ensures { result ≡ told_fault close.by close.code }
+fn noted_fault(close: NotedClose) -> TakeFault
+    ensures { result ≡ noted_fault close.by close.code }
 {
     match close.by {
-        Closer::Us => TakeFault::Closing(told_of_us(close.code)),
+        Closer::Us => TakeFault::Closing(noted_of_us(close.code)),
         Closer::Peer => TakeFault::PeerClosed(close.code),
     }
 }

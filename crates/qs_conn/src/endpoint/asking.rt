@@ -1,7 +1,7 @@
 //! What the application and the transport may ask of an endpoint. Nothing changes.
 ghost use Rattle.std.specs.Prelude.{◌≡◌, ◌↔◌, IsTrue, ◌-◌, ◌^◌, min};
 ghost use Rattle.qs_machine.specs.Credit.{all_taken, credit_for, window_left};
-ghost use Rattle.qs_machine.specs.Asking.{GoesBesideAck, all_noted, taken, peer_closing, told_closing, streams_left, open_left, is_blocked, credit_left, room, unsent, acked_below, stopped_with, IsNextOutstanding, IsPeeked, all_unsent, all_kept};
+ghost use Rattle.qs_machine.specs.Asking.{GoesBesideAck, all_noted, taken, peer_closing, noted_closing, streams_left, open_left, is_blocked, credit_left, room, unsent, acked_below, stopped_with, IsNextOutstanding, IsPeeked, all_unsent, all_kept};
 ghost use Rattle.qs_machine.specs.Ends.{send_lane};
 ghost use Rattle.qs_machine.specs.Sums.{or_none};
 ghost use Rattle.qs_conn.specs.Sending.{credit_room};
@@ -35,10 +35,10 @@ impl Endpoint {
 
     /// The close that `note_closed` noted, `None` if it closed in another way or is open (RFC 9000, section 10.2).
     pub fn noted_close(&self) -> Option<NotedClose>
-        ensures { result ≡ told_closing self.now.closed }
+        ensures { result ≡ noted_closing self.now.closed }
     {
         match self.closed {
-            Some(Closed::Told(close)) => Some(close),
+            Some(Closed::Noted(close)) => Some(close),
             _ => None,
         }
     }

@@ -7,7 +7,7 @@ ghost use Rattle.qs_send.specs.Records.{NoneEmpty};
 ghost use Rattle.qs_machine.specs.Ends.{closes};
 ghost use Rattle.qs_machine.specs.Newly.{newly_acked};
 ghost use Rattle.qs_machine.specs.Seen.{seen};
-ghost use Rattle.qs_machine.specs.Receiving.{ReceiveStep, TakesPayload, AtEnd, closing_at, closing_of, told_receive, told_of_us};
+ghost use Rattle.qs_machine.specs.Receiving.{ReceiveStep, TakesPayload, AtEnd, closing_at, closing_of, noted_receive, noted_of_us};
 ghost use Rattle.qs_conn.specs.Layers.{TakesFrame};
 ghost use Rattle.qs_conn.specs.NewlyTold.{told_of};
 
@@ -69,7 +69,7 @@ impl Endpoint {
         match self.closed {
             Some(Closed::ByUs(closing)) => return Err(closing),
             Some(Closed::ByPeer(code)) => return Ok(Received::PeerClosed(code)),
-            Some(Closed::Told(close)) => return told_receive(close),
+            Some(Closed::Noted(close)) => return noted_receive(close),
             None => {}
         }
         if number < self.floor {
@@ -177,18 +177,18 @@ impl Endpoint {
 }
 
 // In the words that `receive` has, so that a stack needs no other way for it.
-fn told_receive(close: NotedClose) -> Result<Received, Closing>
-    ensures { result ≡ told_receive close.by close.code }
+fn noted_receive(close: NotedClose) -> Result<Received, Closing>
+    ensures { result ≡ noted_receive close.by close.code }
 {
     match close.by {
-        Closer::Us => Err(told_of_us(close.code)),
+        Closer::Us => Err(noted_of_us(close.code)),
         Closer::Peer => Ok(Received::PeerClosed(close.code)),
     }
 }
 
 // No frame's fault, so it names none.
-pub(super) fn told_of_us(code: u64) -> Closing
-    ensures { result ≡ told_of_us code }
+pub(super) fn noted_of_us(code: u64) -> Closing
+    ensures { result ≡ noted_of_us code }
 {
     Closing {
         code,

@@ -286,7 +286,7 @@ fn changed_by_stop(half: &SendView<'_>, owner_answers: bool) -> bool
     ensures { result ≡ changes_by_stop owner_answers half.now.lane }
 {
     if owner_answers {
-        half.told_changes()
+        half.asked_changes()
     } else {
         half.stop_changes()
     }

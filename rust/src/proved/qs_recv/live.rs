@@ -22,7 +22,7 @@ pub(crate) struct LiveHalf<A: Assembly> {
     is_sized: bool,
     is_reset: bool,
     is_stopped: bool,
-    told: bool,
+    reader_done: bool,
 }
 
 impl<A: Assembly> LiveHalf<A> {
@@ -41,7 +41,7 @@ impl<A: Assembly> LiveHalf<A> {
             is_sized: rest.is_sized,
             is_reset: rest.is_reset,
             is_stopped: rest.is_stopped,
-            told: rest.told,
+            reader_done: rest.reader_done,
         }
     }
 
@@ -64,7 +64,7 @@ impl<A: Assembly> LiveHalf<A> {
 
     #[inline]
     pub(crate) fn is_done(&self) -> bool {
-        self.told || self.is_stopped
+        self.reader_done || self.is_stopped
     }
 
     /// None while an offset is missing: a late frame could then want its assembly.
@@ -84,7 +84,7 @@ impl<A: Assembly> LiveHalf<A> {
             is_sized: self.is_sized,
             is_reset: self.is_reset,
             is_stopped: self.is_stopped,
-            told: self.told,
+            reader_done: self.reader_done,
         })
     }
 
@@ -207,26 +207,26 @@ impl<A: Assembly> LiveHalf<A> {
             is_sized: true,
             is_reset: true,
             is_stopped: self.is_stopped,
-            told: self.told,
+            reader_done: self.reader_done,
         })
     }
 
     #[inline]
     pub(crate) fn read(&mut self, into: &mut [u8]) -> Read {
         if self.is_reset {
-            self.told = true;
+            self.reader_done = true;
             return Read::Reset(self.reset);
         }
         if self.is_stopped {
             if self.is_whole() {
-                self.told = true;
+                self.reader_done = true;
                 return Read::End;
             }
             return Read::Wait;
         }
         if self.is_at_end() {
             self.assembly.give_back();
-            self.told = true;
+            self.reader_done = true;
             return Read::End;
         }
         if !self.assembly.received().has(self.read_count) {
@@ -254,7 +254,7 @@ impl<A: Assembly> LiveHalf<A> {
     pub(crate) fn stop_and_discard(&mut self, code: u64) {
         debug_assert!(code <= 0x3fff_ffff_ffff_ffff);
         self.stop(code);
-        self.told = true;
+        self.reader_done = true;
     }
 
     #[inline]
@@ -295,7 +295,7 @@ impl<A: Assembly> LiveHalf<A> {
         } else {
             self.read_count
         };
-        let noted = if self.is_reset || (self.told && self.is_whole()) {
+        let noted = if self.is_reset || (self.reader_done && self.is_whole()) {
             0
         } else {
             self.assembly.received().count() as u64
@@ -311,7 +311,7 @@ impl<A: Assembly> LiveHalf<A> {
 
     #[inline]
     pub(crate) fn standing(&self) -> Standing {
-        if self.told {
+        if self.reader_done {
             return Standing {
                 is_readable: false,
                 has_ended: self.is_reset || self.is_whole(),
@@ -360,19 +360,19 @@ impl<A: Assembly> LiveHalf<A> {
 
     #[inline]
     pub(crate) fn is_told(&self) -> bool {
-        self.told
+        self.reader_done
     }
 
     #[inline]
     pub(crate) fn state(&self) -> RecvState {
         if self.is_reset {
-            if self.told {
+            if self.reader_done {
                 RecvState::ResetRead
             } else {
                 RecvState::ResetRecvd
             }
         } else if self.is_whole() {
-            if self.told {
+            if self.reader_done {
                 RecvState::DataRead
             } else {
                 RecvState::DataRecvd
@@ -406,7 +406,7 @@ impl<A: Assembly> LiveHalf<A> {
 
     #[inline]
     pub(crate) fn is_over(&self) -> bool {
-        self.told && (self.is_reset || self.is_whole())
+        self.reader_done && (self.is_reset || self.is_whole())
     }
 
     fn is_at_end(&self) -> bool {
@@ -455,19 +455,19 @@ impl<A: Skipping> LiveHalf<A> {
     #[inline]
     pub(crate) fn skip(&mut self, most: usize) -> Read {
         if self.is_reset {
-            self.told = true;
+            self.reader_done = true;
             return Read::Reset(self.reset);
         }
         if self.is_stopped {
             if self.is_whole() {
-                self.told = true;
+                self.reader_done = true;
                 return Read::End;
             }
             return Read::Wait;
         }
         if self.is_at_end() {
             self.assembly.give_back();
-            self.told = true;
+            self.reader_done = true;
             return Read::End;
         }
         if !self.assembly.received().has(self.read_count) {

@@ -26,7 +26,7 @@ impl Over {
             is_sized: true,
             is_reset: false,
             is_stopped: false,
-            told: true,
+            reader_done: true,
         }
     }
 

@@ -21,7 +21,7 @@ pub(crate) struct Rest {
     pub(crate) is_sized: bool,
     pub(crate) is_reset: bool,
     pub(crate) is_stopped: bool,
-    pub(crate) told: bool,
+    pub(crate) reader_done: bool,
 }
 
 impl Rest {
@@ -44,7 +44,7 @@ impl Rest {
             is_sized: false,
             is_reset: false,
             is_stopped: false,
-            told: false,
+            reader_done: false,
         }
     }
 
@@ -79,11 +79,11 @@ impl Rest {
     #[inline]
     pub(crate) fn read(&mut self) -> Read {
         if self.is_reset {
-            self.told = true;
+            self.reader_done = true;
             return Read::Reset(self.reset);
         }
         if self.ends() {
-            self.told = true;
+            self.reader_done = true;
             return Read::End;
         }
         Read::Wait
@@ -99,7 +99,7 @@ impl Rest {
 
     #[inline]
     pub(crate) fn is_told(&self) -> bool {
-        self.told
+        self.reader_done
     }
 
     /// The first code stays, and what is over isn't stopped: so a half that is over keeps no code, and its numbers are few.
@@ -120,7 +120,7 @@ impl Rest {
     pub(crate) fn stop_and_discard(&mut self, code: u64) {
         debug_assert!(code <= 0x3fff_ffff_ffff_ffff);
         self.stop(code);
-        self.told = true;
+        self.reader_done = true;
     }
 
     #[inline]
@@ -161,7 +161,7 @@ impl Rest {
 
     #[inline]
     pub(crate) fn standing(&self) -> Standing {
-        if self.told {
+        if self.reader_done {
             return Standing {
                 is_readable: false,
                 has_ended: self.is_over(),
@@ -233,13 +233,13 @@ impl Rest {
     #[inline]
     pub(crate) fn state(&self) -> RecvState {
         if self.is_reset {
-            if self.told {
+            if self.reader_done {
                 RecvState::ResetRead
             } else {
                 RecvState::ResetRecvd
             }
         } else if self.is_whole() {
-            if self.told {
+            if self.reader_done {
                 RecvState::DataRead
             } else {
                 RecvState::DataRecvd
@@ -253,7 +253,7 @@ impl Rest {
 
     #[inline]
     pub(crate) fn over(&self) -> Option<Over> {
-        if !self.told || self.is_reset || self.is_stopped || !self.is_sized {
+        if !self.reader_done || self.is_reset || self.is_stopped || !self.is_sized {
             return None;
         }
         Some(Over {
@@ -290,12 +290,12 @@ impl Rest {
 
     // After a reset, or once over: nothing asks any more which offsets came.
     fn keeps_none(&self) -> bool {
-        (self.told && self.is_whole()) || self.is_reset
+        (self.reader_done && self.is_whole()) || self.is_reset
     }
 
     #[inline]
     pub(crate) fn is_over(&self) -> bool {
-        self.told && (self.is_reset || self.is_whole())
+        self.reader_done && (self.is_reset || self.is_whole())
     }
 
     fn is_whole(&self) -> bool {

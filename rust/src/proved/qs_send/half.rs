@@ -160,7 +160,7 @@ impl SendHalf {
 
     /// Whether one that the application answers would change it: none came before either (RFC 9000, section 3.5).
     #[inline]
-    pub fn told_changes(&self) -> bool {
+    pub fn asked_changes(&self) -> bool {
         if self.stop_code.get().is_some() {
             return false;
         }

@@ -74,10 +74,10 @@ impl<'a> SendView<'a> {
     }
 
     #[inline(always)]
-    pub fn told_changes(&self) -> bool {
+    pub fn asked_changes(&self) -> bool {
         match self.half {
             Viewed::Over(_) => false,
-            Viewed::Full(half) => half.told_changes(),
+            Viewed::Full(half) => half.asked_changes(),
         }
     }
 

@@ -157,7 +157,7 @@ fn take(half: &mut SendHalf, step: Step) -> Result<bool, Fail> {
         Step::Reset(code, answer) => return Ok(half.reset(u64::from(code)) == answer),
         Step::Stop(code) => half.stopped(u64::from(code)),
         Step::Tell(code, changes, kept) => {
-            let changed = half.told_changes();
+            let changed = half.asked_changes();
             half.told_stop(u64::from(code));
             return Ok(changed == changes && half.stop_code() == kept);
         }

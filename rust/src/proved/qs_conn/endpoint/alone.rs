@@ -1,7 +1,7 @@
 // Made from crates/qs_conn/src/endpoint/alone.rt by rust/erase; not edited by hand.
 //! Frames without their packet, for a stack with packet numbers and ACKs of its own.
 
-use super::receiving::told_of_us;
+use super::receiving::noted_of_us;
 use super::{Endpoint, is_uni};
 use crate::proved::qs_conn::newly_told::Silent;
 use crate::proved::qs_conn::seen::{SeenFrame, has_text, is_ours, seen, type_number};
@@ -197,16 +197,16 @@ impl Endpoint {
         match self.closed {
             Some(Closed::ByUs(closing)) => Some(TakeFault::Closing(closing)),
             Some(Closed::ByPeer(code)) => Some(TakeFault::PeerClosed(code)),
-            Some(Closed::Told(close)) => Some(told_fault(close)),
+            Some(Closed::Noted(close)) => Some(noted_fault(close)),
             None => None,
         }
     }
 }
 
 // In the words that the call has, so that a stack needs no other way for it.
-fn told_fault(close: NotedClose) -> TakeFault {
+fn noted_fault(close: NotedClose) -> TakeFault {
     match close.by {
-        Closer::Us => TakeFault::Closing(told_of_us(close.code)),
+        Closer::Us => TakeFault::Closing(noted_of_us(close.code)),
         Closer::Peer => TakeFault::PeerClosed(close.code),
     }
 }

@@ -30,7 +30,7 @@ impl Endpoint {
     #[inline]
     pub fn noted_close(&self) -> Option<NotedClose> {
         match self.closed {
-            Some(Closed::Told(close)) => Some(close),
+            Some(Closed::Noted(close)) => Some(close),
             _ => None,
         }
     }

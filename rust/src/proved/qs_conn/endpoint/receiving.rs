@@ -52,7 +52,7 @@ impl Endpoint {
         match self.closed {
             Some(Closed::ByUs(closing)) => return Err(closing),
             Some(Closed::ByPeer(code)) => return Ok(Received::PeerClosed(code)),
-            Some(Closed::Told(close)) => return told_receive(close),
+            Some(Closed::Noted(close)) => return noted_receive(close),
             None => {}
         }
         if number < self.floor {
@@ -134,16 +134,16 @@ impl Endpoint {
 }
 
 // In the words that `receive` has, so that a stack needs no other way for it.
-fn told_receive(close: NotedClose) -> Result<Received, Closing> {
+fn noted_receive(close: NotedClose) -> Result<Received, Closing> {
     match close.by {
-        Closer::Us => Err(told_of_us(close.code)),
+        Closer::Us => Err(noted_of_us(close.code)),
         Closer::Peer => Ok(Received::PeerClosed(close.code)),
     }
 }
 
 // No frame's fault, so it names none.
 #[inline]
-pub(super) fn told_of_us(code: u64) -> Closing {
+pub(super) fn noted_of_us(code: u64) -> Closing {
     Closing {
         code,
         frame_type: 0,

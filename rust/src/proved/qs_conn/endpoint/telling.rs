@@ -15,6 +15,6 @@ impl Endpoint {
         if self.closed.is_some() {
             return;
         }
-        self.closed = Some(Closed::Told(close));
+        self.closed = Some(Closed::Noted(close));
     }
 }

@@ -231,7 +231,7 @@ fn reset_by(code: Option<u64>, size: Option<u64>) -> Option<Reset> {
 
 fn changed_by_stop(half: &SendView<'_>, owner_answers: bool) -> bool {
     if owner_answers {
-        half.told_changes()
+        half.asked_changes()
     } else {
         half.stop_changes()
     }

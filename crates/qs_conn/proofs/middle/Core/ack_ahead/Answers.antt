@@ -3,7 +3,7 @@ use Rattle.qs_ranges.specs.declared.NoMemory.{NoMemory}
 use Rattle.qs_conn.specs.Runs.{AcksAhead}
 use Rattle.qs_conn.proofs.AckRuns.{pass_end, pass_stop}
 use Rattle.qs_conn.proofs.Cores.{streams_on}
-use Rattle.qs_conn.proofs.NewlyTold.{less_self, less_on, less_packet, tells_end, tells_stop}
+use Rattle.qs_conn.proofs.NewlyTold.{less_self, less_on, less_packet, tells_end, asks_stop}
 use Rattle.qs_conn.proofs.RowAcks.{at_low, from_ahead, from_less, from_le, from_told}
 use Rattle.qs_conn.proofs.middle.Core.ack_ahead.Goals as goal
 
@@ -37,7 +37,7 @@ returns-in_err-first-clause-step g c =
 pub returns-in_err-first-clause-told : goal.returns-in_err-first-clause-told
 returns-in_err-first-clause-told g c = λ early.
     c.loop-number.invariant.told c.ack_from.new.self.outbox c.loop-number.told early (less_packet c.args.late c.in-Some.number c.loop-number.self.outbox c.ack_from.new.self.outbox _ c.in_err-first.ensures.err)
-    (tells_stop _ c.args.late c.loop-number.pass c.in-Some.number c.loop-number.self.outbox c.ack_from.new.self.outbox _ c.loop-number.told early c.in_err-first.ensures.err)
+    (asks_stop _ c.args.late c.loop-number.pass c.in-Some.number c.loop-number.self.outbox c.ack_from.new.self.outbox _ c.loop-number.told early c.in_err-first.ensures.err)
 
 pub returns-clause-step : goal.returns-clause-step
 returns-clause-step g c =
