@@ -187,9 +187,13 @@ impl Run {
             let text = made.map(|made| out[..made.len].to_vec());
             self.keep(side, text);
         } else {
-            let filled = fill_one(&mut self.ends[side], &Want::all(), room);
-            self.keep(side, filled.map(|(_, text)| text));
+            self.fill(side, room);
         }
+    }
+
+    fn fill(&mut self, side: usize, room: usize) {
+        let filled = fill_one(&mut self.ends[side], &Want::all(), room);
+        self.keep(side, filled.map(|(_, text)| text));
     }
 
     fn make_ack(&mut self, side: usize) {
@@ -327,16 +331,31 @@ impl Run {
         while let Some(number) = self.ends[side].next_outstanding(0) {
             assert_eq!(self.ends[side].declare_lost(number), Ok(()));
         }
-        let mut out = [0; 200];
         let room = 128 + self.random.below(70) as usize;
-        while let Some(made) = self.ends[side].make_packet(&mut out[..room]).expect("open") {
-            let text = out[..made.len].to_vec();
-            self.keep(side, Some(text));
+        while self.sends(side, room) {
             let packet = self.packets[side].last_mut().expect("one was made");
             packet.taken.fill(true);
-            let came = self.ends[1 - side].receive(made.number, &packet.text);
+            let number = packet.token.number;
+            let came = self.ends[1 - side].receive(number, &packet.text);
             assert_eq!(came, Ok(Received::Done), "{}", self.what);
         }
+    }
+
+    // An ACK alone, a fill or a packet, and whether one was made.
+    fn sends(&mut self, side: usize, room: usize) -> bool {
+        let before = self.packets[side].len();
+        match self.random.below(3) {
+            0 => self.make_ack(side),
+            1 => self.fill(side, room),
+            _ => {}
+        }
+        if self.packets[side].len() == before {
+            let mut out = vec![0; room];
+            let made = self.ends[side].make_packet(&mut out).expect("open");
+            let text = made.map(|made| out[..made.len].to_vec());
+            self.keep(side, text);
+        }
+        self.packets[side].len() > before
     }
 
     // A round: both take their turns, and then both read.

@@ -91,7 +91,7 @@ slots_edited t n f alike = go (lookup t n) refl
 
 -- Acknowledgements
 
-alike_piece : (p : Piece) (e : End) → SendsAlike e.sends (piece_acked p e).sends
+pub alike_piece : (p : Piece) (e : End) → SendsAlike e.sends (piece_acked p e).sends
 alike_piece (Data n c) e =
     slots_edited e.sends n (λ l. acked_lane l c) (λ l. alike_by l _ _ _ l.reset_acked (λ q is. contains-with_range l.acked c.offset (c.offset + c.len) q ∙ or_left _ _ is, λ is. or_left l.fin_acked c.fin is, λ is. is))
 alike_piece (Told (ResetStream n code size)) e = slots_edited e.sends n reset_acked_lane (λ l. alike_by l l.kept l.acked l.fin_acked true (λ q is. is, λ is. is, λ is. refl))

@@ -6,6 +6,7 @@ use Rattle.std.specs.FinSet as set
 use Rattle.std.specs.Cmp.{nat_cmp_total, unsigned_tied}
 use Rattle.std.proofs.lemmas.Bool.{true≢false, cond_both}
 use Rattle.std.proofs.lemmas.Bool.Decides.{nat_tests}
+use Rattle.std.proofs.lemmas.Option.{same_Some}
 use Rattle.std.proofs.lemmas.List.Sums.{sum_by-cons}
 use Rattle.qs_ranges.specs.Numbers.{NumberSet, numbers, is_within, contains-numbers, end_of as end_of_set}
 use Rattle.qs_ranges.proofs.Sets.{end_of-last}
@@ -16,7 +17,10 @@ use Rattle.qs_wire.specs.declared.stream_id.Dir.TheVariants.{Bidi, Uni}
 use Rattle.qs_recv.specs.Lane.{RecvLane, highest, taken}
 use Rattle.qs_recv.specs.Lawful.{IsLawful}
 use Rattle.qs_send.specs.Lane.{SendLane}
-use Rattle.qs_send.specs.declared.piece.Item.TheVariants.{MaxData, MaxStreamData, MaxStreams, StopSending, DataBlocked, StreamDataBlocked, StreamsBlocked}
+use Rattle.qs_send.specs.declared.piece.Piece.{Piece}
+use Rattle.qs_send.specs.declared.piece.Piece.TheVariants.{Data, Told}
+use Rattle.qs_send.specs.declared.piece.Item.{Item}
+use Rattle.qs_send.specs.declared.piece.Item.TheVariants.{MaxData, MaxStreamData, MaxStreams, ResetStream, StopSending, DataBlocked, StreamDataBlocked, StreamsBlocked}
 use Rattle.qs_calls.specs.declared.settings.Settings.{Settings}
 use Rattle.qs_calls.specs.declared.event.Side.{Side}
 use Rattle.qs_calls.specs.declared.event.Side.TheVariants.{A, B}
@@ -26,6 +30,7 @@ use Rattle.qs_machine.specs.Credit.{granted_streams, first_grant, all_taken, rec
 use Rattle.qs_machine.specs.Due.{known_count}
 use Rattle.qs_machine.specs.Seen.{Control}
 use Rattle.qs_machine.specs.Standing.{HasLawfulLane}
+use Rattle.qs_machine.specs.Repeats.{SentWasWritten, IsWritten}
 use Rattle.qs_machine.proofs.TableLaws.{value, total_le}
 use Rattle.qs_runs.specs.Logs.{History, other}
 use Rattle.qs_runs.specs.Pasts.{past, Tells}
@@ -37,7 +42,11 @@ use Rattle.qs_runs.proofs.Runs.{run_keeps, opposite, known_counts}
 use Rattle.qs_rest.specs.Resting.{KnowsFirstLimits}
 use Rattle.qs_progress.specs.Score.{one_if, is_done, told_from, sent_marks, got_marks, marks_of, stream_marks, first_count, count_marks, credit_marks, halves, type_marks, score}
 use Rattle.qs_progress.specs.Bound.{written_at, streams_at, beyond_on, most}
+use Rattle.qs_progress.specs.Outstanding.{IsIn}
 use Rattle.qs_progress.proofs.Sums.{le_same, sum_grows, told_few}
+use Rattle.qs_progress.proofs.Alike.{SendsAlike, slots_same, alike_back}
+use Rattle.qs_progress.proofs.Facts.{Offset, Gives, facts_step}
+use Rattle.qs_progress.proofs.Ahead.{with_acks, out_of, out_in, ahead, alike_all, all_leave}
 
 -- Sets and lists
 
@@ -141,15 +150,20 @@ first_of _ b x y z = refl
 
 -- One direction: side s sends, the other one receives
 
--- Each end as it is, or as if more of what was written were acknowledged, and of its items any
+-- of what an end knows to be acknowledged
+pub acked_below : (a b : Settings) (h : History) (w : World) → WorldOk a b h w → (s : Side) (n : ℕ) (l : SendLane) → lookup (end_of w s).sends n ≡ Some l → (q : ℕ) → set.contains l.acked q ≡ true → q < l.written
+acked_below a b h w ok s n l is = acked_written (past s h).mine (past s h).theirs (past s h).tokens ((past s h).bytes n) n (first_send_limit (end_of w s) n) l (subst (SendSlot (past s h) n (first_send_limit (end_of w s) n)) is ((ok.ends s).sends n))
 
-abbrev pub AreWritten : World → (Side → Tables SendLane) → Type 0
-AreWritten w sends =
-    (s : Side) (n : ℕ) (m : SendLane) → lookup (sends s) n ≡ Some m → (l : SendLane) × (lookup (end_of w s).sends n ≡ Some l) × (m.limit ≡ l.limit) × ((q : ℕ) → set.contains m.acked q ≡ true → q < l.written)
+-- What is acknowledged at both ends may be taken to be more than it is, if all of it was written.
+pub record Acks (w : World) : Type 0 where
+  pub sends : Side → Tables SendLane
+  pub items : Side → AckedItems
+  pub alike : (s : Side) → SendsAlike (end_of w s).sends (sends s)
+  pub written : (s : Side) (n : ℕ) (l : SendLane) → lookup (sends s) n ≡ Some l → (q : ℕ) → set.contains l.acked q ≡ true → q < l.written
 
-module _ (a b : Settings) (h : History) (w : World) (ok : WorldOk a b h w) (told : (s : Side) → KnowsFirstLimits w s) (sends : Side → Tables SendLane) (acked : Side → AckedItems) (written : AreWritten w sends) where
-  abbrev pub marked : Side → End
-  marked s = record (end_of w s) { sends = sends s; acked = acked s }
+module _ (a b : Settings) (h : History) (w : World) (ok : WorldOk a b h w) (told : (s : Side) → KnowsFirstLimits w s) (acks : Acks w) where
+  abbrev seen_as : Side → End
+  seen_as s = with_acks (acks.sends s) (acks.items s) (end_of w s)
 
   module _ (s : Side) where
     abbrev here : End
@@ -194,26 +208,27 @@ module _ (a b : Settings) (h : History) (w : World) (ok : WorldOk a b h w) (told
         go None none tells = absurd (none.no_limit l.limit tells)
         go (Some r) half tells = (let le = half.limit_told l.limit tells in omega (arith, le, first_limit n))
 
-    sent_few : (n : ℕ) → marks_of (sent_marks (marked s) n) (lookup (sends s) n) ≤ bytes n + 4 * sending_one n + 2 * raised n
-    sent_few n = go (lookup (sends s) n) refl
+    sent_few : (n : ℕ) → marks_of (sent_marks (seen_as s) n) (lookup (acks.sends s) n) ≤ bytes n + 4 * sending_one n + 2 * raised n
+    sent_few n = go (lookup (acks.sends s) n) refl
       where
-        go : (o : Option SendLane) → lookup (sends s) n ≡ o → marks_of (sent_marks (marked s) n) o ≤ bytes n + 4 * sending_one n + 2 * raised n
+        go : (o : Option SendLane) → lookup (acks.sends s) n ≡ o → marks_of (sent_marks (seen_as s) n) o ≤ bytes n + 4 * sending_one n + 2 * raised n
         go None is = omega arith
-        go (Some m) is =
-            let (l, at, same, below) = written s n m is in
-            let here_is : bytes n ≡ l.written = ap (value (λ (x : SendLane). x.written)) at in
+        go (Some k) is =
+            let (l, at, like) = alike_back here.sends (acks.sends s) (acks.alike s) n k is in
+            let all : bytes n ≡ l.written = ap (value (λ (x : SendLane). x.written)) at in
             let one : sending_one n ≡ 1 = ap (value (λ (x : SendLane). 1)) at in
             omega (
               arith,
-              here_is,
-              one,
-              same,
-              len_below m.acked l.written below,
-              one_most m.fin_acked,
-              one_most m.reset_acked,
-              one_most (is_some m.stopped || is_some m.was_reset),
+              len_below k.acked k.written (acks.written s n k is),
+              one_most k.fin_acked,
+              one_most k.reset_acked,
+              one_most (is_some k.stopped || is_some k.was_reset),
               limit_raised n l at,
-              told_few (first_send_limit here n) m.limit (is_done (acked s) (StreamDataBlocked n m.limit)),
+              told_few (first_send_limit here n) k.limit (is_done (acks.items s) (StreamDataBlocked n k.limit)),
+              like.limit,
+              like.written,
+              all,
+              one,
             )
 
     -- what came was written
@@ -243,11 +258,11 @@ module _ (a b : Settings) (h : History) (w : World) (ok : WorldOk a b h w) (told
     taken_below : (n : ℕ) (r : RecvLane) → lookup there.recvs n ≡ Some r → taken r ≤ bytes n
     taken_below n r is = cond_both (is_some r.reset_code || is_some r.stop_code) (highest r) r.arrived.read_count (λ k. k ≤ bytes n) (λ _. highest_below n r is) (λ _. read_below n r is)
 
-    got_few : (n : ℕ) → marks_of (got_marks (marked (other s)) n) (lookup there.recvs n) ≤ 2 * bytes n + 4 * getting_one n + value (λ (r : RecvLane). one_if (not (is_own there n))) (lookup there.recvs n) + raised n
+    got_few : (n : ℕ) → marks_of (got_marks (seen_as (other s)) n) (lookup there.recvs n) ≤ 2 * bytes n + 4 * getting_one n + value (λ (r : RecvLane). one_if (not (is_own there n))) (lookup there.recvs n) + raised n
     got_few n = go (lookup there.recvs n) refl
       where
         go : (o : Option RecvLane) → lookup there.recvs n ≡ o
-            → marks_of (got_marks (marked (other s)) n) o ≤ 2 * bytes n + 4 * value (λ (r : RecvLane). 1) o + value (λ (r : RecvLane). one_if (not (is_own there n))) o + value (λ (r : RecvLane). r.limit - first_window there n) o
+            → marks_of (got_marks (seen_as (other s)) n) o ≤ 2 * bytes n + 4 * value (λ (r : RecvLane). 1) o + value (λ (r : RecvLane). one_if (not (is_own there n))) o + value (λ (r : RecvLane). r.limit - first_window there n) o
         go None is = omega arith
         go (Some r) is =
             omega (
@@ -257,8 +272,8 @@ module _ (a b : Settings) (h : History) (w : World) (ok : WorldOk a b h w) (told
               one_most (is_some r.final_size),
               one_most (is_some r.reset_code),
               one_most r.reader_done,
-              one_most (is_done (acked (other s)) (StopSending n 0)),
-              told_few (first_window there n + 1) r.limit (is_done (acked (other s)) (MaxStreamData n r.limit)),
+              one_most (is_done (acks.items (other s)) (StopSending n 0)),
+              told_few (first_window there n + 1) r.limit (is_done (acks.items (other s)) (MaxStreamData n r.limit)),
             )
 
     raised_few : (n : ℕ) → raised n ≤ bytes n + given n
@@ -277,10 +292,10 @@ module _ (a b : Settings) (h : History) (w : World) (ok : WorldOk a b h w) (told
         go n (Some r) is = taken_below n r is
 
     -- the part of the marks that this side knows, and the part that the other one was told
-    known_credit : (here.known_data - here.peer.max_data) + told_from here.peer.max_data here.known_data (is_done (acked s) (DataBlocked here.known_data)) ≤ 2 * (there.granted - there.settings.conn_window) + 1
+    known_credit : (here.known_data - here.peer.max_data) + told_from here.peer.max_data here.known_data (is_done (acks.items s) (DataBlocked here.known_data)) ≤ 2 * (there.granted - there.settings.conn_window) + 1
     known_credit =
         let first : here.peer.max_data ≡ there.settings.conn_window = ap (λ x. x.max_data) (told s) in
-        omega (arith, first, (known_is_within_granted a b h w ok s).connection, told_few here.peer.max_data here.known_data (is_done (acked s) (DataBlocked here.known_data)))
+        omega (arith, first, (known_is_within_granted a b h w ok s).connection, told_few here.peer.max_data here.known_data (is_done (acks.items s) (DataBlocked here.known_data)))
 
     known_within : (d : Dir) → known_count here d ≤ granted_streams there d
     known_within Bidi = (known_counts a b h w ok s).0
@@ -290,8 +305,8 @@ module _ (a b : Settings) (h : History) (w : World) (ok : WorldOk a b h w) (told
     first_count_is Bidi = ap (λ x. x.streams_bidi) (told s)
     first_count_is Uni = ap (λ x. x.streams_uni) (told s)
 
-    known_streams : (d : Dir) → (known_count here d - first_count here.peer d) + told_from (first_count here.peer d) (known_count here d) (is_done (acked s) (StreamsBlocked d (known_count here d))) ≤ 2 * (granted_streams there d - first_grant there.settings d) + 1
-    known_streams d = omega (arith, first_count_is d, known_within d, told_few (first_count here.peer d) (known_count here d) (is_done (acked s) (StreamsBlocked d (known_count here d))))
+    known_streams : (d : Dir) → (known_count here d - first_count here.peer d) + told_from (first_count here.peer d) (known_count here d) (is_done (acks.items s) (StreamsBlocked d (known_count here d))) ≤ 2 * (granted_streams there d - first_grant there.settings d) + 1
+    known_streams d = omega (arith, first_count_is d, known_within d, told_few (first_count here.peer d) (known_count here d) (is_done (acks.items s) (StreamsBlocked d (known_count here d))))
 
   -- Of one stream: what its owner opened bounds which halves are open
 
@@ -336,7 +351,7 @@ module _ (a b : Settings) (h : History) (w : World) (ok : WorldOk a b h w) (told
 
   module _ (n : ℕ) where
     abbrev both_marks : ℕ
-    both_marks = stream_marks (marked A) n + stream_marks (marked B) n
+    both_marks = stream_marks (seen_as A) n + stream_marks (seen_as B) n
 
     abbrev FewBy : ℕ → Type 0
     FewBy ones = both_marks ≤ 6 * bytes A n + 6 * bytes B n + 17 * ones + 3 * given A n + 3 * given B n
@@ -354,7 +369,7 @@ module _ (a b : Settings) (h : History) (w : World) (ok : WorldOk a b h w) (told
   -- Sums over the streams of a type
 
   abbrev many : ℕ
-  many = halves (marked A) + halves (marked B)
+  many = halves (seen_as A) + halves (seen_as B)
 
   abbrev over : (ℕ → ℕ) → ℕ → ℕ
   over f kind = sum_by (λ i. f (i * 4 + kind)) (range_with_len 0 many)
@@ -377,11 +392,11 @@ module _ (a b : Settings) (h : History) (w : World) (ok : WorldOk a b h w) (told
   longer e kind le = sum_grows (λ i. stream_marks e (i * 4 + kind)) (λ i. stream_marks e (i * 4 + kind)) 0 (halves e) many le (λ i. le_same (stream_marks e (i * 4 + kind)))
 
   type_few : (k : ℕ) → k < 4 → (ones : ℕ → ℕ) → ((i : ℕ) → FewBy (i * 4 + k) (ones i))
-      → type_marks (marked A) k + type_marks (marked B) k ≤ 6 * sum_by (λ (l : SendLane). l.written) (table w.a.sends k) + 6 * sum_by (λ (l : SendLane). l.written) (table w.b.sends k) + 17 * sum_by ones (range_with_len 0 many) + 3 * beyond_on w.a k + 3 * beyond_on w.b k
+      → type_marks (seen_as A) k + type_marks (seen_as B) k ≤ 6 * sum_by (λ (l : SendLane). l.written) (table w.a.sends k) + 6 * sum_by (λ (l : SendLane). l.written) (table w.b.sends k) + 17 * sum_by ones (range_with_len 0 many) + 3 * beyond_on w.a k + 3 * beyond_on w.b k
   type_few k lt ones few =
       let sums = sums_few (λ i. both_marks (i * 4 + k)) (λ i. bytes A (i * 4 + k)) (λ i. bytes B (i * 4 + k)) ones (λ i. given A (i * 4 + k)) (λ i. given B (i * 4 + k)) 0 many few in
-      let pair = sum_pair (λ i. stream_marks (marked A) (i * 4 + k)) (λ i. stream_marks (marked B) (i * 4 + k)) 0 many in
-      omega (arith, sums, pair, longer (marked A) k (omega arith), longer (marked B) k (omega arith), all_bytes A k lt, all_bytes B k lt, all_given A k lt, all_given B k lt)
+      let pair = sum_pair (λ i. stream_marks (seen_as A) (i * 4 + k)) (λ i. stream_marks (seen_as B) (i * 4 + k)) 0 many in
+      omega (arith, sums, pair, longer (seen_as A) k (omega arith), longer (seen_as B) k (omega arith), all_bytes A k lt, all_bytes B k lt, all_given A k lt, all_given B k lt)
 
   -- A is the client, and B the server
   role_a : w.a.role ≡ Client
@@ -397,11 +412,11 @@ module _ (a b : Settings) (h : History) (w : World) (ok : WorldOk a b h w) (told
   own_b k i lt odd = (λ j. kind_of k i lt j % 2 == role_bit (role_b j)) ∙ odd
 
   few_a : (k : ℕ) → k < 4 → (k % 2 == 0) ≡ true
-      → type_marks (marked A) k + type_marks (marked B) k ≤ 6 * sum_by (λ (l : SendLane). l.written) (table w.a.sends k) + 6 * sum_by (λ (l : SendLane). l.written) (table w.b.sends k) + 17 * length (table w.a.sends k) + 3 * beyond_on w.a k + 3 * beyond_on w.b k
+      → type_marks (seen_as A) k + type_marks (seen_as B) k ≤ 6 * sum_by (λ (l : SendLane). l.written) (table w.a.sends k) + 6 * sum_by (λ (l : SendLane). l.written) (table w.b.sends k) + 17 * length (table w.a.sends k) + 3 * beyond_on w.a k + 3 * beyond_on w.b k
   few_a k lt even = omega (arith, type_few k lt (λ i. sending_one A (i * 4 + k)) (λ i. stream_few_a (i * 4 + k) (own_a k i lt even)), all_ones A k lt)
 
   few_b : (k : ℕ) → k < 4 → (k % 2 == 1) ≡ true
-      → type_marks (marked A) k + type_marks (marked B) k ≤ 6 * sum_by (λ (l : SendLane). l.written) (table w.a.sends k) + 6 * sum_by (λ (l : SendLane). l.written) (table w.b.sends k) + 17 * length (table w.b.sends k) + 3 * beyond_on w.a k + 3 * beyond_on w.b k
+      → type_marks (seen_as A) k + type_marks (seen_as B) k ≤ 6 * sum_by (λ (l : SendLane). l.written) (table w.a.sends k) + 6 * sum_by (λ (l : SendLane). l.written) (table w.b.sends k) + 17 * length (table w.b.sends k) + 3 * beyond_on w.a k + 3 * beyond_on w.b k
   few_b k lt odd = omega (arith, type_few k lt (λ i. sending_one B (i * 4 + k)) (λ i. stream_few_b (i * 4 + k) (own_b k i lt odd)), all_ones B k lt)
 
   -- Counts of streams: what ended was opened
@@ -463,7 +478,7 @@ module _ (a b : Settings) (h : History) (w : World) (ok : WorldOk a b h w) (told
   abbrev all_types : End → ℕ
   all_types e = type_marks e 0 + type_marks e 1 + type_marks e 2 + type_marks e 3
 
-  types_few : all_types (marked A) + all_types (marked B) ≤ 6 * (written_at w.a + written_at w.b) + 17 * (streams_at w.a + streams_at w.b) + 3 * (lanes_beyond w.a + lanes_beyond w.b)
+  types_few : all_types (seen_as A) + all_types (seen_as B) ≤ 6 * (written_at w.a + written_at w.b) + 17 * (streams_at w.a + streams_at w.b) + 3 * (lanes_beyond w.a + lanes_beyond w.b)
   unfolding total
   types_few =
       let zeroth = few_a 0 (omega arith) refl in
@@ -475,9 +490,8 @@ module _ (a b : Settings) (h : History) (w : World) (ok : WorldOk a b h w) (told
   abbrev told_count : End → Dir → ℕ
   told_count e d = told_from (first_grant e.settings d + 1) (granted_streams e d) (is_done e.acked (MaxStreams d (granted_streams e d)))
 
-  told_counts : (s : Side) (d : Dir) → told_count (marked s) d ≤ granted_streams (end_of w s) d - first_grant (end_of w s).settings d
-  told_counts s Bidi = (let few = told_few ((end_of w s).settings.grant_bidi + 1) (end_of w s).granted_bidi (is_done (acked s) (MaxStreams Bidi (end_of w s).granted_bidi)) in omega (arith, few))
-  told_counts s Uni = (let few = told_few ((end_of w s).settings.grant_uni + 1) (end_of w s).granted_uni (is_done (acked s) (MaxStreams Uni (end_of w s).granted_uni)) in omega (arith, few))
+  told_counts : (e : End) (d : Dir) → told_count e d ≤ granted_streams e d - first_grant e.settings d
+  told_counts e d = (let few = told_few (first_grant e.settings d + 1) (granted_streams e d) (is_done e.acked (MaxStreams d (granted_streams e d))) in omega (arith, few))
 
   abbrev counts_beyond : End → ℕ
   counts_beyond e = (e.granted_bidi - (e.settings.grant_bidi + ended e Bidi)) + (e.granted_uni - (e.settings.grant_uni + ended e Uni))
@@ -487,7 +501,7 @@ module _ (a b : Settings) (h : History) (w : World) (ok : WorldOk a b h w) (told
   known_more s d = known_count (end_of w s) d - first_count (end_of w s).peer d
 
   abbrev blocked_count : Side → Dir → ℕ
-  blocked_count s d = told_from (first_count (end_of w s).peer d) (known_count (end_of w s) d) (is_done (acked s) (StreamsBlocked d (known_count (end_of w s) d)))
+  blocked_count s d = told_from (first_count (end_of w s).peer d) (known_count (end_of w s) d) (is_done (acks.items s) (StreamsBlocked d (known_count (end_of w s) d)))
 
   abbrev given_count : End → Dir → ℕ
   given_count e d = granted_streams e d - (first_grant e.settings d + ended e d)
@@ -498,19 +512,23 @@ module _ (a b : Settings) (h : History) (w : World) (ok : WorldOk a b h w) (told
   one_few : (t k f g e x : ℕ) → t ≤ g → k + f ≤ 2 * g + 1 → g ≤ e + x → t + k + f ≤ 3 * e + 3 * x + 1
   one_few t k f g e x a b c = omega (arith, a, b, c)
 
-  direction_few : (s : Side) (d : Dir) → told_count (marked (other s)) d + known_more s d + blocked_count s d ≤ 3 * ended (end_of w (other s)) d + 3 * given_count (end_of w (other s)) d + 1
+  direction_few : (s : Side) (d : Dir) → told_count (seen_as (other s)) d + known_more s d + blocked_count s d ≤ 3 * ended (end_of w (other s)) d + 3 * given_count (end_of w (other s)) d + 1
   direction_few s d =
       let e : End = end_of w (other s) in
-      one_few (told_count (marked (other s)) d) (known_more s d) (blocked_count s d) (granted_streams e d - first_grant e.settings d) (ended e d) (given_count e d) (told_counts (other s) d) (known_streams s d)
+      one_few (told_count (seen_as (other s)) d) (known_more s d) (blocked_count s d) (granted_streams e d - first_grant e.settings d) (ended e d) (given_count e d) (told_here d) (known_streams s d)
       (grown_count (granted_streams e d) (first_grant e.settings d) (ended e d))
+    where
+      told_here : (d : Dir) → told_count (seen_as (other s)) d ≤ granted_streams (end_of w (other s)) d - first_grant (end_of w (other s)).settings d
+      told_here Bidi = told_counts (seen_as (other s)) Bidi
+      told_here Uni = told_counts (seen_as (other s)) Uni
 
-  counts_few : count_marks (marked A) Bidi + count_marks (marked A) Uni + count_marks (marked B) Bidi + count_marks (marked B) Uni ≤ 3 * (streams_at w.a + streams_at w.b) + 3 * (counts_beyond w.a + counts_beyond w.b) + 4
+  counts_few : count_marks (seen_as A) Bidi + count_marks (seen_as A) Uni + count_marks (seen_as B) Bidi + count_marks (seen_as B) Uni ≤ 3 * (streams_at w.a + streams_at w.b) + 3 * (counts_beyond w.a + counts_beyond w.b) + 4
   counts_few =
       add
-      (told_count (marked B) Bidi) (known_more A Bidi) (blocked_count A Bidi) (ended w.b Bidi) (given_count w.b Bidi)
-      (told_count (marked B) Uni) (known_more A Uni) (blocked_count A Uni) (ended w.b Uni) (given_count w.b Uni)
-      (told_count (marked A) Bidi) (known_more B Bidi) (blocked_count B Bidi) (ended w.a Bidi) (given_count w.a Bidi)
-      (told_count (marked A) Uni) (known_more B Uni) (blocked_count B Uni) (ended w.a Uni) (given_count w.a Uni)
+      (told_count (seen_as B) Bidi) (known_more A Bidi) (blocked_count A Bidi) (ended w.b Bidi) (given_count w.b Bidi)
+      (told_count (seen_as B) Uni) (known_more A Uni) (blocked_count A Uni) (ended w.b Uni) (given_count w.b Uni)
+      (told_count (seen_as A) Bidi) (known_more B Bidi) (blocked_count B Bidi) (ended w.a Bidi) (given_count w.a Bidi)
+      (told_count (seen_as A) Uni) (known_more B Uni) (blocked_count B Uni) (ended w.a Uni) (given_count w.a Uni)
       (streams_at w.a) (streams_at w.b)
       (direction_few A Bidi) (direction_few A Uni) (direction_few B Bidi) (direction_few B Uni) ended_at_b ended_at_a
     where
@@ -534,27 +552,27 @@ module _ (a b : Settings) (h : History) (w : World) (ok : WorldOk a b h w) (told
   told_credits : (e : End) → told_credit e ≤ e.granted - e.settings.conn_window
   told_credits e = (let few = told_few (e.settings.conn_window + 1) e.granted (is_done e.acked (MaxData e.granted)) in omega (arith, few))
 
-  credit_few : (s : Side) → told_credit (marked (other s)) + known_credit_more (end_of w s) + blocked_credit (marked s) ≤ 3 * all_taken (end_of w (other s)) + 3 * given_credit (end_of w (other s)) + 1
+  credit_few : (s : Side) → told_credit (seen_as (other s)) + known_credit_more (end_of w s) + blocked_credit (seen_as s) ≤ 3 * all_taken (end_of w (other s)) + 3 * given_credit (end_of w (other s)) + 1
   credit_few s =
       let e : End = end_of w (other s) in
-      one_few (told_credit (marked (other s))) (known_credit_more (end_of w s)) (blocked_credit (marked s)) (e.granted - e.settings.conn_window) (all_taken e) (given_credit e) (told_credits (marked (other s))) (known_credit s)
+      one_few (told_credit (seen_as (other s))) (known_credit_more (end_of w s)) (blocked_credit (seen_as s)) (e.granted - e.settings.conn_window) (all_taken e) (given_credit e) (told_credits (seen_as (other s))) (known_credit s)
       (grown_count e.granted e.settings.conn_window (all_taken e))
 
-  credits_few : credit_marks (marked A) + credit_marks (marked B) ≤ 3 * (written_at w.a + written_at w.b) + 3 * (given_credit w.a + given_credit w.b) + 2
+  credits_few : credit_marks (seen_as A) + credit_marks (seen_as B) ≤ 3 * (written_at w.a + written_at w.b) + 3 * (given_credit w.a + given_credit w.b) + 2
   credits_few =
       add
-      (told_credit (marked B)) (known_credit_more w.a) (blocked_credit (marked A)) (all_taken w.b) (given_credit w.b)
-      (told_credit (marked A)) (known_credit_more w.b) (blocked_credit (marked B)) (all_taken w.a) (given_credit w.a)
+      (told_credit (seen_as B)) (known_credit_more w.a) (blocked_credit (seen_as A)) (all_taken w.b) (given_credit w.b)
+      (told_credit (seen_as A)) (known_credit_more w.b) (blocked_credit (seen_as B)) (all_taken w.a) (given_credit w.a)
       (written_at w.a) (written_at w.b)
       (credit_few A) (credit_few B) (all_taken_few A) (all_taken_few B)
     where
       add : (t1 k1 f1 e1 x1 t2 k2 f2 e2 x2 na nb : ℕ) → t1 + k1 + f1 ≤ 3 * e1 + 3 * x1 + 1 → t2 + k2 + f2 ≤ 3 * e2 + 3 * x2 + 1 → e1 ≤ na → e2 ≤ nb → (t2 + k1 + f1) + (t1 + k2 + f2) ≤ 3 * (na + nb) + 3 * (x2 + x1) + 2
       add t1 k1 f1 e1 x1 t2 k2 f2 e2 x2 na nb a b c d = omega (arith, a, b, c, d)
 
-  pub score_few : score (marked A) + score (marked B) ≤ most w
+  pub score_few : score (seen_as A) + score (seen_as B) ≤ most w
   score_few =
       add
-      (all_types (marked A)) (all_types (marked B)) (count_marks (marked A) Bidi) (count_marks (marked A) Uni) (count_marks (marked B) Bidi) (count_marks (marked B) Uni) (credit_marks (marked A)) (credit_marks (marked B))
+      (all_types (seen_as A)) (all_types (seen_as B)) (count_marks (seen_as A) Bidi) (count_marks (seen_as A) Uni) (count_marks (seen_as B) Bidi) (count_marks (seen_as B) Uni) (credit_marks (seen_as A)) (credit_marks (seen_as B))
       (written_at w.a) (written_at w.b) (streams_at w.a) (streams_at w.b)
       (given_credit w.a) (beyond_on w.a 0) (beyond_on w.a 1) (beyond_on w.a 2) (beyond_on w.a 3) (given_count w.a Bidi) (given_count w.a Uni)
       (given_credit w.b) (beyond_on w.b 0) (beyond_on w.b 1) (beyond_on w.b 2) (beyond_on w.b 3) (given_count w.b Bidi) (given_count w.b Uni)
@@ -567,11 +585,35 @@ module _ (a b : Settings) (h : History) (w : World) (ok : WorldOk a b h w) (told
           → (ta + ab + au + ca) + (tb + bb + bu + cb) ≤ 9 * (wa + wb) + 20 * (na + nb) + 6 + 3 * ((ga + l0 + l1 + l2 + l3 + pa + qa) + (gb + m0 + m1 + m2 + m3 + pb + qb))
       add ta tb ab au bb bu ca cb wa wb na nb ga l0 l1 l2 l3 pa qa gb m0 m1 m2 m3 pb qb x y z = omega (arith, x, y, z)
 
--- of a half no more than was written is acknowledged
-pub is_written : (a b : Settings) (h : History) (w : World) → WorldOk a b h w → AreWritten w (λ s. (end_of w s).sends)
-is_written a b h w ok s n l is =
-    let p = past s h in
-    (l, is, refl, acked_written p.mine p.theirs p.tokens (p.bytes n) n (first_send_limit (end_of w s) n) l (subst (SendSlot p n (first_send_limit (end_of w s) n)) is ((ok.ends s).sends n)))
-
 pub is_below : (a b : Settings) (h : History) (w : World) → Run a b h w → ((s : Side) → KnowsFirstLimits w s) → score w.a + score w.b ≤ most w
-is_below a b h w run told = (let ok = run_keeps a b h w run in score_few a b h w ok told (λ s. (end_of w s).sends) (λ s. (end_of w s).acked) (is_written a b h w ok))
+is_below a b h w run told =
+    let ok = run_keeps a b h w run in
+    score_few a b h w ok told (record { sends = λ s. (end_of w s).sends; items = λ s. (end_of w s).acked; alike = λ s. slots_same (end_of w s).sends; written = acked_below a b h w ok })
+
+-- and so with all that is outstanding
+ahead_written : (a b : Settings) (h : History) (w : World) → WorldOk a b h w → (s : Side) (n : ℕ) (k : SendLane) → lookup (ahead (end_of w s)).sends n ≡ Some k → (q : ℕ) → set.contains k.acked q ≡ true → q < k.written
+ahead_written a b h w ok s n k at q is =
+    let e = end_of w s in
+    let (l, was, like) = alike_back e.sends (ahead e).sends (alike_all (out_of e) e) n k at in
+    let same = like.written in
+    elim (facts_step (out_of e) e (Offset n q) (k, at, is)) [
+      | inl (m, there, acked) ↦ (
+          let lt = acked_below a b h w ok s n m there q acked in
+          let one : m.written ≡ l.written = ap (λ (x : SendLane). x.written) (same_Some m l (sym there ∙ was)) in
+          omega (arith, lt, one, same))
+      | inr (p, among, gives) ↦ (let (j, here) = out_in e p among in let lt = sent_lt e (ok.sent s) p j here gives l was in omega (arith, lt, same))
+    ]
+  where
+    sent_lt : (e : End) → SentWasWritten e → (p : Piece) (j : ℕ) → IsIn e.outstanding j p → Gives p (Offset n q) → (l : SendLane) → lookup e.sends n ≡ Some l → q < l.written
+    sent_lt e sent (Data m c) j (ps, there, among) (same, low, high) l was =
+        let few : c.offset + c.len ≤ l.written = subst (λ o. IsWritten o c) (ap (lookup e.sends) (sym same) ∙ was) (sent false (Data m c) (j, ps, there, among)) in
+        omega (arith, few, high)
+    sent_lt e sent (Told (ResetStream m code size)) j here none l was = absurd none
+    sent_lt e sent (Told i) j here none l was = absurd none
+
+pub ahead_below : (a b : Settings) (h : History) (w : World) → Run a b h w → ((s : Side) → KnowsFirstLimits w s) → score (ahead w.a) + score (ahead w.b) ≤ most w
+ahead_below a b h w run told =
+    let ok = run_keeps a b h w run in
+    subst (λ x. score x + score (ahead w.b) ≤ most w) (sym (all_leave (out_of w.a) w.a))
+    (subst (λ y. score (with_acks (ahead w.a).sends (ahead w.a).acked w.a) + score y ≤ most w) (sym (all_leave (out_of w.b) w.b))
+    (score_few a b h w ok told (record { sends = λ s. (ahead (end_of w s)).sends; items = λ s. (ahead (end_of w s)).acked; alike = λ s. alike_all (out_of (end_of w s)) (end_of w s); written = ahead_written a b h w ok })))

@@ -5,7 +5,10 @@ use Rattle.std.specs.Prelude.{⊤}
 use Rattle.qs_calls.specs.declared.settings.Settings.{Settings}
 use Rattle.qs_calls.specs.declared.event.Side.TheVariants.{A, B}
 use Rattle.qs_machine.specs.EndStep.{Call}
-use Rattle.qs_runs.specs.Worlds.{World}
+use Rattle.qs_calls.specs.declared.event.Side.{Side}
+use Rattle.qs_runs.specs.Logs.{History}
+use Rattle.qs_runs.specs.Worlds.{World, Run}
+use Rattle.qs_rest.specs.Resting.{KnowsFirstLimits}
 use Rattle.qs_rest.proofs.Resting.{each_limit_known}
 use Rattle.qs_rest.proofs.Streams.{each_credit_whole, each_reset_final}
 use Rattle.qs_rest.proofs.Delivered.{each_credit_ahead, each_delivered}
@@ -24,6 +27,20 @@ both w = score w.a + score w.b
 -- both ends are at rest
 abbrev pub Rests : Moment → Type 0
 Rests m = BothRest m.ends
+
+-- and all is delivered
+abbrev pub Completes : Moment → Type 0
+Completes m = IsComplete m.log m.ends
+
+pub all_complete : (a b : Settings) (h : History) (w : World) → Run a b h w → BothRest w → ((s : Side) → KnowsFirstLimits w s) → IsComplete h w
+all_complete a b h w run rests told =
+    record {
+      known = λ s. each_limit_known a b h w run rests s (told s);
+      credit = each_credit_whole a b h w run rests;
+      ahead = λ s. each_credit_ahead a b h w run rests s (told s);
+      resets = each_reset_final a b h w run rests;
+      delivered = λ s. each_delivered a b h w run rests s (told s);
+    }
 
 -- The steps of a course are trails.
 
@@ -75,18 +92,11 @@ module _ (a b : Settings) where
 
   -- At rest all is delivered
 
-  complete : (m : Moment) → IsReached a b m → Rests m → IsComplete m
-  complete m r rests =
-      record {
-        known = λ s. each_limit_known a b m.log m.ends r.run rests s (r.knows_first s);
-        credit = each_credit_whole a b m.log m.ends r.run rests;
-        ahead = λ s. each_credit_ahead a b m.log m.ends r.run rests s (r.knows_first s);
-        resets = each_reset_final a b m.log m.ends r.run rests;
-        delivered = λ s. each_delivered a b m.log m.ends r.run rests s (r.knows_first s);
-      }
+  complete : (m : Moment) → IsReached a b m → Rests m → IsComplete m.log m.ends
+  complete m r rests = all_complete a b m.log m.ends r.run rests r.knows_first
 
   module _ (Step : Moment → Moment → Type 0) (lead : (old new : Moment) → Step old new → (ms : List Moment) × Trail (λ call. ⊤) old ms new) where
-    pub rest_misses : (parts : List Bool) (old new : Moment) → IsReached a b old → Course Step IsComplete parts old new → Course Step Rests parts old new
+    pub rest_misses : (parts : List Bool) (old new : Moment) → IsReached a b old → Course Step Completes parts old new → Course Step Rests parts old new
     rest_misses [] old new r is = is
     rest_misses (true ∷ parts) old new r (begins, mid, step, rest) =
         let (ms, led) = lead old mid step in

@@ -3,6 +3,7 @@
 use Rattle.std.proofs.Common.{◌≡◌, ℕ, ◌+◌, ◌<◌, ◌≤◌, Bool, true, false, List, [], ◌∷◌, ◌++◌, ◌⊎◌, Option, Some, None, refl, sym, ap, ◌∙◌, subst, arith, inl, inr}
 use Rattle.std.specs.Prelude.{⊤, Result}
 use Rattle.std.specs.FinSet as set
+use Rattle.std.proofs.lemmas.Bool.{cases_lt}
 use Rattle.qs_recv.specs.Lane.{after_read}
 use Rattle.qs_recv.specs.declared.half.Read.{Read}
 use Rattle.qs_send.specs.Records.{Among}
@@ -84,27 +85,27 @@ clear_as e f out clear k p here = clear k p (subst (λ m. IsIn m k p) out here)
 
 -- Turns and rounds are trails
 
-abbrev Led : Moment → Moment → Type 0
+abbrev pub Led : Moment → Moment → Type 0
 Led old new = (ms : List Moment) × Trail (λ call. ⊤) old ms new
 
 led_on : (old mid new : Moment) → Led old mid → Led mid new → Led old new
 led_on old mid new (ms, first) (ns, second) = (ms ++ ns, joined (λ call. ⊤) ms ns old mid new first second)
 
-turn_leads : (s : Side) (old new : Moment) → Turn s old new → Led old new
+pub turn_leads : (s : Side) (old new : Moment) → Turn s old new → Led old new
 turn_leads s old new (mid, (n, lost), (k, sent)) =
     let (ms, calm) = sends_trail s k mid new sent in
     led_on old mid new (loses_trail s n old mid lost) (ms, eased IsCalm (λ call. ⊤) (λ call calm. tt) ms mid new calm)
 
-round_ends : (old new : Moment) (r : Round old new) → Led r.sent_a new
+pub round_ends : (old new : Moment) (r : Round old new) → Led r.sent_a new
 round_ends old new r = led_on r.sent_a r.sent_b new (turn_leads B r.sent_a r.sent_b r.turn_b) (r.moments, eased IsRead (λ call. ⊤) (λ call reads. tt) r.moments r.sent_b new r.reads)
 
-round_leads : (old new : Moment) → Round old new → Led old new
+pub round_leads : (old new : Moment) → Round old new → Led old new
 round_leads old new r = led_on old r.sent_a new (turn_leads A old r.sent_a r.turn_a) (round_ends old new r)
 
 -- From A's turn to A's turn
 
 module _ (a b : Settings) where
-  led : (old new : Moment) → IsReached a b old → Led old new → IsReached a b new × (both old.ends ≤ both new.ends)
+  pub led : (old new : Moment) → IsReached a b old → Led old new → IsReached a b new × (both old.ends ≤ both new.ends)
   led old new r (ms, t) = trail a b (λ call. ⊤) ms old new r t
 
   owes_none : (m : Moment) → IsReached a b m → (s : Side) → IsClear (end_of m.ends s) → Owes (end_of m.ends s).next (end_of m.ends s).next (end_of m.ends s) (end_of m.ends (other s))
@@ -117,15 +118,12 @@ module _ (a b : Settings) where
         due = λ k p here. absurd (clear k p here);
       }
 
-  module _ (old mid new : Moment) (r : IsReached a b old) (first : Round old mid) (second : Round mid new) (unclosed : BothOpen mid.ends) where
+  module _ (old mid : Moment) (r : IsReached a b old) (first : Round old mid) where
     abbrev lost_a : Moment
     lost_a = first.turn_a.0
 
     abbrev lost_b : Moment
     lost_b = first.turn_b.0
-
-    abbrev again : Moment
-    again = second.turn_a.0
 
     r_lost_a : IsReached a b lost_a
     r_lost_a = (led old lost_a r (loses_trail A first.turn_a.1.0 old lost_a first.turn_a.1.1)).0
@@ -151,116 +149,120 @@ module _ (a b : Settings) where
         tells a b B first.turn_b.2.0 lost_b first.sent_b lost_a.ends.a.next first.sent_a.ends.a.next to_lost_b.0 first.turn_b.2.1
         (inl (owes_as _ _ first.sent_a.ends.a lost_b.ends.a first.sent_a.ends.b lost_b.ends.b (ap (λ (e : End). e.outstanding) b_lost.there) b_lost.here.done b_lost.here.due a_sent.1))
 
-    r_mid : IsReached a b mid
+    pub r_mid : IsReached a b mid
     r_mid = (led first.sent_a mid a_sent.0 (round_ends old mid first)).0
 
     lasts : (s : Side) → Lasts (end_of first.sent_b.ends s) (end_of mid.ends s)
     lasts = reads_last first.moments first.sent_b mid first.reads
 
-    a_clear_mid : IsClear mid.ends.a
+    pub a_clear_mid : IsClear mid.ends.a
     a_clear_mid = clear_as first.sent_b.ends.a mid.ends.a (lasts A).0 a_clear
 
     b_owed : Owes lost_b.ends.b.next first.sent_b.ends.b.next mid.ends.b mid.ends.a
     b_owed = owes_as _ _ first.sent_b.ends.b mid.ends.b first.sent_b.ends.a mid.ends.a (lasts B).0 (lasts A).1 (lasts A).2 b_sends.1
 
-    -- so A declares nothing lost
-    a_again : HasLost A mid again
-    a_again = loses A second.turn_a.1.0 mid again second.turn_a.1.1
+    module _ (sent : Moment) (turn_a : Turn A mid sent) where
+      abbrev again : Moment
+      again = turn_a.0
 
-    same : (s : Side) → end_of again.ends s ≡ end_of mid.ends s
-    same A = a_again.here.same a_clear_mid
-    same B = a_again.there
+      -- so A declares nothing lost
+      a_again : HasLost A mid again
+      a_again = loses A turn_a.1.0 mid again turn_a.1.1
 
-    r_again : IsReached a b again
-    r_again = (led mid again r_mid (loses_trail A second.turn_a.1.0 mid again second.turn_a.1.1)).0
+      same : (s : Side) → end_of again.ends s ≡ end_of mid.ends s
+      same A = a_again.here.same a_clear_mid
+      same B = a_again.there
 
-    -- and tells what B sent
-    b_clear : IsClear second.sent_a.ends.b
-    b_clear =
-        tells a b A second.turn_a.2.0 again second.sent_a lost_b.ends.b.next first.sent_b.ends.b.next r_again second.turn_a.2.1
-        (inl (owes_as _ _ mid.ends.b again.ends.b mid.ends.a again.ends.a (ap (λ (e : End). e.outstanding) (same B)) (ap (λ (e : End). e.done) (same A)) (ap (λ (e : End). e.ack_due) (same A)) b_owed))
+      r_again : IsReached a b again
+      r_again = (led mid again r_mid (loses_trail A turn_a.1.0 mid again turn_a.1.1)).0
 
-    a_more : Owes again.ends.a.next second.sent_a.ends.a.next second.sent_a.ends.a second.sent_a.ends.b
-    a_more = (sends a b A second.turn_a.2.0 again second.sent_a again.ends.a.next r_again second.turn_a.2.1 (owes_none again r_again A a_again.clear)).1
+      -- and tells what B sent
+      pub b_clear : IsClear sent.ends.b
+      b_clear =
+          tells a b A turn_a.2.0 again sent lost_b.ends.b.next first.sent_b.ends.b.next r_again turn_a.2.1
+          (inl (owes_as _ _ mid.ends.b again.ends.b mid.ends.a again.ends.a (ap (λ (e : End). e.outstanding) (same B)) (ap (λ (e : End). e.done) (same A)) (ap (λ (e : End). e.ack_due) (same A)) b_owed))
 
-    -- B's turn and the reads
-    turn : (ms : List Moment) × Trail IsCalm lost_b ms first.sent_b
-    turn = sends_trail B first.turn_b.2.0 lost_b first.sent_b first.turn_b.2.1
+      a_more : Owes again.ends.a.next sent.ends.a.next sent.ends.a sent.ends.b
+      a_more = (sends a b A turn_a.2.0 again sent again.ends.a.next r_again turn_a.2.1 (owes_none again r_again A a_again.clear)).1
 
-    to_mid : Trail IsCalm lost_b (turn.0 ++ first.moments) mid
-    to_mid = joined IsCalm turn.0 first.moments lost_b first.sent_b mid turn.1 (eased IsRead IsCalm read_calm first.moments first.sent_b mid first.reads)
+      -- B's turn and the reads
+      turn : (ms : List Moment) × Trail IsCalm lost_b ms first.sent_b
+      turn = sends_trail B first.turn_b.2.0 lost_b first.sent_b first.turn_b.2.1
 
-    -- A's next turn
-    turn_again : (ms : List Moment) × Trail IsCalm again ms second.sent_a
-    turn_again = sends_trail A second.turn_a.2.0 again second.sent_a second.turn_a.2.1
+      to_mid : Trail IsCalm lost_b (turn.0 ++ first.moments) mid
+      to_mid = joined IsCalm turn.0 first.moments lost_b first.sent_b mid turn.1 (eased IsRead IsCalm read_calm first.moments first.sent_b mid first.reads)
 
-    is_there : (m : Moment) → Among m (first.sent_b ∷ first.moments) → Among m (lost_b ∷ turn.0 ++ first.moments)
-    is_there m (inl is) = subst (λ x. Among x (lost_b ∷ turn.0 ++ first.moments)) (sym is) (Among_left (lost_b ∷ turn.0) first.moments first.sent_b (last_of IsCalm turn.0 lost_b first.sent_b turn.1))
-    is_there m (inr later) = Among_right (lost_b ∷ turn.0) first.moments m later
+      -- A's next turn
+      turn_again : (ms : List Moment) × Trail IsCalm again ms sent
+      turn_again = sends_trail A turn_a.2.0 again sent turn_a.2.1
 
-    grows : (s : Side) → (score (end_of lost_b.ends s) ≤ score (end_of mid.ends s)) × (score (end_of mid.ends s) ≤ score (end_of second.sent_a.ends s))
-    grows s = (
-      (leads a b s (turn.0 ++ first.moments) lost_b mid to_lost_b.0 to_mid).1.grows,
-      subst (λ e. score e ≤ score (end_of second.sent_a.ends s)) (same s) (leads a b s turn_again.0 again second.sent_a r_again turn_again.1).1.grows,
-    )
+      is_there : (m : Moment) → Among m (first.sent_b ∷ first.moments) → Among m (lost_b ∷ turn.0 ++ first.moments)
+      is_there m (inl is) = subst (λ x. Among x (lost_b ∷ turn.0 ++ first.moments)) (sym is) (Among_left (lost_b ∷ turn.0) first.moments first.sent_b (last_of IsCalm turn.0 lost_b first.sent_b turn.1))
+      is_there m (inr later) = Among_right (lost_b ∷ turn.0) first.moments m later
 
-    legs : (s : Side) → score (end_of mid.ends s) ≤ score (end_of lost_b.ends s) → score (end_of second.sent_a.ends s) ≤ score (end_of mid.ends s) → Legs a b s lost_b mid again second.sent_a
-    legs s even_first even =
-        record {
-          begins = to_lost_b.0;
-          goes_on = r_again;
-          same = same s;
-          firsts = turn.0 ++ first.moments;
-          seconds = turn_again.0;
-          first = to_mid;
-          second = turn_again.1;
-          landed_first = landed_first s;
-          landed = landed s;
-          spent = spent s;
-          read = let (m, among, least) = first.read s in (m, is_there m among, least);
-          unclosed = unclosed;
-          even_first = even_first;
-          even = even;
-        }
-      where
-        landed_first : (s : Side) (k : ℕ) (p : Piece) → k < (end_of lost_b.ends s).next → IsIn (end_of mid.ends s).outstanding k p → ⊥
-        landed_first A k p lt here = a_clear_mid k p here
-        landed_first B k p lt here = (let (low, high) = b_owed.from k p here in omega (arith, lt, low))
+      grows : (s : Side) → (score (end_of lost_b.ends s) ≤ score (end_of mid.ends s)) × (score (end_of mid.ends s) ≤ score (end_of sent.ends s))
+      grows s = (
+        (leads a b s (turn.0 ++ first.moments) lost_b mid to_lost_b.0 to_mid).1.grows,
+        subst (λ e. score e ≤ score (end_of sent.ends s)) (same s) (leads a b s turn_again.0 again sent r_again turn_again.1).1.grows,
+      )
 
-        landed : (s : Side) (k : ℕ) (p : Piece) → k < (end_of mid.ends s).next → IsIn (end_of second.sent_a.ends s).outstanding k p → ⊥
-        landed A k p lt here = (let (low, high) = a_more.from k p here in let is = ap (λ (e : End). e.next) (same A) in omega (arith, lt, low, is))
-        landed B k p lt here = b_clear k p here
+      legs : BothOpen mid.ends → (s : Side) → score (end_of mid.ends s) ≤ score (end_of lost_b.ends s) → score (end_of sent.ends s) ≤ score (end_of mid.ends s) → Legs a b s lost_b mid again sent
+      legs unclosed s even_first even =
+          record {
+            begins = to_lost_b.0;
+            goes_on = r_again;
+            same = same s;
+            firsts = turn.0 ++ first.moments;
+            seconds = turn_again.0;
+            first = to_mid;
+            second = turn_again.1;
+            landed_first = landed_first s;
+            landed = landed s;
+            spent = spent s;
+            read = let (m, among, least) = first.read s in (m, is_there m among, least);
+            unclosed = unclosed;
+            even_first = even_first;
+            even = even;
+          }
+        where
+          landed_first : (s : Side) (k : ℕ) (p : Piece) → k < (end_of lost_b.ends s).next → IsIn (end_of mid.ends s).outstanding k p → ⊥
+          landed_first A k p lt here = a_clear_mid k p here
+          landed_first B k p lt here = (let (low, high) = b_owed.from k p here in omega (arith, lt, low))
 
-        spent : (s : Side) → Sometime (λ w. HasMore (end_of w s) → ⊥) (lost_b ∷ turn.0 ++ first.moments)
-        spent A = (lost_b, inl refl, λ more. sends_all A first.turn_a.2.0 lost_a first.sent_a first.turn_a.2.1 (inr (subst HasMore b_lost.there more)))
-        spent B = (first.sent_b, is_there first.sent_b (inl refl), λ more. sends_all B first.turn_b.2.0 lost_b first.sent_b first.turn_b.2.1 (inr more))
+          landed : (s : Side) (k : ℕ) (p : Piece) → k < (end_of mid.ends s).next → IsIn (end_of sent.ends s).outstanding k p → ⊥
+          landed A k p lt here = (let (low, high) = a_more.from k p here in let is = ap (λ (e : End). e.next) (same A) in omega (arith, lt, low, is))
+          landed B k p lt here = b_clear k p here
 
-    pub turns_raise : (BothRest mid.ends → ⊥) → both first.sent_a.ends < both second.sent_a.ends
-    turns_raise begins = (let grew = legs_raise a b lost_b mid again second.sent_a grows legs begins in let up = to_lost_b.1 in omega (arith, grew, up))
+          spent : (s : Side) → Sometime (λ w. HasMore (end_of w s) → ⊥) (lost_b ∷ turn.0 ++ first.moments)
+          spent A = (lost_b, inl refl, λ more. sends_all A first.turn_a.2.0 lost_a first.sent_a first.turn_a.2.1 (inr (subst HasMore b_lost.there more)))
+          spent B = (first.sent_b, is_there first.sent_b (inl refl), λ more. sends_all B first.turn_b.2.0 lost_b first.sent_b first.turn_b.2.1 (inr more))
+
+      pub turns_raise : BothOpen mid.ends → (BothRest mid.ends → ⊥) → both first.sent_a.ends < both sent.ends
+      turns_raise unclosed begins = (let grew = legs_raise a b lost_b mid again sent grows (legs unclosed) begins in let up = to_lost_b.1 in omega (arith, grew, up))
 
   -- Courses of rounds
 
   -- what comes before: anything, or a round
-  abbrev Before : Moment → Type 0
+  abbrev pub Before : Moment → Type 0
   Before old = Unit {0} ⊎ ((past : Moment) × IsReached a b past × Round past old)
 
-  abbrev level : (old : Moment) → Before old → ℕ
+  abbrev pub level : (old : Moment) → Before old → ℕ
   level old (inl u) = both old.ends
   level old (inr (past, r, round)) = both round.sent_a.ends + 1
 
-  ends_up : (old new : Moment) → IsReached a b old → (r : Round old new) → IsReached a b new × (both old.ends ≤ both r.sent_a.ends) × (both r.sent_a.ends ≤ both new.ends)
+  pub ends_up : (old new : Moment) → IsReached a b old → (r : Round old new) → IsReached a b new × (both old.ends ≤ both r.sent_a.ends) × (both r.sent_a.ends ≤ both new.ends)
   ends_up old new r round =
       let (at_sent, low) = led old round.sent_a r (turn_leads A old round.sent_a round.turn_a) in
       let (there, high) = led round.sent_a new at_sent (round_ends old new round) in
       (there, low, high)
 
-  level_low : (old : Moment) (before : Before old) → level old before ≤ both old.ends + 1
+  pub level_low : (old : Moment) (before : Before old) → level old before ≤ both old.ends + 1
   level_low old (inl u) = omega arith
   level_low old (inr (past, r, round)) = (let (there, low, high) = ends_up past old r round in omega (arith, high))
 
-  level_grows : (old new : Moment) (before : Before old) → IsReached a b old → BothOpen old.ends → (BothRest old.ends → ⊥) → (round : Round old new) → level old before ≤ both round.sent_a.ends
+  pub level_grows : (old new : Moment) (before : Before old) → IsReached a b old → BothOpen old.ends → (BothRest old.ends → ⊥) → (round : Round old new) → level old before ≤ both round.sent_a.ends
   level_grows old new (inl u) r unclosed begins round = (let (there, low, high) = ends_up old new r round in low)
-  level_grows old new (inr (past, was, first)) r unclosed begins round = (let grew = turns_raise past old new was first round unclosed begins in omega (arith, grew))
+  level_grows old new (inr (past, was, first)) r unclosed begins round = (let grew = turns_raise past old was first round.sent_a round.turn_a unclosed begins in omega (arith, grew))
 
   courses : (parts : List Bool) (old new : Moment) (before : Before old) → IsReached a b old → Course Round Rests parts old new → BothOpen new.ends →
       IsReached a b new × (steps_in parts + level old before ≤ both new.ends + stretches_in parts + 1)

@@ -33,13 +33,13 @@ use Rattle.qs_progress.specs.Bound.{most}
 use Rattle.qs_progress.specs.Comes.{IsReached, steps_in}
 use Rattle.qs_progress.specs.Ending.{Carries, RoomyPacketsCarry, TellsNews, Does, CallsComeToAnEnd}
 use Rattle.qs_progress.proofs.Score.{goes_call, peer_stays}
-use Rattle.qs_progress.proofs.Bound.{score_few, is_written}
+use Rattle.qs_progress.proofs.Bound.{score_few, acked_below}
 use Rattle.qs_progress.proofs.CalmCalls.{Forms, calm_call}
 use Rattle.qs_progress.proofs.Outstanding.{AcksStay, stay_same, stay_twice, homes_of, what_is_out_stays}
 use Rattle.qs_progress.proofs.Going.{frames_back, ends_back}
 use Rattle.qs_progress.proofs.Undone.{acks_edits}
 use Rattle.qs_progress.proofs.Steps.{IsNew, fills_new, noted_in, in_fills}
-use Rattle.qs_progress.proofs.IfAcked.{if_acked, still_written, new_undone_then, up, puts_up, reads_up}
+use Rattle.qs_progress.proofs.IfAcked.{if_acked, slots, still_written, new_undone_then, up, puts_up, reads_up}
 use Rattle.qs_progress.proofs.Trails.{reached}
 use Rattle.qs_progress.proofs.Pairs.{ready, stood_in}
 use Rattle.qs_progress.proofs.Turns.{is_made}
@@ -70,7 +70,7 @@ no_news e (n, l, m, at, later, news) =
     let same : m ≡ l = same_Some m l (sym later ∙ at) in
     elim news [
       | inl more ↦ (let is : m.arrived.read_count ≡ l.arrived.read_count = ap (λ (y : RecvLane). y.arrived.read_count) same in omega (arith, more, is))
-      | inr (untold, told) ↦ true≢false (sym told ∙ ap (λ (y : RecvLane). y.told) same ∙ untold)
+      | inr (untold, told) ↦ true≢false (sym told ∙ ap (λ (y : RecvLane). y.reader_done) same ∙ untold)
     ]
 
 module _ (a b : Settings) where
@@ -148,8 +148,13 @@ module _ (a b : Settings) where
   levels_few : (m : Moment) → IsReached a b m → both_levels m.ends ≤ most m.ends
   levels_few m r =
       let ok = run_keeps a b m.log m.ends r.run in
-      score_few a b m.log m.ends ok r.knows_first (λ s. (if_acked (end_of m.ends s)).sends) (λ s. (if_acked (end_of m.ends s)).acked)
-      (λ s. still_written (end_of m.ends s) (ok.sent s) (λ n q l at is. (let (x, at_x, same, below) = is_written a b m.log m.ends ok s n l at in let one : x ≡ l = same_Some x l (sym at_x ∙ at) in subst (λ (y : SendLane). q < y.written) one (below q is))))
+      score_few a b m.log m.ends ok r.knows_first (
+        record {
+          sends = λ s. (if_acked (end_of m.ends s)).sends;
+          items = λ s. (if_acked (end_of m.ends s)).acked;
+          alike = λ s. slots (end_of m.ends s);
+          written = λ s. still_written (end_of m.ends s) (ok.sent s) (acked_below a b m.log m.ends ok s);
+        })
 
 pub calls_come_to_an_end : CallsComeToAnEnd
 calls_come_to_an_end a b marks ms old new r trail does =

@@ -1,5 +1,5 @@
 -- Which small steps are rounds, and which aren't.
-use Rattle.std.proofs.Common.{◌≡◌, ℕ, ◌+◌, Bool, true, false, List, [], ◌∷◌, length, nat_cmp, is_some, refl, sym, ap, ◌∙◌, subst, arith, inl, inr, Some}
+use Rattle.std.proofs.Common.{◌≡◌, ℕ, ◌+◌, Bool, true, false, List, [], ◌∷◌, length, nat_cmp, is_some, refl, sym, ap, ◌∙◌, subst, arith, inl, inr}
 use Rattle.std.specs.Prelude.{Ok}
 use Rattle.std.specs.FinMap as fmap
 use Rattle.std.proofs.lemmas.Bool.{false≢true, true≢false}
@@ -12,9 +12,9 @@ use Rattle.qs_calls.specs.declared.making.Made.{Made}
 use Rattle.qs_machine.specs.Ends.{End}
 use Rattle.qs_machine.specs.Due.{Sendable}
 use Rattle.qs_machine.specs.Making.{IsMade, make_refusal}
-use Rattle.qs_machine.specs.EndStep.{Call, Answer, Receive, Make}
+use Rattle.qs_machine.specs.EndStep.{Call, Answer, Receive}
 use Rattle.qs_machine.specs.News.{IsReadable}
-use Rattle.qs_runs.specs.Logs.{Happening, History, other}
+use Rattle.qs_runs.specs.Logs.{Happening, other}
 use Rattle.qs_runs.specs.Worlds.{end_of}
 use Rattle.qs_rest.proofs.Exclusions.{exclusions as rest_exclusions}
 use Rattle.qs_progress.specs.Laps.{Moment, IsCalm, Trail}
@@ -40,7 +40,7 @@ length_of x old new (logged, step) = (let is : length new.log ≡ length (x ∷ 
 
 -- one thing happened: it is calm, and no end changed
 one_passes : (s : Side) (x : Happening) (old new : Moment) → Happens x old new → Passes s old new → IsCalm x.call × (new.ends ≡ old.ends)
-one_passes s x old new happens (inl (first, delay, room, made, text, bytes, mid, make, receive)) =
+one_passes s x old new happens (inl (call, answer, bytes, mid, calm, make, receive)) =
     let one = length_of x old new happens in
     let first = length_of _ old mid make in
     let second = length_of _ mid new receive in
@@ -67,8 +67,8 @@ took x = takes x.call x.answer
 
 not_whole : (s : Side) (first delay room : ℕ) (made : Made) (text bytes : List ℕ) (old mid new : Moment) → Happens (makes s first delay room made text) old mid
     → Happens (record { end = other s; call = Receive made.number bytes; answer = Ok NoMemory }) mid new → Passes s old new → ⊥
-not_whole s first delay room made text bytes old mid new make receive (inl (first2, delay2, room2, made2, text2, bytes2, mid2, make2, receive2)) =
-    let y : Happening = record { end = other s; call = Receive made2.number bytes2; answer = Ok Done } in
+not_whole s first delay room made text bytes old mid new make receive (inl (call, answer, bytes2, mid2, calm, make2, receive2)) =
+    let y : Happening = record { end = other s; call = Receive (end_of old.ends s).next bytes2; answer = Ok Done } in
     true≢false (ap took (ap (first_of y) (sym receive2.0 ∙ receive.0)))
 not_whole s first delay room made text bytes old mid new make receive (inr (x, calm, happens, same)) =
     let one = length_of x old new happens in
@@ -76,25 +76,21 @@ not_whole s first delay room made text bytes old mid new make receive (inr (x, c
     let second = length_of _ mid new receive in
     omega (arith, one, first, second)
 
--- the number of the packet that is made or comes
-abbrev numbers : (call : Call) → Answer call → ℕ
-numbers (Receive k bytes) answer = k
-numbers (Make first delay room) (Ok (Some made), text) = made.number
-numbers call answer = 0
+-- the number of the packet that comes
+abbrev number_in : Call → ℕ
+number_in (Receive k bytes) = k
+number_in call = 0
 
 abbrev number_of : Happening → ℕ
-number_of x = numbers x.call x.answer
-
-abbrev rest_of_log : History → History
-rest_of_log [] = []
-rest_of_log (x ∷ h) = h
+number_of x = number_in x.call
 
 its_number : (s : Side) (first delay room k : ℕ) (made : Made) (text bytes : List ℕ) (old mid new : Moment) → Happens (makes s first delay room made text) old mid
     → Happens (record { end = other s; call = Receive k bytes; answer = Ok Done }) mid new → Passes s old new → k ≡ made.number
-its_number s first delay room k made text bytes old mid new make receive (inl (first2, delay2, room2, made2, text2, bytes2, mid2, make2, receive2)) =
-    let y : Happening = record { end = other s; call = Receive made2.number bytes2; answer = Ok Done } in
-    let both = sym receive.0 ∙ receive2.0 in
-    ap number_of (ap (first_of y) both) ∙ sym (ap number_of (ap (first_of y) (sym make.0 ∙ ap rest_of_log both ∙ make2.0)))
+its_number s first delay room k made text bytes old mid new make receive (inl (call, answer, bytes2, mid2, calm, make2, receive2)) =
+    let e = end_of old.ends s in
+    let y : Happening = record { end = other s; call = Receive e.next bytes2; answer = Ok Done } in
+    let it : IsMade e first delay room made text (end_of mid.ends s) = is_made (make_refusal e) e (end_of mid.ends s) first delay room made text make.1.step in
+    ap number_of (ap (first_of y) (sym receive.0 ∙ receive2.0)) ∙ sym it.number
 its_number s first delay room k made text bytes old mid new make receive (inr (x, calm, happens, same)) =
     let one = length_of x old new happens in
     let once = length_of _ old mid make in

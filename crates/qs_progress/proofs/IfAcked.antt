@@ -229,18 +229,17 @@ module _ (e : End) where
       from true k ps named at p among = absurd (none-some ps (sym (fmap.get-empty nat_cmp k) ∙ at))
 
   -- no more is acknowledged than was written
-  pub still_written : SentWasWritten e → ((n q : ℕ) (l : SendLane) → lookup e.sends n ≡ Some l → set.contains l.acked q ≡ true → q < l.written) → (n : ℕ) (m : SendLane) → lookup (if_acked e).sends n ≡ Some m
-      → (l : SendLane) × (lookup e.sends n ≡ Some l) × (m.limit ≡ l.limit) × ((q : ℕ) → set.contains m.acked q ≡ true → q < l.written)
-  still_written sent below n m there =
-      let (l, at, a) = alike_back e.sends (if_acked e).sends slots n m there in (
-        l,
-        at,
-        a.limit,
-        λ q is. elim (source.offset n q m there is) [
-          | inl (x, there_x, was) ↦ (let same : x ≡ l = same_Some x l (sym there_x ∙ at) in below n q l at (subst (λ (y : SendLane). set.contains y.acked q ≡ true) same was))
-          | inr (c, flies, low, high) ↦ (let le : c.offset + c.len ≤ l.written = subst (λ o. IsWritten o c) at (sent false (Data n c) flies) in omega (arith, high, le))
-        ],
-      )
+  pub still_written : SentWasWritten e → ((n : ℕ) (l : SendLane) → lookup e.sends n ≡ Some l → (q : ℕ) → set.contains l.acked q ≡ true → q < l.written) → (n : ℕ) (m : SendLane) → lookup (if_acked e).sends n ≡ Some m
+      → (q : ℕ) → set.contains m.acked q ≡ true → q < m.written
+  still_written sent below n m there q is =
+      let (l, at, a) = alike_back e.sends (if_acked e).sends slots n m there in
+      let lt : q < l.written =
+          elim (source.offset n q m there is) [
+            | inl (x, there_x, was) ↦ (let same : x ≡ l = same_Some x l (sym there_x ∙ at) in below n l at q (subst (λ (y : SendLane). set.contains y.acked q ≡ true) same was))
+            | inr (c, flies, low, high) ↦ (let le : c.offset + c.len ≤ l.written = subst (λ o. IsWritten o c) at (sent false (Data n c) flies) in omega (arith, high, le))
+          ] in
+      let same = a.written in
+      omega (arith, lt, same)
 
   module _ (homes : Homes e) where
     bare_homes : Homes (bare e)

@@ -24,8 +24,16 @@ pub mod Kept
 pub mod Passing
 pub mod Turns
 pub mod ComesInRounds
+pub mod InTurns
 pub mod ExclusionsLaps
 pub mod ExclusionsRounds
 pub mod IfAcked
 pub mod Ending
 pub mod ExclusionsEnding
+pub mod Idles
+pub mod Facts
+pub mod Ahead
+pub mod Carrying
+pub mod Waiting
+pub mod Unread
+pub mod Counting

@@ -77,7 +77,7 @@ pub stop_stays : (answers : Bool) (code : ℕ) (l : SendLane) → AcksStay l (st
 stop_stays true code l = cond_both (is_some (reset_refusal l)) l (record l { stopped = first_code l.stopped code }) (AcksStay l) (λ _. stay_same l) (λ _. stay_same l)
 stop_stays false code l = cond_both (is_some (reset_refusal l)) l (record (broken_off l code) { stopped = first_code l.stopped code }) (AcksStay l) (λ _. stay_same l) (λ _. stay_same l)
 
-in_piece : (p : Piece) (e : End) → StayIn e.sends (piece_acked p e).sends
+pub in_piece : (p : Piece) (e : End) → StayIn e.sends (piece_acked p e).sends
 in_piece (Data n c) e = in_edited e.sends n (λ l. acked_lane l c) (λ l. (λ q is. contains-with_range l.acked c.offset (c.offset + c.len) q ∙ or_left _ _ is, λ is. or_left l.fin_acked c.fin is, λ is. is))
 in_piece (Told (ResetStream n code size)) e = in_edited e.sends n reset_acked_lane (λ l. (λ q is. is, λ is. is, λ is. refl))
 in_piece (Told (MaxStreams Uni m)) e = in_same e.sends
@@ -115,7 +115,7 @@ HasHome t (Told i) = ⊤
 abbrev pub Homes : End → Type 0
 Homes e = (late : Bool) (p : Piece) → IsCarried (held late e) p → HasHome e.sends p
 
-home_stays : {R : SendLane → SendLane → Type 0} (t u : Tables SendLane) → KeptIn R t u → (p : Piece) → HasHome t p → HasHome u p
+pub home_stays : {R : SendLane → SendLane → Type 0} (t u : Tables SendLane) → KeptIn R t u → (p : Piece) → HasHome t p → HasHome u p
 home_stays {R} t u kept (Data n c) h = still_open R t u n kept h
 home_stays {R} t u kept (Told (ResetStream n code size)) h = still_open R t u n kept h
 home_stays t u kept (Told i) h = tt
@@ -136,7 +136,7 @@ greatest_now (Some k) m = grind (arith, nat_tests)
 greatest_of_now : (values : fmap.FinMap nat_cmp ℕ) (n m : ℕ) → reaches (fmap.get (greatest_of values n m) n) m ≡ true
 greatest_of_now values n m = ap (λ o. reaches o m) (get_new values n (max (or_zero (fmap.get values n)) m)) ∙ (grind (arith, nat_tests))
 
-reached_now : (p : Piece) (e : End) → HasHome e.sends p → IsReached (piece_acked p e) p
+pub reached_now : (p : Piece) (e : End) → HasHome e.sends p → IsReached (piece_acked p e) p
 reached_now (Data n c) e home =
     let (l, is) = the_one (lookup e.sends n) home in (
       acked_lane l c,

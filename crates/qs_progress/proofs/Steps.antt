@@ -128,7 +128,7 @@ kept_all l lawful = same_map nat_cmp_total nat_cmp-IsAntisymmetric _ _ (λ q. ge
     go q false over None is = sym is
     go q false over (Some byte) is = (let le = (lawful.stored_received q (ap is_some is)).0 in absurd (grind (arith, nat_tests, over, le)))
 
-read_same : (l : RecvLane) (size : ℕ) → IsLawful l → (after_read l size).arrived.read_count ≤ l.arrived.read_count → ((after_read l size).reader_done ≡ true → l.reader_done ≡ true) → after_read l size ≡ l
+pub read_same : (l : RecvLane) (size : ℕ) → IsLawful l → (after_read l size).arrived.read_count ≤ l.arrived.read_count → ((after_read l size).reader_done ≡ true → l.reader_done ≡ true) → after_read l size ≡ l
 read_same l size lawful = by (read_answer l size)
   where
     by : (r : Read) → (after_answer r l size).arrived.read_count ≤ l.arrived.read_count → ((after_answer r l size).reader_done ≡ true → l.reader_done ≡ true) → after_answer r l size ≡ l
@@ -244,7 +244,7 @@ module _ (old : End) (ready : IsReady old) where
       go (Some l) is = ap (λ t. record old { recvs = t }) (updated_back old.recvs n f l is (same l is))
 
   -- the lane at n once the limits moved
-  raised_at : (n : ℕ) (f : RecvLane → RecvLane) (l : RecvLane) → lookup old.recvs n ≡ Some l → lookup (settle (on_recv n f old)).recvs n ≡ Some (raise (f l))
+  pub raised_at : (n : ℕ) (f : RecvLane → RecvLane) (l : RecvLane) → lookup old.recvs n ≡ Some l → lookup (settle (on_recv n f old)).recvs n ≡ Some (raise (f l))
   raised_at n f l is = lookup_each raise (updated old.recvs n f (lookup old.recvs n)) n ∙ ap (option_map raise) (changed old.recvs n f l is)
 
   -- Packets

@@ -1,6 +1,6 @@
 -- Turns: what one end sends is acknowledged once the other's turn is over.
-use Rattle.std.proofs.Common.{◌≡◌, ℕ, zero, suc, ◌<◌, Bool, true, false, List, [], ◌∷◌, ◌++◌, ◌⊎◌, length, slice_get, Option, Some, None, is_some, refl, sym, ap, ◌∙◌, subst, arith, inl, inr}
-use Rattle.std.specs.Prelude.{⊤, Result, Ok, Err, nat_lt, MatchBool}
+use Rattle.std.proofs.Common.{◌≡◌, ℕ, zero, suc, ◌<◌, Bool, true, false, List, [], ◌∷◌, ◌++◌, append-nil, ◌⊎◌, length, slice_get, Option, Some, None, is_some, refl, sym, ap, ◌∙◌, subst, arith, inl, inr}
+use Rattle.std.specs.Prelude.{⊤, Result, Ok, Err, nat_lt, MatchBool, flat_map, ◌+◌}
 use Rattle.std.specs.FinMap as fmap
 use Rattle.std.specs.FinSet as set
 use Rattle.std.proofs.lemmas.Bool.{false≢true, true≢false, or_left, or_right}
@@ -21,26 +21,28 @@ use Rattle.qs_calls.specs.declared.event.Side.{Side}
 use Rattle.qs_calls.specs.declared.event.Side.TheVariants.{A, B}
 use Rattle.qs_calls.specs.declared.making.Made.{Made}
 use Rattle.qs_calls.specs.declared.making.MakeFault.{MakeFault}
-use Rattle.qs_calls.specs.declared.making.LostFault.{LostFault}
 use Rattle.qs_calls.specs.declared.settings.Settings.{Settings}
 use Rattle.qs_machine.specs.Ends.{End}
 use Rattle.qs_machine.specs.Seen.{Seen, Plain, seen_all, asks_ack, any_asks}
 use Rattle.qs_machine.specs.Plains.{frames_in, is_plain}
 use Rattle.qs_machine.specs.Ways.{IsNew, is_ack}
 use Rattle.qs_machine.specs.Credit.{settle}
-use Rattle.qs_machine.specs.FrameStep.{frames_taken}
-use Rattle.qs_machine.specs.Recording.{recorded}
 use Rattle.qs_machine.specs.Due.{Sendable}
 use Rattle.qs_machine.specs.Asking.{IsNextOutstanding}
-use Rattle.qs_machine.specs.Making.{IsMade, MakeAt, LoseStep, lose_refusal, losses, make_refusal}
+use Rattle.qs_calls.specs.declared.filling.Fill.{Fill}
+use Rattle.qs_calls.specs.declared.filling.Filled.{Filled}
+use Rattle.qs_machine.specs.Lawful.{Fills}
+use Rattle.qs_machine.specs.Filling.{FillAt, IsFilled, as_made}
+use Rattle.qs_machine.specs.Making.{IsMade, MakeAt, LoseStep, lose_refusal, losses, make_refusal, claim_refusal}
 use Rattle.qs_machine.specs.Receiving.{ReceiveStep, ReceiveBy, TakesPayload, noted_receive}
-use Rattle.qs_machine.specs.EndStep.{Receive, Make, Lose}
+use Rattle.qs_machine.specs.EndStep.{Call, Answer, EndStep, Receive, Make, MakeAck, FillIn, Claim, Lose}
 use Rattle.qs_machine.proofs.Plains.{differ_covers, differ_turned}
-use Rattle.qs_machine.proofs.Ways.{payload_frames}
-use Rattle.qs_runs.specs.Logs.{History, other, made, payload, Effect}
+use Rattle.qs_machine.proofs.Ways.{payload_frames, ack_packet}
+use Rattle.qs_runs.specs.Logs.{Happening, History, other, made, payload, effects_of, sent_in}
 use Rattle.qs_runs.specs.Pasts.{PieceOf, past}
 use Rattle.qs_runs.specs.Worlds.{end_of, IsPayload}
-use Rattle.qs_runs.proofs.Histories.{made_here, payload_seen, heard_some, theirs_mine}
+use Rattle.qs_runs.proofs.Histories.{made_here, payload_seen, heard_some, theirs_mine, none_sent}
+use Rattle.qs_runs.proofs.Claims.{run_settled}
 use Rattle.qs_runs.proofs.Lists.{slice_get-last}
 use Rattle.qs_runs.proofs.Runs.{run_keeps, processed_made}
 use Rattle.qs_runs.proofs.Standing.{certain_cases}
@@ -50,7 +52,7 @@ use Rattle.qs_progress.specs.Comes.{IsReached}
 use Rattle.qs_progress.specs.Outstanding.{IsIn}
 use Rattle.qs_progress.specs.Rounds.{Happens, Loses, Sends}
 use Rattle.qs_progress.proofs.Trails.{reached}
-use Rattle.qs_progress.proofs.Passing.{Passed, Owes, IsClear, named_top, owes_more, answers, still_clear}
+use Rattle.qs_progress.proofs.Passing.{Passed, Owes, IsClear, MayBe, NamesTop, named_top, owes_more, answers, still_clear}
 
 -- Losses
 
@@ -76,9 +78,9 @@ none_lost e k (p ∷ ps) there clear = absurd (clear k p (p ∷ ps, there, inl r
 one_lost : (e f : End) (k : ℕ) → LoseStep e k (Ok tt) f → Lost e f
 one_lost e f k step =
     elim (certain_cases (lose_refusal e k) e (Ok tt) f _ step) [
-      | inl (fault, is, same) ↦ absurd (false≢true (sym (ap is_ok is)))
+      | inl (fault, is, same) ↦ absurd (cc is)
       | inr (allowed, (ps, there, told)) ↦ elim told [
-        | inr (moved, lt, is, same) ↦ absurd (false≢true (sym (ap is_ok is)))
+        | inr (moved, lt, is, same) ↦ absurd (cc is)
         | inl (ok, is) ↦ record {
           done = ap (λ (x : End). x.done) is ∙ (losses_leave k ps e).0;
           due = ap (λ (x : End). x.ack_due) is ∙ (losses_leave k ps e).1;
@@ -86,10 +88,6 @@ one_lost e f k step =
         }
       ]
     ]
-  where
-    is_ok : Result (Unit {0}) LostFault → Bool
-    is_ok (Ok u) = true
-    is_ok (Err fault) = false
 
 -- after its losses nothing of an end is outstanding, and the other end is as it was
 pub record HasLost (s : Side) (old new : Moment) : Type 0 where
@@ -129,9 +127,9 @@ loses_trail s (suc n) old new (k, mid, (logged, step), rest) =
 -- it is a trail
 pub sends_trail : (s : Side) (n : ℕ) (old new : Moment) → Sends s n old new → (ms : List Moment) × Trail IsCalm old ms new
 sends_trail s zero old new (is, none) = ([], is)
-sends_trail s (suc n) old new (mid, inl (first, delay, room, made_it, text, bytes, at, (logged, make), (logged_too, receive)), rest) =
+sends_trail s (suc n) old new (mid, inl (call, answer, bytes, at, calm, (logged, make), (logged_too, receive)), rest) =
     let (ms, trail) = sends_trail s n mid new rest in
-    (at ∷ mid ∷ ms, ((_, tt, logged, make), ((_, tt, logged_too, receive), trail)))
+    (at ∷ mid ∷ ms, ((_, calm, logged, make), ((_, tt, logged_too, receive), trail)))
 sends_trail s (suc n) old new (mid, inr (x, calm, (logged, step), same), rest) =
     let (ms, trail) = sends_trail s n mid new rest in
     (mid ∷ ms, ((x, calm, logged, step), trail))
@@ -143,42 +141,97 @@ sends_all s (suc n) old new (mid, passes, rest) = sends_all s n mid new rest
 
 -- What is received
 
-abbrev is_done : Result Received Closing → Bool
-is_done (Ok Done) = true
-is_done r = false
-
 -- a payload that is taken in whole is a new one, and its end is open
-new_payload : (e new : End) (k : ℕ) (bytes : List ℕ) → ReceiveStep e k bytes (Ok Done) new → IsNew e k
+pub new_payload : (e new : End) (k : ℕ) (bytes : List ℕ) → ReceiveStep e k bytes (Ok Done) new → IsNew e k
 new_payload e new k bytes step = by_closed e.closed refl step
   where
-    never : (c : Closer) (code : ℕ) → is_done (noted_receive c code) ≡ false
-    never Us code = refl
-    never Peer code = refl
+    never : (c : Closer) (code : ℕ) → ◌≡◌ {A = Result Received Closing} (Ok Done) (noted_receive c code) → ⊥
+    never Us code is = cc is
+    never Peer code is = cc is
 
     Taken : Type 0
     Taken = (mid : End) × TakesPayload k bytes e (Ok Done) mid × (new ≡ settle mid)
 
     by_kept : e.closed ≡ None → nat_lt k e.floor ≡ false → (b : Bool) → set.contains e.done k ≡ b → MatchBool b ((◌≡◌ {A = Result Received Closing} (Ok Done) (Ok received.Duplicate)) × (new ≡ e)) Taken → IsNew e k
-    by_kept unclosed above true is again = absurd (false≢true (sym (ap is_done again.0)))
+    by_kept unclosed above true is again = absurd (cc again.0)
     by_kept unclosed above false is taken = record { unclosed = unclosed; above = above; unkept = is }
 
     by_floor : e.closed ≡ None → (b : Bool) → nat_lt k e.floor ≡ b → MatchBool b ((◌≡◌ {A = Result Received Closing} (Ok Done) (Ok received.BelowFloor)) × (new ≡ e)) (MatchBool (set.contains e.done k) ((◌≡◌ {A = Result Received Closing} (Ok Done) (Ok received.Duplicate)) × (new ≡ e)) Taken) → IsNew e k
-    by_floor unclosed true is low = absurd (false≢true (sym (ap is_done low.0)))
+    by_floor unclosed true is low = absurd (cc low.0)
     by_floor unclosed false is rest = by_kept unclosed is (set.contains e.done k) refl rest
 
     by_closed : (o : Option Closed) → e.closed ≡ o → ReceiveBy o k bytes e (Ok Done) new → IsNew e k
     by_closed None is rest = by_floor is (nat_lt k e.floor) refl rest
-    by_closed (Some (closings.ByUs closing)) is closed = absurd (false≢true (sym (ap is_done closed.0)))
-    by_closed (Some (closings.ByPeer code)) is closed = absurd (false≢true (sym (ap is_done closed.0)))
-    by_closed (Some (closings.Noted close)) is closed = absurd (false≢true (sym (ap is_done closed.0 ∙ never close.by close.code)))
+    by_closed (Some (closings.ByUs closing)) is closed = absurd (cc closed.0)
+    by_closed (Some (closings.ByPeer code)) is closed = absurd (cc closed.0)
+    by_closed (Some (closings.Noted close)) is closed = absurd (never close.by close.code closed.0)
 
 pub is_made : (o : Option MakeFault) (e new : End) (first delay room : ℕ) (made : Made) (text : List ℕ) → MakeAt o e first delay room (Ok (Some made)) text new → IsMade e first delay room made text new
 is_made None e new first delay room made text step = step
-is_made (Some fault) e new first delay room made text step = absurd (false≢true (sym (ap is_ok step.0)))
-  where
-    is_ok : Result (Option Made) MakeFault → Bool
-    is_ok (Ok m) = true
-    is_ok (Err fault) = false
+is_made (Some fault) e new first delay room made text step = absurd (cc step.0)
+
+the_last : (texts : List (List ℕ)) (t text : List ℕ) → slice_get (texts ++ t ∷ []) (length texts) ≡ Some text → t ≡ text
+the_last texts t text is = same_Some t text (sym (slice_get-last texts t) ∙ is)
+
+none_there : (texts : List (List ℕ)) (text : List ℕ) → slice_get (texts ++ []) (length texts) ≡ Some text → ⊥
+none_there texts text is =
+    let lt = slice_get_within texts (length texts) text (ap (λ ts. slice_get ts (length texts)) (sym (append-nil texts)) ∙ is) in
+    omega (arith, lt)
+
+-- an end made its next packet, with this text
+record Makes (e e2 : End) (text : List ℕ) : Type 0 where
+  frames : List Seen
+  last : End
+  filled : Fills e e frames last
+  made : e2 ≡ settle (record last { next = e.next + 1 })
+  names : (g : Seen) (at : End) → Among g frames → MayBe e at g → NamesTop e g
+  reads : (g : Seen) → Among g frames → Among g (frames_in text)
+
+makes : (e e2 : End) (first delay room : ℕ) (made_it : Made) (text : List ℕ) → IsMade e first delay room made_it text e2 → Makes e e2 text
+makes e e2 first delay room made_it text it =
+    let (last, filled, ends) = it.lawful.filled in
+    record {
+      frames = seen_all it.frames;
+      last = last;
+      filled = filled;
+      made = it.after ∙ ap settle ends;
+      names = λ g at among may. named_top e at delay room it.frames it.spells.fits it.acks g among may;
+      reads = λ g among. subst (Among g) (sym (text_seen delay it.frames text it.lawful.some it.spells)) among;
+    }
+
+is_filled : (o : Option MakeFault) (e new : End) (want : Fill) (room : ℕ) (filled : Filled) (text : List ℕ) → FillAt o e want room (Ok (Some filled)) text new → IsFilled e want room filled text new
+is_filled None e new want room filled text step = step
+is_filled (Some fault) e new want room filled text step = absurd (cc step.0)
+
+-- a call by which the number of texts grew made a packet, by `make_packet`, `make_ack` or `fill`, or claimed a number
+its_packet : (e e2 : End) (call : Call) (answer : Answer call) → EndStep e call answer e2 → settle e ≡ e → (texts : List (List ℕ)) (text : List ℕ) → slice_get (texts ++ flat_map sent_in (effects_of call answer)) (length texts) ≡ Some text → Makes e e2 text
+its_packet e e2 (Make first delay room) (Ok (Some made_it), t) step settled texts text is =
+    subst (Makes e e2) (the_last texts t text is) (makes e e2 first delay room made_it t (is_made (make_refusal e) e e2 first delay room made_it t step))
+its_packet e e2 (MakeAck delay room) (Ok (Some made_it), t) step settled texts text is =
+    subst (Makes e e2) (the_last texts t text is)
+    (elim (ack_packet e e2 0 delay room (Ok (Some made_it)) t step) [
+      | inl packet ↦ makes e e2 0 delay (length t) made_it t (is_made (make_refusal e) e e2 0 delay (length t) made_it t packet)
+      | inr (none, empty, same) ↦ absurd (cc none)
+    ])
+its_packet e e2 (FillIn want room) (Ok (Some filled), t) step settled texts text is =
+    subst (Makes e e2) (the_last texts t text is) (makes e e2 want.first 0 (length t) (as_made filled) t (is_filled (make_refusal e) e e2 want room filled t step).made)
+its_packet e e2 Claim (Ok number) step settled texts text is =
+    elim (certain_cases (claim_refusal e) e (Ok number) e2 _ step) [
+      | inl (fault, refused, same) ↦ absurd (cc refused)
+      | inr (allowed, (number_is, claimed)) ↦ record {
+        frames = [];
+        last = e;
+        filled = refl;
+        made = claimed ∙ ap (λ (y : End). record y { next = e.next + 1 }) (sym settled);
+        names = λ g at none. absurd none;
+        reads = λ g none. absurd none;
+      }
+    ]
+its_packet e e2 (Make first delay room) (r, t) step settled texts text is = absurd (none_there texts text is)
+its_packet e e2 (MakeAck delay room) (r, t) step settled texts text is = absurd (none_there texts text is)
+its_packet e e2 (FillIn want room) (r, t) step settled texts text is = absurd (none_there texts text is)
+its_packet e e2 Claim (Err fault) step settled texts text is = absurd (none_there texts text is)
+its_packet e e2 call answer step settled texts text is = absurd (none_there texts text (ap (λ ts. slice_get (texts ++ ts) (length texts)) (sym (none_sent call answer (λ sends. sends))) ∙ is))
 
 any_among : (f : Seen) (fs : List Seen) → Among f fs → asks_ack f ≡ true → any_asks fs ≡ true
 any_among f [] among asks = absurd among
@@ -201,14 +254,6 @@ module _ (a b : Settings) where
       omega (arith, lt, (ok.ends s).packets.count)
 
   module _ (s : Side) where
-    -- the text of the packet that was just made
-    just_made : (h : History) (first delay room : ℕ) (made_it : Made) (text : List ℕ) → made_it.number ≡ length (made s h)
-        → payload s made_it.number (record { end = s; call = Make first delay room; answer = (Ok (Some made_it), text) } ∷ h) ≡ Some text
-    just_made h first delay room made_it text is =
-        ap (λ ts. slice_get ts made_it.number) (made_here (record { end = s; call = Make first delay room; answer = (Ok (Some made_it), text) }) h)
-        ∙ ap (slice_get (made s h ++ text ∷ [])) is
-        ∙ slice_get-last (made s h) text
-
     -- what stood in the packet asks for an ACK
     stood_asks : (h : History) (k : ℕ) (p : Piece) (text bytes : List ℕ) → payload s k h ≡ Some text → PieceOf (past s h).mine k p → ((f : Seen) → Among f (frames_in text) → is_plain f ≡ false → Among f (frames_in bytes)) → any_asks (frames_in bytes) ≡ true
     stood_asks h k (Data n c) text bytes is (data_bytes, (fs, at, among), len) covers =
@@ -216,53 +261,50 @@ module _ (a b : Settings) where
     stood_asks h k (Told i) text bytes is (fs, at, among) covers =
         any_among _ (frames_in bytes) (covers _ (subst (Among _) (same_Some fs (frames_in text) (sym at ∙ payload_seen s k h text is)) among) refl) refl
 
-    passed : (old mid new : Moment) (first delay room : ℕ) (made_it : Made) (text bytes : List ℕ) → IsReached a b old
-        → Happens (record { end = s; call = Make first delay room; answer = (Ok (Some made_it), text) }) old mid
-        → Happens (record { end = other s; call = Receive made_it.number bytes; answer = Ok Done }) mid new
+    pub passed : (old mid new : Moment) (call : Call) (answer : Answer call) (bytes : List ℕ) → IsReached a b old
+        → Happens (record { end = s; call = call; answer = answer }) old mid
+        → Happens (record { end = other s; call = Receive (end_of old.ends s).next bytes; answer = Ok Done }) mid new
         → IsReached a b new × Passed (end_of old.ends s) (end_of new.ends s) (end_of old.ends (other s)) (end_of new.ends (other s))
-    passed old mid new first delay room made_it text bytes r (logged, make) (logged_too, receive) =
+    passed old mid new call answer bytes r (logged, make) (logged_too, receive) =
         let e = end_of old.ends s in
         let f = end_of mid.ends (other s) in
-        let it : IsMade e first delay room made_it text (end_of mid.ends s) = is_made (make_refusal e) e (end_of mid.ends s) first delay room made_it text make.step in
-        let (last, filled, ends) = it.lawful.filled in
-        let r_mid = reached a b old mid _ r logged make in
+        let x : Happening = record { end = s; call = call; answer = answer } in
+        let r_mid = reached a b old mid x r logged make in
         let r_new = reached a b mid new _ r_mid logged_too receive in
         let ok = run_keeps a b old.log old.ends r.run in
         let ok_mid = run_keeps a b mid.log mid.ends r_mid.run in
-        let fresh = new_payload f (end_of new.ends (other s)) made_it.number bytes receive.step in
-        let heard : IsPayload mid.log (other (other s)) made_it.number bytes = heard_some mid.log mid.ends (other s) (end_of new.ends (other s)) (Receive made_it.number bytes) (Ok Done) fresh.unclosed (λ none. false≢true (sym (ap is_some_effect none))) (receive.may fresh.unclosed) receive.step in
-        let (sent, is, differ) = subst (λ t. IsPayload mid.log t made_it.number bytes) (other_twice s) heard in
-        let text_is : sent ≡ text = same_Some sent text (sym is ∙ ap (payload s made_it.number) logged ∙ just_made old.log first delay room made_it text (it.number ∙ (ok.ends s).packets.count ∙ length-map (made s old.log) frames_in)) in
-        let (fine, faultless, took) = payload_frames f (end_of new.ends (other s)) made_it.number bytes fresh receive.step in
+        let fresh = new_payload f (end_of new.ends (other s)) e.next bytes receive.step in
+        let heard : IsPayload mid.log (other (other s)) e.next bytes = heard_some mid.log mid.ends (other s) (end_of new.ends (other s)) (Receive e.next bytes) (Ok Done) fresh.unclosed (λ none. cc none) (receive.may fresh.unclosed) receive.step in
+        let (sent, is, differ) = subst (λ t. IsPayload mid.log t e.next bytes) (other_twice s) heard in
+        let next : e.next ≡ length (made s old.log) = (ok.ends s).packets.count ∙ length-map (made s old.log) frames_in in
+        let texts : made s mid.log ≡ made s old.log ++ flat_map sent_in (effects_of call answer) = ap (made s) logged ∙ made_here x old.log in
+        let there : slice_get (made s old.log ++ flat_map sent_in (effects_of call answer)) (length (made s old.log)) ≡ Some sent = subst (λ k. slice_get (made s old.log ++ flat_map sent_in (effects_of call answer)) k ≡ Some sent) next (subst (λ ts. slice_get ts e.next ≡ Some sent) texts is) in
+        let it = its_packet e (end_of mid.ends s) call answer make.step (run_settled a b old.log old.ends r.run s) (made s old.log) sent there in
+        let (fine, faultless, took) = payload_frames f (end_of new.ends (other s)) e.next bytes fresh receive.step in
         let covers : (g : Seen) → Among g (frames_in sent) → is_plain g ≡ false → Among g (frames_in bytes) = λ g among unplain. elim (differ_covers sent bytes (differ_turned bytes sent differ) g among) [ inl there ↦ there | inr plain ↦ absurd (true≢false (sym plain ∙ unplain)) ] in
-        let seen_is : frames_in sent ≡ seen_all it.frames = ap frames_in text_is ∙ text_seen delay it.frames text it.lawful.some it.spells in
         let same : end_of new.ends s ≡ end_of mid.ends s = subst (λ t. end_of new.ends t ≡ end_of mid.ends t) (other_twice s) receive.still in (
           r_new,
-          subst (λ x. Passed e (end_of new.ends s) x (end_of new.ends (other s))) make.still
+          subst (λ y. Passed e (end_of new.ends s) y (end_of new.ends (other s))) make.still
               (record {
-                frames = seen_all it.frames;
-                last = last;
-                filled = filled;
-                made = same ∙ it.after ∙ ap settle ends;
-                names = λ g at among may. named_top e at delay room it.frames it.spells.fits it.acks g among may;
+                frames = it.frames;
+                last = it.last;
+                filled = it.filled;
+                made = same ∙ it.made;
+                names = it.names;
                 came = frames_in bytes;
                 fine = fine;
-                took = subst (λ k. end_of new.ends (other s) ≡ recorded k (any_asks (frames_in bytes)) (settle (frames_taken (frames_in bytes) f))) it.number took;
-                acks = λ g among is. covers g (subst (Among g) (sym seen_is) among) (no_plain g is);
+                took = took;
+                acks = λ g among is. covers g (it.reads g among) (no_plain g is);
                 asks = λ p here.
-                    let (ps, there, in_ps) = subst (λ (x : End). IsIn x.outstanding e.next p) same here in
-                    stood_asks mid.log e.next p sent bytes (ap (λ k. payload s k mid.log) (sym it.number) ∙ is) ((ok_mid.ends s).packets.records e.next ps p there in_ps) covers;
+                    let (ps, there, in_ps) = subst (λ (y : End). IsIn y.outstanding e.next p) same here in
+                    stood_asks mid.log e.next p sent bytes is ((ok_mid.ends s).packets.records e.next ps p there in_ps) covers;
                 sound = ok_mid.sound (other s);
                 sent = ok_mid.sent (other s);
-                below = λ k there. below_next old r s k (subst (λ (x : End). set.contains x.done k ≡ true) make.still there);
+                below = λ k there. below_next old r s k (subst (λ (y : End). set.contains y.done k ≡ true) make.still there);
                 below_then = below_next new r_new s;
               }),
         )
       where
-        is_some_effect : List Effect → Bool
-        is_some_effect [] = false
-        is_some_effect (x ∷ xs) = true
-
         no_plain : (g : Seen) → is_ack g ≡ true → is_plain g ≡ false
         no_plain (Plain asks) is = absurd (false≢true is)
         no_plain g is = refl
@@ -271,8 +313,8 @@ module _ (a b : Settings) where
     pub sends : (n : ℕ) (old new : Moment) (lo : ℕ) → IsReached a b old → Sends s n old new → Owes lo (end_of old.ends s).next (end_of old.ends s) (end_of old.ends (other s))
         → IsReached a b new × Owes lo (end_of new.ends s).next (end_of new.ends s) (end_of new.ends (other s))
     sends zero old new lo r (is, none) owes = subst (λ (m : Moment). IsReached a b m × Owes lo (end_of m.ends s).next (end_of m.ends s) (end_of m.ends (other s))) (sym is) (r, owes)
-    sends (suc n) old new lo r (mid, inl (first, delay, room, made_it, text, bytes, at, make, receive), rest) owes =
-        let (there, x) = passed old at mid first delay room made_it text bytes r make receive in
+    sends (suc n) old new lo r (mid, inl (call, answer, bytes, at, calm, make, receive), rest) owes =
+        let (there, x) = passed old at mid call answer bytes r make receive in
         sends n mid new lo there rest (owes_more (end_of old.ends s) (end_of mid.ends s) (end_of old.ends (other s)) (end_of mid.ends (other s)) x lo owes)
     sends (suc n) old new lo r (mid, inr (x, calm, (logged, step), same), rest) owes =
         sends n mid new lo (reached a b old mid x r logged step) rest (subst (λ w. Owes lo (end_of w s).next (end_of w s) (end_of w (other s))) (sym same) owes)
@@ -284,8 +326,8 @@ module _ (a b : Settings) where
     pub tells : (n : ℕ) (old new : Moment) (lo hi : ℕ) → IsReached a b old → Sends s n old new → IsTold lo hi old → IsClear (end_of new.ends (other s))
     tells zero old new lo hi r (is, none) (inl owes) = subst (λ (m : Moment). IsClear (end_of m.ends (other s))) (sym is) (λ k p here. none (inl (owes.due k p here)))
     tells zero old new lo hi r (is, none) (inr clear) = subst (λ (m : Moment). IsClear (end_of m.ends (other s))) (sym is) clear
-    tells (suc n) old new lo hi r (mid, inl (first, delay, room, made_it, text, bytes, at, make, receive), rest) told =
-        let (there, x) = passed old at mid first delay room made_it text bytes r make receive in
+    tells (suc n) old new lo hi r (mid, inl (call, answer, bytes, at, calm, make, receive), rest) told =
+        let (there, x) = passed old at mid call answer bytes r make receive in
         tells n mid new lo hi there rest (elim told [
           | inl owes ↦ answers (end_of old.ends s) (end_of mid.ends s) (end_of old.ends (other s)) (end_of mid.ends (other s)) x lo hi owes
           | inr clear ↦ inr (still_clear (end_of old.ends s) (end_of mid.ends s) (end_of old.ends (other s)) (end_of mid.ends (other s)) x clear)

@@ -4,6 +4,7 @@
 use Rattle.std.specs.Prelude.{◌≡◌, ℕ, ◌+◌, ◌*◌, ◌≤◌, Bool, true, false, List, [], ◌∷◌, None, ⊤}
 use Rattle.qs_calls.specs.declared.settings.Settings.{Settings}
 use Rattle.qs_calls.specs.declared.event.Side.{Side}
+use Rattle.qs_runs.specs.Logs.{History}
 use Rattle.qs_runs.specs.Worlds.{World, end_of, Run}
 use Rattle.qs_rest.specs.Rest.{AtRest}
 use Rattle.qs_rest.specs.Resting.{KnowsFirstLimits, KnowsItsLimits, CreditIsWhole, HasCreditAhead, ResetsAreFinal, AllIsDelivered}
@@ -54,16 +55,16 @@ abbrev pub RestComesInRounds : Type 0
 RestComesInRounds = ComesInTime Round 1 (λ m. BothRest m.ends)
 
 -- what holds at rest, of both ends: all was delivered that no reset, stop or owner keeps back, and all credit is whole
-pub record IsComplete (m : Moment) : Type 0 where
-  pub known : (s : Side) → KnowsItsLimits m.log m.ends s
-  pub credit : (s : Side) → CreditIsWhole m.log m.ends s
-  pub ahead : (s : Side) → HasCreditAhead m.log m.ends s
-  pub resets : (s : Side) → ResetsAreFinal m.log m.ends s
-  pub delivered : (s : Side) → AllIsDelivered m.log m.ends s
+pub record IsComplete (h : History) (w : World) : Type 0 where
+  pub known : (s : Side) → KnowsItsLimits h w s
+  pub credit : (s : Side) → CreditIsWhole h w s
+  pub ahead : (s : Side) → HasCreditAhead h w s
+  pub resets : (s : Side) → ResetsAreFinal h w s
+  pub delivered : (s : Side) → AllIsDelivered h w s
 
 -- AND ALL IS DELIVERED.
 abbrev pub AllComes : Type 0
-AllComes = ComesInTime Lap 2 IsComplete
+AllComes = ComesInTime Lap 2 (λ m. IsComplete m.log m.ends)
 
 abbrev pub AllComesInRounds : Type 0
-AllComesInRounds = ComesInTime Round 1 IsComplete
+AllComesInRounds = ComesInTime Round 1 (λ m. IsComplete m.log m.ends)

@@ -1,14 +1,13 @@
 -- Trusted.
 -- Rounds: each end in turn declares lost what is outstanding, and sends until nothing may go; each packet comes at once, and is taken in
 -- whole; and then both read. The whole file is ours: RFC 9000 has no rounds.
-use Rattle.std.specs.Prelude.{◌≡◌, ℕ, zero, suc, List, ◌∷◌, ◌⊎◌, None, Some, Ok, ⊤}
+use Rattle.std.specs.Prelude.{◌≡◌, ℕ, zero, suc, List, ◌∷◌, ◌⊎◌, None, Ok, ⊤}
 use Rattle.qs_calls.specs.declared.closing.Received.TheVariants.{Done}
 use Rattle.qs_calls.specs.declared.event.Side.{Side}
 use Rattle.qs_calls.specs.declared.event.Side.TheVariants.{A, B}
-use Rattle.qs_calls.specs.declared.making.Made.{Made}
 use Rattle.qs_machine.specs.Asking.{IsNextOutstanding}
 use Rattle.qs_machine.specs.Due.{Sendable}
-use Rattle.qs_machine.specs.EndStep.{Call, ReadUpTo, Consume, Receive, Make, Lose}
+use Rattle.qs_machine.specs.EndStep.{Call, Answer, ReadUpTo, Consume, Receive, Lose}
 use Rattle.qs_machine.specs.News.{IsLeast, IsReadable}
 use Rattle.qs_runs.specs.Logs.{Happening, other}
 use Rattle.qs_runs.specs.Worlds.{end_of, WorldStep}
@@ -23,12 +22,13 @@ abbrev pub Loses : Side → ℕ → Moment → Moment → Type 0
 Loses s zero old new = (new ≡ old) × IsNextOutstanding (end_of old.ends s).outstanding 0 None
 Loses s (suc n) old new = (k : ℕ) × (mid : Moment) × Happens (record { end = s; call = Lose k; answer = Ok tt }) old mid × Loses s n mid new
 
--- a packet is made, comes to the other end and is taken in whole; or what happens changes neither end (RFC 9000, section 12.3)
+-- A call of an end makes the packet of its next number, and that comes to the other end, where it is taken in whole; or what happens
+-- changes neither end (RFC 9000, section 12.3). That the call made it isn't said, for nothing else may come under that number.
 abbrev pub Passes : Side → Moment → Moment → Type 0
 Passes s old new =
-    ((first delay room : ℕ) × (made : Made) × (text bytes : List ℕ) × (mid : Moment)
-    × Happens (record { end = s; call = Make first delay room; answer = (Ok (Some made), text) }) old mid
-    × Happens (record { end = other s; call = Receive made.number bytes; answer = Ok Done }) mid new)
+    ((call : Call) × (answer : Answer call) × (bytes : List ℕ) × (mid : Moment) × IsCalm call
+    × Happens (record { end = s; call = call; answer = answer }) old mid
+    × Happens (record { end = other s; call = Receive (end_of old.ends s).next bytes; answer = Ok Done }) mid new)
     ⊎ ((x : Happening) × IsCalm x.call × Happens x old new × (new.ends ≡ old.ends))
 
 -- so many times, and then nothing may go, not even an ACK (RFC 9000, sections 13.2 and 13.3)

@@ -38,7 +38,7 @@ next_at_most : (e : End) → make_refusal e ≡ None → e.next ≤ MAX_VARINT
 next_at_most e none = (let test : nat_le (MAX_VARINT + 1) e.next ≡ false = not_used_up (is_some e.closed) _ none in grind (arith, nat_tests, test))
 
 -- the packet has the next number of an end
-abbrev IsNumbered : End → ℕ → List (List ℕ) → Type 0
+abbrev pub IsNumbered : End → ℕ → List (List ℕ) → Type 0
 IsNumbered e k texts = (k ≡ e.next) × (k ≤ MAX_VARINT) × (text : List ℕ) × (texts ≡ text ∷ [])
 
 packet_numbered : (o : Option MakeFault) (e new : End) (first delay room : ℕ) (made : Made) (text : List ℕ) (k : ℕ) → make_refusal e ≡ o
@@ -48,7 +48,7 @@ packet_numbered None e new first delay room made text k is step number =
     let next : k ≡ e.next = sym number ∙ step.number in
     (next, rw next (next_at_most e is), text, refl)
 
-numbered : (h : History) (v w : World) (s : Side) (act : Act) (answer : Answer) (x : Happening) (k : ℕ) → call_of h s act answer ≡ Some x → WorldStep h v x w → number_made answer ≡ Some k → IsNumbered (end_of v s) k (made_by act answer)
+pub numbered : (h : History) (v w : World) (s : Side) (act : Act) (answer : Answer) (x : Happening) (k : ℕ) → call_of h s act answer ≡ Some x → WorldStep h v x w → number_made answer ≡ Some k → IsNumbered (end_of v s) k (made_by act answer)
 numbered h v w s (acts.Make room) (answers.Make (Ok (Some packet)) text) x k is step number =
     let call : Happening = record { end = s; call = Make 0 0 room; answer = (Ok (Some packet), text.items) } in
     packet_numbered (make_refusal (end_of v s)) _ _ 0 0 room packet text.items k refl (subst (λ y. WorldStep h v y w) (sym (same_Some call x is)) step).step (same_Some _ _ number)

@@ -15,3 +15,4 @@ pub mod PlayedRuns
 pub mod ReadCuts
 pub mod Sides
 pub mod Untold
+pub mod Rounds

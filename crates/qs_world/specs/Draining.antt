@@ -16,7 +16,7 @@ use Rattle.qs_calls.specs.declared.answer.Answer.TheVariants as answers
 use Rattle.qs_runs.specs.Logs.{History, same_side}
 use Rattle.qs_runs.specs.Events.{Log, happened, EventStep}
 use Rattle.qs_runs.specs.Worlds.{World, end_of}
-use Rattle.qs_rest.specs.Resting.{KnowsItsLimits, CreditIsWhole, HasCreditAhead, ResetsAreFinal, AllIsDelivered}
+use Rattle.qs_progress.specs.Comes.{IsComplete}
 use Rattle.qs_world.specs.declared.report.PlayFault.{PlayFault}
 use Rattle.qs_world.specs.declared.report.PlayFault.TheVariants as faults
 use Rattle.qs_world.specs.declared.world.draining.Drained.{Drained}
@@ -27,6 +27,7 @@ use Rattle.qs_calls.specs.declared.settings.Settings.{Settings}
 use Rattle.qs_world.specs.declared.report.Report.{Report}
 use Rattle.qs_world.specs.Reports.{IsReport}
 use Rattle.qs_world.specs.Plays.{Played, HasPlayed, PlayOf}
+use Rattle.qs_world.specs.Comes.{ComesToRest}
 
 -- nothing but an ACK may go out of an end, no packet of its own is outstanding, and no stream has news for its reader: what `is_sendable`,
 -- `next_outstanding` and `next_readable` tell (RFC 9000, sections 2.2 and 13.3)
@@ -35,14 +36,6 @@ IsIdle e = (GoesBesideAck e → ⊥) × IsNextOutstanding e.outstanding 0 None �
 
 abbrev pub AreIdle : World → Type 0
 AreIdle w = IsIdle w.a × IsIdle w.b
-
--- what the second theorem says of one side as a sender, where both ends are at rest
-pub record IsDone (h : History) (w : World) (s : Side) : Type 0 where
-  pub limits : KnowsItsLimits h w s
-  pub credit : CreditIsWhole h w s
-  pub ahead : HasCreditAhead h w s
-  pub resets : ResetsAreFinal h w s
-  pub delivered : AllIsDelivered h w s
 
 -- Turns
 
@@ -111,7 +104,7 @@ PlainSteps old (suc n) turn new =
 -- Both ends came to rest, and all is done; or as many events happened as were allowed, and they aren't at rest; or the log found no
 -- memory.
 abbrev pub DrainedBy : ℕ → ℕ → Result Drained PlayFault → Played → Type 0
-DrainedBy n most (Ok AtRest) new = AreIdle new.ends × ((s : Side) → IsDone (happened new.log) new.ends s)
+DrainedBy n most (Ok AtRest) new = AreIdle new.ends × IsComplete (happened new.log) new.ends
 DrainedBy n most (Ok UsedUp) new = (n ≡ most) × (AreIdle new.ends → ⊥)
 DrainedBy n most (Err faults.NoMemory) new = ⊤
 DrainedBy n most (Err fault) new = ⊥
@@ -141,7 +134,7 @@ turns_to_make (turns.Read B) = 2
 
 -- What comes of a drain and a report: the report of where the plain events led, and what they came to; or want of memory.
 abbrev pub DrainedReport : Played → ℕ → Result (Report × Drained) PlayFault → Type 0
-DrainedReport old most (Ok told) = (new : Played) × DrainStep old most (Ok told.1) new × IsReport new.log new.ends told.0
+DrainedReport old most (Ok told) = (new : Played) × DrainStep old most (Ok told.1) new × ComesToRest old most (Ok told.1) new × IsReport new.log new.ends told.0
 DrainedReport old most (Err faults.NoMemory) = ⊤
 DrainedReport old most (Err fault) = ⊥
 

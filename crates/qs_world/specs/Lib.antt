@@ -4,6 +4,7 @@ pub mod Reports
 pub mod LaneLists
 pub mod Plays
 pub mod Codes
+pub mod Comes
 pub mod Draining
 pub mod Copies
 pub mod Owners

@@ -237,6 +237,19 @@ fn nothing_is_left(what: &str, count: &Count, report: &[&str]) {
     }
 }
 
+/// The plain events after the script are no more than the contract of `World::drain` has it (docs/PROOF.md): one for each packet that was
+/// lost first, eight for each thing that can be done for good, and thirteen. Each window stays as it began.
+fn within_the_bound(what: &str, count: &Count, events: &[&str], played: usize) {
+    let written: usize = count.written.values().map(|hex| hex.len() / 2).sum();
+    let opened = events.iter().filter(|line| line.contains(" -> stream "));
+    let opened = opened.filter(|line| line.starts_with("open ")).count();
+    let plain = &events[played..];
+    let lost = plain.iter().filter(|line| line.starts_with("lose "));
+    let most = 9 * written + 20 * opened + 6;
+    let bound = lost.count() + 8 * most + 13;
+    assert!(plain.len() <= bound, "{what}: {} events", plain.len());
+}
+
 /// The script plays as without plain rounds, and they lead it to rest. It answers how many directions arrived whole.
 fn comes_to_rest(folder: &Path, what: &str, script: &str) -> usize {
     fs::write(folder.join("script"), script).expect("a file");
@@ -254,6 +267,7 @@ fn comes_to_rest(folder: &Path, what: &str, script: &str) -> usize {
     let events = drained.iter().take_while(|line| line.contains(" -> "));
     let (events, report) = drained.split_at(events.count());
     let count = Count::of(events);
+    within_the_bound(what, &count, events, played);
     nothing_is_left(what, &count, report);
     arrived(what, &count)
 }

@@ -5,6 +5,7 @@ ghost use Rattle.qs_calls.specs.Events.{fits};
 ghost use Rattle.qs_runs.specs.Worlds.{end_of};
 ghost use Rattle.qs_world.specs.Plays.{HasAgreed, IsMissing};
 ghost use Rattle.qs_world.specs.declared.world.draining.Turn.TheVariants.{Lose, Make, Read};
+ghost use Rattle.qs_world.specs.Comes.{ComesToRest};
 ghost use Rattle.qs_world.specs.Draining.{IsIdle, AreIdle, DrainStep, IsOf, IsOver, just_made, last_makes_none, next_turn, number_made, turns_to_make};
 
 use super::World;
@@ -57,14 +58,19 @@ impl World {
     /// that it has outstanding and makes packets until none is made, each of which is delivered at once; then the owner of each reads all
     /// that there is to read. Each event stands in [`World::log`] with its answer, as by [`World::happen`].
     ///
+    /// Where no call is refused they come to rest, and a number bounds the events: one for each packet that is outstanding, eight for each
+    /// thing that can be done for good, and thirteen.
+    ///
     /// At rest all is done: what was written was read, unless its stream was reset or stopped, all credit is back, and resets and stops
     /// have come to their end.
     ///
     /// Refused: `NoMemory` if the log found none. What happened until then stays.
     pub fn drain(&mut self, most: u64) -> Result<Drained, PlayFault>
         ensures drained { DrainStep self.old most result self.new }
+        ensures comes { ComesToRest self.old most result self.new }
         ensures agrees { HasAgreed self.new }
     {
+        self.learn_agreed();
         let mut left = most;
         let mut turn = Turn::Lose(Side::A);
         while !self.is_idle() {
@@ -85,6 +91,12 @@ impl World {
             }
         }
         Ok(Drained::AtRest)
+    }
+
+    fn learn_agreed(&self)
+        ensures { HasAgreed self.now }
+    {
+        let _a = &self.a;
     }
 
     fn is_idle(&self) -> bool

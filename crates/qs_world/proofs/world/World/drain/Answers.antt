@@ -1,6 +1,12 @@
 use Rattle.std.proofs.Common.{◌<◌, arith}
 use Rattle.qs_world.proofs.Draining.{drains_past, drains_more, turn_then, turn_else, drained_to_rest}
+use Rattle.qs_world.proofs.Rounds.{comes_to_rest}
 use Rattle.qs_world.proofs.world.World.drain.Goals as goal
+
+pub returns-then-left-eq0-clause-comes : goal.returns-then-left-eq0-clause-comes
+returns-then-left-eq0-clause-comes c =
+    let at = c.loop-turn in
+    comes_to_rest c.args.self.now at.self c.args.most at.left at.turn c.learn_agreed.ensures at.invariant c.if-left-eq0.true
 
 pub returns-then-left-eq0-clause-agrees : goal.returns-then-left-eq0-clause-agrees
 returns-then-left-eq0-clause-agrees c = c.is_idle.ensures.agrees

@@ -47,6 +47,9 @@ impl World {
     /// that it has outstanding and makes packets until none is made, each of which is delivered at once; then the owner of each reads all
     /// that there is to read. Each event stands in [`World::log`] with its answer, as by [`World::happen`].
     ///
+    /// Where no call is refused they come to rest, and a number bounds the events: one for each packet that is outstanding, eight for each
+    /// thing that can be done for good, and thirteen.
+    ///
     /// At rest all is done: what was written was read, unless its stream was reset or stopped, all credit is back, and resets and stops
     /// have come to their end.
     ///
