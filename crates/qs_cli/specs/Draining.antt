@@ -1,6 +1,6 @@
 -- Of public contracts.
 -- A script is played, and then both ends are led to rest: what is written.
-use Rattle.std.specs.Prelude.{◌≡◌, ℕ, List, ◌++◌, codes, Option, Result, Ok, Err, ⊤, ◌⊎◌}
+use Rattle.std.specs.Prelude.{◌≡◌, ℕ, ◌-◌, ◌^◌, List, ◌++◌, codes, Option, Result, Ok, Err, ⊤, ◌⊎◌}
 use Rattle.std.specs.Io.KnownBytes.{Appends}
 use Rattle.qs_calls.specs.declared.settings.Settings.{Settings}
 use Rattle.qs_calls.specs.declared.event.Event.{Event}
@@ -15,9 +15,9 @@ use Rattle.qs_cli.specs.declared.status.Status.{Status}
 use Rattle.qs_cli.specs.declared.status.Status.TheVariants.{Success, FaultShown, BadUsage, NoMemory, Failed}
 use Rattle.qs_cli.specs.Runs.{missing_line, IsScriptOf, NamesFault}
 
--- the most events that lead the ends to rest
+-- the most events that lead the ends to rest: as many as a number of the program counts
 abbrev pub most_drained : ℕ
-most_drained = 1000000
+most_drained = 2 ^ 64 - 1
 
 -- the last line: whether both ends came to rest
 abbrev pub rest_line : Drained → List ℕ

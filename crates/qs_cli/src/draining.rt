@@ -17,11 +17,11 @@ use qs_world::{Drained, Event, PlayFault, Report, Settings, parse_script, play_d
 use std::alloc::{AllocError, Global};
 use std::io;
 
-/// A bound, since a call may be refused memory for ever.
-const MOST_DRAINED: u64 = 1_000_000;
+/// None that a run meets: where no call is refused both come to rest.
+const MOST_DRAINED: u64 = u64::MAX;
 
-/// Plays a script between two ends of these settings, and then plain rounds until both ends are at rest or 1,000,000 events more happened.
-/// It writes the report of it all, as [`crate::report_play`] does, and at last the line `at rest` or `not at rest`. It answers that report.
+/// Plays a script between two ends of these settings, and then plain rounds until both ends are at rest. It writes the report of it all,
+/// as [`crate::report_play`] does, and at last the line `at rest` or `not at rest`. It answers that report.
 pub fn report_drained<W: io::Write>(
     alloc: Global,
     settings: Settings,

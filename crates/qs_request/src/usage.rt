@@ -37,7 +37,7 @@ plays a script and prints each answer, then what came of each stream and endpoin
   FILE            the script, up to 16 MiB; - is standard input
   --grant G       streams of each direction that each endpoint grants at first: 0 to 4096, 8 by default
   --lifetime L    and one more for each that ended, up to L in all: G to 65536
-  --drain         goes on until both endpoints are at rest, for 1000000 events at most
+  --drain         goes on until both endpoints are at rest
   --qlog OUT      writes traces to OUT.client.sqlog and OUT.server.sqlog";
 
 const UDP: &str = "\

@@ -10,11 +10,11 @@ use crate::proved::qs_world::{Drained, Event, PlayFault, Report, Settings, parse
 use crate::shim::alloc::{AllocError, Global};
 use crate::shim::io;
 
-/// A bound, since a call may be refused memory for ever.
-const MOST_DRAINED: u64 = 1_000_000;
+/// None that a run meets: where no call is refused both come to rest.
+const MOST_DRAINED: u64 = u64::MAX;
 
-/// Plays a script between two ends of these settings, and then plain rounds until both ends are at rest or 1,000,000 events more happened.
-/// It writes the report of it all, as [`crate::proved::qs_cli::report_play`] does, and at last the line `at rest` or `not at rest`. It answers that report.
+/// Plays a script between two ends of these settings, and then plain rounds until both ends are at rest. It writes the report of it all,
+/// as [`crate::proved::qs_cli::report_play`] does, and at last the line `at rest` or `not at rest`. It answers that report.
 pub fn report_drained<W: io::Write>(
     alloc: Global,
     settings: Settings,
