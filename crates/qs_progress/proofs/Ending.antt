@@ -149,12 +149,12 @@ module _ (a b : Settings) where
   levels_few m r =
       let ok = run_keeps a b m.log m.ends r.run in
       score_few a b m.log m.ends ok r.knows_first (
-        record {
-          sends = λ s. (if_acked (end_of m.ends s)).sends;
-          items = λ s. (if_acked (end_of m.ends s)).acked;
-          alike = λ s. slots (end_of m.ends s);
-          written = λ s. still_written (end_of m.ends s) (ok.sent s) (acked_below a b m.log m.ends ok s);
-        })
+      record {
+        sends = λ s. (if_acked (end_of m.ends s)).sends;
+        items = λ s. (if_acked (end_of m.ends s)).acked;
+        alike = λ s. slots (end_of m.ends s);
+        written = λ s. still_written (end_of m.ends s) (ok.sent s) (acked_below a b m.log m.ends ok s);
+      })
 
 pub calls_come_to_an_end : CallsComeToAnEnd
 calls_come_to_an_end a b marks ms old new r trail does =

@@ -234,10 +234,10 @@ module _ (e : End) where
   still_written sent below n m there q is =
       let (l, at, a) = alike_back e.sends (if_acked e).sends slots n m there in
       let lt : q < l.written =
-          elim (source.offset n q m there is) [
-            | inl (x, there_x, was) ↦ (let same : x ≡ l = same_Some x l (sym there_x ∙ at) in below n l at q (subst (λ (y : SendLane). set.contains y.acked q ≡ true) same was))
-            | inr (c, flies, low, high) ↦ (let le : c.offset + c.len ≤ l.written = subst (λ o. IsWritten o c) at (sent false (Data n c) flies) in omega (arith, high, le))
-          ] in
+      elim (source.offset n q m there is) [
+        | inl (x, there_x, was) ↦ (let same : x ≡ l = same_Some x l (sym there_x ∙ at) in below n l at q (subst (λ (y : SendLane). set.contains y.acked q ≡ true) same was))
+        | inr (c, flies, low, high) ↦ (let le : c.offset + c.len ≤ l.written = subst (λ o. IsWritten o c) at (sent false (Data n c) flies) in omega (arith, high, le))
+      ] in
       let same = a.written in
       omega (arith, lt, same)
 
