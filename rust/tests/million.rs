@@ -90,9 +90,10 @@ fn least_times(old: &mut [Endpoint; 2], young: &mut [Endpoint; 2]) -> (Duration,
     (later, first)
 }
 
-/// Within a tenth.
+/// Within a fifth. `bench/count --growth` holds the instructions to a tenth; of the time an old connection's tables, which lie in no cache,
+/// take some, too, and more on a busy machine.
 fn is_as_cheap(later: Duration, first: Duration) -> bool {
-    10 * later <= 11 * first
+    10 * later <= 12 * first
 }
 
 #[test]
