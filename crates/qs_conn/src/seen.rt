@@ -35,6 +35,7 @@ pub(crate) enum SeenFrame<'a> {
     },
 }
 
+#[inline(always)]
 pub(crate) fn seen<'a>(frame: &Frame<'a>) -> SeenFrame<'a>
     requires { Fits (view frame.now) }
     ensures value { view_seen result ≡ seen (view frame.now) }

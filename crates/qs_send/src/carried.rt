@@ -1,4 +1,4 @@
-ghost use Rattle.std.specs.Prelude.{◌≡◌, ◌↔◌, IsTrue, IfSome, [], ◌∷◌, length, drop, Some};
+ghost use Rattle.std.specs.Prelude.{◌≡◌, ◌↔◌, IsTrue, IfSome, IfNone, [], ◌∷◌, length, drop, Some};
 ghost use Rattle.qs_send.specs.Records.{Among, first_piece};
 
 use crate::piece::Piece;
@@ -79,14 +79,15 @@ impl Carried {
         }
     }
 
-    /// The piece of a packet that carried one alone.
+    /// The piece where there is one alone.
     pub(crate) fn only(&self) -> Option<Piece>
-        ensures { IfSome result (λ piece. self.now ≡ piece ∷ []) }
+        ensures alone { IfSome result (λ piece. self.now ≡ piece ∷ []) }
+        ensures none { IfNone result (length self.now ≡ 1 → ⊥) }
     {
-        match &self.pieces {
-            Pieces::One(piece) => Some(*piece),
-            _ => None,
+        if self.len() != 1 {
+            return None;
         }
+        self.first()
     }
 
     pub(crate) fn drop_first(&mut self)

@@ -119,9 +119,10 @@ impl Records {
         }
     }
 
-    /// The piece of a packet that carried one alone.
+    /// The piece of a packet of which one alone is left.
     pub fn only(&self, number: u64) -> Option<Piece>
-        ensures { IfSome result (λ piece. fmap.get self.now.pieces number ≡ Some (piece ∷ [])) }
+        ensures alone { IfSome result (λ piece. fmap.get self.now.pieces number ≡ Some (piece ∷ [])) }
+        ensures none { IfNone result ((piece : Piece) → fmap.get self.now.pieces number ≡ Some (piece ∷ []) → ⊥) }
     {
         match self.slot_of(number) {
             Some(place) => self.slots[place].only(),

@@ -8,6 +8,8 @@ use Rattle.qs_wire.specs.Layout.{FrameValue, PlacedValue, Field, number, number_
 use Rattle.qs_wire.specs.Grammar.{Begin, frames_of, FieldText, FieldsText, FrameText, Meets, Fits, NumbersText, AreRanges, EcnText, counts_of, CountsFit, IsIdentifierLength}
 use Rattle.qs_wire.specs.declared.fault.WireFault.{WireFault}
 use Rattle.qs_wire.specs.Reading.{frame_at, reading_of}
+use Rattle.qs_wire.specs.Bodies.{IsRead}
+use Rattle.qs_wire.proofs.Payloads.{is_shorter, one_more}
 use Rattle.qs_wire.proofs.PayloadLaws.{Ending, payload_read}
 use Rattle.qs_wire.proofs.Numbers.{IsBytes, Spells-below}
 use Rattle.qs_wire.proofs.Shapes.{frame_takes}
@@ -81,6 +83,9 @@ text_fits frame text after h =
 
 pub read_fits : (bytes : List ℕ) (x : ℕ × FrameValue × List ℕ) → IsBytes bytes → frame_at bytes ≡ Ok x → Fits x.1
 read_fits bytes x fits e = let t = frame_takes bytes x fits e in text_fits x.1 t.taken.text x.2 (t.taken.shape, t.meets)
+
+pub is_read : (bytes : List ℕ) (x : ℕ × FrameValue × List ℕ) → IsBytes bytes → x.0 < 2 ^ 62 → frame_at bytes ≡ Ok x → IsRead bytes x.0 x.1 x.2
+is_read bytes x fits typed e = record { fits = read_fits bytes x fits e; shorter = is_shorter bytes x fits e; typed = typed; more = λ place. one_more place bytes x fits e }
 
 begin_fit : (ps : List PlacedValue) (place : ℕ) (bytes rest : List ℕ) → Begin place ps bytes rest → AllByRecursion Fits (frames_of ps)
 begin_fit [] place bytes rest h = tt

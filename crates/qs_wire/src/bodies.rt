@@ -95,7 +95,13 @@ fn new_token_at(bytes: &[u8]) -> Result<(Frame<'_>, &[u8]), FaultKind>
 }
 
 #[tactic(auto, unfolding(crate::specs::Reading::body_at, crate::specs::Bodies::judged_body_at))]
-fn stream_at(off: bool, len: bool, fin: bool, bytes: &[u8]) -> Result<(Frame<'_>, &[u8]), FaultKind>
+#[inline(always)]
+pub(crate) fn stream_at(
+    off: bool,
+    len: bool,
+    fin: bool,
+    bytes: &[u8],
+) -> Result<(Frame<'_>, &[u8]), FaultKind>
     ensures { Gives (λ x. (view x.0, x.1.now)) result (judged_body_at (FrameType.Stream off len fin) bytes.now) }
 {
     let (stream, rest) = number_at(bytes)?;

@@ -1,13 +1,13 @@
 //! The frames of a payload, one after the other.
 
-ghost use Rattle.std.specs.Prelude.{◌≡◌, ℕ, ◌<◌, ◌^◌, List, MatchOption, IfOk, IfErr, IfSome};
+ghost use Rattle.std.specs.Prelude.{◌≡◌, ℕ, ◌<◌, ◌^◌, List, Ok, Some, MatchOption, IfOk, IfErr, IfSome, IfNone};
 ghost use Rattle.qs_wire.specs.Layout.{FrameValue, view};
 ghost use Rattle.qs_wire.specs.Grammar.{PlacedText, PayloadText, FaultyText, frames_of, Fits};
 ghost use Rattle.qs_wire.specs.Reading.{Next, reading_of, fault_at};
 
 use crate::fault::{FaultKind, WireFault};
 use crate::frame::Placed;
-use crate::reading::{Broken, frame_at};
+use crate::reading::{Broken, frame_at, stream_frame_at};
 use std::marker::Model;
 
 /// Gives the frames of a payload in order. It ends at the payload's end, or at the first fault.
@@ -56,6 +56,29 @@ impl<'a> Frames<'a> {
         Frames {
             place: 0,
             rest: payload,
+        }
+    }
+
+    /// The next frame, if it is a STREAM frame without a fault: most are, and this way to them is short. Else `None`, and nothing changes.
+    #[inline(always)]
+    pub fn next_stream(&mut self) -> Option<Placed<'a>>
+        ensures step { IfSome result (λ placed. Next self.old (Ok (Some placed)) self.new) }
+        ensures fits { IfSome result (λ placed. Fits (view placed.frame)) }
+        ensures typed { IfSome result (λ placed. placed.frame_type < 2 ^ 62) }
+        ensures other { IfNone result (self.new ≡ self.old) }
+    {
+        let place = self.place;
+        match stream_frame_at(self.rest) {
+            Some((frame_type, frame, rest)) => {
+                self.place += self.rest.len() - rest.len();
+                self.rest = rest;
+                Some(Placed {
+                    place,
+                    frame,
+                    frame_type,
+                })
+            }
+            None => None,
         }
     }
 

@@ -1,11 +1,11 @@
 //! Reading the frame that begins the bytes.
 
-ghost use Rattle.std.specs.Prelude.{◌≡◌, ℕ, ◌+◌, ◌-◌, ◌^◌, ◌<◌, length, IfOk, IfErr};
+ghost use Rattle.std.specs.Prelude.{◌≡◌, ◌^◌, ◌<◌, Ok, IfOk, IfErr, IfSome};
 ghost use Rattle.qs_wire.specs.Layout.{view};
-ghost use Rattle.qs_wire.specs.Grammar.{Fits};
-ghost use Rattle.qs_wire.specs.Reading.{Gives, number_of_type_at, frame_at, reading_from, with_first, placed_at};
+ghost use Rattle.qs_wire.specs.Reading.{Gives, number_of_type_at, frame_at};
+ghost use Rattle.qs_wire.specs.Bodies.{IsRead};
 
-use crate::bodies::body_at;
+use crate::bodies::{body_at, stream_at};
 use crate::fault::FaultKind;
 use crate::frame::Frame;
 use crate::frame_type::FrameType;
@@ -19,15 +19,26 @@ pub(crate) struct Broken {
 }
 
 #[tactic(auto, unfolding(crate::specs::Reading::number_of_type_at, crate::specs::Varint::varint_at, crate::specs::Varint::short_len))]
+#[inline(always)]
+fn short_type_at(bytes: &[u8]) -> Option<(u64, &[u8])>
+    ensures gives { IfSome result (λ x. number_of_type_at bytes.now ≡ Ok (x.0, x.1.now)) }
+    ensures typed { IfSome result (λ x. x.0 < 2 ^ 62) }
+{
+    match bytes.split_first() {
+        // One byte has no shorter spelling.
+        Some((&first, rest)) if first < 0x40 => Some((u64::from(first), rest)),
+        _ => None,
+    }
+}
+
 fn type_at(bytes: &[u8]) -> Result<(u64, &[u8]), Broken>
     ensures gives { Gives (λ x. (x.0, x.1.now)) result (number_of_type_at bytes.now) }
     ensures typed { IfOk result (λ x. x.0 < 2 ^ 62) }
     ensures broken { IfErr result (λ broken. broken.frame_type < 2 ^ 62) }
 {
-    match bytes.split_first() {
-        // One byte has no shorter spelling.
-        Some((&first, rest)) if first < 0x40 => Ok((u64::from(first), rest)),
-        _ => long_type_at(bytes),
+    match short_type_at(bytes) {
+        Some(short) => Ok(short),
+        None => long_type_at(bytes),
     }
 }
 
@@ -56,13 +67,8 @@ fn long_type_at(bytes: &[u8]) -> Result<(u64, &[u8]), Broken>
 #[tactic(auto, unfolding(crate::specs::Reading::frame_at))]
 pub(crate) fn frame_at(bytes: &[u8]) -> Result<(u64, Frame<'_>, &[u8]), Broken>
     ensures gives { Gives (λ x. (x.0, view x.1, x.2.now)) result (frame_at bytes.now) }
-    ensures fits { IfOk result (λ x. Fits (view x.1)) }
-    ensures shorter { IfOk result (λ x. length x.2.now < length bytes.now) }
-    ensures typed { IfOk result (λ x. x.0 < 2 ^ 62) }
+    ensures read { IfOk result (λ x. IsRead bytes.now x.0 (view x.1) x.2.now) }
     ensures broken { IfErr result (λ broken. broken.frame_type < 2 ^ 62) }
-    // The frames of the bytes are this one and those after it.
-    ensures more { IfOk result (λ x. (place : ℕ) → reading_from place bytes.now
-        ≡ with_first (placed_at place x.0 (view x.1)) (reading_from (place + (length bytes.now - length x.2.now)) x.2.now)) }
 {
     let (frame_type, rest) = type_at(bytes)?;
     let Some(known) = FrameType::of(frame_type) else {
@@ -74,5 +80,20 @@ pub(crate) fn frame_at(bytes: &[u8]) -> Result<(u64, Frame<'_>, &[u8]), Broken>
     match body_at(known, rest) {
         Ok((frame, rest)) => Ok((frame_type, frame, rest)),
         Err(kind) => Err(Broken { kind, frame_type }),
+    }
+}
+
+/// The same, if it is a STREAM frame without a fault.
+#[inline(always)]
+pub(crate) fn stream_frame_at(bytes: &[u8]) -> Option<(u64, Frame<'_>, &[u8])>
+    ensures { IfSome result (λ x. IsRead bytes.now x.0 (view x.1) x.2.now) }
+{
+    let (frame_type, rest) = short_type_at(bytes)?;
+    let Some(FrameType::Stream { off, len, fin }) = FrameType::of(frame_type) else {
+        return None;
+    };
+    match stream_at(off, len, fin, rest) {
+        Ok((frame, rest)) => Some((frame_type, frame, rest)),
+        Err(_kind) => None,
     }
 }

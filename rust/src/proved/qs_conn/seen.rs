@@ -30,6 +30,7 @@ pub(crate) enum SeenFrame<'a> {
     },
 }
 
+#[inline(always)]
 pub(crate) fn seen<'a>(frame: &Frame<'a>) -> SeenFrame<'a> {
     match *frame {
         Frame::Padding => Plain { asks: false },

@@ -57,13 +57,13 @@ impl Carried {
         }
     }
 
-    /// The piece of a packet that carried one alone.
+    /// The piece where there is one alone.
     #[inline]
     pub(crate) fn only(&self) -> Option<Piece> {
-        match &self.pieces {
-            Pieces::One(piece) => Some(*piece),
-            _ => None,
+        if self.len() != 1 {
+            return None;
         }
+        self.first()
     }
 
     #[inline]

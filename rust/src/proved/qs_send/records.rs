@@ -77,7 +77,7 @@ impl Records {
         }
     }
 
-    /// The piece of a packet that carried one alone.
+    /// The piece of a packet of which one alone is left.
     #[inline]
     pub fn only(&self, number: u64) -> Option<Piece> {
         match self.slot_of(number) {

@@ -73,7 +73,13 @@ fn new_token_at(bytes: &[u8]) -> Result<(Frame<'_>, &[u8]), FaultKind> {
     Ok((Frame::NewToken { bytes }, rest))
 }
 
-fn stream_at(off: bool, len: bool, fin: bool, bytes: &[u8]) -> Result<(Frame<'_>, &[u8]), FaultKind> {
+#[inline(always)]
+pub(crate) fn stream_at(
+    off: bool,
+    len: bool,
+    fin: bool,
+    bytes: &[u8],
+) -> Result<(Frame<'_>, &[u8]), FaultKind> {
     let (stream, rest) = number_at(bytes)?;
     let (offset, rest) = number_if(off, rest)?;
     let (bytes, rest) = counted_if(len, rest)?;

@@ -1,7 +1,7 @@
 // Made from crates/qs_wire/src/reading.rt by rust/erase; not edited by hand.
 //! Reading the frame that begins the bytes.
 
-use crate::proved::qs_wire::bodies::body_at;
+use crate::proved::qs_wire::bodies::{body_at, stream_at};
 use crate::proved::qs_wire::fault::FaultKind;
 use crate::proved::qs_wire::frame::Frame;
 use crate::proved::qs_wire::frame_type::FrameType;
@@ -14,11 +14,19 @@ pub(crate) struct Broken {
     pub(crate) frame_type: u64,
 }
 
-fn type_at(bytes: &[u8]) -> Result<(u64, &[u8]), Broken> {
+#[inline(always)]
+fn short_type_at(bytes: &[u8]) -> Option<(u64, &[u8])> {
     match bytes.split_first() {
         // One byte has no shorter spelling.
-        Some((&first, rest)) if first < 0x40 => Ok((u64::from(first), rest)),
-        _ => long_type_at(bytes),
+        Some((&first, rest)) if first < 0x40 => Some((u64::from(first), rest)),
+        _ => None,
+    }
+}
+
+fn type_at(bytes: &[u8]) -> Result<(u64, &[u8]), Broken> {
+    match short_type_at(bytes) {
+        Some(short) => Ok(short),
+        None => long_type_at(bytes),
     }
 }
 
@@ -51,5 +59,18 @@ pub(crate) fn frame_at(bytes: &[u8]) -> Result<(u64, Frame<'_>, &[u8]), Broken> 
     match body_at(known, rest) {
         Ok((frame, rest)) => Ok((frame_type, frame, rest)),
         Err(kind) => Err(Broken { kind, frame_type }),
+    }
+}
+
+/// The same, if it is a STREAM frame without a fault.
+#[inline(always)]
+pub(crate) fn stream_frame_at(bytes: &[u8]) -> Option<(u64, Frame<'_>, &[u8])> {
+    let (frame_type, rest) = short_type_at(bytes)?;
+    let Some(FrameType::Stream { off, len, fin }) = FrameType::of(frame_type) else {
+        return None;
+    };
+    match stream_at(off, len, fin, rest) {
+        Ok((frame, rest)) => Some((frame_type, frame, rest)),
+        Err(_kind) => None,
     }
 }

@@ -76,17 +76,26 @@ impl Endpoint {
         let mut frames = Frames::new(payload);
         let mut asks = false;
         loop {
-            match frames.next() {
-                Ok(Some(placed)) => match self.take_placed(&placed, told) {
+            // Most frames are of streams: apart, so that the compiler knows which frame this is.
+            if let Some(placed) = frames.next_stream() {
+                match self.take_placed(&placed, told) {
                     Progress::GoesOn(asks_ack) => asks |= asks_ack,
                     Progress::Ends(result) => return result,
-                },
-                Ok(None) => return Ok(self.record_all(number, asks)),
-                Err(fault) => return Err(self.close_by(fault)),
+                }
+            } else {
+                match frames.next() {
+                    Ok(Some(placed)) => match self.take_placed(&placed, told) {
+                        Progress::GoesOn(asks_ack) => asks |= asks_ack,
+                        Progress::Ends(result) => return result,
+                    },
+                    Ok(None) => return Ok(self.record_all(number, asks)),
+                    Err(fault) => return Err(self.close_by(fault)),
+                }
             }
         }
     }
 
+    #[inline(always)]
     fn take_placed<T: Told>(&mut self, placed: &Placed<'_>, told: &mut T) -> Progress {
         let seen = seen(&placed.frame);
         if let SeenFrame::Close(code) = seen {

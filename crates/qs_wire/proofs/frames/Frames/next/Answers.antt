@@ -14,7 +14,7 @@ returns-then-is_empty-clause-step c =
     (sym c.self.view_is ∙ at_start c.self.inside.place c.self.inside.rest.now c.if-place-gt0.false empty ∙ ap stopped (sym c.fault_at.ensures.exact), refl)
 
 pub returns-in-Ok-clause-step : goal.returns-in-Ok-clause-step
-returns-in-Ok-clause-step c = sym c.self.view_is ∙ c.in-Ok.ensures.more c.self.inside.place
+returns-in-Ok-clause-step c = sym c.self.view_is ∙ c.in-Ok.ensures.read.more c.self.inside.place
 
 pub returns-in-Err-clause-step : goal.returns-in-Err-clause-step
 returns-in-Err-clause-step c =
