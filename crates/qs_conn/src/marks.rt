@@ -1,6 +1,6 @@
 //! Which streams of one type may have something to send or to tell.
 ghost use Rattle.std.specs.Prelude.{◌≡◌, ◌++◌, ◌+◌, ◌*◌, ◌-◌, ◌<◌, ◌≤◌, ◌^◌, ℕ, [], true, false, Some, length, take, slice_set, replicate, OnOk, OnErr};
-ghost use Rattle.qs_conn.specs.Marks.{is_marked, IsNextMark, AreSummed, least_of, both, untold};
+ghost use Rattle.qs_conn.specs.Marks.{is_marked, IsNextMark, AreSummed, AreUnmarkedFrom, least_of, both, untold};
 ghost use Rattle.qs_conn.specs.Untold.{IsClear};
 
 use crate::bits::{Bits, Both, FLAGS_PER_WORD, Left, Row};
@@ -113,23 +113,35 @@ impl Marks {
         if self.marks.has(index) == is_marked {
             return;
         }
-        self.turn(index, is_marked);
+        if is_marked {
+            self.turn_on(index);
+        } else {
+            self.turn_off(index);
+        }
     }
 
-    // Apart, so that a caller that changes nothing pays for one look at the mark.
+    // Both apart, so that a caller that changes nothing pays for one look at the mark.
     #[inline(never)]
-    fn turn(&mut self, index: usize, mark: bool)
+    fn turn_on(&mut self, index: usize)
         requires { index < length self.old }
-        ensures { self.new ≡ slice_set self.old index mark }
+        ensures { self.new ≡ slice_set self.old index true }
     {
-        self.marks.set(index, mark);
+        self.marks.set(index, true);
+        self.words.set(index / FLAGS_PER_WORD, true);
+        self.first = least_index(self.first, index);
+        self.last = self.last.max(index);
+    }
+
+    #[inline(never)]
+    fn turn_off(&mut self, index: usize)
+        requires { index < length self.old }
+        ensures { self.new ≡ slice_set self.old index false }
+    {
+        self.marks.set(index, false);
         let word = index / FLAGS_PER_WORD;
         self.words.set(word, self.marks.word(word) != 0);
-        if mark {
-            self.first = least_index(self.first, index);
-            self.last = self.last.max(index);
-        } else if self.first == Some(index) {
-            self.first = least_from(index, &self.marks, &self.words);
+        if self.first == Some(index) {
+            self.first = least_left(index, self.last, &self.marks, &self.words);
         }
     }
 
@@ -171,8 +183,7 @@ impl Marks {
         self.least_untold(others, told, from.max(first).max(below))
     }
 
-    // Apart, so that a caller pays for two looks if none is left.
-    #[inline(never)]
+    #[inline(always)]
     fn least_untold(&self, others: &Marks, told: &ToldMarks, from: usize) -> Option<usize>
         ensures { IsNextMark (untold (both self.now others.now) told.now) from result }
     {
@@ -204,6 +215,19 @@ fn least_index(first: Option<usize>, index: usize) -> Option<usize>
         Some(first) => Some(first.min(index)),
         None => Some(index),
     }
+}
+
+// The least marked index from one on that has lost its mark. Mostly it was the only one.
+fn least_left(index: usize, last: usize, marks: &Bits, words: &Bits) -> Option<usize>
+    requires summed { AreSummed marks.now words.now }
+    requires lost { is_marked marks.now index ≡ false }
+    requires last { AreUnmarkedFrom marks.now (last + 1) }
+    ensures { IsNextMark marks.now index result }
+{
+    if last == index {
+        return None;
+    }
+    least_from(index, marks, words)
 }
 
 // The least marked index from an index on. It stands apart, so that where no search is wanted a caller doesn't pay for its room.

@@ -230,6 +230,7 @@ fn open_one(
     Ok(())
 }
 
+#[inline(always)]
 fn measure(half: &Half) -> Tally
     ensures value { result ≡ tally_of half.now }
     ensures small { result.spent ≤ MAX_VARINT }

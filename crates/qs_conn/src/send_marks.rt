@@ -223,6 +223,7 @@ impl SendMarks {
 }
 
 // Makes room for all indexes below a count: the new ones have a mark or have none.
+#[inline(always)]
 fn open_as(marks: &mut Marks, count: usize, is_marked: bool) -> Result<(), NoMemory>
     ensures ok { OnOk result (marks.new ≡ marks.old ++ replicate (count - length marks.old) is_marked) }
     ensures err { OnErr result (marks.new ≡ marks.old) }

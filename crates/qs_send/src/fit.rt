@@ -12,6 +12,10 @@ pub fn longest_fit(room: usize, most: u64) -> u64
     ensures longest { (n : ℕ) → n ≤ most → n + short_len n ≤ room → n ≤ result }
 {
     let room = room as u64;
+    // Mostly the count takes two bytes, and needs no other look.
+    if matches!(room, 0x41..=0x4001) {
+        return (room - 2).min(most);
+    }
     let one = room.saturating_sub(1).min(0x3f);
     let two = room.saturating_sub(2).min(0x3fff);
     let four = room.saturating_sub(4).min(0x3fff_ffff);

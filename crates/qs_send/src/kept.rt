@@ -194,6 +194,7 @@ fn grow(ring: &mut Vec<u8>, count: usize, bytes: &[u8], size: usize) -> Result<(
     Ok(())
 }
 
+#[inline(always)]
 fn write_behind(ring: &mut [u8], start: usize, count: usize, bytes: &[u8])
     requires begins { start ≤ length ring.old }
     requires fits { count + length bytes.now ≤ length ring.old }

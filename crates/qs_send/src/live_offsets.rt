@@ -1,5 +1,6 @@
 //! The written offsets of a half of which some are still to be sent or acknowledged.
-ghost use Rattle.std.specs.Prelude.{◌≡◌, ℕ, ◌+◌, ◌-◌, ◌*◌, ◌≤◌, ◌<◌, true, IsTrue, ◌++◌, length, take, drop, OnOk, OnErr, IfSome, IfNone};
+ghost use Rattle.std.specs.FinSet as set;
+ghost use Rattle.std.specs.Prelude.{◌≡◌, ℕ, ◌+◌, ◌-◌, ◌*◌, ◌≤◌, ◌<◌, true, false, IsTrue, ◌++◌, length, take, drop, OnOk, OnErr, IfSome, IfNone};
 ghost use Rattle.qs_ranges.specs.Numbers.{MAX_VARINT, missing_from, MissesRange, IsRunFrom, EndsBefore};
 ghost use Rattle.qs_send.specs.Offsets.{at_rest, parts_at_rest, with_written, with_sent, with_acked, with_lost, with_none};
 
@@ -171,7 +172,25 @@ impl LiveOffsets {
         ensures none { IfNone result (EndsBefore self.now.parts.due 0) }
         ensures within { IfSome result (λ run. run.1 ≤ self.now.parts.written) }
     {
-        let mut from = 0;
+        let Some((start, end)) = self.noted.run_from(0) else {
+            return None;
+        };
+        match self.acked.run_from(start) {
+            None => Some((start, end)),
+            Some((next, _)) if start < next => Some((start, next.min(end))),
+            Some((_, after)) => self.due_run_from(after),
+        }
+    }
+
+    // Apart, since mostly the first run that is noted is due.
+    #[inline(never)]
+    fn due_run_from(&self, from: u64) -> Option<(u64, u64)>
+        requires { (k : ℕ) → k < from → set.contains self.now.parts.due k ≡ false }
+        ensures found { IfSome result (IsRunFrom self.now.parts.due 0) }
+        ensures none { IfNone result (EndsBefore self.now.parts.due 0) }
+        ensures within { IfSome result (λ run. run.1 ≤ self.now.parts.written) }
+    {
+        let mut from = from;
         while let Some((start, end)) = self.noted.run_from(from) {
             match self.acked.run_from(start) {
                 None => return Some((start, end)),

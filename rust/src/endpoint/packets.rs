@@ -138,6 +138,7 @@ impl Endpoint {
     ///
     /// `Invalid` if the room isn't as said; `Closed`; `Exhausted` if the last packet number was used (section 12.3); `NoMemory`. Then
     /// nothing changed.
+    #[inline]
     pub fn make_packet(&mut self, out: &mut [u8]) -> Result<Option<Made>, MakeFault> {
         if out.len() < MIN_ROOM || out.len() > MAX_ROOM {
             return Err(MakeFault::Invalid);

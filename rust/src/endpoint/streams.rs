@@ -174,6 +174,7 @@ impl Endpoint {
     /// # Errors
     ///
     /// As of [`Endpoint::write`], but never for want of memory.
+    #[inline]
     pub fn finish(&mut self, stream: StreamId) -> Result<(), UseFault> {
         self.inner.finish(stream.inner()).map_err(UseFault::of)
     }

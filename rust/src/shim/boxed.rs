@@ -10,7 +10,7 @@ pub struct Box<T> {
 }
 
 impl<T> Box<T> {
-    #[inline]
+    #[inline(always)]
     pub fn new(_alloc: Global, value: T) -> Result<Self, AllocError> {
         let mut row = HeapVec::new();
         if row.try_reserve_exact(1).is_err() {

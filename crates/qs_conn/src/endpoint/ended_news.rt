@@ -62,7 +62,7 @@ impl Endpoint {
     }
 
     // None of the streams between is over.
-    #[inline(never)]
+    #[inline(always)]
     fn next_ended_marked(
         &self,
         stream_type: usize,

@@ -105,6 +105,7 @@ impl Endpoint {
     // The bytes come last, after both limits, and only those that are still stored are compared (RFC 9000, section 2.2). A frame that
     // raises the highest offset changes this endpoint.
     #[tactic(auto, unfolding(qs_machine::specs::Verdicts::verdict))]
+    #[inline(always)]
     fn judge_stream(&self, stream: Place, offset: u64, bytes: &[u8], fin: bool) -> Result<bool, u64>
         requires { offset + length bytes.now ≤ MAX_VARINT }
         ensures { Judges self.now (Stream stream offset bytes.now fin) result }

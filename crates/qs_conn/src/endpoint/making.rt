@@ -48,6 +48,7 @@ impl Endpoint {
         self.make(first, delay, out)
     }
 
+    #[inline(always)]
     fn make(
         &mut self,
         first: StreamId,

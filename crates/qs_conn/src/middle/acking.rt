@@ -70,6 +70,7 @@ impl Core {
     }
 
     #[tactic(auto, using(crate::proofs::RangeAcks::range_end, crate::proofs::RangeAcks::range_stop, crate::proofs::RangeAcks::range_more))]
+    #[inline(always)]
     fn ack_numbers(&mut self, late: bool, first: u64, end: u64) -> Result<(), NoMemory>
         requires rest { IsAtRest self.old }
         ensures rest { IsAtRest self.new }

@@ -74,6 +74,7 @@ impl Core {
     }
 
     #[tactic(auto, using(crate::proofs::Cores::fills_same))]
+    #[inline(always)]
     fn put_items(&mut self, wish: &Wish, out: &mut [u8], packet: Packet) -> Packet
         requires filling { IsFilling self.old out.old packet.len }
         requires memory { HasMemory self.old (length out.old) packet.len 6 }
@@ -207,6 +208,7 @@ impl Core {
 
     // From the stream that the caller names on and then around, so that it can go by turns.
     #[tactic(auto, using(crate::proofs::Cores::fills_same))]
+    #[inline(always)]
     fn put_streams(&mut self, wish: &Wish, out: &mut [u8], packet: Packet) -> Course
         requires filling { IsFilling self.old out.old packet.len }
         requires memory { HasMemory self.old (length out.old) packet.len 0 }

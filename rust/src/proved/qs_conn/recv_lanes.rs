@@ -168,6 +168,7 @@ fn open_one(
     Ok(())
 }
 
+#[inline(always)]
 fn measure(half: &Half) -> Tally {
     let sizes = half.sizes();
     Tally {

@@ -192,6 +192,7 @@ impl SendMarks {
 }
 
 // Makes room for all indexes below a count: the new ones have a mark or have none.
+#[inline(always)]
 fn open_as(marks: &mut Marks, count: usize, is_marked: bool) -> Result<(), NoMemory> {
     if is_marked {
         return marks.open_marked_to(count);

@@ -131,6 +131,7 @@ fn grow(ring: &mut Vec<u8>, count: usize, bytes: &[u8], size: usize) -> Result<(
     Ok(())
 }
 
+#[inline(always)]
 fn write_behind(ring: &mut [u8], start: usize, count: usize, bytes: &[u8]) {
     debug_assert!(start <= ring.len());
     let at = place(ring.len(), start + count);

@@ -111,7 +111,20 @@ impl LiveOffsets {
 
     #[inline]
     pub(crate) fn due_run(&self) -> Option<(u64, u64)> {
-        let mut from = 0;
+        let Some((start, end)) = self.noted.run_from(0) else {
+            return None;
+        };
+        match self.acked.run_from(start) {
+            None => Some((start, end)),
+            Some((next, _)) if start < next => Some((start, next.min(end))),
+            Some((_, after)) => self.due_run_from(after),
+        }
+    }
+
+    // Apart, since mostly the first run that is noted is due.
+    #[inline(never)]
+    fn due_run_from(&self, from: u64) -> Option<(u64, u64)> {
+        let mut from = from;
         while let Some((start, end)) = self.noted.run_from(from) {
             match self.acked.run_from(start) {
                 None => return Some((start, end)),

@@ -83,18 +83,18 @@ pub(crate) fn spell(value: u64, out: &mut [u8]) -> usize {
         BigEndian::write_u16(out, 0x4000 + value as u16);
         return 2;
     }
-    spell_long(value, out)
-}
-
-// Apart, so that the short sizes, which are most, stay small where they are called.
-#[inline(never)]
-fn spell_long(value: u64, out: &mut [u8]) -> usize {
-    debug_assert!(16384 <= value);
-    debug_assert!(value < 1 << 62);
     if value < 0x4000_0000 {
         BigEndian::write_u32(out, 0x8000_0000 + value as u32);
         return 4;
     }
+    spell_long(value, out)
+}
+
+// Apart, so that the shorter sizes, which are most, stay small where they are called.
+#[inline(never)]
+fn spell_long(value: u64, out: &mut [u8]) -> usize {
+    debug_assert!(1 << 30 <= value);
+    debug_assert!(value < 1 << 62);
     BigEndian::write_u64(out, 0xc000_0000_0000_0000 + value);
     8
 }

@@ -101,6 +101,10 @@ fn put_pieces(front: &[u8], back: &[u8], at: usize, out: &mut [u8]) -> usize {
     let count = front.len() + back.len();
     let next = put_number(count as u64, at, out);
     let next = put_bytes(front, next, out);
+    // Mostly so, as few chunks go around a ring's end.
+    if back.is_empty() {
+        return next;
+    }
     put_bytes(back, next, out)
 }
 

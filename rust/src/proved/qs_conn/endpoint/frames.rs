@@ -83,6 +83,7 @@ impl Endpoint {
 
     // The bytes come last, after both limits, and only those that are still stored are compared (RFC 9000, section 2.2). A frame that
     // raises the highest offset changes this endpoint.
+    #[inline(always)]
     fn judge_stream(&self, stream: Place, offset: u64, bytes: &[u8], fin: bool) -> Result<bool, u64> {
         if let Some(code) = self.state_fault_in(stream) {
             return Err(code);

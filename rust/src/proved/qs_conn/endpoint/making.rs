@@ -36,6 +36,7 @@ impl Endpoint {
         self.make(first, delay, out)
     }
 
+    #[inline(always)]
     fn make(
         &mut self,
         first: StreamId,

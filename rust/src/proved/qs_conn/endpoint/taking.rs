@@ -102,6 +102,7 @@ impl Endpoint {
 
     // Most frames are of a stream that is open and of which no end, reset or stop came. Such a frame is taken by its half alone: no limit
     // is looked at as the call ends, and no stream counted anew.
+    #[inline(always)]
     fn on_stream(
         &mut self,
         stream: Place,

@@ -39,6 +39,7 @@ impl Core {
         self.ack_numbers(true, first, end)
     }
 
+    #[inline(always)]
     fn ack_numbers(&mut self, late: bool, first: u64, end: u64) -> Result<(), NoMemory> {
         let mut number = end;
         while number > first {

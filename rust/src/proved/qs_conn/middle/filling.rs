@@ -44,6 +44,7 @@ impl Core {
         !self.untold_recvs.may_have()
     }
 
+    #[inline(always)]
     fn put_items(&mut self, wish: &Wish, out: &mut [u8], packet: Packet) -> Packet {
         if !wish.want.items {
             return packet;
@@ -130,6 +131,7 @@ impl Core {
     }
 
     // From the stream that the caller names on and then around, so that it can go by turns.
+    #[inline(always)]
     fn put_streams(&mut self, wish: &Wish, out: &mut [u8], packet: Packet) -> Course {
         let packet = Course {
             len: packet.len,

@@ -1,18 +1,24 @@
-use Rattle.qs_send.proofs.Runs.{none_due_all, none_due_past, run_alone, run_until}
+use Rattle.std.proofs.Common.{arith}
+use Rattle.qs_send.proofs.Runs.{NoneDueBelow, none_due_all, none_due_past, run_alone, run_until}
+use Rattle.qs_ranges.specs.Numbers.{NumberSet}
 use Rattle.qs_send.proofs.live_offsets.LiveOffsets.due_run.Goals as goal
+
+none_below : (noted acked : NumberSet) → NoneDueBelow noted acked 0
+none_below noted acked k lt = absurd (omega (arith, lt))
+
+pub returns-in_default-clause-none : goal.returns-in_default-clause-none
+returns-in_default-clause-none c = rw (← c.self.view_is) (none_due_all _ _ 0 c.in_default.ensures.none (none_below _ _))
 
 pub returns-in-None-clause-found : goal.returns-in-None-clause-found
 returns-in-None-clause-found c =
-    rw (← c.self.view_is) (run_alone _ _ c.loop-start.from (c.in-Some.start, c.in-Some.end) c.in-Some.ensures.found c.in-None.ensures.none c.loop-start.invariant)
+    rw (← c.self.view_is) (run_alone _ _ 0 (c.in-Some.start, c.in-Some.end) c.in-Some.ensures.found c.in-None.ensures.none (none_below _ _))
 
 pub returns-in-Some-run_from-clause-found : goal.returns-in-Some-run_from-clause-found
 returns-in-Some-run_from-clause-found c =
     rw (← c.self.view_is, c.min.ensures)
-    (run_until _ _ c.loop-start.from (c.in-Some.start, c.in-Some.end) (c.in-Some-run_from.next, c.in-Some-run_from.field-0-1) c.in-Some.ensures.found c.in-Some-run_from.ensures.found c.if-start-next.true c.loop-start.invariant)
+    (run_until _ _ 0 (c.in-Some.start, c.in-Some.end) (c.in-Some-run_from.next, c.in-Some-run_from.field-0-1) c.in-Some.ensures.found c.in-Some-run_from.ensures.found c.if-start-next.true (none_below _ _))
 
-pub loop-start-preserved : goal.loop-start-preserved
-loop-start-preserved c =
-    none_due_past _ _ c.loop-start.from (c.in-Some.start, c.in-Some.end) (c.in-Some-run_from.next, c.in-Some-run_from.field-0-1) c.in-Some.ensures.found c.in-Some-run_from.ensures.found c.if-start-next.false c.loop-start.invariant
-
-pub returns-clause-none : goal.returns-clause-none
-returns-clause-none c = rw (← c.self.view_is) (none_due_all _ _ c.loop-start.from c.in_default.ensures.none c.loop-start.invariant)
+pub due_run_from-requires : goal.due_run_from-requires
+due_run_from-requires c =
+    rw (← c.self.view_is)
+    (none_due_past _ _ 0 (c.in-Some.start, c.in-Some.end) (c.in-Some-run_from.next, c.in-Some-run_from.field-0-1) c.in-Some.ensures.found c.in-Some-run_from.ensures.found c.if-start-next.false (none_below _ _))
