@@ -1,5 +1,6 @@
-/* The public calls. Each checks its pointers and copies between the public structs and those of the library below, which checks the
- * numbers. So the public structs may grow, no proof has to be done again for that, and what is proved only ever gets whole, written values. */
+/* The public calls that do more than forward; the others are in forwarding.c. Each checks its pointers and copies between the public
+ * structs and those of the library below, which checks the numbers. So the public structs may grow, no proof has to be done again for that,
+ * and what is proved only ever gets whole, written values. */
 #include <stdalign.h>
 #include <string.h>
 
@@ -142,16 +143,6 @@ gv_status gv_raise_limits(gv_endpoint *end, const gv_limits *peer) {
   return leave(end, gvp_raise_limits(enter(end), &limits));
 }
 
-gv_status gv_set_conn_window(gv_endpoint *end, uint64_t window) {
-  if (end == NULL) return GV_INVALID;
-  return leave(end, gvp_set_conn_window(enter(end), window));
-}
-
-gv_status gv_set_grant(gv_endpoint *end, gv_dir dir, uint64_t streams) {
-  if (end == NULL) return GV_INVALID;
-  return leave(end, gvp_set_grant(enter(end), (uint32_t)dir, streams));
-}
-
 /* Packets. */
 
 gv_status gv_receive(gv_endpoint *end, uint64_t number, const uint8_t *payload, size_t len) {
@@ -208,23 +199,6 @@ gv_status gv_make_ack(gv_endpoint *end, uint64_t delay, uint8_t *out, size_t roo
   return give_made(made, status, got);
 }
 
-gv_status gv_declare_lost(gv_endpoint *end, uint64_t number) {
-  if (end == NULL) return GV_INVALID;
-  return leave(end, gvp_declare_lost(enter(end), number));
-}
-
-gv_status gv_claim_number(gv_endpoint *end, uint64_t *number) { return ask(gvp_claim_number, end, number); }
-
-gv_status gv_next_number(const gv_endpoint *end, uint64_t *number) { return ask(gvp_next_number, end, number); }
-
-gv_status gv_is_sendable(const gv_endpoint *end, bool *answer) { return ask_whether(gvp_is_sendable, end, answer); }
-
-gv_status gv_ack_is_due(const gv_endpoint *end, bool *answer) { return ask_whether(gvp_ack_is_due, end, answer); }
-
-gv_status gv_next_outstanding(const gv_endpoint *end, uint64_t from, uint64_t *number) {
-  return ask_of(gvp_next_outstanding, end, from, number);
-}
-
 gv_status gv_next_newly_acked(const gv_endpoint *end, const uint8_t *payload, size_t len, uint64_t from, uint64_t *number) {
   uint64_t got = 0;
   if (end == NULL || number == NULL || !is_slice(payload, len)) return GV_INVALID;
@@ -269,10 +243,6 @@ gv_status gv_open(gv_endpoint *end, gv_dir dir, uint64_t *stream, uint64_t *limi
   return status;
 }
 
-gv_status gv_accept(gv_endpoint *end, uint64_t *stream) { return ask(gvp_accept, end, stream); }
-
-gv_status gv_accept_of(gv_endpoint *end, gv_dir dir, uint64_t *stream) { return ask_of_dir(gvp_accept_of, end, dir, stream); }
-
 gv_status gv_write(gv_endpoint *end, uint64_t stream, const uint8_t *bytes, size_t len, size_t *count) {
   size_t got = 0;
   if (end == NULL || count == NULL || !is_slice(bytes, len)) return GV_INVALID;
@@ -288,26 +258,6 @@ gv_status gv_write(gv_endpoint *end, uint64_t stream, const uint8_t *bytes, size
   }
   *count = got;
   return GV_OK;
-}
-
-gv_status gv_set_send_buffer(gv_endpoint *end, uint64_t stream, size_t size) {
-  if (end == NULL) return GV_INVALID;
-  return leave(end, gvp_set_send_buffer(enter(end), stream, size));
-}
-
-gv_status gv_set_stream_window(gv_endpoint *end, uint64_t stream, uint64_t window) {
-  if (end == NULL) return GV_INVALID;
-  return leave(end, gvp_set_stream_window(enter(end), stream, window));
-}
-
-gv_status gv_finish(gv_endpoint *end, uint64_t stream) {
-  if (end == NULL) return GV_INVALID;
-  return leave(end, gvp_finish(enter(end), stream));
-}
-
-gv_status gv_reset(gv_endpoint *end, uint64_t stream, uint64_t code) {
-  if (end == NULL) return GV_INVALID;
-  return leave(end, gvp_reset(enter(end), stream, code));
 }
 
 gv_status gv_stop(gv_endpoint *end, uint64_t stream, uint64_t code) {
@@ -353,20 +303,6 @@ gv_status gv_consume(gv_endpoint *end, uint64_t stream, size_t most, size_t *cou
   return status;
 }
 
-gv_status gv_next_readable(const gv_endpoint *end, uint64_t from, uint64_t *stream) {
-  return ask_of(gvp_next_readable, end, from, stream);
-}
-
-gv_status gv_next_writable(const gv_endpoint *end, uint64_t from, uint64_t *stream) {
-  return ask_of(gvp_next_writable, end, from, stream);
-}
-
-gv_status gv_next_sendable(const gv_endpoint *end, uint64_t from, uint64_t *stream) {
-  return ask_of(gvp_next_sendable, end, from, stream);
-}
-
-gv_status gv_next_ended(const gv_endpoint *end, uint64_t from, uint64_t *stream) { return ask_of(gvp_next_ended, end, from, stream); }
-
 static gv_status lane_of(const gv_endpoint *end, uint64_t stream, gvp_lane *lane) {
   memset(lane, 0, sizeof *lane);
   gv_status status = leave(end, gvp_lane_report(enter(end), stream, lane));
@@ -400,59 +336,6 @@ gv_status gv_receiving_report(const gv_endpoint *end, uint64_t stream, gv_receiv
   return GV_OK;
 }
 
-gv_status gv_stopped_with(const gv_endpoint *end, uint64_t stream, uint64_t *code) { return ask_of(gvp_stopped_with, end, stream, code); }
-
-gv_status gv_is_blocked(const gv_endpoint *end, uint64_t stream, bool *answer) {
-  bool got = false;
-  if (end == NULL || answer == NULL) return GV_INVALID;
-  gv_status status = leave(end, gvp_is_blocked(enter(end), stream, &got));
-  if (status == GV_OK) *answer = got;
-  return status;
-}
-
-gv_status gv_room(const gv_endpoint *end, uint64_t stream, uint64_t *count) { return ask_of(gvp_room, end, stream, count); }
-
-gv_status gv_unsent(const gv_endpoint *end, uint64_t stream, uint64_t *count) { return ask_of(gvp_unsent, end, stream, count); }
-
-gv_status gv_acked_below(const gv_endpoint *end, uint64_t stream, uint64_t *offset) { return ask_of(gvp_acked_below, end, stream, offset); }
-
-/* Credit. */
-
-gv_status gv_unsent_sum(const gv_endpoint *end, uint64_t *count) { return ask(gvp_unsent_sum, end, count); }
-
-gv_status gv_kept_sum(const gv_endpoint *end, uint64_t *count) { return ask(gvp_kept_sum, end, count); }
-
-gv_status gv_taken_on(const gv_endpoint *end, uint64_t stream, uint64_t *count) { return ask_of(gvp_taken, end, stream, count); }
-
-gv_status gv_taken_sum(const gv_endpoint *end, uint64_t *count) { return ask(gvp_taken_sum, end, count); }
-
-gv_status gv_credit_left(const gv_endpoint *end, uint64_t *count) { return ask(gvp_credit_left, end, count); }
-
-gv_status gv_streams_left(const gv_endpoint *end, gv_dir dir, uint64_t *count) { return ask_of_dir(gvp_streams_left, end, dir, count); }
-
-gv_status gv_open_left(const gv_endpoint *end, gv_dir dir, uint64_t *count) { return ask_of_dir(gvp_open_left, end, dir, count); }
-
-gv_status gv_granted_streams(const gv_endpoint *end, gv_dir dir, uint64_t *count) {
-  return ask_of_dir(gvp_granted_streams, end, dir, count);
-}
-
-gv_status gv_stored(const gv_endpoint *end, uint64_t *count) { return ask(gvp_stored, end, count); }
-gv_status gv_noted(const gv_endpoint *end, uint64_t *count) { return ask(gvp_noted, end, count); }
-
-gv_status gv_held(const gv_endpoint *end, uint64_t *receiving, uint64_t *sending) {
-  uint64_t rings = 0, buffers = 0;
-  if (end == NULL || receiving == NULL || sending == NULL) return GV_INVALID;
-  gv_status status = leave(end, gvp_held(enter(end), &rings, &buffers));
-  if (status != GV_OK) return status;
-  *receiving = rings;
-  *sending = buffers;
-  return GV_OK;
-}
-
-gv_status gv_granted(const gv_endpoint *end, uint64_t *count) { return ask(gvp_granted, end, count); }
-
-gv_status gv_spent(const gv_endpoint *end, uint64_t *count) { return ask(gvp_spent, end, count); }
-
 /* Closing. */
 
 gv_status gv_closing(const gv_endpoint *end, gv_closing_info *closing) {
@@ -472,11 +355,6 @@ gv_status gv_close_payload(const gv_endpoint *end, uint8_t *out, size_t room, si
   return status;
 }
 
-gv_status gv_note_closed(gv_endpoint *end, gv_closer by, gv_close_kind kind, uint64_t code) {
-  if (end == NULL) return GV_INVALID;
-  return leave(end, gvp_note_closed(enter(end), (uint32_t)by, (uint32_t)kind, code));
-}
-
 gv_status gv_noted_close(const gv_endpoint *end, gv_closer *by, gv_close_kind *kind, uint64_t *code) {
   gvp_told told = {0, 0, 0};
   if (end == NULL || by == NULL || kind == NULL || code == NULL) return GV_INVALID;
@@ -487,8 +365,6 @@ gv_status gv_noted_close(const gv_endpoint *end, gv_closer *by, gv_close_kind *k
   *code = told.code;
   return GV_OK;
 }
-
-gv_status gv_peer_closed(const gv_endpoint *end, uint64_t *code) { return ask(gvp_peer_closed, end, code); }
 
 /* Frames. */
 

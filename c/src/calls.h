@@ -1,5 +1,4 @@
-/* An endpoint's handle, and what the public calls have in common: how structs are copied, how a call begins and ends, and the shapes of
- * calls that return a number or a bool. */
+/* An endpoint's handle, and what the public calls have in common: how structs are copied, and how a call begins and ends. */
 #ifndef GOTSAVENA_CALLS_H
 #define GOTSAVENA_CALLS_H
 
@@ -38,20 +37,20 @@ enum { MOST_SIZE = 4096, TOKEN_LEN = 16 };
 /* Two bits of eight bytes say the length (section 16). */
 #define MOST_NUMBER ((UINT64_C(1) << 62) - 1)
 
-static size_t least(size_t a, size_t b) { return a < b ? a : b; }
+static inline size_t least(size_t a, size_t b) { return a < b ? a : b; }
 
-static size_t size_of(const void *at) {
+static inline size_t size_of(const void *at) {
   size_t size;
   memcpy(&size, at, sizeof size);
   return size;
 }
 
 /* At least the size of version 0.1, and not so large that it is surely no size. */
-static bool is_sized(const void *at, size_t first) { return at != NULL && size_of(at) >= first && size_of(at) <= MOST_SIZE; }
+static inline bool is_sized(const void *at, size_t first) { return at != NULL && size_of(at) >= first && size_of(at) <= MOST_SIZE; }
 
 /* Copies a caller's struct. What it lacks is 0, which means 'as before'. False if it has something that isn't known here: to ignore a
  * setting silently would be worse. */
-static bool copy_in(void *to, size_t known, const void *from, size_t first) {
+static inline bool copy_in(void *to, size_t known, const void *from, size_t first) {
   static const uint8_t zeros[MOST_SIZE];
   if (!is_sized(from, first)) return false;
   size_t size = size_of(from);
@@ -61,7 +60,7 @@ static bool copy_in(void *to, size_t known, const void *from, size_t first) {
 }
 
 /* Copies to a caller's struct what it has room for, and leaves its size. */
-static void copy_out(void *to, const void *from, size_t known) {
+static inline void copy_out(void *to, const void *from, size_t known) {
   size_t skipped = sizeof(size_t);
   memcpy((uint8_t *)to + skipped, (const uint8_t *)from + skipped, least(size_of(to), known) - skipped);
 }
@@ -73,39 +72,39 @@ static uint64_t no_numbers[1];
 
 #define NO_STREAM UINT64_MAX
 
-static bool is_slice(const void *at, size_t len) { return (at != NULL || len == 0) && len <= (size_t)PTRDIFF_MAX; }
+static inline bool is_slice(const void *at, size_t len) { return (at != NULL || len == 0) && len <= (size_t)PTRDIFF_MAX; }
 
-static const uint8_t *read_from(const uint8_t *at, size_t len) { return len == 0 ? none : at; }
+static inline const uint8_t *read_from(const uint8_t *at, size_t len) { return len == 0 ? none : at; }
 
-static uint8_t *written_to(uint8_t *at, size_t len) { return len == 0 ? none : at; }
+static inline uint8_t *written_to(uint8_t *at, size_t len) { return len == 0 ? none : at; }
 
 /* A call begins: until leave() the thread's memory is the endpoint's. Questions do that too, since the library below has no call without a
  * handle that may change; only the header says const. */
-static gvp_handle *enter(const gv_endpoint *end) {
+static inline gvp_handle *enter(const gv_endpoint *end) {
   gv_endpoint *own = (gv_endpoint *)end;
   own->outer = gvp_take_from(&own->memory);
   return &own->handle;
 }
 
 /* The same for a call that needs the notes of events alone. */
-static gvp_heard *enter_heard(gv_endpoint *end) {
+static inline gvp_heard *enter_heard(gv_endpoint *end) {
   (void)enter(end);
   return &end->heard;
 }
 
-static gv_status leave(const gv_endpoint *end, uint32_t status) {
+static inline gv_status leave(const gv_endpoint *end, uint32_t status) {
   (void)gvp_take_from(end->outer);
   return (gv_status)status;
 }
 
-static void free_numbers(gv_endpoint *end, numbers *all) {
+static inline void free_numbers(gv_endpoint *end, numbers *all) {
   if (all->room > 0) end->memory.release(end->memory.context, all->at, all->room * sizeof *all->at, alignof(uint64_t));
   all->at = no_numbers;
   all->room = 0;
 }
 
 /* Gives so many numbers a place, and drops those that had one; false if memory is refused, and then nothing changed. */
-static bool has_room(gv_endpoint *end, numbers *all, size_t wanted) {
+static inline bool has_room(gv_endpoint *end, numbers *all, size_t wanted) {
   if (wanted <= all->room) return true;
   uint64_t *at = end->memory.allocate(end->memory.context, wanted * sizeof *at, alignof(uint64_t));
   if (at == NULL) return false;
@@ -113,40 +112,6 @@ static bool has_room(gv_endpoint *end, numbers *all, size_t wanted) {
   all->at = at;
   all->room = wanted;
   return true;
-}
-
-/* The shapes of calls that return a number or a bool, so that each is written once. */
-
-static gv_status ask(uint32_t (*call)(gvp_handle *, uint64_t *), const gv_endpoint *end, uint64_t *answer) {
-  uint64_t got = 0;
-  if (end == NULL || answer == NULL) return GV_INVALID;
-  gv_status status = leave(end, call(enter(end), &got));
-  if (status == GV_OK) *answer = got;
-  return status;
-}
-
-static gv_status ask_of(uint32_t (*call)(gvp_handle *, uint64_t, uint64_t *), const gv_endpoint *end, uint64_t of, uint64_t *answer) {
-  uint64_t got = 0;
-  if (end == NULL || answer == NULL) return GV_INVALID;
-  gv_status status = leave(end, call(enter(end), of, &got));
-  if (status == GV_OK) *answer = got;
-  return status;
-}
-
-static gv_status ask_of_dir(uint32_t (*call)(gvp_handle *, uint32_t, uint64_t *), const gv_endpoint *end, gv_dir dir, uint64_t *answer) {
-  uint64_t got = 0;
-  if (end == NULL || answer == NULL) return GV_INVALID;
-  gv_status status = leave(end, call(enter(end), (uint32_t)dir, &got));
-  if (status == GV_OK) *answer = got;
-  return status;
-}
-
-static gv_status ask_whether(uint32_t (*call)(gvp_handle *, bool *), const gv_endpoint *end, bool *answer) {
-  bool got = false;
-  if (end == NULL || answer == NULL) return GV_INVALID;
-  gv_status status = leave(end, call(enter(end), &got));
-  if (status == GV_OK) *answer = got;
-  return status;
 }
 
 #endif

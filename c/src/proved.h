@@ -243,7 +243,7 @@ uint32_t gvp_stored(gvp_handle *end, uint64_t *count);
 uint32_t gvp_streams_left(gvp_handle *end, uint32_t dir, uint64_t *count);
 uint32_t gvp_take_frame(gvp_handle *end, const gvp_frame *frame, const uint8_t *bytes, size_t bytes_len, uint32_t *taken);
 uint32_t gvp_take_frames(gvp_handle *end, const gvp_given *frames, size_t frames_len, uint32_t *taken);
-uint32_t gvp_taken(gvp_handle *end, uint64_t stream, uint64_t *count);
+uint32_t gvp_taken_on(gvp_handle *end, uint64_t stream, uint64_t *count);
 uint32_t gvp_taken_sum(gvp_handle *end, uint64_t *count);
 uint32_t gvp_token_acked(gvp_handle *end, const gvp_token *token);
 uint32_t gvp_token_and(const gvp_token *token, const gvp_token *next, gvp_token *both);

@@ -32,14 +32,17 @@ has_soname() { readelf -d "$shared" >"$room/dynamic" && grep -q 'SONAME.*\[libgo
 try 'the name of the shared library, and no text that moves' has_soname
 
 # With the C of the library under the sanitizers, too.
-for name in calls memory about; do
+parts=(calls forwarding memory about)
+objects=()
+for name in "${parts[@]}"; do
   try "src/$name.c" "$C" "${strict[@]}" -DGV_KIND="\"$kind\"" "${sanitize[@]}" -c "$root/c/src/$name.c" -o "$room/$name.o"
+  objects+=("$room/$name.o")
 done
 compile() {
   local name
   name=$(basename "$1" .c)
   shift
-  try "$name.c" "$C" "${strict[@]}" "${sanitize[@]}" "$@" "$room/calls.o" "$room/memory.o" "$room/about.o" "$below" -o "$room/$name"
+  try "$name.c" "$C" "${strict[@]}" "${sanitize[@]}" "$@" "${objects[@]}" "$below" -o "$room/$name"
 }
 compile pipe "$root/c/examples/pipe.c"
 compile udp_copy "$root/c/examples/udp_copy.c"
@@ -123,11 +126,12 @@ sed -i 's/^ENDS_WITH(\([a-z_]*\), .*/ENDS_WITH(\1, later);/' "$later/src/calls.c
 has_grown() { [ "$(grep -c '^  uint64_t later;' "$later/include/gotsavena.h")" = "${#growing[@]}" ] && [ "$(grep -c ', later);' "$later/src/calls.c")" = "${#growing[@]}" ]; }
 try 'each struct of the later header that may grow has one field more' has_grown
 make_later() {
-  local name
-  for name in calls memory about; do
+  local name objects=()
+  for name in "${parts[@]}"; do
     "$C" -std=c11 -O2 -g -fPIC -fvisibility=hidden -DGV_KIND="\"$kind\"" -I"$later/include" -c "$later/src/$name.c" -o "$later/$name.o" || return 1
+    objects+=("$later/$name.o")
   done
-  ld -r -o "$later/all.o" "$later"/{calls,memory,about}.o "$below" && objcopy --keep-global-symbols="$libs/names" "$later/all.o" &&
+  ld -r -o "$later/all.o" "${objects[@]}" "$below" && objcopy --keep-global-symbols="$libs/names" "$later/all.o" &&
     "$C" -shared -Wl,-soname,libgotsavena.so.0 -o "$later/libgotsavena.so.0" "$later/all.o"
 }
 try 'the later library' make_later

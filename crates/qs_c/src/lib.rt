@@ -72,21 +72,8 @@ use crate::frame::{GvFault, GvFrame};
 use crate::handle::Handle;
 use crate::lane::GvLane;
 use crate::structs::{GvClosing, GvLimits, GvMade, GvSettings, GvTuning};
-pub use closes::{gvp_note_closed, gvp_noted_close};
-pub use consuming::gvp_consume;
-pub use events::{
-    gvp_heard_drop, gvp_heard_new, gvp_next_news, gvp_wants, gvp_was_read, gvp_was_told,
-    gvp_will_write,
-};
-pub use giving::gvp_take_frames;
-pub use peeking::gvp_peek;
 use qs_wire::last_stream;
-pub use setting::{gvp_set_conn_window, gvp_set_grant, gvp_set_send_buffer, gvp_set_stream_window};
-pub use stack::{gvp_fill, gvp_take_frame};
 use std::alloc::Global;
-pub use sums::{gvp_kept_sum, gvp_taken, gvp_taken_sum, gvp_unsent_sum};
-pub use telling::gvp_receive_with_acks;
-pub use tokens::{gvp_token_acked, gvp_token_and, gvp_token_lost, gvp_token_of};
 
 /// Apart from `gvp_new`, so that making an endpoint can't fail for memory once its settings passed. A handle that holds one loses it.
 #[unsafe(no_mangle)]

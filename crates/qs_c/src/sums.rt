@@ -35,7 +35,7 @@ pub extern "C" fn gvp_kept_sum(alloc: Global, end: &mut Handle, count: &mut u64)
 }
 
 #[unsafe(no_mangle)]
-pub extern "C" fn gvp_taken(alloc: Global, end: &mut Handle, stream: u64, count: &mut u64) -> u32
+pub extern "C" fn gvp_taken_on(alloc: Global, end: &mut Handle, stream: u64, count: &mut u64) -> u32
     ensures { Asked end.old.cell.value end.new.cell.value (is_small stream) (Invalid result count.old count.new) (λ e. (result, count.new) ≡ found (taken e stream) count.old) }
 {
     let Some(thing) = end.take(alloc) else {

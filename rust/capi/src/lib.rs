@@ -1,4 +1,4 @@
-//! The calls `gvp_*`, over which `c/src/calls.c` offers the library for C: those of `crates/qs_c`, **the proved source with its contracts
+//! The calls `gvp_*`, over which `c/src` offers the library for C: those of `crates/qs_c`, **the proved source with its contracts
 //! removed**. `c/src/proved.h` declares them.
 //!
 //! `unsafe` stands in this package alone, so that the Rust crate forbids it: where C's pointers are read ([`exports`]), where memory comes

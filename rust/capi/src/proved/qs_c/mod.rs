@@ -41,21 +41,8 @@ use crate::proved::qs_c::frame::{GvFault, GvFrame};
 use crate::proved::qs_c::handle::Handle;
 use crate::proved::qs_c::lane::GvLane;
 use crate::proved::qs_c::structs::{GvClosing, GvLimits, GvMade, GvSettings, GvTuning};
-pub use closes::{gvp_note_closed, gvp_noted_close};
-pub use consuming::gvp_consume;
-pub use events::{
-    gvp_heard_drop, gvp_heard_new, gvp_next_news, gvp_wants, gvp_was_read, gvp_was_told,
-    gvp_will_write,
-};
-pub use giving::gvp_take_frames;
-pub use peeking::gvp_peek;
 use crate::proved::qs_wire::last_stream;
-pub use setting::{gvp_set_conn_window, gvp_set_grant, gvp_set_send_buffer, gvp_set_stream_window};
-pub use stack::{gvp_fill, gvp_take_frame};
 use crate::shim::alloc::Global;
-pub use sums::{gvp_kept_sum, gvp_taken, gvp_taken_sum, gvp_unsent_sum};
-pub use telling::gvp_receive_with_acks;
-pub use tokens::{gvp_token_acked, gvp_token_and, gvp_token_lost, gvp_token_of};
 
 /// Apart from `gvp_new`, so that making an endpoint can't fail for memory once its settings passed. A handle that holds one loses it.
 pub fn gvp_reserve(alloc: Global, end: &mut Handle) -> u32 {

@@ -25,7 +25,7 @@ pub fn gvp_kept_sum(alloc: Global, end: &mut Handle, count: &mut u64) -> u32 {
     status
 }
 
-pub fn gvp_taken(alloc: Global, end: &mut Handle, stream: u64, count: &mut u64) -> u32 {
+pub fn gvp_taken_on(alloc: Global, end: &mut Handle, stream: u64, count: &mut u64) -> u32 {
     let Some(thing) = end.take(alloc) else {
         return INVALID;
     };
