@@ -25,6 +25,8 @@ KINDS = AUDIT / "kinds.txt"
 RATTLE_ALONE = {"qs_example"}
 # Crates that are nothing but tests: they aren't proved, and stand elsewhere, in files of another suffix.
 TESTS = {"qs_ends", "qs_tests", "qs_units"}
+# The kind of a line that names a module in a file of which nothing is made.
+UNMADE_MODULE = "module"
 # Crates that only tests use.
 FOR_TESTS = {"qs_chunks", *TESTS}
 
@@ -162,7 +164,7 @@ def audit_list(text, made, folder, listed):
 
 def audit_unmade(source, listed):
     """Whether a Rattle file of which no Rust file is made has ghosts and modules alone."""
-    modules = [Kind("module", ["pub", "mod", "$name", ";"], [], 0)]
+    modules = [Kind(UNMADE_MODULE, ["pub", "mod", "$name", ";"], [], 0)]
     alone = type(listed)()
     alone.kinds = listed.kinds + modules
     names = (source.relative_to(ROOT), "no file")
@@ -205,6 +207,9 @@ class Tally:
         self.same += len(new)
         self.tests += _words(new).count("debug_assert")
 
+    def add_unmade(self, used):
+        self.counts.update(kind.name for kind, _places in used if kind.name != UNMADE_MODULE)
+
 
 def main(arguments):
     listed = read_kinds(KINDS)
@@ -220,7 +225,7 @@ def main(arguments):
         if source.relative_to(ROOT).parts[1] in RATTLE_ALONE:
             continue
         try:
-            audit_unmade(source, listed)
+            tally.add_unmade(audit_unmade(source, listed)[0])
         except Refused as refused:
             tally.faults.append(f"no Rust file is made of this one: {refused}")
     for kind in listed.kinds:

@@ -12,6 +12,8 @@ pub struct Place<'a> {
     pub erased: &'a [&'a str],
     /// Whether functions without parameters and with an empty body are laws.
     pub laws: bool,
+    /// Whether the crate's file of laws has nothing else: then none is made, and no module is named for it.
+    pub laws_alone: bool,
     /// Whether a function `main` is the program.
     pub program: bool,
     pub inlines: bool,
@@ -97,6 +99,9 @@ impl<'a> Eraser<'a> {
             "use" => self.import_of(at),
             "Drop" => self.bound(at),
             "extern" => self.export(at),
+            "mod" if self.place.laws_alone && self.word(at + 1) == "laws" => {
+                Ok(self.cut_item(at - usize::from(self.is_public(at)), at + 2))
+            }
             "mod" if self.has_exports && self.is_name(at + 1) => Ok(self.open_module(at)),
             "requires" | "ensures" | "invariant" | "prove" => self.unknown(at, "a clause here"),
             _ if self.tokens[at].kind == Kind::Name => self.name(at),
@@ -331,12 +336,17 @@ impl<'a> Eraser<'a> {
             && self.words(body, body + 2) == ["{", "}"]
     }
 
+    fn is_public(&self, at: usize) -> bool {
+        at > 0 && self.word(at - 1) == "pub"
+    }
+
     fn import_of(&mut self, at: usize) -> Erased<usize> {
         let end = self.find(at, ";")?;
         let path = self.words(at + 1, end).concat();
-        let is_public = self.word(at - usize::from(at > 0)) == "pub";
+        let is_public = self.is_public(at);
         let first = at - usize::from(is_public);
-        let hands_on_laws = self.place.laws && is_public && path.contains("::laws::");
+        let hands_on_laws =
+            is_public && (path.ends_with("::laws") || self.place.laws && path.contains("::laws::"));
         if hands_on_laws || matches!(path.as_str(), "std::marker::Model" | "thiserror::Error") {
             return Ok(self.cut_item(first, end));
         }

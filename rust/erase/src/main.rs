@@ -114,6 +114,8 @@ fn make(
     made: &mut BTreeMap<PathBuf, String>,
 ) -> Result<(), String> {
     let source = Path::new(sources.folder).join(krate).join("src");
+    let mut laws_alone = false;
+    // In their order by name, in which `laws` comes before `lib`.
     for path in files(&top.join(&source), sources.kind)? {
         let inner = path
             .strip_prefix(top.join(&source))
@@ -125,6 +127,7 @@ fn make(
             krate,
             erased,
             laws: stem == Path::new("laws"),
+            laws_alone,
             program: stem == Path::new("main"),
             inlines: LIBRARY.contains(&krate),
         };
@@ -132,6 +135,10 @@ fn make(
             let line = text[..unknown.at].matches('\n').count() + 1;
             format!("{}:{line}: {}", from.display(), unknown.what)
         })?;
+        if place.laws && rust.lines().all(is_no_code) {
+            laws_alone = true;
+            continue;
+        }
         let to = if stem == Path::new("lib") || stem == Path::new("main") {
             PathBuf::from("mod.rs")
         } else {
@@ -144,6 +151,10 @@ fn make(
         made.insert(Path::new(folder).join(krate).join(to), head + &rust);
     }
     Ok(())
+}
+
+fn is_no_code(line: &str) -> bool {
+    line.is_empty() || line.starts_with("//")
 }
 
 /// Files that no source stands for any more are taken away, so that none stays behind after a move. The modules' root is made by hand.

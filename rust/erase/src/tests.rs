@@ -6,6 +6,7 @@ const PLACE: Place<'_> = Place {
     krate: "qs_own",
     erased: &["qs_own", "qs_other"],
     laws: false,
+    laws_alone: false,
     program: false,
     inlines: false,
 };
@@ -74,6 +75,21 @@ fn laws_that_are_handed_on_go() {
         rattle,
         "use crate::proved::qs_other::C;\npub use crate::proved::qs_other::laws::{a, b};\n",
     );
+    is_made("use a::D;\npub use qs_other::laws;\n", "use a::D;\n");
+}
+
+#[test]
+fn a_module_of_laws_alone_goes() {
+    let rattle = "mod a;\npub mod laws;\nmod z;\n";
+    let place = Place {
+        laws_alone: true,
+        ..PLACE
+    };
+    assert_eq!(
+        erase(&place, rattle).map_err(|unknown| unknown.what),
+        Ok("mod a;\nmod z;\n".to_owned())
+    );
+    is_made(rattle, rattle);
 }
 
 #[test]

@@ -44,4 +44,3 @@ pub use crate::proved::qs_calls::{
     RaiseFault, Received, RecvReport, SendReport, SetFault, Settings, SetupFault, Share, Tuning,
     UseFault,
 };
-pub use crate::proved::qs_machine::laws;

@@ -2,7 +2,6 @@
 //! The machine: one end of a connection as a value, the steps of its calls, and laws of them. There is no code here but sums of
 //! streams and the laws, each the contract of a function.
 
-pub mod laws;
 mod tally;
 
 pub use tally::Tally;

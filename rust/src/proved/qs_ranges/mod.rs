@@ -15,7 +15,6 @@ mod block;
 mod blocks;
 mod changes;
 mod few;
-pub mod laws;
 mod maybe_number;
 mod room;
 

@@ -4,7 +4,6 @@
 mod assembly;
 mod credit;
 mod half;
-pub mod laws;
 mod live;
 mod over;
 mod pages;

@@ -10,7 +10,6 @@ mod gone;
 mod half;
 mod halves;
 mod kept;
-pub mod laws;
 mod live_offsets;
 mod lost_pass;
 mod lost_record;

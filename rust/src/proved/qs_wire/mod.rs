@@ -8,7 +8,6 @@ mod fields;
 mod frame;
 mod frame_type;
 mod frames;
-pub mod laws;
 mod reading;
 mod stream_id;
 mod turns;

@@ -1,7 +1,6 @@
 // Made from crates/qs_script/src/lib.rt by rust/erase; not edited by hand.
 //! Scripts of events, read.
 
-pub mod laws;
 mod script;
 mod settings;
 

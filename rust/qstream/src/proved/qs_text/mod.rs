@@ -5,7 +5,6 @@ mod events;
 mod fields;
 mod frame_text;
 mod largest;
-pub mod laws;
 mod payload;
 mod words;
 

@@ -4,7 +4,6 @@
 mod events;
 mod frame_json;
 mod item;
-pub mod laws;
 mod records;
 mod words;
 

@@ -4,7 +4,6 @@
 mod copies;
 mod drained;
 mod draws;
-pub mod laws;
 mod playing;
 mod random;
 mod report;
