@@ -127,6 +127,8 @@ impl SendStream<'_> {
     /// Resets the stream.
     pub fn reset(&mut self, error_code: VarInt) -> Result<(), UnknownStream> {
         let reset = self.state.end.reset(ours(self.id), error_code.into());
+        // (its bytes leave room to others)
+        self.state.has_news = true;
         reset.map_err(|_| UnknownStream(()))
     }
 

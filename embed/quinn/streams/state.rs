@@ -5,7 +5,7 @@ use std::{iter, mem};
 use bytes::Bytes;
 use gotsavena::{
     Closing, Endpoint, Event, Fill, Frame, MakeFault, PeerLimits, Role, Settings, Share, TakeFault,
-    Token, TokenFault, Tuning, MIN_FILL,
+    Taken, Token, TokenFault, Tuning, MIN_FILL,
 };
 use rustc_hash::FxHashMap;
 use tinyvec::TinyVec;
@@ -37,6 +37,8 @@ pub struct StreamsState {
     send_window: u64,
     pub(super) events: VecDeque<StreamEvent>,
     opened: [bool; 2],
+    // Whether something came since the last search that may be an event of a sending half.
+    pub(super) has_news: bool,
     // Priorities that were set, and with which stream the next packet begins: the layer takes the order by number.
     pub(super) priorities: FxHashMap<StreamId, i32>,
     turn: gotsavena::StreamId,
@@ -98,6 +100,7 @@ impl StreamsState {
             send_window,
             events: VecDeque::new(),
             opened: [false; 2],
+            has_news: false,
             priorities: FxHashMap::default(),
             turn: ours(StreamId(0)),
             carried: Carried::default(),
@@ -129,6 +132,7 @@ impl StreamsState {
             streams_uni: params.initial_max_streams_uni.into(),
         };
         self.end.raise_limits(limits).expect("quinn read them, and the end is open");
+        self.has_news = true;
     }
 
     // Limits of this endpoint
@@ -195,13 +199,14 @@ impl StreamsState {
     }
 
     pub fn received_stop_sending(&mut self, id: StreamId, error_code: VarInt) {
-        let taken = self.take(Frame::StopSending { stream: ours(id), code: error_code.into() });
-        self.keep(taken);
+        let frame = Frame::StopSending { stream: ours(id), code: error_code.into() };
+        let taken = self.take_opening(id, frame);
+        self.keep(taken.map(drop));
     }
 
     pub fn received_max_data(&mut self, n: VarInt) {
         let taken = self.take(Frame::MaxData { maximum: n.into() });
-        self.keep(taken);
+        self.keep(taken.map(drop));
     }
 
     pub fn received_max_stream_data(
@@ -209,7 +214,7 @@ impl StreamsState {
         id: StreamId,
         offset: u64,
     ) -> Result<(), TransportError> {
-        self.take(Frame::MaxStreamData { stream: ours(id), maximum: offset })
+        self.take_opening(id, Frame::MaxStreamData { stream: ours(id), maximum: offset }).map(drop)
     }
 
     pub fn received_max_streams(&mut self, dir: Dir, count: u64) -> Result<(), TransportError> {
@@ -234,17 +239,31 @@ impl StreamsState {
         if id.initiator() != self.side && id.index() >= self.end.granted_streams(theirs(dir)) {
             return Err(TransportError::STREAM_LIMIT_ERROR(""));
         }
-        self.take(frame)?;
+        // (whoever hears that a stream opened reads it)
+        if self.take_opening(id, frame)? && self.is_read(id) {
+            self.events.push_back(StreamEvent::Readable { id });
+        }
         // (`is_sendable` is asked)
         Ok(ShouldTransmit(false))
     }
 
-    fn take(&mut self, frame: Frame<'_>) -> Result<(), TransportError> {
+    // Whether it changed something of a stream that was open before. That it opened streams is told.
+    fn take_opening(&mut self, id: StreamId, frame: Frame<'_>) -> Result<bool, TransportError> {
+        let dir = id.dir();
+        let left = self.end.streams_left(theirs(dir));
+        let taken = self.take(frame)?;
+        let opens = self.end.streams_left(theirs(dir)) < left;
+        self.opened[dir as usize] |= opens;
+        Ok(!opens && taken == Taken::Took)
+    }
+
+    fn take(&mut self, frame: Frame<'_>) -> Result<Taken, TransportError> {
+        self.has_news |= !matches!(frame, Frame::Stream { .. } | Frame::ResetStream { .. });
         match self.end.take_frame(&frame) {
             Ok(_) if self.end.noted() > MOST_PIECES => {
                 Err(TransportError::PROTOCOL_VIOLATION("too many pieces with gaps between them"))
             }
-            Ok(_) => Ok(()),
+            Ok(taken) => Ok(taken),
             Err(TakeFault::Closing(closing)) => Err(error_of(closing)),
             Err(_) => Err(no_memory()),
         }
@@ -324,8 +343,10 @@ impl StreamsState {
     pub fn received_ack_of(&mut self, packet: Carried) {
         let acked = packet.token.map_or(Ok(()), |token| self.end.acked(token));
         self.told(acked);
-        // (so that halves that are over no longer count)
-        self.hear();
+        // (so that halves that are over no longer count; without any there is nothing to hear)
+        if self.send_streams > 0 {
+            self.hear();
+        }
     }
 
     pub fn retransmit(&mut self, packet: Carried) {
@@ -353,7 +374,7 @@ impl StreamsState {
 
     pub fn poll(&mut self) -> Option<StreamEvent> {
         // (a search begins only when all that was found is reported)
-        if self.events.is_empty() {
+        if self.has_news && self.events.is_empty() {
             self.hear();
         }
         if let Some(dir) = Dir::iter().find(|&dir| mem::take(&mut self.opened[dir as usize])) {
@@ -362,37 +383,36 @@ impl StreamsState {
         self.events.pop_front()
     }
 
+    // What became of sending halves. Each event is a search, so none is asked for that is known without.
     pub(super) fn hear(&mut self) {
-        let mut opened = Vec::new();
-        while let Ok(Some(event)) = self.end.next_event() {
-            let told = match event {
-                Event::Opened(stream) => {
-                    self.opened[quinns(stream).dir() as usize] = true;
-                    opened.push(stream);
-                    None
-                }
-                // (whoever hears that a stream opened reads it)
-                Event::Readable(stream) if opened.binary_search(&stream).is_ok() => None,
-                Event::Readable(stream) => Some(StreamEvent::Readable { id: quinns(stream) }),
-                Event::Writable(stream) => Some(StreamEvent::Writable { id: quinns(stream) }),
-                Event::Stopped(stream, code) => {
+        self.has_news = false;
+        loop {
+            let told = match self.end.next_event() {
+                // (told as their frames came)
+                Ok(Some(Event::Opened(_) | Event::Readable(_))) => continue,
+                Ok(Some(Event::Writable(stream))) => StreamEvent::Writable { id: quinns(stream) },
+                Ok(Some(Event::Stopped(stream, code))) => {
                     let (id, error_code) = (quinns(stream), code_of(code));
-                    Some(StreamEvent::Stopped { id, error_code })
+                    StreamEvent::Stopped { id, error_code }
                 }
-                Event::Finished(stream) => {
+                Ok(Some(Event::Finished(stream))) => {
                     self.over(quinns(stream));
-                    Some(StreamEvent::Finished { id: quinns(stream) })
+                    StreamEvent::Finished { id: quinns(stream) }
                 }
-                Event::ResetAcked(stream) => {
+                Ok(Some(Event::ResetAcked(stream))) => {
                     self.over(quinns(stream));
-                    None
+                    continue;
                 }
-                // (that another one may be opened is reported when the peer says so, asked for or not, as quinn does)
-                _ => None,
+                // (behind these come kinds alone that aren't asked for; that another one may be opened is reported when the peer says so,
+                // as quinn does)
+                Ok(_) => return,
+                // (it comes again)
+                Err(_) => {
+                    self.has_news = true;
+                    return;
+                }
             };
-            if let Some(told) = told {
-                self.events.push_back(told);
-            }
+            self.events.push_back(told);
         }
     }
 
