@@ -62,7 +62,7 @@ impl StreamsState {
     }
 
     pub fn pending(&self) -> Levels {
-        let levels = self.in_order().into_iter().map(|stream| self.priority(quinns(stream)));
+        let levels = self.in_order().into_iter().map(|(priority, ..)| priority);
         Levels(levels.collect::<std::collections::BTreeSet<_>>().len())
     }
 

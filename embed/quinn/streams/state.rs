@@ -1,5 +1,6 @@
 //! What quinn's connection calls: frames in, packets out, acknowledged and lost.
-use std::collections::VecDeque;
+use std::cmp::Reverse;
+use std::collections::{BinaryHeap, VecDeque};
 use std::{iter, mem};
 
 use bytes::Bytes;
@@ -298,21 +299,21 @@ impl StreamsState {
         if self.priorities.is_empty() {
             self.fill(buf, max_buf_size, &Fill::data().from(self.turn));
         } else {
-            for stream in self.in_order() {
+            let mut waiting = self.in_order();
+            while buf.len() + MIN_FILL <= max_buf_size {
+                let Some((.., Reverse(stream))) = waiting.pop() else { break };
                 self.fill(buf, max_buf_size, &Fill::data().only(stream));
             }
         }
         mem::take(&mut self.carried)
     }
 
-    // Round-robin among equals: a stream that sent goes behind the others.
-    pub(super) fn in_order(&self) -> Vec<gotsavena::StreamId> {
+    // The first is the greatest. Round-robin among equals: a stream that sent goes behind the others. (a heap, as a packet has room for few)
+    pub(super) fn in_order(&self) -> BinaryHeap<(i32, bool, Reverse<gotsavena::StreamId>)> {
         let next = |from: u64| self.end.next_sendable(ours(StreamId(from)));
-        let mut order: Vec<_> = iter::successors(next(0), |last| next(last.value() + 1)).collect();
-        order.sort_by_key(|&stream| {
-            (-i64::from(self.priority(quinns(stream))), stream < self.turn, stream)
-        });
-        order
+        let all = iter::successors(next(0), |last| next(last.value() + 1));
+        all.map(|stream| (self.priority(quinns(stream)), stream >= self.turn, Reverse(stream)))
+            .collect()
     }
 
     pub(super) fn priority(&self, id: StreamId) -> i32 {
