@@ -120,6 +120,7 @@ impl SendStream<'_> {
         if let Some(code) = self.state.stop_code(self.id) {
             return Err(FinishError::Stopped(code));
         }
+        self.state.waiting.clear();
         let finished = self.state.end.finish(ours(self.id));
         finished.map_err(|_| FinishError::UnknownStream)
     }
@@ -136,6 +137,7 @@ impl SendStream<'_> {
     pub fn set_priority(&mut self, priority: i32) -> Result<(), UnknownStream> {
         self.alive()?;
         self.state.priorities.insert(self.id, priority);
+        self.state.waiting.clear();
         Ok(())
     }
 

@@ -5,8 +5,8 @@ use std::{iter, mem};
 
 use bytes::Bytes;
 use gotsavena::{
-    Closing, Endpoint, Event, Fill, Frame, MakeFault, PeerLimits, Role, Settings, Share, TakeFault,
-    Taken, Token, TokenFault, Tuning, MIN_FILL,
+    Closing, Endpoint, Event, Fill, Frame, MakeFault, Peek, PeerLimits, Role, Settings, Share,
+    TakeFault, Token, TokenFault, Tuning, MIN_FILL,
 };
 use rustc_hash::FxHashMap;
 use tinyvec::TinyVec;
@@ -43,6 +43,8 @@ pub struct StreamsState {
     // Priorities that were set, and with which stream the next packet begins: the layer takes the order by number.
     pub(super) priorities: FxHashMap<StreamId, i32>,
     turn: gotsavena::StreamId,
+    // Those that wait with priorities: found once for many packets, and again after each call that may add one.
+    pub(super) waiting: Waiting,
     // The frames of the packet in the making are written here first, as quinn hands out its buffer in between.
     pub(super) carried: Carried,
     space: Vec<u8>,
@@ -51,6 +53,9 @@ pub struct StreamsState {
     // The first fault that quinn didn't ask for yet: it returns none from these calls.
     fault: Option<TransportError>,
 }
+
+// Streams that may send, each with its priority and its round.
+type Waiting = BinaryHeap<(i32, Reverse<u64>, Reverse<gotsavena::StreamId>)>;
 
 /// Kept beside the packet's number: the token of its fills, and the stream of each STREAM frame for quinn's log.
 #[derive(Clone, Debug, Default)]
@@ -104,6 +109,7 @@ impl StreamsState {
             has_news: false,
             priorities: FxHashMap::default(),
             turn: ours(StreamId(0)),
+            waiting: Waiting::new(),
             carried: Carried::default(),
             space: Vec::new(),
             send_streams: 0,
@@ -134,6 +140,7 @@ impl StreamsState {
         };
         self.end.raise_limits(limits).expect("quinn read them, and the end is open");
         self.has_news = true;
+        self.waiting.clear();
     }
 
     // Limits of this endpoint
@@ -163,12 +170,14 @@ impl StreamsState {
             self.set_max_concurrent(dir, VarInt(self.grants[dir as usize]));
         }
         self.priorities.clear();
+        self.waiting.clear();
         self.send_streams = 0;
     }
 
     /// After a Retry all that was sent goes out again, since the server kept none of it.
     pub fn retransmit_all_for_0rtt(&mut self) {
         let mut from = 0;
+        self.waiting.clear();
         while let Some(number) = self.end.next_outstanding(from) {
             let lost = self.end.lost(self.end.token_of(number));
             self.told(lost);
@@ -207,7 +216,7 @@ impl StreamsState {
 
     pub fn received_max_data(&mut self, n: VarInt) {
         let taken = self.take(Frame::MaxData { maximum: n.into() });
-        self.keep(taken.map(drop));
+        self.keep(taken);
     }
 
     pub fn received_max_stream_data(
@@ -240,31 +249,40 @@ impl StreamsState {
         if id.initiator() != self.side && id.index() >= self.end.granted_streams(theirs(dir)) {
             return Err(TransportError::STREAM_LIMIT_ERROR(""));
         }
-        // (whoever hears that a stream opened reads it)
-        if self.take_opening(id, frame)? && self.is_read(id) {
+        let was_readable = self.is_readable(id);
+        let opens = self.take_opening(id, frame)?;
+        // (told once until it is read empty, and not of one that was stopped; whoever hears that a stream opened reads it)
+        if !opens && !was_readable && self.is_readable(id) && self.is_read(id) {
             self.events.push_back(StreamEvent::Readable { id });
         }
         // (`is_sendable` is asked)
         Ok(ShouldTransmit(false))
     }
 
-    // Whether it changed something of a stream that was open before. That it opened streams is told.
-    fn take_opening(&mut self, id: StreamId, frame: Frame<'_>) -> Result<bool, TransportError> {
-        let dir = id.dir();
-        let left = self.end.streams_left(theirs(dir));
-        let taken = self.take(frame)?;
-        let opens = self.end.streams_left(theirs(dir)) < left;
-        self.opened[dir as usize] |= opens;
-        Ok(!opens && taken == Taken::Took)
+    fn is_readable(&self, id: StreamId) -> bool {
+        !matches!(self.end.peek(ours(id)), Ok(Peek::Wait) | Err(_))
     }
 
-    fn take(&mut self, frame: Frame<'_>) -> Result<Taken, TransportError> {
-        self.has_news |= !matches!(frame, Frame::Stream { .. } | Frame::ResetStream { .. });
+    // Whether it opened streams, which is told.
+    fn take_opening(&mut self, id: StreamId, frame: Frame<'_>) -> Result<bool, TransportError> {
+        let dir = theirs(id.dir());
+        let left = self.end.streams_left(dir);
+        self.take(frame)?;
+        let opens = self.end.streams_left(dir) < left;
+        self.opened[id.dir() as usize] |= opens;
+        Ok(opens)
+    }
+
+    fn take(&mut self, frame: Frame<'_>) -> Result<(), TransportError> {
+        if !matches!(frame, Frame::Stream { .. } | Frame::ResetStream { .. }) {
+            self.has_news = true;
+            self.waiting.clear();
+        }
         match self.end.take_frame(&frame) {
             Ok(_) if self.end.noted() > MOST_PIECES => {
                 Err(TransportError::PROTOCOL_VIOLATION("too many pieces with gaps between them"))
             }
-            Ok(taken) => Ok(taken),
+            Ok(_) => Ok(()),
             Err(TakeFault::Closing(closing)) => Err(error_of(closing)),
             Err(_) => Err(no_memory()),
         }
@@ -299,31 +317,36 @@ impl StreamsState {
         if self.priorities.is_empty() {
             self.fill(buf, max_buf_size, &Fill::data().from(self.turn));
         } else {
-            let mut waiting = self.in_order();
+            if self.waiting.is_empty() {
+                self.waiting = self.in_order();
+            }
             while buf.len() + MIN_FILL <= max_buf_size {
-                let Some((.., Reverse(stream))) = waiting.pop() else { break };
-                self.fill(buf, max_buf_size, &Fill::data().only(stream));
+                let Some((priority, Reverse(round), stream)) = self.waiting.pop() else { break };
+                if self.fill(buf, max_buf_size, &Fill::data().only(stream.0)) {
+                    self.waiting.push((priority, Reverse(round + 1), stream));
+                }
             }
         }
         mem::take(&mut self.carried)
     }
 
-    // The first is the greatest. Round-robin among equals: a stream that sent goes behind the others. (a heap, as a packet has room for few)
-    pub(super) fn in_order(&self) -> BinaryHeap<(i32, bool, Reverse<gotsavena::StreamId>)> {
+    // The first is the greatest. Round-robin among equals: a stream that sent goes behind the others.
+    pub(super) fn in_order(&self) -> Waiting {
         let next = |from: u64| self.end.next_sendable(ours(StreamId(from)));
         let all = iter::successors(next(0), |last| next(last.value() + 1));
-        all.map(|stream| (self.priority(quinns(stream)), stream >= self.turn, Reverse(stream)))
-            .collect()
+        let round = |stream| Reverse(u64::from(stream < self.turn));
+        all.map(|stream| (self.priority(quinns(stream)), round(stream), Reverse(stream))).collect()
     }
 
     pub(super) fn priority(&self, id: StreamId) -> i32 {
         self.priorities.get(&id).copied().unwrap_or(0)
     }
 
-    pub(super) fn fill(&mut self, buf: &mut Vec<u8>, max_size: usize, want: &Fill) {
+    // Whether more is there than there was room for.
+    pub(super) fn fill(&mut self, buf: &mut Vec<u8>, max_size: usize, want: &Fill) -> bool {
         let room = max_size.saturating_sub(buf.len());
         if room < MIN_FILL {
-            return;
+            return false;
         }
         if self.space.len() < room {
             self.space.resize(room, 0);
@@ -335,10 +358,12 @@ impl StreamsState {
                 buf.extend_from_slice(frames);
                 self.carried.add(filled.token, frames);
                 self.turn = filled.last_stream.map_or(self.turn, |id| next(id.value()));
+                return filled.more;
             }
             Err(MakeFault::NoMemory) => self.lacks_memory(),
             _ => {}
         }
+        false
     }
 
     pub fn received_ack_of(&mut self, packet: Carried) {
@@ -352,6 +377,7 @@ impl StreamsState {
 
     pub fn retransmit(&mut self, packet: Carried) {
         let lost = packet.token.map_or(Ok(()), |token| self.end.lost(token));
+        self.waiting.clear();
         self.told(lost);
     }
 

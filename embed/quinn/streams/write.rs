@@ -14,6 +14,7 @@ impl StreamsState {
         if let Some(code) = self.stop_code(id) {
             return Err(WriteError::Stopped(code));
         }
+        self.waiting.clear();
         // (a write that is cut short is noted, and an event comes once there is room)
         match self.end.write(ours(id), bytes) {
             Ok(0) if !bytes.is_empty() => Err(WriteError::Blocked),
