@@ -251,7 +251,7 @@ impl StreamsState {
         }
         let was_readable = self.is_readable(id);
         let opens = self.take_opening(id, frame)?;
-        // (told once until it is read empty, and not of one that was stopped; whoever hears that a stream opened reads it)
+        // (reported once until it is read empty, and not of one that was stopped; whoever hears that a stream opened reads it)
         if !opens && !was_readable && self.is_readable(id) && self.is_read(id) {
             self.events.push_back(StreamEvent::Readable { id });
         }
@@ -263,7 +263,7 @@ impl StreamsState {
         !matches!(self.end.peek(ours(id)), Ok(Peek::Wait) | Err(_))
     }
 
-    // Whether it opened streams, which is told.
+    // Whether it opened streams, which is reported.
     fn take_opening(&mut self, id: StreamId, frame: Frame<'_>) -> Result<bool, TransportError> {
         let dir = theirs(id.dir());
         let left = self.end.streams_left(dir);
@@ -415,7 +415,7 @@ impl StreamsState {
         self.has_news = false;
         loop {
             let told = match self.end.next_event() {
-                // (told as their frames came)
+                // (reported as their frames came)
                 Ok(Some(Event::Opened(_) | Event::Readable(_))) => continue,
                 Ok(Some(Event::Writable(stream))) => StreamEvent::Writable { id: quinns(stream) },
                 Ok(Some(Event::Stopped(stream, code))) => {
